@@ -27,7 +27,7 @@
  *
  * Memory. What a call allocates by malloc and realloc it gives back by free before it returns; if you replace
  * them, replace all three. A call keeps no event of a log and no entry of a list but in the text that it gives. It
- * takes less than 384 KiB of stack.
+ * takes less than 512 KiB of stack.
  *
  * Threads. Nothing is kept between calls, so any number of threads may call at once, each with its own outputs. Do
  * not call from a signal handler, nor in the forked child of a process with threads.

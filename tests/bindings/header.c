@@ -3,7 +3,7 @@
  *     header LOG LIST EXPECTED PRINTED [STACK]
  *
  * The files are those of the sample boot; PRINTED is what tpm2_pcrread printed. Each function is called in a thread with so many bytes of
- * stack, by default the 384 KiB of the header. Prints a line for each check that fails, how much stack was used at most, and last 'N
+ * stack, by default the 512 KiB of the header. Prints a line for each check that fails, how much stack was used at most, and last 'N
  * passed, M failed'. The status is 1 if one failed. */
 #define _GNU_SOURCE
 #include <ima_verify.h>
@@ -19,7 +19,7 @@ enum {
     ROOM = 1 << 16,
     LONGEST_CHECKPOINT = 20000,
     FILL = 0xa7,
-    STACK = 384 * 1024,
+    STACK = 512 * 1024,
     GUARD = 1 << 24,
     SIGNAL_STACK = 1 << 16,
     UNSET = 77,

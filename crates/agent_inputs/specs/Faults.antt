@@ -1,26 +1,30 @@
--- How the faults of the parts become faults of the program. Out of memory is one fault, wherever it happens. All of this is this
--- project's choice.
-use Rattle.std.specs.Prelude.{◌≡◌, ℕ, ◌⊎◌, List, Some}
-use Rattle.command_line.specs.declared.fault.WordsFault.{WordsFault}
-use Rattle.command_line.specs.declared.fault.WordsFault.TheVariants as words
+-- How the faults of the parts become faults of the program. Out of memory is one fault, wherever it happens.
+use Rattle.std.specs.Prelude.{◌≡◌, ℕ, ◌⊎◌, List, Option, Some, None}
+use Rattle.command_line.specs.declared.fault.ArgumentsFault.{ArgumentsFault}
+use Rattle.command_line.specs.declared.fault.ArgumentsFault.TheVariants as arguments
 use Rattle.boot_log.specs.declared.fault.LogFault.{LogFault}
 use Rattle.boot_log.specs.declared.fault.LogFault.TheVariants as logs
+use Rattle.boot_log.specs.Faults.{log_fault_event, log_fault_number}
 use Rattle.boot_log.specs.Reading.{log_fault}
 use Rattle.ima_list.specs.declared.fault.ListFault.{ListFault}
 use Rattle.ima_list.specs.declared.fault.ListFault.TheVariants as lists
+use Rattle.ima_list.specs.ListFaults.{list_fault_entry, list_fault_number, replay_fault_entry, replay_fault_number}
 use Rattle.measure_book.specs.declared.fault.BookFault.{BookFault}
 use Rattle.measure_book.specs.declared.fault.BookFault.TheVariants as books
+use Rattle.measure_book.specs.declared.gathers.GatherFault.TheVariants as gathers
+use Rattle.measure_book.specs.Faults.{fault_number, gather_fault_number}
 use Rattle.hash_workers.specs.declared.fault.AgentFault.{AgentFault}
 use Rattle.hash_workers.specs.declared.fault.AgentFault.TheVariants as agents
 use Rattle.boot_verdict.specs.declared.expected.ExpectFault.{ExpectFault}
 use Rattle.boot_verdict.specs.declared.expected.ExpectFault.TheVariants as expects
-use Rattle.boot_verdict.specs.declared.verifier.VerifyFault.{VerifyFault}
-use Rattle.boot_verdict.specs.declared.verifier.VerifyFault.TheVariants as verdicts
+use Rattle.boot_verdict.specs.ExpectFaults.{expect_fault_line, expect_fault_number}
+use Rattle.agent_inputs.specs.declared.fault.FaultHead.{FaultHead}
+use Rattle.agent_inputs.specs.declared.fault.FaultKind.{FaultKind}
+use Rattle.agent_inputs.specs.declared.fault.FaultKind.TheVariants as kinds
 use Rattle.agent_inputs.specs.declared.fault.NotResumed.{NotResumed}
 use Rattle.agent_inputs.specs.declared.fault.NotResumed.TheVariants as resumes
 use Rattle.agent_inputs.specs.declared.fault.RunFault.{RunFault}
 use Rattle.agent_inputs.specs.declared.fault.RunFault.TheVariants as runs
-use Rattle.agent_inputs.specs.Loading.{IsNotRead, IsTooLong}
 
 -- The numbers of why there is no going on from a checkpoint.
 abbrev pub not_resumed_number : NotResumed → ℕ
@@ -28,9 +32,9 @@ not_resumed_number resumes.Damaged = 1
 not_resumed_number resumes.Version = 2
 not_resumed_number resumes.OtherBoot = 3
 
-abbrev pub fault_of_words : WordsFault → RunFault
-fault_of_words words.Usage = runs.Usage
-fault_of_words words.Memory = runs.Memory
+abbrev pub fault_of_arguments : ArgumentsFault → RunFault
+fault_of_arguments arguments.Usage = runs.Usage
+fault_of_arguments arguments.Memory = runs.Memory
 
 abbrev pub fault_of_log : LogFault → RunFault
 fault_of_log logs.Memory = runs.Memory
@@ -50,15 +54,6 @@ abbrev pub fault_of_expected : ExpectFault → RunFault
 fault_of_expected expects.Memory = runs.Memory
 fault_of_expected fault = runs.Expect fault
 
--- The program's fault for a verifier's fault, where the list is the input of this name; a fault of its source names it.
-abbrev pub IsFaultOfVerdict : List ℕ → VerifyFault → RunFault → Type 0
-IsFaultOfVerdict name (verdicts.Log first) fault = fault ≡ fault_of_log first
-IsFaultOfVerdict name (verdicts.List first) fault = fault ≡ fault_of_list first
-IsFaultOfVerdict name (verdicts.Replay first) fault = fault ≡ runs.Replay first
-IsFaultOfVerdict name verdicts.Source fault = IsNotRead name fault ⊎ (fault ≡ runs.Memory)
-IsFaultOfVerdict name verdicts.TooLong fault = IsTooLong name fault ⊎ (fault ≡ runs.Memory)
-IsFaultOfVerdict name verdicts.Memory fault = fault ≡ runs.Memory
-
 -- The program's fault for a fault of the workers. A wrong number of workers is a fault of the command line.
 abbrev pub fault_of_agent : AgentFault → RunFault
 fault_of_agent agents.Workers = runs.Usage
@@ -66,11 +61,41 @@ fault_of_agent (agents.Book fault) = runs.Book fault
 fault_of_agent (agents.Gather fault) = runs.Gather fault
 fault_of_agent agents.Memory = runs.Memory
 
--- The file of this number was refused for this cause.
+-- The file of this number was refused for this reason.
 abbrev pub fault_of_job : ℕ → BookFault → RunFault
 fault_of_job job books.Memory = runs.Memory
 fault_of_job job fault = runs.Outcome job fault
 
 -- The arguments are not those of a command, or memory ran out.
-abbrev pub IsWordsFault : RunFault → Type 0
-IsWordsFault fault = (fault ≡ runs.Usage) ⊎ (fault ≡ runs.Memory)
+abbrev pub IsArgumentsFault : RunFault → Type 0
+IsArgumentsFault fault = (fault ≡ runs.Usage) ⊎ (fault ≡ runs.Memory)
+
+-- ---- what a fault is, beside a name in it
+
+abbrev pub head_with : FaultKind → Option ℕ → Option ℕ → FaultHead
+head_with kind number place = record { kind = kind; number = number; place = place }
+
+-- A fault's kind, its number among the faults of its kind, and the event, the entry or the line that it names; of a file that the book
+-- refused the file's number.
+abbrev pub fault_head : RunFault → FaultHead
+fault_head (runs.Log logs.Memory) = head_with kinds.Memory None None
+fault_head (runs.List lists.Memory) = head_with kinds.Memory None None
+fault_head (runs.Expect expects.Memory) = head_with kinds.Memory None None
+fault_head (runs.Book books.Memory) = head_with kinds.Memory None None
+fault_head (runs.Outcome job books.Memory) = head_with kinds.Memory None None
+fault_head (runs.Gather gathers.Memory) = head_with kinds.Memory None None
+fault_head runs.Memory = head_with kinds.Memory None None
+fault_head runs.Usage = head_with kinds.Usage None None
+fault_head runs.NotHex = head_with kinds.NotHex None None
+fault_head (runs.Log fault) = head_with kinds.Log (Some (log_fault_number fault)) (log_fault_event fault)
+fault_head (runs.List fault) = head_with kinds.List (Some (list_fault_number fault)) (list_fault_entry fault)
+fault_head (runs.Replay fault) = head_with kinds.Replay (Some (replay_fault_number fault)) (Some (replay_fault_entry fault))
+fault_head (runs.Expect fault) = head_with kinds.Expect (Some (expect_fault_number fault)) (expect_fault_line fault)
+fault_head (runs.Checkpoint fault) = head_with kinds.Checkpoint (Some (not_resumed_number fault)) None
+fault_head (runs.Book fault) = head_with kinds.Book (Some (fault_number fault)) None
+fault_head (runs.Outcome job fault) = head_with kinds.Outcome (Some (fault_number fault)) (Some job)
+fault_head (runs.TooLong name) = head_with kinds.TooLong None None
+fault_head (runs.Read name) = head_with kinds.Read None None
+fault_head (runs.Write name) = head_with kinds.Write None None
+fault_head (runs.NotUtf8 name) = head_with kinds.NotUtf8 None None
+fault_head (runs.Gather fault) = head_with kinds.Gather (Some (gather_fault_number fault)) None

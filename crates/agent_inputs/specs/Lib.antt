@@ -1,5 +1,3 @@
 pub mod Loading
-pub mod Hashing
 pub mod Faults
 pub mod System
-pub mod parts

@@ -11,25 +11,17 @@ use Rattle.agent_inputs.specs.declared.system.WriteSink.{WriteSink}
 abbrev pub reader_of : {R : Type 0} → ReadSource R → R
 reader_of source = source.reader
 
--- How often a source has failed.
-abbrev pub reads_failed : {R : Type 0} → ReadSource R → ℕ
-reads_failed source = source.failures
-
--- A source's bytes are not told; it counts its failures.
+-- A source's bytes are not known; it counts its failures.
 abbrev pub read_source_state : {R : Type 0} → ReadSource R → SourceState
-read_source_state source = record { remaining = None; failures = reads_failed source }
+read_source_state source = record { remaining = None; failures = source.failures }
 
 -- The writer that a sink writes to.
 abbrev pub writer_of : {W : Type 0} → WriteSink W → W
 writer_of sink = sink.writer
 
--- How often a sink has failed.
-abbrev pub writes_failed : {W : Type 0} → WriteSink W → ℕ
-writes_failed sink = sink.failures
-
--- A sink's bytes are not told; it counts its failures.
+-- A sink's bytes are not known; it counts its failures.
 abbrev pub write_sink_state : {W : Type 0} → WriteSink W → SinkState
-write_sink_state sink = record { taken = None; failures = writes_failed sink }
+write_sink_state sink = record { taken = None; failures = sink.failures }
 
 -- The runtime whose files and standard input these are.
 abbrev pub runtime_of : {R : Type 0} → SystemFiles R → R
@@ -40,7 +32,7 @@ abbrev pub is_file : {F I : Type 0} → Input F I → Bool
 is_file (File file) = true
 is_file (StandardInput input) = false
 
--- The remaining bytes, if the file or the standard input tells them.
+-- The remaining bytes, if those of the file or of the standard input are known.
 abbrev pub remaining_bytes : {F I : Type 0} → (F → Option (List ℕ)) → (I → Option (List ℕ)) → Input F I → Option (List ℕ)
 remaining_bytes of_file of_input (File file) = of_file file
 remaining_bytes of_file of_input (StandardInput input) = of_input input

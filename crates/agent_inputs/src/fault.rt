@@ -1,13 +1,12 @@
 //! Why the program failed.
 
 ghost use Rattle.std.specs.Prelude.{◌≡◌};
-ghost use Rattle.agent_inputs.specs.Faults.{fault_of_agent, fault_of_expected, fault_of_list, fault_of_log, fault_of_words, not_resumed_number};
+ghost use Rattle.agent_inputs.specs.Faults.{fault_head, fault_of_agent, fault_of_expected, fault_of_list, fault_of_log, fault_of_arguments, not_resumed_number};
 ghost use Rattle.agent_inputs.specs.declared.fault.RunFault.TheVariants.{Memory};
 
 use boot_log::LogFault;
-use boot_verdict::ExpectFault;
-use command_line::WordsFault;
-use growing_lists::{CheckpointFault, ResumeFault};
+use boot_verdict::{CheckpointFault, ExpectFault, ResumeFault};
+use command_line::ArgumentsFault;
 use hash_workers::AgentFault;
 use ima_list::{ListFault, ReplayFault};
 use measure_book::{BookFault, GatherFault};
@@ -82,6 +81,84 @@ pub enum RunFault {
     Memory,
 }
 
+/// The kinds of faults. Out of memory is one kind, wherever it happens.
+#[derive(Clone, Copy)]
+pub enum FaultKind {
+    Usage,
+    NotHex,
+    Log,
+    List,
+    Replay,
+    Expect,
+    Checkpoint,
+    Book,
+    Outcome,
+    TooLong,
+    Read,
+    Write,
+    NotUtf8,
+    Gather,
+    Memory,
+}
+
+/// What a fault is, beside a name in it.
+#[derive(Clone, Copy)]
+pub struct FaultHead {
+    /// Its kind.
+    pub kind: FaultKind,
+    /// Its number among the faults of its kind, where it has one.
+    pub number: Option<u32>,
+    /// The event, the entry or the line that it names; of a file that the book refused the file's number.
+    pub place: Option<usize>,
+}
+
+impl RunFault {
+    /// Its kind, number and place. Out of memory, even inside another fault, is of the kind `Memory`.
+    pub fn head(&self) -> FaultHead
+        ensures { result ≡ fault_head self.now }
+    {
+        let (kind, number, place) = match self {
+            RunFault::Log(LogFault::Memory)
+            | RunFault::List(ListFault::Memory)
+            | RunFault::Expect(ExpectFault::Memory)
+            | RunFault::Book(BookFault::Memory)
+            | RunFault::Outcome {
+                fault: BookFault::Memory,
+                ..
+            }
+            | RunFault::Gather(GatherFault::Memory)
+            | RunFault::Memory => (FaultKind::Memory, None, None),
+            RunFault::Usage => (FaultKind::Usage, None, None),
+            RunFault::NotHex => (FaultKind::NotHex, None, None),
+            RunFault::Log(fault) => (FaultKind::Log, Some(fault.number()), fault.event()),
+            RunFault::List(fault) => (FaultKind::List, Some(fault.number()), fault.entry()),
+            RunFault::Replay(fault) => {
+                (FaultKind::Replay, Some(fault.number()), Some(fault.entry()))
+            }
+            RunFault::Expect(fault) => (FaultKind::Expect, Some(fault.number()), fault.line()),
+            RunFault::Checkpoint(fault) => (FaultKind::Checkpoint, Some(fault.number()), None),
+            RunFault::Book(fault) => (FaultKind::Book, Some(fault.number()), None),
+            RunFault::Outcome { job, fault } => {
+                (
+                    FaultKind::Outcome,
+                    Some(fault.number()),
+                    Some(*job as usize),
+                )
+            }
+            RunFault::TooLong(_) => (FaultKind::TooLong, None, None),
+            RunFault::Read(_) => (FaultKind::Read, None, None),
+            RunFault::Write(_) => (FaultKind::Write, None, None),
+            RunFault::NotUtf8(_) => (FaultKind::NotUtf8, None, None),
+            RunFault::Gather(fault) => (FaultKind::Gather, Some(fault.number()), None),
+        };
+        FaultHead {
+            kind,
+            number,
+            place,
+        }
+    }
+}
+
 /// What is wrong, in words. `TooLong`, `Read`, `Write` and `NotUtf8` name their file.
 impl fmt::Display for RunFault {
     fn fmt<W: fmt::Write>(&self, f: &mut fmt::Formatter<W>) -> fmt::Result {
@@ -107,7 +184,7 @@ impl fmt::Display for RunFault {
     }
 }
 
-// Words, and the fault that is their cause.
+// Words, and the fault that they introduce.
 fn say_fault<D: fmt::Display, W: fmt::Write>(
     words: &str,
     fault: &D,
@@ -135,13 +212,13 @@ fn say_name<W: fmt::Write>(
     write!(f, "{before}{name}{after}")
 }
 
-impl From<WordsFault> for RunFault {
-    ghost from_gives = { λ words_fault fault. fault ≡ fault_of_words words_fault };
+impl From<ArgumentsFault> for RunFault {
+    ghost from_gives = { λ arguments_fault fault. fault ≡ fault_of_arguments arguments_fault };
 
-    fn from(fault: WordsFault) -> Self {
+    fn from(fault: ArgumentsFault) -> Self {
         match fault {
-            WordsFault::Usage => RunFault::Usage,
-            WordsFault::Memory => RunFault::Memory,
+            ArgumentsFault::Usage => RunFault::Usage,
+            ArgumentsFault::Memory => RunFault::Memory,
         }
     }
 }

@@ -1,24 +1,23 @@
 //! Where the program's inputs come from.
 
 ghost use Rattle.std.specs.Prelude.{◌≡◌, ◌<◌, length, List, ℕ, None, Some, Option, option_map, IfOk, IfSome, IsErr, IsErrOf, IsTrue, OnErr, OnOk, ⊤};
-ghost use Rattle.agent_inputs.specs.Hashing.{IsHashOfAll};
-ghost use Rattle.agent_inputs.specs.Loading.{GivesAll, HasFailed, HasReplaced, Inputs, Saved, untold};
+ghost use Rattle.agent_inputs.specs.Loading.{IsHashOfAll, GivesAll, HasFailed, HasReplaced, Inputs, Saved, unknown};
 
-use crate::loading::LoadFault;
+use crate::loader::LoadFault;
 use byte_streams::{Failed, Source};
 use pcr_banks::{Alg, Digest};
 use std::alloc::Global;
 
 /// Where the program's inputs come from.
 ///
-/// An implementation may tell the bytes of its inputs, and which may fail (`told`): a source then gives exactly those bytes, and no
-/// other fails. It may also tell which files were replaced (`saved`).
+/// An implementation may make the bytes of its inputs known, and which may fail (`known`): a source then gives exactly those bytes, and no
+/// other fails. It may also make known which files were replaced (`saved`).
 pub trait Files {
     /// The source of one input's bytes.
     type Src: Source;
 
     // What the inputs hold, and which of them may fail.
-    ghost told: { Self → Inputs } = { λ _. untold };
+    ghost known: { Self → Inputs } = { λ _. unknown };
 
     // Which files were replaced so far.
     ghost saved: { Self → Saved } = { λ _. None };
@@ -26,18 +25,18 @@ pub trait Files {
     /// The source of the file of this name, or of standard input without a name. Fails if it cannot be opened.
     fn source(&mut self, name: Option<&str>) -> Result<Self::Src, Failed>
         ensures gives { IfOk result (λ source.
-            GivesAll ((told self.old).held (option_map (λ name. name.now) name.entry)) (Self.Src.state source)) }
-        ensures refused { IsErr result → IsTrue ((told self.old).may_fail (option_map (λ name. name.now) name.entry)) }
+            GivesAll ((known self.old).held (option_map (λ name. name.now) name.entry)) (Self.Src.state source)) }
+        ensures refused { IsErr result → IsTrue ((known self.old).may_fail (option_map (λ name. name.now) name.entry)) }
         ensures failing { IfOk result (λ source. (later : Self.Src) → HasFailed (Self.Src.state source) (Self.Src.state later)
-            → IsTrue ((told self.old).may_fail (option_map (λ name. name.now) name.entry))) }
-        ensures told { told self.new ≡ told self.old }
+            → IsTrue ((known self.old).may_fail (option_map (λ name. name.now) name.entry))) }
+        ensures known { known self.new ≡ known self.old }
         ensures saved { saved self.new ≡ saved self.old };
 }
 
 /// Files whose sources can be let go, of which several threads read some at once, and of which one may be replaced: what a run of the
 /// program asks for.
 pub trait AgentFiles: Files<Src: Drop> {
-    /// The same files, shared by several threads.
+    /// These files, shared by several threads.
     type Shared: SharedFiles + Sync;
 
     /// Has the file of this name be exactly these bytes. They are written to a new file beside it and synced, and then that is renamed: so
@@ -47,23 +46,23 @@ pub trait AgentFiles: Files<Src: Drop> {
         ensures replaced { OnOk result (HasReplaced (Self.saved self.old) (Self.saved self.new)
             (record { name = name.now; bytes = bytes.now })) }
         ensures kept { OnErr result (Self.saved self.new ≡ Self.saved self.old) }
-        ensures told { Self.told self.new ≡ Self.told self.old };
+        ensures known { Self.known self.new ≡ Self.known self.old };
 
-    /// The same files, for several threads at once.
+    /// These files, for several threads at once.
     fn shared(&self) -> &Self::Shared
-        ensures held { (name : List ℕ) → Self.Shared.held result.now name ≡ (Self.told self.now).held (Some name) }
+        ensures held { (name : List ℕ) → Self.Shared.held result.now name ≡ (Self.known self.now).held (Some name) }
         ensures fails { (name : List ℕ) → Self.Shared.fails result.now name
-            → IsTrue ((Self.told self.now).may_fail (Some name)) };
+            → IsTrue ((Self.known self.now).may_fail (Some name)) };
 }
 
 /// Files that several threads read at once.
 ///
-/// An implementation may tell the bytes of a file (`held`): its hash is then that of exactly those.
+/// An implementation may make the bytes of a file known (`held`): its hash is then that of exactly those.
 pub trait SharedFiles {
-    // All bytes of the file of this name; `None` if they are not told.
+    // All bytes of the file of this name; `None` if they are not known.
     ghost held: { Self → List ℕ → Option (List ℕ) } = { λ _ _. None };
 
-    // That the file of this name cannot be opened, or fails while it is read; `⊤` if this is not told.
+    // That the file of this name cannot be opened, or fails while it is read; `⊤` if this is not known.
     ghost fails: { Self → List ℕ → Type 0 } = { λ _ _. ⊤ };
 
     /// The hash, by this algorithm, of all bytes of the file of this name. They are hashed as they are read.

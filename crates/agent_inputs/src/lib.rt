@@ -3,14 +3,14 @@
 
 mod fault;
 mod files;
-mod hashing;
 mod inputs;
-mod loading;
+mod loader;
+mod source_hash;
 mod system;
 
-pub use fault::{NotResumed, RunFault};
+pub use fault::{FaultHead, FaultKind, NotResumed, RunFault};
 pub use files::{AgentFiles, Files, SharedFiles};
-pub use hashing::hash_from;
-pub use inputs::{INPUT_LIMIT, loaded, not_read, not_utf8, not_written, too_long};
-pub use loading::{LoadFault, load};
+pub use inputs::{INPUT_LIMIT, load_input, not_read, not_utf8, not_written, too_long};
+pub use loader::{LoadFault, load};
+pub use source_hash::hash_from;
 pub use system::{Input, ReadSource, SystemFiles, WriteSink};

@@ -3,12 +3,12 @@
 ghost use Rattle.std.specs.Prelude.{◌≡◌, ◌<◌, ◌≤◌, length, None, is_some, option_map, IfOk, IsErr, IsNone, IsOk, IsTrue};
 ghost use Rattle.std.specs.Io.KnownBytes.{ReadConsumes, WriteAppends};
 ghost use Rattle.byte_streams.specs.Streams.{failures_after};
-ghost use Rattle.agent_inputs.specs.Loading.{GivesAll, HasFailed, untold};
-ghost use Rattle.agent_inputs.specs.System.{reader_of, writer_of, reads_failed, writes_failed, read_source_state, write_sink_state, runtime_of, is_file, remaining_bytes};
+ghost use Rattle.agent_inputs.specs.Loading.{GivesAll, HasFailed, unknown};
+ghost use Rattle.agent_inputs.specs.System.{reader_of, writer_of, read_source_state, write_sink_state, runtime_of, is_file, remaining_bytes};
 
 use crate::files::{AgentFiles, Files, SharedFiles};
-use crate::hashing::hash_from;
-use crate::loading::LoadFault;
+use crate::loader::LoadFault;
+use crate::source_hash::hash_from;
 use arrayvec::ArrayString;
 use byte_streams::{Failed, Sink, Source};
 use pcr_banks::{Alg, Digest};
@@ -23,15 +23,15 @@ use std::{fs, io};
 // How many names there are for a file beside one that is replaced.
 const MOST_BESIDE: u32 = 100;
 
-// The size of the longest path that a system takes, in bytes (Linux, `PATH_MAX`).
-const MOST_PATH: usize = 4096;
+// A path, at most as long as a system takes it (Linux, `PATH_MAX`).
+type Path = ArrayString<4096>;
 
 // The mode of a file that its user alone reads and writes.
 const PRIVATE: u32 = 0o600;
 
 /// A source over a `std` reader.
 ///
-/// Its bytes are not told. Each error of the reader, an interrupted call included, counts as a failure.
+/// Its bytes are not known. Each error of the reader, an interrupted call included, counts as a failure.
 #[derive(Drop)]
 pub struct ReadSource<R> {
     reader: R,
@@ -42,7 +42,7 @@ impl<R: Read> ReadSource<R> {
     /// A source that gives the reader's bytes, with no failures so far.
     pub fn new(reader: R) -> Self
         ensures reader { reader_of result ≡ reader }
-        ensures failures { reads_failed result ≡ 0 }
+        ensures failures { (read_source_state result).failures ≡ 0 }
     {
         ReadSource {
             reader,
@@ -58,7 +58,7 @@ impl<R: Read> Source for ReadSource<R> {
     fn read(&mut self, buffer: &mut [u8]) -> Result<usize, Failed>
         ensures within { IfOk result (λ n. n ≤ length buffer.old) }
         ensures reads { ReadConsumes (R.remaining (reader_of self.old)) (R.remaining (reader_of self.new)) result buffer.new }
-        ensures counts { reads_failed self.new ≡ failures_after result (reads_failed self.old) }
+        ensures counts { (read_source_state self.new).failures ≡ failures_after result (read_source_state self.old).failures }
     {
         match self.reader.read(buffer) {
             Ok(count) => Ok(count),
@@ -72,7 +72,7 @@ impl<R: Read> Source for ReadSource<R> {
 
 /// A sink over a `std` writer.
 ///
-/// Its bytes are not told. Each error of the writer, an interrupted call included, counts as a failure, and so does a write that
+/// Its bytes are not known. Each error of the writer, an interrupted call included, counts as a failure, and so does a write that
 /// takes none of the bytes offered.
 #[derive(Drop)]
 pub struct WriteSink<W> {
@@ -84,7 +84,7 @@ impl<W: Write> WriteSink<W> {
     /// A sink that hands bytes to the writer, with no failures so far.
     pub fn new(writer: W) -> Self
         ensures writer { writer_of result ≡ writer }
-        ensures failures { writes_failed result ≡ 0 }
+        ensures failures { (write_sink_state result).failures ≡ 0 }
     {
         WriteSink {
             writer,
@@ -101,7 +101,7 @@ impl<W: Write> Sink for WriteSink<W> {
         ensures within { IfOk result (λ n. n ≤ length bytes.now) }
         ensures advances { IfOk result (λ n. 0 < length bytes.now → 0 < n) }
         ensures writes { WriteAppends (W.contents (writer_of self.old)) (W.contents (writer_of self.new)) result bytes.now }
-        ensures counts { writes_failed self.new ≡ failures_after result (writes_failed self.old) }
+        ensures counts { (write_sink_state self.new).failures ≡ failures_after result (write_sink_state self.old).failures }
     {
         match self.writer.write(bytes) {
             Ok(count) if count > 0 || bytes.is_empty() => Ok(count),
@@ -153,25 +153,22 @@ impl<'a, R: FileSystem + io::Input> SystemFiles<'a, R> {
 impl<R: FileSystem + io::Input + Sync> Files for SystemFiles<'_, R> {
     type Src = ReadSource<Input<R::File, R::Reader>>;
 
-    // Nothing is told of the system's files.
-    ghost told = { λ _. untold };
+    // Nothing is known of the system's files.
+    ghost known = { λ _. unknown };
 
     /// Opens the file of this name, or standard input.
     fn source(&mut self, name: Option<&str>) -> Result<Self::Src, Failed>
         ensures origin { IfOk result (λ source. is_file (reader_of source) ≡ is_some name.entry) }
         ensures standard_input { IsNone name.entry → IsOk result }
-        ensures failures { IfOk result (λ source. reads_failed source ≡ 0) }
+        ensures failures { IfOk result (λ source. (read_source_state source).failures ≡ 0) }
         ensures gives { IfOk result (λ source. GivesAll None (read_source_state source)) }
-        ensures refused { IsErr result → IsTrue (untold.may_fail (option_map (λ name. name.now) name.entry)) }
+        ensures refused { IsErr result → IsTrue (unknown.may_fail (option_map (λ name. name.now) name.entry)) }
         ensures failing { IfOk result (λ source. (later : ReadSource (Input R.File R.Reader)) → HasFailed (read_source_state source) (read_source_state later)
-            → IsTrue (untold.may_fail (option_map (λ name. name.now) name.entry))) }
+            → IsTrue (unknown.may_fail (option_map (λ name. name.now) name.entry))) }
     {
         let input = match name {
             None => Input::StandardInput(self.runtime.reader()),
-            Some(name) => match File::open(self.runtime, name) {
-                Ok(file) => Input::File(file),
-                Err(_) => return Err(Failed),
-            },
+            Some(name) => Input::File(File::open(self.runtime, name).map_err(|_| Failed)?),
         };
         Ok(ReadSource::new(input))
     }
@@ -182,10 +179,7 @@ impl<R: FileSystem + io::Input + Sync> AgentFiles for SystemFiles<'_, R> {
 
     /// Writes and syncs a new file beside it, and renames that.
     fn replace(&mut self, name: &str, bytes: &[u8]) -> Result<(), Failed> {
-        match replaced(self.runtime, name, bytes) {
-            Ok(()) => Ok(()),
-            Err(_) => Err(Failed),
-        }
+        replace_file(self.runtime, name, bytes).map_err(|_| Failed)
     }
 
     /// These files.
@@ -197,13 +191,10 @@ impl<R: FileSystem + io::Input + Sync> AgentFiles for SystemFiles<'_, R> {
 }
 
 // Has the file of this name be these bytes, by way of a new file beside it. That is removed if this fails.
-fn replaced<R: FileSystem>(rt: &R, name: &str, bytes: &[u8]) -> io::Result<()> {
+fn replace_file<R: FileSystem>(rt: &R, name: &str, bytes: &[u8]) -> io::Result<()> {
     let mode = mode_in_place_of(rt, name)?;
-    let (mut file, beside) = created_beside(rt, name, mode)?;
-    let renamed = match written(&mut file, bytes) {
-        Ok(()) => fs::rename(rt, beside.as_str(), name),
-        Err(fault) => Err(fault),
-    };
+    let (mut file, beside) = create_beside(rt, name, mode)?;
+    let renamed = write_file(&mut file, bytes).and_then(|()| fs::rename(rt, beside.as_str(), name));
     if renamed.is_err() {
         let _ = fs::remove_file(rt, beside.as_str());
     }
@@ -222,11 +213,7 @@ fn mode_in_place_of<R: FileSystem>(rt: &R, name: &str) -> io::Result<u32> {
 }
 
 // Creates a file of this mode beside that of the name, under the first of the names for it that nothing has. Returns it with its name.
-fn created_beside<R: FileSystem>(
-    rt: &R,
-    name: &str,
-    mode: u32,
-) -> io::Result<(R::File, ArrayString<MOST_PATH>)> {
+fn create_beside<R: FileSystem>(rt: &R, name: &str, mode: u32) -> io::Result<(R::File, Path)> {
     let mut options = File::options();
     options.write(true).create_new(true).mode(mode);
     for number in 0..MOST_BESIDE {
@@ -241,29 +228,25 @@ fn created_beside<R: FileSystem>(
 }
 
 // The name of a file beside that of the name, for this number.
-fn name_beside(name: &str, number: u32) -> io::Result<ArrayString<MOST_PATH>> {
+fn name_beside(name: &str, number: u32) -> io::Result<Path> {
     let mut beside = ArrayString::new();
-    match write!(beside, "{name}.{number}.new") {
-        Ok(()) => Ok(beside),
-        Err(_) => Err(io::Error::from(io::ErrorKind::InvalidFilename)),
-    }
+    write!(beside, "{name}.{number}.new").map_err(|_| io::ErrorKind::InvalidFilename)?;
+    Ok(beside)
 }
 
 // Writes the bytes to the file, and syncs it.
-fn written<F: Write + OpenFile>(file: &mut F, bytes: &[u8]) -> io::Result<()> {
+fn write_file<F: Write + OpenFile>(file: &mut F, bytes: &[u8]) -> io::Result<()> {
     file.write_all(bytes)?;
     file.sync_all()
 }
 
 impl<R: FileSystem> SharedFiles for SystemFiles<'_, R> {
-    // The contents of files are not told.
+    // The contents of files are not known.
     ghost held = { λ _ _. None };
 
     /// Opens and hashes the file of this name.
     fn hash(&self, alloc: Global, name: &str, alg: Alg, limit: u64) -> Result<Digest, LoadFault> {
-        match File::open(self.runtime, name) {
-            Ok(file) => hash_from(alloc, &mut ReadSource::new(file), alg, limit),
-            Err(_) => Err(LoadFault::Source),
-        }
+        let file = File::open(self.runtime, name).map_err(|_| LoadFault::Source)?;
+        hash_from(alloc, &mut ReadSource::new(file), alg, limit)
     }
 }

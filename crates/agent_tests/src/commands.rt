@@ -34,7 +34,7 @@ pub static FILES: [(&str, &[u8]); 12] = [
 
 /// Words, and the status and the output that they get.
 pub struct Command {
-    pub words: &'static [&'static str],
+    pub arguments: &'static [&'static str],
     pub status: u8,
     pub output: &'static [u8],
 }
@@ -45,7 +45,7 @@ const SHELL_LINE: &[u8] =
 
 /// A measurement, with two workers.
 pub const MEASURE: Command = Command {
-    words: &["measure", "--print=registers", "header", "/bin/sh"],
+    arguments: &["measure", "--print=registers", "header", "/bin/sh"],
     status: 0,
     output: SHELL_LINE,
 };
@@ -53,32 +53,32 @@ pub const MEASURE: Command = Command {
 /// Every command.
 pub static COMMANDS: [Command; 13] = [
     Command {
-        words: &[],
+        arguments: &[],
         status: 0,
         output: LOG_LINE,
     },
     Command {
-        words: &["registers", "log"],
+        arguments: &["registers", "log"],
         status: 0,
         output: LOG_LINE,
     },
     Command {
-        words: &["events", "log"],
+        arguments: &["events", "log"],
         status: 0,
         output: EVENT_LINES,
     },
     Command {
-        words: &["show", "entry"],
+        arguments: &["show", "entry"],
         status: 0,
         output: MEASUREMENT_LINE,
     },
     Command {
-        words: &["replay", "entry"],
+        arguments: &["replay", "entry"],
         status: 0,
         output: MEASUREMENT_REGISTERS,
     },
     Command {
-        words: &["replay", "--require=sha256:10", "entry", "ten"],
+        arguments: &["replay", "--require=sha256:10", "entry", "ten"],
         status: 0,
         output: b"\
 entries 1
@@ -91,17 +91,17 @@ verdict match
 ",
     },
     Command {
-        words: &["expected", "printed"],
+        arguments: &["expected", "printed"],
         status: 0,
         output: PRINTED_LINE,
     },
     Command {
-        words: &["verify", "log", "list", "values"],
+        arguments: &["verify", "log", "list", "values"],
         status: 1,
         output: REPORT,
     },
     Command {
-        words: &["verify", "--prefix", "--save=known", "log", "list", "row"],
+        arguments: &["verify", "--prefix", "--save=known", "log", "list", "row"],
         status: 0,
         output: b"\
 events 1 locality 0
@@ -113,12 +113,12 @@ verdict match
 ",
     },
     Command {
-        words: &["locate", "log", "list", "values"],
+        arguments: &["locate", "log", "list", "values"],
         status: 1,
         output: PLACES,
     },
     Command {
-        words: &["locate", "--require=sha256:9-10", "log", "list", "values"],
+        arguments: &["locate", "--require=sha256:9-10", "log", "list", "values"],
         status: 1,
         output: b"\
 sha256 10 after entry 2
@@ -130,7 +130,7 @@ not located
     },
     MEASURE,
     Command {
-        words: &[
+        arguments: &[
             "measure",
             "--print=registers",
             "header",
@@ -145,17 +145,17 @@ not located
 /// Commands that are refused, or fail.
 pub static FAULTS: [Command; 3] = [
     Command {
-        words: &["registers", "entry"],
+        arguments: &["registers", "entry"],
         status: 2,
         output: b"refused: log fault 2\n",
     },
     Command {
-        words: &["show", "a b"],
+        arguments: &["show", "a b"],
         status: 3,
         output: b"failed: read a b\n",
     },
     Command {
-        words: &["measure", "--limit=1", "header", "/bin/sh"],
+        arguments: &["measure", "--limit=1", "header", "/bin/sh"],
         status: 2,
         output: b"refused: job 0 book fault 7\n",
     },

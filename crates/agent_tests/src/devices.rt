@@ -81,7 +81,7 @@ impl<'a> Files for PieceFiles<'a> {
     type Src = MemorySource<'a>;
 
     // The bytes of each file but the one that is to fail. That one may, and a file that is none of these.
-    ghost told = { λ files. record {
+    ghost known = { λ files. record {
       held = λ name. held files.files.now files.failing.now (input_name name);
       may_fail = λ name. is_none (held files.files.now files.failing.now (input_name name));
     } };
@@ -117,10 +117,10 @@ impl SharedFiles for PieceFiles<'_> {
 }
 
 /// The words of a command.
-pub fn words_of(alloc: Global, words: &[&str]) -> Result<Vec<String>, AllocError> {
+pub fn arguments_of(alloc: Global, arguments: &[&str]) -> Result<Vec<String>, AllocError> {
     once_more(AllocError, || {
         let mut owned = Vec::new(alloc);
-        for word in words {
+        for word in arguments {
             owned.push(String::from_str(alloc, word)?)?;
         }
         Ok(owned)
@@ -130,25 +130,25 @@ pub fn words_of(alloc: Global, words: &[&str]) -> Result<Vec<String>, AllocError
 /// What the program answers and writes.
 pub fn ran<R: Threads + Wait + Sync + AllocGlobal, F: AgentFiles>(
     rt: &R,
-    words: &[String],
+    arguments: &[String],
     files: &mut F,
 ) -> (u8, Vec<u8>) {
     let mut sink = VecSink::new(Vec::new(rt.alloc()));
-    let status = run(rt, rt.alloc(), words, files, &mut sink);
+    let status = run(rt, rt.alloc(), arguments, files, &mut sink);
     (status, sink.into_bytes())
 }
 
-/// The same; once more where an allocation was refused, which shows as the status 3 without the whole line of an input that could
+/// The status and the output; once more where an allocation was refused, which shows as the status 3 without the whole line of an input that could
 /// not be taken.
 pub fn answered<R: Threads + Wait + Sync + AllocGlobal, F: AgentFiles>(
     rt: &R,
-    words: &[String],
+    arguments: &[String],
     files: &mut F,
 ) -> (u8, Vec<u8>) {
-    let first = ran(rt, words, files);
+    let first = ran(rt, arguments, files);
     let is_told = first.1.starts_with(b"failed: read ") && first.1.ends_with(b"\n");
     if first.0 == 3 && !is_told {
-        return ran(rt, words, files);
+        return ran(rt, arguments, files);
     }
     first
 }

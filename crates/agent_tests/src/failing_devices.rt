@@ -1,7 +1,7 @@
 //! The program on files that fail at each read, and to sinks that fail at each write; and its exit codes.
 
 use crate::commands::{COMMANDS, Command, FAULTS, FILES};
-use crate::devices::{PieceFiles, answered, words_of};
+use crate::devices::{PieceFiles, answered, arguments_of};
 use ima_agent::{NoProgress, exit_code, run};
 use std::io::{Error, ErrorKind};
 use std::process::{Abort, ExitCode};
@@ -12,7 +12,7 @@ use test_kit::sinks::PieceSink;
 
 /// Whether the command reads the file of this name; without words it reads standard input.
 fn reads_file(command: &Command, name: &str) -> bool {
-    command.words.contains(&name) || (command.words.is_empty() && name == "-")
+    command.arguments.contains(&name) || (command.arguments.is_empty() && name == "-")
 }
 
 /// The files, of which this one gives one byte at a time and fails after so many reads.
@@ -38,9 +38,9 @@ fn assert_each_read_fails(
     name: &str,
     size: usize,
 ) -> Result<(), Fail> {
-    let words = words_of(rt.alloc(), command.words)?;
+    let arguments = arguments_of(rt.alloc(), command.arguments)?;
     for reads in 0..=size {
-        let (status, output) = answered(rt, &words, &mut failing(name, reads));
+        let (status, output) = answered(rt, &arguments, &mut failing(name, reads));
         assert_eq!(rt; status, 3, "{name}, {reads} reads");
         assert_eq!(rt;
             failed_name(&output),
@@ -48,7 +48,7 @@ fn assert_each_read_fails(
             "{reads} reads"
         );
     }
-    let (status, output) = answered(rt, &words, &mut failing(name, usize::MAX));
+    let (status, output) = answered(rt, &arguments, &mut failing(name, usize::MAX));
     assert_eq!(rt; status, command.status, "{name}");
     assert_eq!(rt; output.as_slice(), command.output, "{name}");
     Ok(())
@@ -72,14 +72,14 @@ fn each_read_of_a_file_fails(rt: HostRuntime) -> Result<(), Fail> {
 fn assert_each_write_fails(
     rt: &(impl Threads + Wait + Sync + AllocGlobal + Abort),
     command: &Command,
-    words: &[String],
+    arguments: &[String],
     most: usize,
 ) {
     let mut is_whole = false;
     for writes in 0..=command.output.len() {
         let mut files = PieceFiles::whole(&FILES);
         let mut sink = PieceSink::failing(command.output, most, writes);
-        let status = run(rt, rt.alloc(), words, &mut files, &mut sink);
+        let status = run(rt, rt.alloc(), arguments, &mut files, &mut sink);
         is_whole = sink.is_full();
         if is_whole {
             assert_eq!(rt; status, command.status);
@@ -94,9 +94,9 @@ fn assert_each_write_fails(
 #[test]
 fn each_write_of_an_output_fails(rt: HostRuntime) -> Result<(), Fail> {
     for command in COMMANDS.iter().chain(&FAULTS) {
-        let words = words_of(rt.alloc(), command.words)?;
+        let arguments = arguments_of(rt.alloc(), command.arguments)?;
         for most in [1, 3, usize::MAX] {
-            assert_each_write_fails(&rt, command, &words, most);
+            assert_each_write_fails(&rt, command, &arguments, most);
         }
     }
     Ok(())
@@ -107,13 +107,13 @@ fn each_write_of_an_output_fails(rt: HostRuntime) -> Result<(), Fail> {
 fn exit_codes(rt: HostRuntime) -> Result<(), Fail> {
     let opened = [1, 1, 1, 1, 1, 2, 1, 3, 3, 3, 3, 1, 2, 1, 1, 1];
     for (command, opened) in COMMANDS.iter().chain(&FAULTS).zip(opened) {
-        let words = words_of(rt.alloc(), command.words)?;
+        let arguments = arguments_of(rt.alloc(), command.arguments)?;
         let mut files = PieceFiles::whole(&FILES);
         let mut sink = PieceSink::failing(command.output, usize::MAX, usize::MAX);
         let code = exit_code(
             &rt,
             rt.alloc(),
-            Ok(words),
+            Ok(arguments),
             &mut files,
             &mut sink,
             &NoProgress,
@@ -126,10 +126,17 @@ fn exit_codes(rt: HostRuntime) -> Result<(), Fail> {
 
 /// Without words it is that of a program that is out of memory.
 #[test]
-fn exit_code_without_words(rt: HostRuntime) {
-    let words = Err(Error::from(ErrorKind::InvalidInput));
+fn exit_code_without_arguments(rt: HostRuntime) {
+    let arguments = Err(Error::from(ErrorKind::InvalidInput));
     let mut files = PieceFiles::whole(&[]);
     let mut sink = PieceSink::failing(b"failed: memory\n", usize::MAX, usize::MAX);
-    let code = exit_code(&rt, rt.alloc(), words, &mut files, &mut sink, &NoProgress);
+    let code = exit_code(
+        &rt,
+        rt.alloc(),
+        arguments,
+        &mut files,
+        &mut sink,
+        &NoProgress,
+    );
     assert!(rt; code == ExitCode::from(3) && sink.is_full());
 }

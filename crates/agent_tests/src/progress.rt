@@ -1,7 +1,7 @@
 //! Who is told how far a measurement is.
 
 use crate::commands::FILES;
-use crate::devices::{PieceFiles, words_of};
+use crate::devices::{PieceFiles, arguments_of};
 use byte_streams::VecSink;
 use ima_agent::{Failure, FileProgress, Progress, run_with_progress};
 use std::alloc::Global;
@@ -40,9 +40,9 @@ impl Progress for Notes {
 /// How often somebody was told of these words, of which numbers, and how often that it has ended.
 fn told(
     rt: &(impl Threads + Wait + Sync + AllocGlobal),
-    words: &[&str],
+    arguments: &[&str],
 ) -> Result<(u32, u32, u32), Fail> {
-    let words = words_of(rt.alloc(), words)?;
+    let arguments = arguments_of(rt.alloc(), arguments)?;
     let notes = Notes {
         calls: AtomicU32::new(0),
         numbers: AtomicU32::new(0),
@@ -50,7 +50,7 @@ fn told(
     };
     let mut sink = VecSink::new(Vec::new(rt.alloc()));
     let mut files = PieceFiles::whole(&FILES);
-    match run_with_progress(rt, rt.alloc(), &words, &mut files, &mut sink, &notes) {
+    match run_with_progress(rt, rt.alloc(), &arguments, &mut files, &mut sink, &notes) {
         0 => Ok((
             notes.calls.load(Ordering::SeqCst),
             notes.numbers.load(Ordering::SeqCst),

@@ -2,7 +2,7 @@
 //! same command answers the latter. `tests/faults/sweep.py` refuses the allocations, one in each run.
 
 use crate::commands::{COMMANDS, Command, FAULTS, FILES};
-use crate::devices::{PieceFiles, words_of};
+use crate::devices::{PieceFiles, arguments_of};
 use byte_streams::VecSink;
 use ima_agent::run;
 use std::alloc::AllocError;
@@ -15,14 +15,14 @@ use test_kit::once_more;
 /// What the program answers and writes into a sink that has room for it.
 fn ran_with_room(
     rt: &(impl Threads + Wait + Sync + AllocGlobal),
-    words: &[String],
+    arguments: &[String],
 ) -> Result<(u8, Vec<u8>), AllocError> {
     let room = once_more(AllocError, || Vec::with_capacity(rt.alloc(), 4096))?;
     let mut sink = VecSink::new(room);
     let status = run(
         rt,
         rt.alloc(),
-        words,
+        arguments,
         &mut PieceFiles::whole(&FILES),
         &mut sink,
     );
@@ -34,11 +34,11 @@ fn assert_answered(
     rt: &(impl Threads + Wait + Sync + AllocGlobal + Abort),
     command: &Command,
 ) -> Result<(), Fail> {
-    let words = words_of(rt.alloc(), command.words)?;
-    let mut answer = ran_with_room(rt, &words)?;
+    let arguments = arguments_of(rt.alloc(), command.arguments)?;
+    let mut answer = ran_with_room(rt, &arguments)?;
     if answer.1.as_slice() == b"failed: memory\n".as_slice() {
         assert_eq!(rt; answer.0, 3);
-        answer = ran_with_room(rt, &words)?;
+        answer = ran_with_room(rt, &arguments)?;
     }
     assert_eq!(rt; answer.0, command.status);
     assert_eq!(rt; answer.1.as_slice(), command.output);

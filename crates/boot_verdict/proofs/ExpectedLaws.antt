@@ -31,18 +31,18 @@ lacks_from byte [] lacks = tt
 lacks_from byte (first ∷ bytes) lacks = (lacks 0 (omega arith), lacks_from byte bytes (λ k lt. lacks (suc k) (omega (arith, lt))))
 
 -- A text with the byte in the middle does not lack it.
-pub not_lacked : (byte : ℕ) (front rest : List ℕ) → Lacks byte (front ++ byte ∷ rest) → ⊥
+pub not_lacked : (byte : ℕ) (prefix rest : List ℕ) → Lacks byte (prefix ++ byte ∷ rest) → ⊥
 not_lacked byte [] rest lacks = lacks.0 refl
-not_lacked byte (first ∷ front) rest lacks = not_lacked byte front rest lacks.1
+not_lacked byte (first ∷ prefix) rest lacks = not_lacked byte prefix rest lacks.1
 
--- A byte has one first place in a text.
-pub one_cut : (byte : ℕ) (front other rest more : List ℕ) → Lacks byte front → Lacks byte other
-    → front ++ byte ∷ rest ≡ other ++ byte ∷ more → (front ≡ other) × (rest ≡ more)
+-- A byte has one first position in a text.
+pub one_cut : (byte : ℕ) (prefix other rest more : List ℕ) → Lacks byte prefix → Lacks byte other
+    → prefix ++ byte ∷ rest ≡ other ++ byte ∷ more → (prefix ≡ other) × (rest ≡ more)
 one_cut byte [] [] rest more p q e = (refl, ap (λ (l : List ℕ). drop 1 l) e)
 one_cut byte [] (second ∷ other) rest more p q e = absurd (q.0 (sym (ap (λ (l : List ℕ). slice_index l 0) e)))
-one_cut byte (first ∷ front) [] rest more p q e = absurd (p.0 (ap (λ (l : List ℕ). slice_index l 0) e))
-one_cut byte (first ∷ front) (second ∷ other) rest more p q e =
-    let same = one_cut byte front other rest more p.1 q.1 (ap (λ (l : List ℕ). drop 1 l) e) in
+one_cut byte (first ∷ prefix) [] rest more p q e = absurd (p.0 (ap (λ (l : List ℕ). slice_index l 0) e))
+one_cut byte (first ∷ prefix) (second ∷ other) rest more p q e =
+    let same = one_cut byte prefix other rest more p.1 q.1 (ap (λ (l : List ℕ). drop 1 l) e) in
     let head : first ≡ second = ap (λ (l : List ℕ). slice_index l 0) e in
     (rw (head, same.0) refl, same.1)
 
@@ -73,9 +73,9 @@ name_lacks alg = lacks_above (name_of alg) (name_above alg)
 
 -- ---- lines
 
-pub feed_cuts : (front rest : List ℕ) → Lacks 10 front → split_at_feeds (front ++ 10 ∷ rest) ≡ front ∷ split_at_feeds rest
+pub feed_cuts : (prefix rest : List ℕ) → Lacks 10 prefix → split_at_feeds (prefix ++ 10 ∷ rest) ≡ prefix ∷ split_at_feeds rest
 feed_cuts [] rest lacks = refl
-feed_cuts (first ∷ front) rest lacks = search (rules, feed_cuts front rest lacks.1, lacks.0)
+feed_cuts (first ∷ prefix) rest lacks = search (rules, feed_cuts prefix rest lacks.1, lacks.0)
 
 no_feed : (text : List ℕ) → Lacks 10 text → split_at_feeds text ≡ text ∷ []
 no_feed [] lacks = refl
@@ -162,12 +162,12 @@ one_line line e other is another =
 empty_spells_none : (line : List ℕ) (e : Expected) → line ≡ [] → IsRegisterLine line e → ⊥
 empty_spells_none line e empty is = line_has_space line e (rw empty (λ k lt. absurd (omega (arith, lt)))) is
 
-spell_once : (place next other : Unit {0}) (line : List ℕ) (first second : Option Expected) → Spells place line next first
-    → Spells place line other second → (next ≡ other) × (first ≡ second)
-spell_once place next other line None None p q = (refl, refl)
-spell_once place next other line None (Some e) p q = absurd (empty_spells_none line e p q)
-spell_once place next other line (Some e) None p q = absurd (empty_spells_none line e q p)
-spell_once place next other line (Some e) (Some second) p q = (refl, ap (λ (x : Expected). Some x) (one_line line e second p q))
+spell_once : (position next other : Unit {0}) (line : List ℕ) (first second : Option Expected) → Spells position line next first
+    → Spells position line other second → (next ≡ other) × (first ≡ second)
+spell_once position next other line None None p q = (refl, refl)
+spell_once position next other line None (Some e) p q = absurd (empty_spells_none line e p q)
+spell_once position next other line (Some e) None p q = absurd (empty_spells_none line e q p)
+spell_once position next other line (Some e) (Some second) p q = (refl, ap (λ (x : Expected). Some x) (one_line line e second p q))
 
 pub spells_once : SaysOnce Spells
 spells_once = record { once = spell_once }

@@ -3,7 +3,7 @@ pub mod StatedLaws
 pub mod ExpectedLaws
 pub mod VerdictLaws
 pub mod StepLaws
-pub mod PlaceLaws
+pub mod PositionLaws
 pub mod ReplayLaws
 pub mod ListVerdictLaws
 pub mod EventTextLaws

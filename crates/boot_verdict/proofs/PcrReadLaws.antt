@@ -12,19 +12,19 @@ use Rattle.pcr_banks.proofs.AlgLaws.{same_name_is}
 use Rattle.hex.specs.Hex.{is_hex_digit}
 use Rattle.hex.proofs.HexLemmas.{decode_of-ok}
 use Rattle.boot_verdict.specs.declared.expected.Expected.{Expected}
-use Rattle.boot_verdict.specs.PcrReadTexts.{Begins, GivesValue, IsBankLine, IsSkipped, IsValueLine, Place, Says, is_name_byte, two_columns}
+use Rattle.boot_verdict.specs.PcrReadTexts.{Begins, GivesValue, IsBankLine, IsSkipped, IsValueLine, Position, Says, is_name_byte, two_columns}
 use Rattle.boot_verdict.specs.parts.StatedLines.{SaysOnce}
 use Rattle.boot_verdict.proofs.StatedLaws.{same_expected}
 
--- ---- fronts
+-- ---- prefixes
 
--- Two texts of one length at the front of the same text are the same.
-pub same_fronts : (a b x y : List ℕ) → length a ≡ length b → a ++ x ≡ b ++ y → (a ≡ b) × (x ≡ y)
-same_fronts [] [] x y size e = (refl, e)
-same_fronts [] (second ∷ b) x y size e = absurd (omega (arith, size))
-same_fronts (first ∷ a) [] x y size e = absurd (omega (arith, size))
-same_fronts (first ∷ a) (second ∷ b) x y size e =
-    let others = same_fronts a b x y (omega (arith, size)) (ap (λ (l : List ℕ). drop 1 l) e) in
+-- Two texts of one length at the start of the same text are the same.
+pub same_prefixes : (a b x y : List ℕ) → length a ≡ length b → a ++ x ≡ b ++ y → (a ≡ b) × (x ≡ y)
+same_prefixes [] [] x y size e = (refl, e)
+same_prefixes [] (second ∷ b) x y size e = absurd (omega (arith, size))
+same_prefixes (first ∷ a) [] x y size e = absurd (omega (arith, size))
+same_prefixes (first ∷ a) (second ∷ b) x y size e =
+    let others = same_prefixes a b x y (omega (arith, size)) (ap (λ (l : List ℕ). drop 1 l) e) in
     let head : first ≡ second = ap (λ (l : List ℕ). slice_index l 0) e in
     (rw (head, others.0) refl, others.1)
 
@@ -91,14 +91,14 @@ columns_injective n m n-lt m-lt same =
 
 -- What is left of two columns without a space at their end is the number.
 pub columns_stripped : (number : Bor (List ℕ)) (found : Option (Bor (List ℕ))) (n : ℕ) → n < 24 → number.now ≡ two_columns n
-    → IfSome found (λ front. number.now ≡ front.now ++ codes " ") → IfNone found ((front : List ℕ) → number.now ≡ front ++ codes " " → ⊥)
+    → IfSome found (λ prefix. number.now ≡ prefix.now ++ codes " ") → IfNone found ((prefix : List ℕ) → number.now ≡ prefix ++ codes " " → ⊥)
     → (unwrap_or found number).now ≡ decimal n
-columns_stripped number (Some front) n lt is cut none =
+columns_stripped number (Some prefix) n lt is cut none =
     let p = in_columns n lt in
-    let e : front.now ++ 32 ∷ [] ≡ (p.first ∷ []) ++ p.second ∷ [] = sym cut ∙ is ∙ p.are in
-    let sizes : length (front.now ++ 32 ∷ []) ≡ 2 = ap length e in
-    let parts = same_fronts front.now (p.first ∷ []) (32 ∷ []) (p.second ∷ [])
-    (omega (arith, sizes, length-append front.now (32 ∷ []))) e in
+    let e : prefix.now ++ 32 ∷ [] ≡ (p.first ∷ []) ++ p.second ∷ [] = sym cut ∙ is ∙ p.are in
+    let sizes : length (prefix.now ++ 32 ∷ []) ≡ 2 = ap length e in
+    let parts = same_prefixes prefix.now (p.first ∷ []) (32 ∷ []) (p.second ∷ [])
+    (omega (arith, sizes, length-append prefix.now (32 ∷ []))) e in
     let space : p.second ≡ 32 = sym (ap (λ (l : List ℕ). slice_index l 0) parts.1) in
     elim p.kind [
       | inl short ↦ parts.0 ∙ sym short.1
@@ -111,9 +111,9 @@ columns_stripped number None n lt is cut none =
       | inr long ↦ is ∙ p.are ∙ sym long.1
     ]
 
--- The two columns at the front of a text.
-pub columns_front : (text rest : List ℕ) (n : ℕ) → n < 24 → text ≡ two_columns n ++ rest → take 2 text ≡ two_columns n
-columns_front text rest n lt is =
+-- The two columns at the start of a text.
+pub columns_prefix : (text rest : List ℕ) (n : ℕ) → n < 24 → text ≡ two_columns n ++ rest → take 2 text ≡ two_columns n
+columns_prefix text rest n lt is =
     let p = in_columns n lt in
     ap (take 2) (is ∙ ap (λ (l : List ℕ). l ++ rest) p.are) ∙ sym p.are
 
@@ -144,14 +144,14 @@ pub one_value : (bank line : List ℕ) (e other : Expected) → IsValueLine bank
 one_value bank line e other is another =
     let rest : two_columns e.register ++ (codes ": 0x" ++ is.digits) ≡ two_columns other.register ++ (codes ": 0x" ++ another.digits) =
     ap (λ (l : List ℕ). drop 4 l) (sym is.spelled ∙ another.spelled) in
-    let parts = same_fronts (two_columns e.register) (two_columns other.register) (codes ": 0x" ++ is.digits) (codes ": 0x" ++ another.digits)
+    let parts = same_prefixes (two_columns e.register) (two_columns other.register) (codes ": 0x" ++ is.digits) (codes ": 0x" ++ another.digits)
     (columns_length e.register is.exists ∙ sym (columns_length other.register another.exists)) rest in
     same_expected e other is.digits another.digits (same_name_is e.alg other.alg (is.bank_is ∙ sym another.bank_is))
     (columns_injective e.register other.register is.exists another.exists parts.0) (ap (λ (l : List ℕ). drop 4 l) parts.1)
     is.alg_is another.alg_is is.value_is another.value_is
 
-skipped_bank : (place next : Place) (line : List ℕ) → IsSkipped place line → Begins line next → ⊥
-skipped_bank place None line skipped begins = begins
+skipped_bank : (position next : Position) (line : List ℕ) → IsSkipped position line → Begins line next → ⊥
+skipped_bank position None line skipped begins = begins
 skipped_bank None (Some name) line empty begins = no_bank_empty line name begins empty
 skipped_bank (Some bank) (Some name) line skipped begins =
     elim skipped [
@@ -164,7 +164,7 @@ value_not_empty bank line e is empty =
     let whole : [] ≡ codes "    " ++ (two_columns e.register ++ (codes ": 0x" ++ is.digits)) = sym empty ∙ is.spelled in
     absurd cc
 
-skipped_value : (place : Place) (line : List ℕ) (e : Expected) → IsSkipped place line → GivesValue place line e → ⊥
+skipped_value : (position : Position) (line : List ℕ) (e : Expected) → IsSkipped position line → GivesValue position line e → ⊥
 skipped_value None line e skipped gives = gives
 skipped_value (Some bank) line e skipped gives =
     elim skipped [
@@ -172,46 +172,46 @@ skipped_value (Some bank) line e skipped gives =
       | inr foreign ↦ foreign.unknown e.alg gives.bank_is
     ]
 
-bank_value : (place next : Place) (line : List ℕ) (e : Expected) → Begins line next → GivesValue place line e → ⊥
-bank_value place None line e begins gives = begins
+bank_value : (position next : Position) (line : List ℕ) (e : Expected) → Begins line next → GivesValue position line e → ⊥
+bank_value position None line e begins gives = begins
 bank_value None (Some name) line e begins gives = gives
 bank_value (Some bank) (Some name) line e begins gives =
     no_bank_below line name (two_columns e.register ++ (codes ": 0x" ++ gives.digits)) begins gives.spelled
 
-one_place : (line : List ℕ) (next other : Place) → Begins line next → Begins line other → next ≡ other
-one_place line None other p q = absurd p
-one_place line (Some name) None p q = absurd q
-one_place line (Some name) (Some other) p q = ap (λ (l : List ℕ). Some l) (one_bank line name other p q)
+one_position : (line : List ℕ) (next other : Position) → Begins line next → Begins line other → next ≡ other
+one_position line None other p q = absurd p
+one_position line (Some name) None p q = absurd q
+one_position line (Some name) (Some other) p q = ap (λ (l : List ℕ). Some l) (one_bank line name other p q)
 
-no_value_here : (place next : Place) (line : List ℕ) (e : Expected) → Says place line next None → GivesValue place line e → ⊥
-no_value_here place next line e says gives =
+no_value_here : (position next : Position) (line : List ℕ) (e : Expected) → Says position line next None → GivesValue position line e → ⊥
+no_value_here position next line e says gives =
     elim says [
-      | inl skipped ↦ skipped_value place line e skipped.0 gives
-      | inr begins ↦ bank_value place next line e begins gives
+      | inl skipped ↦ skipped_value position line e skipped.0 gives
+      | inr begins ↦ bank_value position next line e begins gives
     ]
 
-value_here : (place : Place) (line : List ℕ) (e other : Expected) → GivesValue place line e → GivesValue place line other → e ≡ other
+value_here : (position : Position) (line : List ℕ) (e other : Expected) → GivesValue position line e → GivesValue position line other → e ≡ other
 value_here None line e other p q = absurd p
 value_here (Some bank) line e other p q = one_value bank line e other p q
 
 -- A line says one thing.
-say_once : (place next other : Place) (line : List ℕ) (first second : Option Expected) → Says place line next first
-    → Says place line other second → (next ≡ other) × (first ≡ second)
-say_once place next other line None None p q =
+say_once : (position next other : Position) (line : List ℕ) (first second : Option Expected) → Says position line next first
+    → Says position line other second → (next ≡ other) × (first ≡ second)
+say_once position next other line None None p q =
     elim p [
       | inl skipped ↦ elim q [
         | inl also ↦ (skipped.1 ∙ sym also.1, refl)
-        | inr begins ↦ absurd (skipped_bank place other line skipped.0 begins)
+        | inr begins ↦ absurd (skipped_bank position other line skipped.0 begins)
       ]
       | inr begins ↦ elim q [
-        | inl skipped ↦ absurd (skipped_bank place next line skipped.0 begins)
-        | inr also ↦ (one_place line next other begins also, refl)
+        | inl skipped ↦ absurd (skipped_bank position next line skipped.0 begins)
+        | inr also ↦ (one_position line next other begins also, refl)
       ]
     ]
-say_once place next other line None (Some e) p q = absurd (no_value_here place next line e p q.0)
-say_once place next other line (Some e) None p q = absurd (no_value_here place other line e q p.0)
-say_once place next other line (Some e) (Some second) p q =
-    (p.1 ∙ sym q.1, ap (λ (x : Expected). Some x) (value_here place line e second p.0 q.0))
+say_once position next other line None (Some e) p q = absurd (no_value_here position next line e p q.0)
+say_once position next other line (Some e) None p q = absurd (no_value_here position other line e q p.0)
+say_once position next other line (Some e) (Some second) p q =
+    (p.1 ∙ sym q.1, ap (λ (x : Expected). Some x) (value_here position line e second p.0 q.0))
 
 pub says_once : SaysOnce Says
 says_once = record { once = say_once }
@@ -224,7 +224,7 @@ pub after_columns : (bank line text rest : List ℕ) (n : ℕ) (e : Expected) �
 after_columns bank line text rest n e lt below columns is =
     let same : two_columns n ++ rest ≡ two_columns e.register ++ (codes ": 0x" ++ is.digits) =
     sym columns ∙ ap (λ (l : List ℕ). drop 4 l) (sym below ∙ is.spelled) in
-    (same_fronts (two_columns n) (two_columns e.register) rest (codes ": 0x" ++ is.digits)
+    (same_prefixes (two_columns n) (two_columns e.register) rest (codes ": 0x" ++ is.digits)
     (columns_length n lt ∙ sym (columns_length e.register is.exists)) same).1
 
 -- A line whose digits are no value of this algorithm gives none.

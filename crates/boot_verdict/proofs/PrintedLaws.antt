@@ -6,8 +6,8 @@ use Rattle.boot_verdict.specs.declared.expected.ExpectFault.{ExpectFault}
 use Rattle.boot_verdict.specs.declared.expected.ExpectFault.TheVariants.{Memory, NoRegister, NotSigned}
 use Rattle.boot_verdict.specs.declared.printed.Part.{Part}
 use Rattle.boot_verdict.specs.declared.printed.Part.TheVariants.{Printed, Quoted, Signed}
-use Rattle.boot_verdict.specs.PcrReadTexts.{Begins, GivesValue, IsSkipped, Place, Says}
-use Rattle.boot_verdict.specs.PrintedTexts.{ArePrinted, IsPrintedText, MayEnd, PrintedPlace, Prints, PrintsIn, Turns}
+use Rattle.boot_verdict.specs.PcrReadTexts.{Begins, GivesValue, IsSkipped, Position, Says}
+use Rattle.boot_verdict.specs.PrintedTexts.{ArePrinted, IsPrintedText, MayEnd, PrintedPosition, Prints, PrintsIn, Turns}
 use Rattle.boot_verdict.specs.StatedRegisters.{lines_of}
 use Rattle.boot_verdict.specs.parts.StatedLines.{SaysOnce}
 use Rattle.boot_verdict.proofs.PcrReadLaws.{says_once}
@@ -15,7 +15,7 @@ use Rattle.boot_verdict.proofs.StatedLaws.{ends_once}
 
 -- ---- a line of tpm2_pcrread begins with a space
 
-skipped_first : (place : Place) (line : List ℕ) → IsSkipped place line → (line ≡ []) ⊎ (slice_index line 0 ≡ 32)
+skipped_first : (position : Position) (line : List ℕ) → IsSkipped position line → (line ≡ []) ⊎ (slice_index line 0 ≡ 32)
 skipped_first None line empty = inl empty
 skipped_first (Some bank) line skipped =
     elim skipped [
@@ -23,59 +23,59 @@ skipped_first (Some bank) line skipped =
       | inr foreign ↦ inr (ap (λ (l : List ℕ). slice_index l 0) foreign.spelled)
     ]
 
-bank_first : (after : Place) (line : List ℕ) → Begins line after → slice_index line 0 ≡ 32
+bank_first : (after : Position) (line : List ℕ) → Begins line after → slice_index line 0 ≡ 32
 bank_first None line begins = absurd begins
 bank_first (Some name) line begins = ap (λ (l : List ℕ). slice_index l 0) begins.spelled
 
-value_first : (place : Place) (line : List ℕ) (e : Expected) → GivesValue place line e → slice_index line 0 ≡ 32
+value_first : (position : Position) (line : List ℕ) (e : Expected) → GivesValue position line e → slice_index line 0 ≡ 32
 value_first None line e gives = absurd gives
 value_first (Some bank) line e gives = ap (λ (l : List ℕ). slice_index l 0) gives.spelled
 
-says_first : (place after : Place) (line : List ℕ) (stated : Option Expected) → Says place line after stated
+says_first : (position after : Position) (line : List ℕ) (stated : Option Expected) → Says position line after stated
     → (line ≡ []) ⊎ (slice_index line 0 ≡ 32)
-says_first place after line None says =
+says_first position after line None says =
     elim says [
-      | inl skipped ↦ skipped_first place line skipped.0
+      | inl skipped ↦ skipped_first position line skipped.0
       | inr begins ↦ inr (bank_first after line begins)
     ]
-says_first place after line (Some e) says = inr (value_first place line e says.0)
+says_first position after line (Some e) says = inr (value_first position line e says.0)
 
 -- ---- a line that begins another part
 
-turn_first : (part next : Part) (place : Place) (line : List ℕ) → Turns part place line next
+turn_first : (part next : Part) (position : Position) (line : List ℕ) → Turns part position line next
     → (slice_index line 0 ≡ 112) ⊎ (slice_index line 0 ≡ 115)
 turn_first Printed Printed None line turns = absurd turns
 turn_first Printed Quoted None line turns = inl (ap (λ (l : List ℕ). slice_index l 0) turns)
 turn_first Printed Signed None line turns = absurd turns
 turn_first Printed next (Some bank) line turns = absurd turns
-turn_first Quoted Printed place line turns = absurd turns
-turn_first Quoted Quoted place line turns = absurd turns
-turn_first Quoted Signed place line turns = inr (ap (λ (l : List ℕ). slice_index l 0) turns.spelled)
-turn_first Signed next place line turns = absurd turns
+turn_first Quoted Printed position line turns = absurd turns
+turn_first Quoted Quoted position line turns = absurd turns
+turn_first Quoted Signed position line turns = inr (ap (λ (l : List ℕ). slice_index l 0) turns.spelled)
+turn_first Signed next position line turns = absurd turns
 
-one_turn : (part next other : Part) (place : Place) (line : List ℕ) → Turns part place line next → Turns part place line other → next ≡ other
+one_turn : (part next other : Part) (position : Position) (line : List ℕ) → Turns part position line next → Turns part position line other → next ≡ other
 one_turn Printed Printed other None line p q = absurd p
 one_turn Printed Signed other None line p q = absurd p
 one_turn Printed Quoted Printed None line p q = absurd q
 one_turn Printed Quoted Quoted None line p q = refl
 one_turn Printed Quoted Signed None line p q = absurd q
 one_turn Printed next other (Some bank) line p q = absurd p
-one_turn Quoted Printed other place line p q = absurd p
-one_turn Quoted Quoted other place line p q = absurd p
-one_turn Quoted Signed Printed place line p q = absurd q
-one_turn Quoted Signed Quoted place line p q = absurd q
-one_turn Quoted Signed Signed place line p q = refl
-one_turn Signed next other place line p q = absurd p
+one_turn Quoted Printed other position line p q = absurd p
+one_turn Quoted Quoted other position line p q = absurd p
+one_turn Quoted Signed Printed position line p q = absurd q
+one_turn Quoted Signed Quoted position line p q = absurd q
+one_turn Quoted Signed Signed position line p q = refl
+one_turn Signed next other position line p q = absurd p
 
-turn_says_nothing : (part next : Part) (place after : Place) (line : List ℕ) (stated : Option Expected) → Turns part place line next
-    → Says place line after stated → ⊥
-turn_says_nothing part next place after line stated turns says =
-    elim (says_first place after line stated says) [
-      | inl empty ↦ elim (turn_first part next place line turns) [
+turn_says_nothing : (part next : Part) (position after : Position) (line : List ℕ) (stated : Option Expected) → Turns part position line next
+    → Says position line after stated → ⊥
+turn_says_nothing part next position after line stated turns says =
+    elim (says_first position after line stated says) [
+      | inl empty ↦ elim (turn_first part next position line turns) [
         | inl p ↦ absurd (omega (arith, ap (λ (l : List ℕ). slice_index l 0) empty, p))
         | inr s ↦ absurd (omega (arith, ap (λ (l : List ℕ). slice_index l 0) empty, s))
       ]
-      | inr space ↦ elim (turn_first part next place line turns) [
+      | inr space ↦ elim (turn_first part next position line turns) [
         | inl p ↦ absurd (omega (arith, space, p))
         | inr s ↦ absurd (omega (arith, space, s))
       ]
@@ -83,23 +83,23 @@ turn_says_nothing part next place after line stated turns says =
 
 -- ---- a line says one thing
 
-same_place : (place other : PrintedPlace) → place.0 ≡ other.0 → place.1 ≡ other.1 → place ≡ other
-same_place place other parts banks =
-    ap (λ (part : Part). let x : PrintedPlace = (part, place.1) in x) parts
-    ∙ ap (λ (bank : Place). let x : PrintedPlace = (other.0, bank) in x) banks
+same_position : (position other : PrintedPosition) → position.0 ≡ other.0 → position.1 ≡ other.1 → position ≡ other
+same_position position other parts banks =
+    ap (λ (part : Part). let x : PrintedPosition = (part, position.1) in x) parts
+    ∙ ap (λ (bank : Position). let x : PrintedPosition = (other.0, bank) in x) banks
 
 -- What a line says before the signature.
-abbrev SaysOpen : Part → Place → List ℕ → PrintedPlace → Option Expected → Type 0
+abbrev SaysOpen : Part → Position → List ℕ → PrintedPosition → Option Expected → Type 0
 SaysOpen part bank line after stated =
     (Turns part bank line after.0 × (after.1 ≡ None) × (stated ≡ None)) ⊎ ((after.0 ≡ part) × Says bank line after.1 stated)
 
-open_once : (part : Part) (bank : Place) (next other : PrintedPlace) (line : List ℕ) (first second : Option Expected)
+open_once : (part : Part) (bank : Position) (next other : PrintedPosition) (line : List ℕ) (first second : Option Expected)
     → SaysOpen part bank line next first → SaysOpen part bank line other second → (next ≡ other) × (first ≡ second)
 open_once part bank next other line first second p q =
     elim p [
       | inl turns ↦ elim q [
         | inl also ↦ (
-          same_place next other (one_turn part next.0 other.0 bank line turns.0 also.0) (turns.1 ∙ sym also.1),
+          same_position next other (one_turn part next.0 other.0 bank line turns.0 also.0) (turns.1 ∙ sym also.1),
           turns.2 ∙ sym also.2,
         )
         | inr says ↦ absurd (turn_says_nothing part next.0 bank other.1 line second turns.0 says.1)
@@ -108,24 +108,24 @@ open_once part bank next other line first second p q =
         | inl turns ↦ absurd (turn_says_nothing part other.0 bank next.1 line first turns.0 says.1)
         | inr also ↦
             let once = says_once.once bank next.1 other.1 line first second says.1 also.1 in
-            (same_place next other (says.0 ∙ sym also.0) once.0, once.1)
+            (same_position next other (says.0 ∙ sym also.0) once.0, once.1)
       ]
     ]
 
-print_once : (part : Part) (bank : Place) (next other : PrintedPlace) (line : List ℕ) (first second : Option Expected)
+print_once : (part : Part) (bank : Position) (next other : PrintedPosition) (line : List ℕ) (first second : Option Expected)
     → PrintsIn part bank line next first → PrintsIn part bank line other second → (next ≡ other) × (first ≡ second)
 print_once Printed bank next other line first second p q = open_once Printed bank next other line first second p q
 print_once Quoted bank next other line first second p q = open_once Quoted bank next other line first second p q
 print_once Signed bank next other line first second p q =
-    (same_place next other (p.1 ∙ sym q.1) (p.2 ∙ sym q.2), p.3 ∙ sym q.3)
+    (same_position next other (p.1 ∙ sym q.1) (p.2 ∙ sym q.2), p.3 ∙ sym q.3)
 
 pub prints_once : SaysOnce Prints
-prints_once = record { once = λ place next other line first second p q. print_once place.0 place.1 next other line first second p q }
+prints_once = record { once = λ position next other line first second p q. print_once position.0 position.1 next other line first second p q }
 
 -- A line before the signature that neither begins another part nor says anything in its bank says nothing.
-pub says_nothing : (part : Part) (bank : Place) (line : List ℕ) → (part ≡ Signed → ⊥)
-    → ((next : Part) → Turns part bank line next → ⊥) → ((next : Place) (stated : Option Expected) → Says bank line next stated → ⊥)
-    → (next : PrintedPlace) (stated : Option Expected) → PrintsIn part bank line next stated → ⊥
+pub says_nothing : (part : Part) (bank : Position) (line : List ℕ) → (part ≡ Signed → ⊥)
+    → ((next : Part) → Turns part bank line next → ⊥) → ((next : Position) (stated : Option Expected) → Says bank line next stated → ⊥)
+    → (next : PrintedPosition) (stated : Option Expected) → PrintsIn part bank line next stated → ⊥
 says_nothing Signed bank line before no-turn no-line next stated prints = before refl
 says_nothing Printed bank line before no-turn no-line next stated (inl turns) = no-turn next.0 turns.0
 says_nothing Printed bank line before no-turn no-line next stated (inr says) = no-line next.1 stated says.1
@@ -139,7 +139,7 @@ one_end : (text : List ℕ) (part other : Part) (first second : List Expected) �
     → (part ≡ other) × (first ≡ second)
 one_end text part other first second p q =
     let once = ends_once Prints prints_once (Printed, None) (part, p.0) (other, q.0) (lines_of text) first second p.1 q.1 in
-    (ap (λ (place : PrintedPlace). place.0) once.0, once.1)
+    (ap (λ (position : PrintedPosition). position.0) once.0, once.1)
 
 pub printed_once : (text : List ℕ) (first second : List Expected) → IsPrintedText text first → IsPrintedText text second → first ≡ second
 printed_once text first second p q = (one_end text p.part q.part first second p.printed q.printed).1

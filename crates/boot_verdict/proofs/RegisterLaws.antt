@@ -41,9 +41,9 @@ every_at i lt =
     let within : bank < length all_algs = omega (arith, lt) in
     let before : length (flat_map of_bank (take bank all_algs)) ≡ 24 * bank =
     omega (arith, banks_size (take bank all_algs), length-take bank all_algs, within) in
-    let place : i ≡ length (flat_map of_bank (take bank all_algs)) + i % 24 = omega (arith, before) in
+    let position : i ≡ length (flat_map of_bank (take bank all_algs)) + i % 24 = omega (arith, before) in
     let register : i % 24 < length all_registers = omega (arith, register_count) in
-    ap (λ (k : ℕ). get_or (flat_map of_bank all_algs) k (Sha1, 0)) place
+    ap (λ (k : ℕ). get_or (flat_map of_bank all_algs) k (Sha1, 0)) position
     ∙ get_or-flat_map of_bank all_algs bank (i % 24) Sha1 (Sha1, 0) within (omega (arith, bank_size alg))
     ∙ get_or-map (λ register. (alg, register)) all_registers (i % 24) 0 (Sha1, 0) register
     ∙ ap (λ (r : ℕ). (alg, r)) (register_at (i % 24) (omega arith))

@@ -77,9 +77,9 @@ bank_range text name rest alg range cut named is = record {
 
 -- ---- the commas of a text
 
-comma_cuts : (front rest : List ℕ) → Lacks 44 front → split_at_commas (front ++ 44 ∷ rest) ≡ front ∷ split_at_commas rest
+comma_cuts : (prefix rest : List ℕ) → Lacks 44 prefix → split_at_commas (prefix ++ 44 ∷ rest) ≡ prefix ∷ split_at_commas rest
 comma_cuts [] rest lacks = refl
-comma_cuts (first ∷ front) rest lacks = search (rules, comma_cuts front rest lacks.1, lacks.0)
+comma_cuts (first ∷ prefix) rest lacks = search (rules, comma_cuts prefix rest lacks.1, lacks.0)
 
 no_comma : (text : List ℕ) → Lacks 44 text → split_at_commas text ≡ text ∷ []
 no_comma [] lacks = refl

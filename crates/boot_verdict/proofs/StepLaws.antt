@@ -1,4 +1,4 @@
--- Steps: the registers after them, their least fronts, and the places that these lead to.
+-- Steps: the registers after them, their least prefixes, and the positions that these lead to.
 use Rattle.std.proofs.Common.{◌≡◌, ℕ, suc, zero, ◌+◌, ◌-◌, ◌<◌, Bool, true, false, cond, eqb, List, [], ◌∷◌, ◌++◌, length, map, take, Option, Some, None, option_map, refl, sym, ap, ◌∙◌, append_assoc, arith, inl, inr}
 use Rattle.std.specs.Prelude.{filter, filter_map, find, fold}
 use Rattle.std.specs.List.{cons_option}
@@ -18,11 +18,11 @@ use Rattle.boot_log.proofs.ListLaws.{find_map}
 use Rattle.ima_list.specs.ListEntry.{ListEntry}
 use Rattle.ima_list.specs.Digesting.{bank_digest}
 use Rattle.ima_list.specs.Replaying.{IsReplayed, digests_of}
-use Rattle.boot_verdict.specs.declared.places.Place.TheVariants.{Event, Entry}
-use Rattle.boot_verdict.specs.Places.{place_after}
-use Rattle.boot_verdict.specs.Steps.{Step, OfEvent, OfEntry, digest_of_step, entries_as_steps, events_as_steps, fronts, least_front, stepped, steps_of, value_after}
-use Rattle.boot_verdict.specs.Following.{AreAfter, BanksAfter, register_of}
-use Rattle.boot_verdict.specs.ListReplays.{AreFollowed}
+use Rattle.boot_verdict.specs.declared.positions.Position.TheVariants.{Event, Entry}
+use Rattle.boot_verdict.specs.Positions.{position_after}
+use Rattle.boot_verdict.specs.Steps.{Step, OfEvent, OfEntry, digest_of_step, entries_as_steps, events_as_steps, prefixes, least_prefix, stepped, steps_of, value_after}
+use Rattle.boot_verdict.specs.Tracking.{AreAfter, BanksAfter, register_of}
+use Rattle.boot_verdict.specs.ListReplays.{AreTracked}
 
 -- ---- registers
 
@@ -138,44 +138,44 @@ replayed_after start now entries after = record {
 }
 
 -- The replay of a list follows it.
-pub followed_by : (start now : Banks) (entries : List ListEntry) → IsReplayed start entries now → AreFollowed BanksAfter start entries now
+pub followed_by : (start now : Banks) (entries : List ListEntry) → IsReplayed start entries now → AreTracked BanksAfter start entries now
 followed_by start now entries replayed = λ origin events log size after.
     banks_joined origin start now log (entries_as_steps entries) after (entries_after start now entries replayed)
 
--- ---- fronts
+-- ---- prefixes
 
-fronts_more : (steps : List Step) (step : Step) → fronts (steps ++ step ∷ []) ≡ fronts steps ++ (steps ++ step ∷ []) ∷ []
-fronts_more [] step = refl
-fronts_more (first ∷ steps) step =
-    ap (λ (l : List (List Step)). [] ∷ map (λ front. first ∷ front) l) (fronts_more steps step)
-    ∙ ap (λ (l : List (List Step)). [] ∷ l) (map-append (λ (front : List Step). first ∷ front) (fronts steps) ((steps ++ step ∷ []) ∷ []))
+prefixes_more : (steps : List Step) (step : Step) → prefixes (steps ++ step ∷ []) ≡ prefixes steps ++ (steps ++ step ∷ []) ∷ []
+prefixes_more [] step = refl
+prefixes_more (first ∷ steps) step =
+    ap (λ (l : List (List Step)). [] ∷ map (λ prefix. first ∷ prefix) l) (prefixes_more steps step)
+    ∙ ap (λ (l : List (List Step)). [] ∷ l) (map-append (λ (prefix : List Step). first ∷ prefix) (prefixes steps) ((steps ++ step ∷ []) ∷ []))
 
--- The least front, or all steps if there was none.
+-- The least prefix, or all steps if there was none.
 abbrev pub or_all : Option (List Step) → List Step → Bool → Option (List Step)
 or_all found steps passes = option_or found (cond passes (Some steps) None)
 
 pub least_more : (test : List Step → Bool) (steps : List Step) (step : Step)
-    → least_front test (steps ++ step ∷ []) ≡ or_all (least_front test steps) (steps ++ step ∷ []) (test (steps ++ step ∷ []))
+    → least_prefix test (steps ++ step ∷ []) ≡ or_all (least_prefix test steps) (steps ++ step ∷ []) (test (steps ++ step ∷ []))
 least_more test steps step =
-    ap (find test) (fronts_more steps step) ∙ find-append test (fronts steps) ((steps ++ step ∷ []) ∷ [])
+    ap (find test) (prefixes_more steps step) ∙ find-append test (prefixes steps) ((steps ++ step ∷ []) ∷ [])
 
--- What the least front of the steps tells.
+-- What the least prefix of the steps tells.
 abbrev pub TellsLeast : (List Step → Bool) → List Step → Option (List Step) → Type 0
 TellsLeast test steps None = (n : ℕ) → test (take n steps) ≡ false
-TellsLeast test steps (Some front) =
-    (front ≡ take (length front) steps) × (test front ≡ true) × ((n : ℕ) → n < length front → test (take n steps) ≡ false)
+TellsLeast test steps (Some prefix) =
+    (prefix ≡ take (length prefix) steps) × (test prefix ≡ true) × ((n : ℕ) → n < length prefix → test (take n steps) ≡ false)
 
--- The first step in front of each.
+-- The first step before each.
 least_within : (test : List Step → Bool) (step : Step) (steps : List Step) (found : Option (List Step)) → test [] ≡ false
-    → TellsLeast (λ front. test (step ∷ front)) steps found → TellsLeast test (step ∷ steps) (option_map (λ front. step ∷ front) found)
+    → TellsLeast (λ prefix. test (step ∷ prefix)) steps found → TellsLeast test (step ∷ steps) (option_map (λ prefix. step ∷ prefix) found)
 least_within test step steps None fails tells = by
   where
     by : (n : ℕ) → test (take n (step ∷ steps)) ≡ false
     by zero = fails
     by (suc n) = tells n
-least_within test step steps (Some front) fails tells = (ap (λ (l : List Step). step ∷ l) tells.0, tells.1, by)
+least_within test step steps (Some prefix) fails tells = (ap (λ (l : List Step). step ∷ l) tells.0, tells.1, by)
   where
-    by : (n : ℕ) → n < length (step ∷ front) → test (take n (step ∷ steps)) ≡ false
+    by : (n : ℕ) → n < length (step ∷ prefix) → test (take n (step ∷ steps)) ≡ false
     by zero lt = fails
     by (suc n) lt = tells.2 n (omega (arith, lt))
 
@@ -183,21 +183,21 @@ nothing_taken : (test : List Step → Bool) → test [] ≡ false → (n : ℕ) 
 nothing_taken test fails zero = fails
 nothing_taken test fails (suc n) = fails
 
-pub least_tells : (test : List Step → Bool) (steps : List Step) → TellsLeast test steps (least_front test steps)
+pub least_tells : (test : List Step → Bool) (steps : List Step) → TellsLeast test steps (least_prefix test steps)
 least_tells test [] = elim (cases_Bool (test [])) [
   | inl passes ↦ rw passes (refl, passes, λ n lt. absurd (omega (arith, lt)))
   | inr fails ↦ rw fails (nothing_taken test fails)
 ]
 least_tells test (step ∷ steps) = elim (cases_Bool (test [])) [
   | inl passes ↦ rw passes (refl, passes, λ n lt. absurd (omega (arith, lt)))
-  | inr fails ↦ rw (fails, find_map test (λ front. step ∷ front) (fronts steps))
-      (least_within test step steps (least_front (λ front. test (step ∷ front)) steps) fails (least_tells (λ front. test (step ∷ front)) steps))
+  | inr fails ↦ rw (fails, find_map test (λ prefix. step ∷ prefix) (prefixes steps))
+      (least_within test step steps (least_prefix (λ prefix. test (step ∷ prefix)) steps) fails (least_tells (λ prefix. test (step ∷ prefix)) steps))
 ]
 
--- ---- the places of steps in turn
+-- ---- the positions of steps in turn
 
-pub event_place : (events i : ℕ) (before : List Step) → i ≡ length before → i < events → Event (i + 1) ≡ place_after events (length before + 1)
-event_place events i before at within = elim (leb_tells (length before + 1) events) [
+pub event_position : (events i : ℕ) (before : List Step) → i ≡ length before → i < events → Event (i + 1) ≡ position_after events (length before + 1)
+event_position events i before at within = elim (leb_tells (length before + 1) events) [
   | inl le ↦
       let some : eqb (length before + 1) 0 ≡ false = ne_eqb (length before + 1) 0 (λ e. absurd (omega (arith, e))) in
       rw (some, le.0) (ap (λ (n : ℕ). Event (n + 1)) at)
@@ -214,8 +214,8 @@ pub events_joined : (events : List LogEvent) (event : LogEvent)
     → events_as_steps events ++ OfEvent event ∷ [] ≡ events_as_steps (events ++ event ∷ [])
 events_joined events event = sym (map-append (λ (event : LogEvent). OfEvent event) events (event ∷ []))
 
-pub place_of_entry : (events n last : ℕ) → n ≡ events + 1 + last → place_after events n ≡ Entry last
-place_of_entry events n last is = elim (leb_tells n events) [
+pub position_of_entry : (events n last : ℕ) → n ≡ events + 1 + last → position_after events n ≡ Entry last
+position_of_entry events n last is = elim (leb_tells n events) [
   | inl le ↦ let few = le.1 in absurd (omega (arith, few, is))
   | inr gt ↦
       let some : eqb n 0 ≡ false = ne_eqb n 0 (λ e. absurd (omega (arith, e, is))) in
@@ -223,8 +223,8 @@ place_of_entry events n last is = elim (leb_tells n events) [
       rw (some, gt.0, left) refl
 ]
 
-pub entry_place : (log : List Step) (entries : List ListEntry) (events j : ℕ) → events ≡ length log → j ≡ length entries
-    → Entry j ≡ place_after events (length (log ++ entries_as_steps entries) + 1)
-entry_place log entries events j size at =
-    sym (place_of_entry events (length (log ++ entries_as_steps entries) + 1) j
+pub entry_position : (log : List Step) (entries : List ListEntry) (events j : ℕ) → events ≡ length log → j ≡ length entries
+    → Entry j ≡ position_after events (length (log ++ entries_as_steps entries) + 1)
+entry_position log entries events j size at =
+    sym (position_of_entry events (length (log ++ entries_as_steps entries) + 1) j
     (omega (arith, size, at, length-append log (entries_as_steps entries), length-map entries (λ (entry : ListEntry). OfEntry entry))))

@@ -36,13 +36,13 @@ booted_same algs events banks alg firmware =
     ap (λ (f : ℕ → Option (List ℕ)). option_map (hash_of alg) (joined_values f (aggregate_register_count alg)))
     (fun_same (value_at banks alg) (pcr_after_log algs events alg) (λ r. firmware.values alg r))
 
-pub aggregate_same : (algs : AlgSet) (events : List LogEvent) (start : Banks) (stated : Digest) (value : Option Digest) (alg : Alg)
-    → IsFirmware algs events start → alg ≡ alg_of stated → value ≡ option_map (digest_of alg) (boot_aggregate_of start alg)
-    → aggregate_state (bytes_of stated) (option_map bytes_of value) ≡ aggregate_of algs events (Some (alg_of stated, bytes_of stated))
-aggregate_same algs events start stated value alg firmware by is =
-    ap (λ (o : Option Digest). aggregate_state (bytes_of stated) (option_map bytes_of o)) is
-    ∙ ap (aggregate_state (bytes_of stated)) (same_bytes alg (boot_aggregate_of start alg) ∙ booted_same algs events start alg firmware)
-    ∙ ap (λ (a : Alg). aggregate_state (bytes_of stated) (booted_aggregate algs events a)) by
+pub aggregate_same : (algs : AlgSet) (events : List LogEvent) (start : Banks) (recorded : Digest) (value : Option Digest) (alg : Alg)
+    → IsFirmware algs events start → alg ≡ alg_of recorded → value ≡ option_map (digest_of alg) (boot_aggregate_of start alg)
+    → aggregate_state (bytes_of recorded) (option_map bytes_of value) ≡ aggregate_of algs events (Some (alg_of recorded, bytes_of recorded))
+aggregate_same algs events start recorded value alg firmware by is =
+    ap (λ (o : Option Digest). aggregate_state (bytes_of recorded) (option_map bytes_of o)) is
+    ∙ ap (aggregate_state (bytes_of recorded)) (same_bytes alg (boot_aggregate_of start alg) ∙ booted_same algs events start alg firmware)
+    ∙ ap (λ (a : Alg). aggregate_state (bytes_of recorded) (booted_aggregate algs events a)) by
 
 -- A register after the log and the list.
 final_same : (algs : AlgSet) (events : List LogEvent) (entries : List ListEntry) (start banks : Banks) (alg : Alg) (register : ℕ)
@@ -79,7 +79,7 @@ ok_same a b e = ap (got a) e
 
 pub log_first : (log list : List ℕ) (fault : LogFault) → (fault ≡ logs.Memory) ⊎ (log_fault log ≡ Some fault)
     → IsVerifyFault log list (fault_of_log fault)
-log_first log list logs.Memory cause = tt
+log_first log list logs.Memory reason = tt
 log_first log list (logs.Truncated event) (inr first) = first
 log_first log list (logs.Truncated event) (inl e) = absurd cc
 log_first log list logs.NotCryptoAgile (inr first) = first

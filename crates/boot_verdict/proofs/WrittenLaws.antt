@@ -19,8 +19,8 @@ use Rattle.boot_verdict.specs.StatedRegisters.{SayAll, lines_of, same_register, 
 use Rattle.boot_verdict.specs.ExpectedTexts.{IsExpectedText, IsRegisterLine, Spells}
 use Rattle.boot_verdict.specs.declared.printed.Part.{Part}
 use Rattle.boot_verdict.specs.declared.printed.Part.TheVariants.{Printed, Quoted, Signed}
-use Rattle.boot_verdict.specs.PcrReadTexts.{GivesValue, Place}
-use Rattle.boot_verdict.specs.PrintedTexts.{IsPrintedText, PrintedPlace, Prints, PrintsIn}
+use Rattle.boot_verdict.specs.PcrReadTexts.{GivesValue, Position}
+use Rattle.boot_verdict.specs.PrintedTexts.{IsPrintedText, PrintedPosition, Prints, PrintsIn}
 use Rattle.boot_verdict.specs.RegisterRanges.{is_within}
 use Rattle.boot_verdict.specs.WrittenTexts.{expected_line, expected_text, those_within}
 use Rattle.boot_verdict.specs.parts.WrittenLines.{line_within}
@@ -71,7 +71,7 @@ pub record IsProper (e : Expected) : Type 0 where
   pub size : length (bytes_of e.value) ≡ size_of e.alg
   pub fits : IsBytes (bytes_of e.value)
 
-value_proper : (place : Place) (line : List ℕ) (e : Expected) → GivesValue place line e → IsProper e
+value_proper : (position : Position) (line : List ℕ) (e : Expected) → GivesValue position line e → IsProper e
 value_proper None line e gives = absurd gives
 value_proper (Some bank) line e gives = record {
   exists = gives.exists;
@@ -80,7 +80,7 @@ value_proper (Some bank) line e gives = record {
   fits = (decode_of-ok gives.digits (bytes_of e.value) gives.value_is).3;
 }
 
-value_in : (part : Part) (bank : Place) (line : List ℕ) (next : PrintedPlace) (e : Expected) → PrintsIn part bank line next (Some e)
+value_in : (part : Part) (bank : Position) (line : List ℕ) (next : PrintedPosition) (e : Expected) → PrintsIn part bank line next (Some e)
     → GivesValue bank line e
 value_in Signed bank line next e says = absurd cc
 value_in Printed bank line next e (inl turns) = absurd cc
@@ -88,13 +88,13 @@ value_in Printed bank line next e (inr says) = says.1.0
 value_in Quoted bank line next e (inl turns) = absurd cc
 value_in Quoted bank line next e (inr says) = says.1.0
 
-one_proper : (start next : PrintedPlace) (line : List ℕ) (first : Option Expected) (others : List Expected)
+one_proper : (start next : PrintedPosition) (line : List ℕ) (first : Option Expected) (others : List Expected)
     → Prints start line next first → AllByRecursion IsProper others → AllByRecursion IsProper (option_to_list first ++ others)
 one_proper start next line None others says all = all
 one_proper start next line (Some e) others says all =
     (value_proper start.1 line e (value_in start.0 start.1 line next e says), all)
 
-all_proper : (lines : List (List ℕ)) (start end : PrintedPlace) (expected : List Expected) → SayAll Prints start lines end expected
+all_proper : (lines : List (List ℕ)) (start end : PrintedPosition) (expected : List Expected) → SayAll Prints start lines end expected
     → AllByRecursion IsProper expected
 all_proper [] start end expected say = rw say.1 tt
 all_proper (line ∷ lines) start end expected say =
@@ -127,9 +127,9 @@ decimal_above n small = digits_above (decimal n) ((decimal_is_IsNumeral n small)
 abbrev pub AllShown : List ℕ → Type 0
 AllShown bytes = AllByRecursion (λ byte. 13 < byte) bytes
 
-pub shown_join : (front rest : List ℕ) → AllAbove front → AllShown rest → AllShown (front ++ rest)
+pub shown_join : (prefix rest : List ℕ) → AllAbove prefix → AllShown rest → AllShown (prefix ++ rest)
 shown_join [] rest all others = others
-shown_join (first ∷ front) rest all others = (omega (arith, all.0), shown_join front rest all.1 others)
+shown_join (first ∷ prefix) rest all others = (omega (arith, all.0), shown_join prefix rest all.1 others)
 
 pub shown : (bytes : List ℕ) → AllAbove bytes → AllShown bytes
 shown [] all = tt

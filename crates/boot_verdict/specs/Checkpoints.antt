@@ -1,4 +1,4 @@
--- Where a verification stopped. All of this is this project's choice.
+-- Where a verification stopped.
 use Rattle.std.specs.Prelude.{◌≡◌, ℕ, ◌-◌, ◌^◌, min, max, List, ◌++◌, length, Option, option_map, Ok}
 use Rattle.pcr_banks.specs.Digests.{alg_of, bytes_of}
 use Rattle.ima_list.specs.ListEntry.{ListEntry}
@@ -8,7 +8,7 @@ use Rattle.boot_verdict.specs.declared.checkpoint.Checkpoint.{Checkpoint}
 use Rattle.boot_verdict.specs.declared.verifier.VerifyFault.{VerifyFault}
 use Rattle.boot_verdict.specs.declared.verifier.VerifyFault.TheVariants as faults
 use Rattle.boot_verdict.specs.ListSources.{CameWhole, IsListFaultAfter}
-use Rattle.boot_verdict.specs.Verdicts.{IsForged, stated_aggregate}
+use Rattle.boot_verdict.specs.Verdicts.{IsForged, recorded_aggregate}
 
 -- The bytes are a list of genuine entries, and this is known after it.
 pub record IsCheckpoint (list : List ℕ) (known : Checkpoint) : Type 0 where
@@ -18,7 +18,7 @@ pub record IsCheckpoint (list : List ℕ) (known : Checkpoint) : Type 0 where
   pub replayed : IsReplayed known.before entries known.after
   pub count : known.entries ≡ length entries
   pub size : known.bytes ≡ length list
-  pub stated : option_map (λ digest. (alg_of digest, bytes_of digest)) known.stated ≡ stated_aggregate entries
+  pub recorded : option_map (λ digest. (alg_of digest, bytes_of digest)) known.recorded ≡ recorded_aggregate entries
 
 -- How many bytes may follow a checkpoint, where `limit` are allowed: a list has fewer than 2^63 bytes.
 abbrev pub most_after : Checkpoint → ℕ → ℕ

@@ -1,4 +1,4 @@
--- The number of a fault of expected registers, and the line that it names. All of this is this project's choice.
+-- The number of a fault of expected registers, and the line that it names.
 use Rattle.std.specs.Prelude.{ℕ, Option, Some, None}
 use Rattle.boot_verdict.specs.declared.expected.ExpectFault.{ExpectFault}
 use Rattle.boot_verdict.specs.declared.expected.ExpectFault.TheVariants.{BadLine, DoubleLine, Memory, NoRegister, NotChecked, NotSigned}

@@ -1,4 +1,4 @@
--- Expected registers, as text. All of this is this project's choice.
+-- Expected registers, as text.
 use Rattle.std.specs.Prelude.{◌≡◌, ℕ, ◌<◌, List, [], ◌++◌, length, codes, decimal, Option, Some, None, Ok}
 use Rattle.hex.specs.Hex.{decode_of}
 use Rattle.pcr_banks.specs.Hashing.{name_of, size_of}
@@ -18,7 +18,7 @@ pub record IsRegisterLine (line : List ℕ) (expected : Expected) : Type 0 where
   pub value_size : length (bytes_of expected.value) ≡ size_of expected.alg
   pub spelled : line ≡ name_of expected.alg ++ (codes " " ++ (decimal expected.register ++ (codes " " ++ digits)))
 
--- The line is empty and states nothing, or it spells the register that it states. All places are alike.
+-- The line is empty and states nothing, or it spells the register that it states. All positions are alike.
 abbrev pub Spells : Unit {0} → List ℕ → Unit {0} → Option Expected → Type 0
 Spells before line after None = line ≡ []
 Spells before line after (Some expected) = IsRegisterLine line expected

@@ -7,8 +7,8 @@ pub mod Verdicts
 pub mod ReportTexts
 pub mod ListSources
 pub mod Steps
-pub mod Places
-pub mod PlaceTexts
+pub mod Positions
+pub mod PositionTexts
 pub mod Replays
 pub mod parts
 pub mod EventTexts
@@ -17,8 +17,9 @@ pub mod PrintedTexts
 pub mod RegisterRanges
 pub mod Requirements
 pub mod RequiredTexts
+pub mod PrefixTexts
 pub mod ListVerdicts
 pub mod WrittenTexts
-pub mod Following
+pub mod Tracking
 pub mod ListReplays
 pub mod Checkpoints

@@ -1,4 +1,4 @@
--- A list that is read from a source: which bytes were taken, and why it was not read. All of this is this project's choice.
+-- A list that is read from a source: which bytes were taken, and why it was not read.
 use Rattle.std.specs.Prelude.{◌≡◌, ◌⊎◌, ℕ, ◌<◌, ◌≤◌, List, [], ◌++◌, length, Option, Some, Result, Ok, Err}
 use Rattle.std.specs.Io.KnownBytes.{Consumes, IsAtEnd}
 use Rattle.byte_streams.specs.Streams.{failures_after}

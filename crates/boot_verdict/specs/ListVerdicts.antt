@@ -1,4 +1,4 @@
--- The verdict on a measurement list alone and expected registers, and its text. All of this is this project's choice. How entries
+-- The verdict on a measurement list alone and expected registers, and its text. How entries
 -- change the registers is defined in ima_list.
 use Rattle.std.specs.Prelude.{◌≡◌, ℕ, ◌&&◌, ◌==◌, nat_lt, not, Bool, if◌then◌else◌, List, ◌++◌, length, map, codes, decimal, flat_map, Option, Some, None, Ok}
 use Rattle.std.specs.List.{list_all}

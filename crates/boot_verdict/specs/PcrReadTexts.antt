@@ -45,27 +45,27 @@ pub record IsForeignLine (bank line : List ℕ) : Type 0 where
 
 -- ---- lines in banks
 
--- A place between lines: the name of the bank that it is in, or `None` before the first bank line.
-abbrev pub Place : Type 0
-Place = Option (List ℕ)
+-- A position between lines: the name of the bank that it is in, or `None` before the first bank line.
+abbrev pub Position : Type 0
+Position = Option (List ℕ)
 
--- At this place, the line gives this register its value.
-abbrev pub GivesValue : Place → List ℕ → Expected → Type 0
+-- At this position, the line gives this register its value.
+abbrev pub GivesValue : Position → List ℕ → Expected → Type 0
 GivesValue None line expected = ⊥
 GivesValue (Some bank) line expected = IsValueLine bank line expected
 
--- At this place, the line is skipped: it is empty, or one of a bank of another algorithm.
-abbrev pub IsSkipped : Place → List ℕ → Type 0
+-- At this position, the line is skipped: it is empty, or one of a bank of another algorithm.
+abbrev pub IsSkipped : Position → List ℕ → Type 0
 IsSkipped None line = line ≡ []
 IsSkipped (Some bank) line = (line ≡ []) ⊎ IsForeignLine bank line
 
--- The line begins the bank that this place is in.
-abbrev pub Begins : List ℕ → Place → Type 0
+-- The line begins the bank that this position is in.
+abbrev pub Begins : List ℕ → Position → Type 0
 Begins line None = ⊥
 Begins line (Some name) = IsBankLine line name
 
--- A line at the place `before` leads to the place `after`, and states at most one register: it is skipped, or begins a bank, or
+-- A line at the position `before` leads to the position `after`, and states at most one register: it is skipped, or begins a bank, or
 -- gives a register its value.
-abbrev pub Says : Place → List ℕ → Place → Option Expected → Type 0
+abbrev pub Says : Position → List ℕ → Position → Option Expected → Type 0
 Says before line after None = (IsSkipped before line × (after ≡ before)) ⊎ Begins line after
 Says before line after (Some expected) = GivesValue before line expected × (after ≡ before)

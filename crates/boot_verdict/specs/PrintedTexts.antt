@@ -9,7 +9,7 @@ use Rattle.boot_verdict.specs.declared.expected.ExpectFault.TheVariants.{BadLine
 use Rattle.boot_verdict.specs.declared.printed.Part.{Part}
 use Rattle.boot_verdict.specs.declared.printed.Part.TheVariants.{Printed, Quoted, Signed}
 use Rattle.boot_verdict.specs.StatedRegisters.{AreStated, BeginsWithStated, HasFaultOfFirst, lines_of}
-use Rattle.boot_verdict.specs.PcrReadTexts.{Place, Says}
+use Rattle.boot_verdict.specs.PcrReadTexts.{Position, Says}
 
 -- ---- lines
 
@@ -20,32 +20,32 @@ pub record IsSignatureLine (line : List ℕ) : Type 0 where
   pub all_digits : IsTrue (list_all is_ascii_hexdigit digits)
   pub spelled : line ≡ codes "sig: " ++ digits
 
--- The line leads from this place of one part of a text to the next part: before any bank `pcrs:` begins what was quoted, and the line
+-- The line leads from this position of one part of a text to the next part: before any bank `pcrs:` begins what was quoted, and the line
 -- of the signature ends it.
-abbrev pub Turns : Part → Place → List ℕ → Part → Type 0
+abbrev pub Turns : Part → Position → List ℕ → Part → Type 0
 Turns Printed None line Quoted = line ≡ codes "pcrs:"
 Turns Quoted bank line Signed = IsSignatureLine line
 Turns part bank line next = ⊥
 
--- A place between lines: the part of the text, and the bank that it is in.
-abbrev pub PrintedPlace : Type 0
-PrintedPlace = Part × Place
+-- A position between lines: the part of the text, and the bank that it is in.
+abbrev pub PrintedPosition : Type 0
+PrintedPosition = Part × Position
 
--- A line at this place of this part leads to the place `after` and states at most one register. After the signature it is empty. Before,
+-- A line at this position of this part leads to the position `after` and states at most one register. After the signature it is empty. Before,
 -- it leads to the next part, or says what a line of tpm2_pcrread says.
-abbrev pub PrintsIn : Part → Place → List ℕ → PrintedPlace → Option Expected → Type 0
+abbrev pub PrintsIn : Part → Position → List ℕ → PrintedPosition → Option Expected → Type 0
 PrintsIn Signed bank line after stated = (line ≡ []) × (after.0 ≡ Signed) × (after.1 ≡ bank) × (stated ≡ None)
 PrintsIn part bank line after stated =
     (Turns part bank line after.0 × (after.1 ≡ None) × (stated ≡ None)) ⊎ ((after.0 ≡ part) × Says bank line after.1 stated)
 
-abbrev pub Prints : PrintedPlace → List ℕ → PrintedPlace → Option Expected → Type 0
+abbrev pub Prints : PrintedPosition → List ℕ → PrintedPosition → Option Expected → Type 0
 Prints before line after stated = PrintsIn before.0 before.1 line after stated
 
 -- ---- a whole text
 
 -- The lines lead to the end of this part, and state these registers, no register of a bank twice.
 abbrev pub ArePrinted : List ℕ → Part → List Expected → Type 0
-ArePrinted text part expected = (bank : Place) × AreStated Prints (Printed, None) (lines_of text) (part, bank) expected
+ArePrinted text part expected = (bank : Position) × AreStated Prints (Printed, None) (lines_of text) (part, bank) expected
 
 -- The text may end in this part: not before the signature of what was quoted.
 abbrev pub MayEnd : Part → Type 0

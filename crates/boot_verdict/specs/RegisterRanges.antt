@@ -1,4 +1,4 @@
--- Ranges of registers, and how a text spells them. All of this is this project's choice.
+-- Ranges of registers, and how a text spells them.
 use Rattle.std.specs.Prelude.{◌≡◌, ◌⊎◌, ℕ, ◌<◌, ◌≤◌, ◌&&◌, nat_le, Bool, List, ◌++◌, codes, decimal}
 use Rattle.pcr_banks.specs.Registers.{register_count}
 use Rattle.boot_verdict.specs.declared.register_range.RegisterRange.{RegisterRange}

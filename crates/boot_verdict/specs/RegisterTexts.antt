@@ -1,4 +1,4 @@
--- The lines of registers. All of this is this project's choice.
+-- The lines of registers.
 use Rattle.std.specs.Prelude.{ℕ, Bool, true, not, List, [], ◌++◌, codes, decimal, bytes_eq, flat_map, map, if◌then◌else◌, Option, Some, None}
 use Rattle.std.specs.List.{range_with_len}
 use Rattle.hex.specs.Hex.{encode_lower}

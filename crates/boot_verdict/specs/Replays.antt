@@ -1,4 +1,4 @@
--- The registers that a list alone makes. All of this is this project's choice. How entries change the registers is defined in
+-- The registers that a list alone makes. How entries change the registers is defined in
 -- ima_list.
 use Rattle.std.specs.Prelude.{ℕ, true, List, [], Option, Ok}
 use Rattle.pcr_banks.specs.declared.banks.Banks.{Banks}

@@ -1,4 +1,4 @@
--- The text of a report. All of this is this project's choice.
+-- The text of a report.
 use Rattle.std.specs.Prelude.{ℕ, Bool, true, false, List, [], ◌++◌, codes, decimal, flat_map}
 use Rattle.hex.specs.Hex.{encode_lower}
 use Rattle.pcr_banks.specs.Hashing.{name_of}

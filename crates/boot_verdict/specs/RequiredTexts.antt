@@ -1,11 +1,11 @@
--- The texts of a report and of places where registers are required. All of this is this project's choice.
+-- The texts of a report and of positions where registers are required.
 use Rattle.std.specs.Prelude.{ℕ, if◌then◌else◌, List, [], ◌++◌, length, codes, decimal, flat_map}
 use Rattle.pcr_banks.specs.declared.alg.Alg.{Alg}
 use Rattle.pcr_banks.specs.Hashing.{name_of}
 use Rattle.boot_verdict.specs.declared.expected.Expected.{Expected}
-use Rattle.boot_verdict.specs.declared.places.Located.{Located}
+use Rattle.boot_verdict.specs.declared.positions.Located.{Located}
 use Rattle.boot_verdict.specs.declared.requirement.BankRange.{BankRange}
-use Rattle.boot_verdict.specs.PlaceTexts.{found_text, located_text}
+use Rattle.boot_verdict.specs.PositionTexts.{found_text, located_text}
 use Rattle.boot_verdict.specs.RegisterTexts.{every_register}
 use Rattle.boot_verdict.specs.ReportTexts.{aggregate_text, counts_text, row_text, verdict_text}
 use Rattle.boot_verdict.specs.Requirements.{expected_of_located, expected_of_rows, is_missing, required_found, required_matches}
@@ -40,7 +40,7 @@ required_report_text ranges verdict =
     counts_text verdict.events verdict.locality verdict.entries ++ required_outcome_text ranges verdict
 
 -- A line for each expected register, one for each that is missing, and whether they are located and none is missing.
-abbrev pub required_places_text : List BankRange → List Located → List ℕ
-required_places_text ranges located =
+abbrev pub required_positions_text : List BankRange → List Located → List ℕ
+required_positions_text ranges located =
     flat_map located_text located
     ++ (missing_text ranges (expected_of_located located) ++ found_text (required_found ranges located))

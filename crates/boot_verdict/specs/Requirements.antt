@@ -1,15 +1,15 @@
--- Registers that must be among the expected ones, and how a text spells them. All of this is this project's choice.
+-- Registers that must be among the expected ones, and how a text spells them.
 use Rattle.std.specs.Prelude.{◌≡◌, ℕ, ◌&&◌, ◌==◌, not, Bool, if◌then◌else◌, List, [], ◌∷◌, ◌++◌, map, codes}
 use Rattle.std.specs.List.{Contains, list_all, list_any}
 use Rattle.pcr_banks.specs.declared.alg.Alg.{Alg}
 use Rattle.pcr_banks.specs.Hashing.{all_algs, name_of, same_alg}
 use Rattle.boot_verdict.specs.declared.expected.Expected.{Expected}
-use Rattle.boot_verdict.specs.declared.places.Located.{Located}
+use Rattle.boot_verdict.specs.declared.positions.Located.{Located}
 use Rattle.boot_verdict.specs.declared.report.Row.{Row}
 use Rattle.boot_verdict.specs.declared.report.State.TheVariants.{Match}
 use Rattle.boot_verdict.specs.declared.requirement.BankRange.{BankRange}
 use Rattle.boot_verdict.specs.StatedRegisters.{onto_first}
-use Rattle.boot_verdict.specs.Places.{all_found}
+use Rattle.boot_verdict.specs.Positions.{all_found}
 use Rattle.boot_verdict.specs.RegisterRanges.{IsRangeText, is_within}
 use Rattle.boot_verdict.specs.RegisterTexts.{all_registers}
 use Rattle.boot_verdict.specs.Verdicts.{Verdict, matches}
@@ -75,7 +75,7 @@ is_complete_in ranges expected alg = list_all (λ register. not (is_missing rang
 abbrev pub is_complete : List BankRange → List Expected → Bool
 is_complete ranges expected = list_all (is_complete_in ranges expected) all_algs
 
--- ---- verdicts and places
+-- ---- verdicts and positions
 
 -- The expected registers of these rows.
 abbrev pub expected_of_rows : List Row → List Expected
@@ -88,7 +88,7 @@ expected_of_located located = map (λ row. row.expected) located
 abbrev pub required_matches : List BankRange → Verdict → Bool
 required_matches ranges verdict = matches verdict && is_complete ranges (expected_of_rows verdict.rows)
 
--- Some register is expected, each value was reached at some place, and no register is missing.
+-- Some register is expected, each value was reached at some position, and no register is missing.
 abbrev pub required_found : List BankRange → List Located → Bool
 required_found ranges located = all_found located && is_complete ranges (expected_of_located located)
 

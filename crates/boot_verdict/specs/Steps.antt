@@ -1,5 +1,5 @@
--- A boot as one sequence of steps: the events of a firmware log, and then the entries of a measurement list. All of this is this
--- project's choice. What events and entries extend registers with is defined in boot_log and ima_list.
+-- A boot as one sequence of steps: the events of a firmware log, and then the entries of a measurement list.
+-- What events and entries extend registers with is defined in boot_log and ima_list.
 use Rattle.std.specs.Prelude.{ℕ, ◌==◌, ◌&&◌, nat_lt, Bool, if◌then◌else◌, List, [], ◌∷◌, ◌++◌, fold, map, find, Option, Some, None, option_map}
 use Rattle.pcr_banks.specs.declared.alg.Alg.{Alg}
 use Rattle.pcr_banks.specs.declared.sets.AlgSet.{AlgSet}
@@ -50,13 +50,13 @@ abbrev pub pcr_at_reset : AlgSet → List LogEvent → Alg → ℕ → Option (L
 pcr_at_reset algs events alg register =
     if has_register algs alg register then Some (reset_value alg register (startup_locality events)) else None
 
--- ---- fronts
+-- ---- prefixes
 
--- The fronts of a list, the shortest first.
-abbrev pub fronts : {A : Type 0} → List A → List (List A)
-fronts [] = [] ∷ []
-fronts (x ∷ xs) = [] ∷ map (λ front. x ∷ front) (fronts xs)
+-- The prefixes of a list, the shortest first.
+abbrev pub prefixes : {A : Type 0} → List A → List (List A)
+prefixes [] = [] ∷ []
+prefixes (x ∷ xs) = [] ∷ map (λ prefix. x ∷ prefix) (prefixes xs)
 
--- The least front that passes the test, if any.
-abbrev pub least_front : {A : Type 0} → (List A → Bool) → List A → Option (List A)
-least_front test xs = find test (fronts xs)
+-- The least prefix that passes the test, if any.
+abbrev pub least_prefix : {A : Type 0} → (List A → Bool) → List A → Option (List A)
+least_prefix test xs = find test (prefixes xs)

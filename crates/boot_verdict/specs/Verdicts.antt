@@ -1,4 +1,4 @@
--- The verdict on a firmware log, a measurement list and expected registers. All of this is this project's choice. How events and
+-- The verdict on a firmware log, a measurement list and expected registers. How events and
 -- entries change the registers is defined in boot_log and ima_list.
 use Rattle.std.specs.Prelude.{◌≡◌, ℕ, ◌&&◌, nat_lt, Bool, true, false, if◌then◌else◌, List, [], ◌∷◌, length, map, bytes_eq, Option, Some, None, option_map, Ok, Err}
 use Rattle.std.specs.List.{list_all}
@@ -18,7 +18,7 @@ use Rattle.boot_log.specs.Reading.{log_fault}
 use Rattle.boot_log.specs.Replaying.{firmware_value, startup_locality}
 use Rattle.ima_list.specs.declared.fault.ListFault.{ListFault}
 use Rattle.ima_list.specs.declared.fault.ListFault.TheVariants as lists
-use Rattle.ima_list.specs.declared.replaying.ReplayFault.{ReplayFault}
+use Rattle.ima_list.specs.declared.list_replay.ReplayFault.{ReplayFault}
 use Rattle.ima_list.specs.ListEntry.{ListEntry}
 use Rattle.ima_list.specs.Spelling.{IsReading}
 use Rattle.ima_list.specs.Digesting.{is_violation}
@@ -71,24 +71,24 @@ aggregate_in None = None
 aggregate_in (Some fields) = if bytes_eq fields.path boot_aggregate_path then Some (fields.alg, fields.digest) else None
 
 -- The boot aggregate that this entry states as the first of a list; a violation states none.
-abbrev pub stated_in : ListEntry → Option (Alg × List ℕ)
-stated_in first = if is_violation first then None else aggregate_in (fields_of first)
+abbrev pub recorded_in : ListEntry → Option (Alg × List ℕ)
+recorded_in first = if is_violation first then None else aggregate_in (fields_of first)
 
-abbrev pub stated_aggregate : List ListEntry → Option (Alg × List ℕ)
-stated_aggregate [] = None
-stated_aggregate (first ∷ entries) = stated_in first
+abbrev pub recorded_aggregate : List ListEntry → Option (Alg × List ℕ)
+recorded_aggregate [] = None
+recorded_aggregate (first ∷ entries) = recorded_in first
 
 -- The boot aggregate of the log's registers: the hash of the bank's first ones, joined.
 abbrev pub booted_aggregate : AlgSet → List LogEvent → Alg → Option (List ℕ)
 booted_aggregate algs events alg = option_map (hash_of alg) (joined_values (pcr_after_log algs events alg) (aggregate_register_count alg))
 
 abbrev pub aggregate_state : List ℕ → Option (List ℕ) → Aggregate
-aggregate_state stated None = NoBank
-aggregate_state stated (Some value) = if bytes_eq stated value then Good else Wrong
+aggregate_state recorded None = NoBank
+aggregate_state recorded (Some value) = if bytes_eq recorded value then Good else Wrong
 
 abbrev pub aggregate_of : AlgSet → List LogEvent → Option (Alg × List ℕ) → Aggregate
 aggregate_of algs events None = Missing
-aggregate_of algs events (Some stated) = aggregate_state stated.1 (booted_aggregate algs events stated.0)
+aggregate_of algs events (Some recorded) = aggregate_state recorded.1 (booted_aggregate algs events recorded.0)
 
 -- ---- the verdict
 
@@ -105,7 +105,7 @@ verdict_on algs events entries expected = record {
   events = length events;
   locality = startup_locality events;
   entries = length entries;
-  aggregate = aggregate_of algs events (stated_aggregate entries);
+  aggregate = aggregate_of algs events (recorded_aggregate entries);
   rows = map (row_on algs events entries) expected;
 }
 

@@ -1,4 +1,4 @@
--- Expected registers, written as text. All of this is this project's choice.
+-- Expected registers, written as text.
 use Rattle.std.specs.Prelude.{ℕ, List, flat_map}
 use Rattle.std.specs.List.{filter}
 use Rattle.pcr_banks.specs.Digests.{bytes_of}

@@ -1,8 +1,8 @@
 pub mod StatedLines
-pub mod LogPlaces
+pub mod LogPositions
 pub mod Rows
 pub mod WrittenLines
 pub mod RangeEnds
 pub mod RequirementParts
-pub mod Watches
+pub mod RowTrackers
 pub mod Gathering

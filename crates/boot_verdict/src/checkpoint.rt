@@ -1,12 +1,12 @@
 //! Where a verification stopped, and how it goes on.
 
 ghost use Rattle.std.specs.Prelude.{◌≡◌, ◌+◌, ◌^◌, ◌<◌, ℕ, is_some, List, [], length, Ok, IsOk, IfOk, IfErr, IsErrOf};
-ghost use Rattle.byte_streams.specs.Streams.{LosesFront};
+ghost use Rattle.byte_streams.specs.Streams.{LosesPrefix};
 ghost use Rattle.ima_list.specs.ListEntry.{ListEntry};
 ghost use Rattle.ima_list.specs.Spelling.{IsReading};
 ghost use Rattle.ima_list.specs.Replaying.{AreGenuine};
 ghost use Rattle.boot_verdict.specs.ListSources.{failures_after_list};
-ghost use Rattle.boot_verdict.specs.Following.{BanksAfter};
+ghost use Rattle.boot_verdict.specs.Tracking.{BanksAfter};
 ghost use Rattle.boot_verdict.specs.ListReplays.{ReplaysAll};
 ghost use Rattle.boot_verdict.specs.Verdicts.{IsSomeLog, IsVerifyFault};
 ghost use Rattle.boot_verdict.specs.Checkpoints.{GoesOn, IsCheckpoint, IsMoreFault, most_after};
@@ -33,7 +33,7 @@ pub struct Checkpoint {
     /// How many bytes it had.
     pub bytes: u64,
     /// The boot aggregate that its first entry states, if any.
-    pub stated: Option<Digest>,
+    pub recorded: Option<Digest>,
 }
 
 impl Checkpoint {
@@ -76,12 +76,12 @@ impl Checkpoint {
         ensures before { IfOk result (λ next. next.before ≡ self.now.before) }
         ensures fault { IfErr result (λ fault. (list : List ℕ) → IsCheckpoint list self.now
             → IsMoreFault list (R.state source.old).remaining (R.state source.new).remaining limit fault) }
-        ensures front { LosesFront (R.state source.old).remaining (R.state source.new).remaining }
+        ensures prefix { LosesPrefix (R.state source.old).remaining (R.state source.new).remaining }
         ensures telling { is_some (R.state source.new).remaining ≡ is_some (R.state source.old).remaining }
         ensures counts { (R.state source.new).failures ≡ failures_after_list result (R.state source.old).failures }
     {
         let mut replay = self.replay();
-        let count = replay.follow(alloc, source, limit)?;
+        let count = replay.replay_more(alloc, source, limit)?;
         Ok(Checkpoint::after(self.before, replay, self.bytes + count))
     }
 
@@ -94,10 +94,10 @@ impl Checkpoint {
     {
         Checkpoint {
             before,
-            after: replay.follower,
+            after: replay.tracker,
             entries: replay.entries,
             bytes,
-            stated: replay.stated,
+            recorded: replay.recorded,
         }
     }
 
@@ -107,9 +107,9 @@ impl Checkpoint {
         ensures entries { result.entries ≡ self.now.entries }
     {
         ListReplay {
-            follower: self.after,
+            tracker: self.after,
             entries: self.entries,
-            stated: self.stated,
+            recorded: self.recorded,
             forged: None,
         }
     }

@@ -7,7 +7,7 @@ ghost use Rattle.boot_verdict.specs.ExpectFaults.{expect_fault_number, expect_fa
 ghost use Rattle.boot_verdict.specs.ExpectedTexts.{BeginsWithRegister, HasFirstFault, IsExpectedText, IsRegisterLine, Spells};
 
 use crate::lines::{register_named, split_once};
-use crate::stated::{LinePlace, read_lines};
+use crate::stated::{LinePosition, read_lines};
 use pcr_banks::{Alg, Digest};
 use std::alloc::{AllocError, AllocFailed, Global};
 use thiserror::Error;
@@ -105,11 +105,11 @@ pub fn read_expected(alloc: Global, text: &[u8]) -> Result<Vec<Expected>, Expect
     }
 }
 
-// The only place of such a text: what a line says does not depend on the lines before it.
+// The only position of such a text: what a line says does not depend on the lines before it.
 #[derive(Clone, Copy)]
 struct Anywhere;
 
-impl<'a> LinePlace<'a> for Anywhere {
+impl<'a> LinePosition<'a> for Anywhere {
     ghost Value = { Unit {0} };
 
     ghost value = { λ _. tt };

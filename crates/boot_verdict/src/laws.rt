@@ -6,9 +6,9 @@ ghost use Rattle.pcr_banks.specs.declared.sets.AlgSet.{AlgSet};
 ghost use Rattle.boot_log.specs.Spelling.{LogEvent};
 ghost use Rattle.ima_list.specs.ListEntry.{ListEntry};
 ghost use Rattle.boot_verdict.specs.declared.expected.Expected.{Expected};
-ghost use Rattle.boot_verdict.specs.declared.places.Place.TheVariants.{Nowhere};
+ghost use Rattle.boot_verdict.specs.declared.positions.Position.TheVariants.{Nowhere};
 ghost use Rattle.boot_verdict.specs.declared.report.State.TheVariants.{Match};
-ghost use Rattle.boot_verdict.specs.Places.{is_found, pcr_after, place_after, place_on, reached_after};
+ghost use Rattle.boot_verdict.specs.Positions.{is_found, pcr_after, position_after, position_on, reached_after};
 ghost use Rattle.boot_verdict.specs.declared.register_range.RegisterRange.{RegisterRange};
 ghost use Rattle.boot_verdict.specs.declared.requirement.BankRange.{BankRange};
 ghost use Rattle.boot_verdict.specs.ExpectedTexts.{IsExpectedText};
@@ -19,20 +19,20 @@ ghost use Rattle.boot_verdict.specs.ListVerdicts.{list_verdict_on, required_list
 ghost use Rattle.boot_verdict.specs.WrittenTexts.{expected_text, those_within};
 ghost use Rattle.boot_verdict.specs.Verdicts.{pcr_after_log_and_list, row_on, verdict_on};
 
-/// The place of an expected register is where its value is first reached: after the steps of that place the register has the
-/// value, and after no fewer steps (`first`). A register whose place is nowhere has the value after none of the steps (`nowhere`). A
-/// register that has its value in the end, which is a `match` of the verdict, has a place (`found`). The steps are the log's events and
+/// The position of an expected register is where its value is first reached: after the steps of that position the register has the
+/// value, and after no fewer steps (`first`). A register whose position is nowhere has the value after none of the steps (`nowhere`). A
+/// register that has its value in the end, which is a `match` of the verdict, has a position (`found`). The steps are the log's events and
 /// then the list's entries; after all of them the register is the one that the verdict compares (`all`).
-pub fn place_is_where_the_value_is_first()
+pub fn position_is_where_the_value_is_first()
     ensures first { (algs : AlgSet) (events : List LogEvent) (entries : List ListEntry) (expected : Expected) (steps : ℕ)
-        → place_on algs events entries expected ≡ place_after (length events) steps
+        → position_on algs events entries expected ≡ position_after (length events) steps
         → (reached_after algs events entries expected steps ≡ true)
         × ((fewer : ℕ) → fewer < steps → reached_after algs events entries expected fewer ≡ false) }
     ensures nowhere { (algs : AlgSet) (events : List LogEvent) (entries : List ListEntry) (expected : Expected) (steps : ℕ)
-        → place_on algs events entries expected ≡ Nowhere → steps ≤ length events + length entries
+        → position_on algs events entries expected ≡ Nowhere → steps ≤ length events + length entries
         → reached_after algs events entries expected steps ≡ false }
     ensures found { (algs : AlgSet) (events : List LogEvent) (entries : List ListEntry) (expected : Expected)
-        → (row_on algs events entries expected).state ≡ Match → is_found (place_on algs events entries expected) ≡ true }
+        → (row_on algs events entries expected).state ≡ Match → is_found (position_on algs events entries expected) ≡ true }
     ensures all { (algs : AlgSet) (events : List LogEvent) (entries : List ListEntry) (alg : Alg) (register : ℕ)
         → pcr_after algs events entries alg register (length events + length entries)
         ≡ pcr_after_log_and_list algs events entries alg register }

@@ -1,20 +1,22 @@
 //! The verdict on a firmware log, a measurement list and expected registers; how a verification goes on from where it stopped; where
-//! registers first have their expected values; and the texts of events, registers, reports and places.
+//! registers first have their expected values; and the texts of events, registers, reports and positions.
 #![tactic(auto)]
 
 mod all_registers;
 mod checkpoint;
+mod checkpoint_fault;
 mod expected;
 pub mod laws;
 mod lines;
+mod list_registers;
 mod list_replay;
 mod list_verifier;
-mod locating;
+mod location;
 mod pcr_read;
-mod places;
+mod positions;
+mod prefix_report;
 mod printed;
 mod register_range;
-mod replaying;
 mod report;
 mod requirement;
 mod stated;
@@ -24,22 +26,24 @@ mod verifier;
 
 pub use all_registers::{ALL_REGISTERS, register_numbered};
 pub use checkpoint::Checkpoint;
+pub use checkpoint_fault::{CheckpointFault, ResumeFault};
 pub use expected::{ExpectFault, Expected, read_expected, register_on};
 pub use lines::{after_prefix, split_once};
+pub use list_registers::{list_start, replay_from};
 pub use list_replay::ListReplay;
 pub use list_verifier::{ListReport, verify_list_from};
-pub use locating::{locate, locate_from};
-pub use places::{Located, Place, all_found, is_reached, required_found};
+pub use location::{locate, locate_from};
+pub use positions::{Located, Position, all_found, is_reached, required_found};
+pub use prefix_report::{PrefixReport, Unconfirmed};
 pub use printed::read_printed;
 pub use register_range::RegisterRange;
-pub use replaying::{list_start, replay_from};
 pub use report::{Aggregate, Report, Row, State};
 pub use requirement::{BankRange, HasExpected, Requirement, RequirementFault};
-pub use steps::{Follow, Step};
+pub use steps::{Step, Tracker};
 pub use texts::{
     EventData, aggregate_word, algorithm_with, digits_of, write_change, write_counts, write_events,
-    write_expected, write_list_report, write_outcome, write_places, write_registers, write_report,
-    write_required_list_report, write_required_outcome, write_required_places,
-    write_required_report,
+    write_expected, write_list_report, write_outcome, write_positions, write_prefix_report,
+    write_registers, write_report, write_required_list_report, write_required_outcome,
+    write_required_positions, write_required_prefix_report, write_required_report,
 };
 pub use verifier::{VerifyFault, aggregate_of, report_on, verify, verify_from};

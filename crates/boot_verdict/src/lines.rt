@@ -69,8 +69,8 @@ pub fn after_prefix<'a>(prefix: &[u8], text: &'a [u8]) -> Option<&'a [u8]>
 
 /// What precedes this suffix, if the text ends with it.
 pub(crate) fn before_suffix<'a>(suffix: &[u8], text: &'a [u8]) -> Option<&'a [u8]>
-    ensures found { IfSome result (λ front. text.now ≡ front.now ++ suffix.now) }
-    ensures none { IfNone result ((front : List ℕ) → text.now ≡ front ++ suffix.now → ⊥) }
+    ensures found { IfSome result (λ prefix. text.now ≡ prefix.now ++ suffix.now) }
+    ensures none { IfNone result ((prefix : List ℕ) → text.now ≡ prefix ++ suffix.now → ⊥) }
 {
     text.strip_suffix(suffix)
 }

@@ -2,7 +2,7 @@
 
 ghost use Rattle.std.specs.Prelude.{◌≡◌, ◌⊎◌, List, is_some, Ok, IfOk, IfErr, IsErrOf};
 ghost use Rattle.byte_fields.specs.Reading.{ReadsInMemory};
-ghost use Rattle.byte_streams.specs.Streams.{LosesFront};
+ghost use Rattle.byte_streams.specs.Streams.{LosesPrefix};
 ghost use Rattle.ima_list.specs.ListEntry.{ListEntry};
 ghost use Rattle.boot_verdict.specs.ListSources.{HoldsGenuineList, failures_after_list};
 ghost use Rattle.boot_verdict.specs.ListVerdicts.{IsListVerdictFrom, list_matches, list_verdict_of, list_verdict_on, required_list_matches};
@@ -10,7 +10,7 @@ ghost use Rattle.boot_verdict.specs.Replays.{IsListReplayFault};
 
 use crate::checkpoint::Checkpoint;
 use crate::expected::Expected;
-use crate::replaying::list_start;
+use crate::list_registers::list_start;
 use crate::report::{Row, all_match};
 use crate::requirement::Requirement;
 use crate::verifier::{VerifyFault, rows_on};
@@ -60,10 +60,10 @@ pub fn verify_list_from<R: Source>(
     ensures only { (entries : List ListEntry) → HoldsGenuineList (R.state list.old).remaining limit entries
         → IsErrOf result VerifyFault.Source
         ⊎ ReadsInMemory VerifyFault.Memory list_verdict_of result (Ok (list_verdict_on entries expected.now)) }
-    // Any fault is the first cause.
+    // Any fault is the first reason.
     ensures fault { IfErr result (IsListReplayFault (R.state list.old).remaining (R.state list.new).remaining limit) }
-    // In any case the source loses bytes from its front, and nothing else.
-    ensures front { LosesFront (R.state list.old).remaining (R.state list.new).remaining }
+    // In any case the source loses bytes from its start, and nothing else.
+    ensures prefix { LosesPrefix (R.state list.old).remaining (R.state list.new).remaining }
     ensures telling { is_some (R.state list.new).remaining ≡ is_some (R.state list.old).remaining }
     ensures counts { (R.state list.new).failures ≡ failures_after_list result (R.state list.old).failures }
 {

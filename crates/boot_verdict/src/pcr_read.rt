@@ -5,21 +5,21 @@ ghost use Rattle.std.specs.List.{list_all};
 ghost use Rattle.pcr_banks.specs.Hashing.{name_of};
 ghost use Rattle.pcr_banks.specs.Registers.{register_count};
 ghost use Rattle.boot_verdict.specs.declared.expected.Expected.{Expected};
-ghost use Rattle.boot_verdict.specs.PcrReadTexts.{IsBankLine, IsValueLine, Place, Says, is_name_byte, two_columns};
+ghost use Rattle.boot_verdict.specs.PcrReadTexts.{IsBankLine, IsValueLine, Position, Says, is_name_byte, two_columns};
 
 use crate::expected::Expected;
 use crate::lines::{after_prefix, before_suffix, register_named};
-use crate::stated::LinePlace;
+use crate::stated::LinePosition;
 use pcr_banks::{Alg, Digest};
 
-/// A place between lines: in the bank of this name, or before the first bank line.
+/// A position between lines: in the bank of this name, or before the first bank line.
 #[derive(Clone, Copy)]
 pub(crate) struct InBank<'a> {
     pub(crate) name: Option<&'a [u8]>,
 }
 
-impl<'a> LinePlace<'a> for InBank<'a> {
-    ghost Value = { Place };
+impl<'a> LinePosition<'a> for InBank<'a> {
+    ghost Value = { Position };
 
     ghost value = { λ bank. option_map (λ name. name.now) bank.name };
 

@@ -7,12 +7,12 @@ ghost use Rattle.boot_verdict.specs.declared.expected.Expected.{Expected};
 ghost use Rattle.boot_verdict.specs.declared.expected.ExpectFault.TheVariants.{BadLine, NoRegister, NotChecked, NotSigned};
 ghost use Rattle.boot_verdict.specs.declared.printed.Part.{Part};
 ghost use Rattle.boot_verdict.specs.declared.printed.Part.TheVariants.{Quoted};
-ghost use Rattle.boot_verdict.specs.PrintedTexts.{HasPrintedFault, IsPrintedText, IsQuoteOutput, IsSignatureLine, MayEnd, PrintedPlace, Prints, PrintsRegister, Turns};
+ghost use Rattle.boot_verdict.specs.PrintedTexts.{HasPrintedFault, IsPrintedText, IsQuoteOutput, IsSignatureLine, MayEnd, PrintedPosition, Prints, PrintsRegister, Turns};
 
 use crate::expected::{ExpectFault, Expected};
 use crate::lines::after_prefix;
 use crate::pcr_read::InBank;
-use crate::stated::{LinePlace, read_lines};
+use crate::stated::{LinePosition, read_lines};
 use std::alloc::Global;
 
 /// Reads the registers that `tpm2_pcrread` of tpm2-tools prints, or that `tpm2_checkquote` prints of a quote.
@@ -43,7 +43,7 @@ pub fn read_printed(alloc: Global, text: &[u8]) -> Result<Vec<Expected>, ExpectF
     ensures fault { IfErr result (λ fault. (fault ≡ ExpectFault.Memory) ⊎ HasPrintedFault text.now fault) }
     ensures memory { IsErrOf result ExpectFault.Memory → PrintsRegister text.now }
 {
-    let beginning = PartPlace {
+    let beginning = PartPosition {
         part: Part::Printed,
         bank: InBank { name: None },
     };
@@ -77,34 +77,34 @@ enum Part {
     Signed,
 }
 
-// A place between lines: the part, and the bank that it is in.
+// A position between lines: the part, and the bank that it is in.
 #[derive(Clone, Copy)]
-struct PartPlace<'a> {
+struct PartPosition<'a> {
     part: Part,
     bank: InBank<'a>,
 }
 
-impl<'a> LinePlace<'a> for PartPlace<'a> {
-    ghost Value = { PrintedPlace };
+impl<'a> LinePosition<'a> for PartPosition<'a> {
+    ghost Value = { PrintedPosition };
 
-    ghost value = { λ place. (place.part, option_map (λ name. name.now) place.bank.name) };
+    ghost value = { λ position. (position.part, option_map (λ name. name.now) position.bank.name) };
 
     ghost says = { Prints };
 
-    fn after(self, line: &'a [u8]) -> Option<(PartPlace<'a>, Option<Expected>)> {
+    fn after(self, line: &'a [u8]) -> Option<(PartPosition<'a>, Option<Expected>)> {
         if self.part == Part::Signed {
             return line.is_empty().then_some((self, None));
         }
         if let Some(part) = part_begun(self.part, self.bank, line) {
             let bank = InBank { name: None };
-            return Some((PartPlace { part, bank }, None));
+            return Some((PartPosition { part, bank }, None));
         }
         let (bank, stated) = self.bank.after(line)?;
-        Some((PartPlace { bank, ..self }, stated))
+        Some((PartPosition { bank, ..self }, stated))
     }
 }
 
-// The part that the line at this place begins, if it begins one.
+// The part that the line at this position begins, if it begins one.
 fn part_begun(part: Part, bank: InBank<'_>, line: &[u8]) -> Option<Part>
     ensures found { IfSome result (Turns part (option_map (λ name. name.now) bank.entry.name) line.now) }
     ensures none { IfNone result ((next : Part) → Turns part (option_map (λ name. name.now) bank.entry.name) line.now next → ⊥) }

@@ -9,7 +9,7 @@ ghost use Rattle.boot_verdict.specs.parts.RequirementParts.{SpellsRange, TakesPa
 
 use crate::expected::Expected;
 use crate::lines::split_once;
-use crate::places::Located;
+use crate::positions::Located;
 use crate::register_range::RegisterRange;
 use crate::report::Row;
 use pcr_banks::{Alg, REGISTERS};

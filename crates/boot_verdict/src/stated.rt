@@ -11,9 +11,9 @@ use crate::expected::{ExpectFault, Expected};
 use crate::lines::line_at;
 use std::alloc::Global;
 
-/// A place in a text whose lines have one form: the beginning, or after a line.
-pub(crate) trait LinePlace<'a>: Copy {
-    // The place, as a value.
+/// A position in a text whose lines have one form: the beginning, or after a line.
+pub(crate) trait LinePosition<'a>: Copy {
+    // The position, as a value.
     ghost Value: { Type 0 };
 
     ghost value: { Self → Value };
@@ -21,14 +21,14 @@ pub(crate) trait LinePlace<'a>: Copy {
     // What a line of this form says.
     ghost says: { Value → List ℕ → Value → Option Expected → Type 0 };
 
-    /// The place after this line, and the register that the line states, if it may stand here.
+    /// The position after this line, and the register that the line states, if it may stand here.
     fn after(self, line: &'a [u8]) -> Option<(Self, Option<Expected>)>
         ensures found { IfSome result (λ said. says (value self) line.now (value said.0) said.1) }
         ensures none { IfNone result ((next : Value) (stated : Option Expected) → says (value self) line.now next stated → ⊥) };
 }
 
-/// Reads the registers that the lines of this text state, from the place where it begins to the one where it ends.
-pub(crate) fn read_lines<'a, P: LinePlace<'a>>(
+/// Reads the registers that the lines of this text state, from the position where it begins to the one where it ends.
+pub(crate) fn read_lines<'a, P: LinePosition<'a>>(
     alloc: Global,
     start: P,
     text: &'a [u8],
@@ -40,33 +40,33 @@ pub(crate) fn read_lines<'a, P: LinePlace<'a>>(
     ensures memory { IsErrOf result ExpectFault.Memory → BeginsWithStated P.says (P.value start) text.now }
 {
     let mut expected = Vec::new(alloc);
-    let mut place = start;
+    let mut position = start;
     let mut rest = Some(text);
     let mut number = 0;
     while let Some(text) = rest {
         let (line, after) = line_at(text);
         number += 1;
-        place = take_line(&mut expected, place, number, line)?;
+        position = take_line(&mut expected, position, number, line)?;
         rest = after;
     }
-    Ok((expected, place))
+    Ok((expected, position))
 }
 
-// Appends the register that this line at this place states, if it states one. `number` counts lines from 1. Returns the place after
+// Appends the register that this line at this position states, if it states one. `number` counts lines from 1. Returns the position after
 // the line.
-fn take_line<'a, P: LinePlace<'a>>(
+fn take_line<'a, P: LinePosition<'a>>(
     expected: &mut Vec<Expected>,
-    place: P,
+    position: P,
     number: usize,
     line: &'a [u8],
 ) -> Result<P, ExpectFault>
-    ensures taken { IfOk result (λ next. AddsStated P.says (P.value place) line.now (P.value next)
+    ensures taken { IfOk result (λ next. AddsStated P.says (P.value position) line.now (P.value next)
         expected.old.items expected.new.items) }
     ensures fault { IfErr result (λ fault. (fault ≡ ExpectFault.Memory)
-        ⊎ IsFaultOfLine P.says expected.old.items (P.value place) line.now number fault) }
-    ensures memory { IsErrOf result ExpectFault.Memory → StatesAnother P.says (P.value place) line.now expected.old.items }
+        ⊎ IsFaultOfLine P.says expected.old.items (P.value position) line.now number fault) }
+    ensures memory { IsErrOf result ExpectFault.Memory → StatesAnother P.says (P.value position) line.now expected.old.items }
 {
-    let Some((next, stated)) = place.after(line) else {
+    let Some((next, stated)) = position.after(line) else {
         return Err(ExpectFault::BadLine { line: number });
     };
     if let Some(register) = stated {

@@ -4,7 +4,7 @@ ghost use Rattle.std.specs.Prelude.{◌≡◌, ◌⊎◌, ℕ, List, Option, map
 ghost use Rattle.pcr_banks.specs.declared.sets.AlgSet.{AlgSet};
 ghost use Rattle.pcr_banks.specs.Digests.{alg_of, bytes_of, digest_of};
 ghost use Rattle.byte_fields.specs.Reading.{ReadsInMemory};
-ghost use Rattle.byte_streams.specs.Streams.{LosesFront};
+ghost use Rattle.byte_streams.specs.Streams.{LosesPrefix};
 ghost use Rattle.boot_log.specs.declared.header.Row.{Row as TableRow};
 ghost use Rattle.boot_log.specs.LogViews.{log_bytes};
 ghost use Rattle.boot_log.specs.Spelling.{LogEvent, IsLog, algs_in};
@@ -117,7 +117,7 @@ pub fn verify(
     ensures only { (table : List TableRow) (events : List LogEvent) (entries : List ListEntry)
         → IsLog log.now table events → IsReading list.now (Ok entries) → AreGenuine entries
         → ReadsInMemory VerifyFault.Memory verdict_of result (Ok (verdict_on (algs_in table) events entries expected.now)) }
-    // Any other fault is the first cause.
+    // Any other fault is the first reason.
     ensures fault { IfErr result (IsVerifyFault log.now list.now) }
     ensures memory { IsErrOf result VerifyFault.Memory → HasSomethingToKeep log.now list.now }
 {
@@ -148,11 +148,11 @@ pub fn verify_from<R: Source>(
         → IsLog log.now table events → HoldsGenuineList (R.state list.old).remaining limit entries
         → IsErrOf result VerifyFault.Source
         ⊎ ReadsInMemory VerifyFault.Memory verdict_of result (Ok (verdict_on (algs_in table) events entries expected.now)) }
-    // Any fault is the first cause.
+    // Any fault is the first reason.
     ensures fault { IfErr result (IsVerifyFaultFrom log.now (R.state list.old).remaining (R.state list.new).remaining limit) }
     ensures memory { IsErrOf result VerifyFault.Memory → IsSomeLog log.now }
-    // In any case the source loses bytes from its front, and nothing else.
-    ensures front { LosesFront (R.state list.old).remaining (R.state list.new).remaining }
+    // In any case the source loses bytes from its start, and nothing else.
+    ensures prefix { LosesPrefix (R.state list.old).remaining (R.state list.new).remaining }
     ensures telling { is_some (R.state list.new).remaining ≡ is_some (R.state list.old).remaining }
     ensures counts { (R.state list.new).failures ≡ failures_after_list result (R.state list.old).failures }
 {
@@ -179,7 +179,7 @@ pub fn report_on(
         events: log.count(),
         locality: log.locality(),
         entries: known.entries,
-        aggregate: aggregate_of(&known.before, known.stated),
+        aggregate: aggregate_of(&known.before, known.recorded),
         rows: rows_on(alloc, &known.after, expected)?,
     })
 }
@@ -220,23 +220,23 @@ fn state_of(expected: &Expected, value: Option<Digest>) -> State
 }
 
 /// The state of the boot aggregate that the list states, if any. `start` has the log's registers.
-pub fn aggregate_of(start: &Banks, stated: Option<Digest>) -> Aggregate
+pub fn aggregate_of(start: &Banks, recorded: Option<Digest>) -> Aggregate
     ensures { (algs : AlgSet) (events : List LogEvent) → IsFirmware algs events start.now
-        → result ≡ aggregate_of algs events (option_map (λ digest. (alg_of digest, bytes_of digest)) stated) }
+        → result ≡ aggregate_of algs events (option_map (λ digest. (alg_of digest, bytes_of digest)) recorded) }
 {
-    match stated {
+    match recorded {
         None => Aggregate::Missing,
-        Some(stated) => aggregate_state(&stated, boot_aggregate(start, stated.alg())),
+        Some(recorded) => aggregate_state(&recorded, boot_aggregate(start, recorded.alg())),
     }
 }
 
-// Compares a stated boot aggregate with that of the log's registers, if the log has the bank.
-fn aggregate_state(stated: &Digest, value: Option<Digest>) -> Aggregate
-    ensures { result ≡ aggregate_state (bytes_of stated.now) (option_map bytes_of value) }
+// Compares a recorded boot aggregate with that of the log's registers, if the log has the bank.
+fn aggregate_state(recorded: &Digest, value: Option<Digest>) -> Aggregate
+    ensures { result ≡ aggregate_state (bytes_of recorded.now) (option_map bytes_of value) }
 {
     match value {
         None => Aggregate::NoBank,
-        Some(value) if value.bytes() == stated.bytes() => Aggregate::Good,
+        Some(value) if value.bytes() == recorded.bytes() => Aggregate::Good,
         Some(_) => Aggregate::Wrong,
     }
 }

@@ -34,13 +34,13 @@ module _ {X E : Type 0} {P : E → Type 0} {format : Format X E} (f : Exact P fo
   fails_once bytes c d x y = same_fault {A = X × List ℕ} c d (sym (f.only bytes (Err c) x) ∙ f.only bytes (Err d) y)
 
 -- What follows a prefix of bytes is bytes.
-pub IsBytes-behind : (bytes front rest : List ℕ) → bytes ≡ front ++ rest → IsBytes bytes → IsBytes rest
-IsBytes-behind bytes front rest parts fits =
-    subst IsBytes (ap (drop (length front)) parts ∙ drop_at front rest (length front) refl) (IsBytes-drop (length front) bytes fits)
+pub IsBytes-behind : (bytes prefix rest : List ℕ) → bytes ≡ prefix ++ rest → IsBytes bytes → IsBytes rest
+IsBytes-behind bytes prefix rest parts fits =
+    subst IsBytes (ap (drop (length prefix)) parts ∙ drop_at prefix rest (length prefix) refl) (IsBytes-drop (length prefix) bytes fits)
 
-IsBytes-front : (bytes front rest : List ℕ) → bytes ≡ front ++ rest → IsBytes bytes → IsBytes front
-IsBytes-front bytes front rest parts fits =
-    subst IsBytes (ap (take (length front)) parts ∙ take_at front rest (length front) refl) (IsBytes-take (length front) bytes fits)
+IsBytes-prefix : (bytes prefix rest : List ℕ) → bytes ≡ prefix ++ rest → IsBytes bytes → IsBytes prefix
+IsBytes-prefix bytes prefix rest parts fits =
+    subst IsBytes (ap (take (length prefix)) parts ∙ take_at prefix rest (length prefix) refl) (IsBytes-take (length prefix) bytes fits)
 
 -- ---- fields
 
@@ -52,13 +52,13 @@ number_found : {E : Type 0} (c : E) (w : Width) (bytes : List ℕ) (b : Bool) �
     → IsRead (number c w) bytes (cond b (Err c) (Ok (from_le_bytes w (take (byte_len w) bytes), drop (byte_len w) bytes)))
 number_found c w bytes true wide e fits = (refl, ltb-true (length bytes) (byte_len w) (sym e))
 number_found c w bytes false wide e fits =
-    let front = take (byte_len w) bytes in
-    let size : length front ≡ byte_len w =
+    let prefix = take (byte_len w) bytes in
+    let size : length prefix ≡ byte_len w =
     omega (arith, ltb-false (length bytes) (byte_len w) (sym e), length-take (byte_len w) bytes) in
-    let front-fits = IsBytes-take (byte_len w) bytes fits in
+    let prefix-fits = IsBytes-take (byte_len w) bytes fits in
     record {
-      is = wide.below front front-fits;
-      parts = rw (wide.back front size front-fits) (sym (take-append-drop (byte_len w) bytes));
+      is = wide.below prefix prefix-fits;
+      parts = rw (wide.back prefix size prefix-fits) (sym (take-append-drop (byte_len w) bytes));
     }
 
 number_given : {E : Type 0} (c : E) (w : Width) (bytes : List ℕ) (reading : Result (ℕ × List ℕ) E) → IsWide w (2 ^ (8 * byte_len w))
@@ -303,7 +303,7 @@ module _ {X E : Type 0} {P : E → Type 0} (c : E) (count : ℕ) {format : Forma
   within_found : (bytes : List ℕ) (reading : Result (List ℕ × List ℕ) E) → IsBytes bytes → IsRead (part c count) bytes reading
       → IsRead (within c count format) bytes (reading >>= λ region. format.at region.0 >>= λ x. Ok (x, region.1))
   within_found bytes (Ok y) fits head =
-      within_after bytes y.0 y.1 (format.at y.0) head (f.found y.0 (IsBytes-front bytes y.0 y.1 head.parts fits))
+      within_after bytes y.0 y.1 (format.at y.0) head (f.found y.0 (IsBytes-prefix bytes y.0 y.1 head.parts fits))
   within_found bytes (Err d) fits fail = inl fail
 
   within_given : (bytes : List ℕ) (reading : Result ((X × List ℕ) × List ℕ) E) → IsRead (within c count format) bytes reading

@@ -12,18 +12,18 @@ use Rattle.byte_fields.proofs.FormatLaws.{IsBytes-behind}
 abbrev pub TakesItems : {X E : Type 0} → (ℕ → List ℕ → Result (X × List ℕ) E) → (List ℕ → X → Type 0) → Type 0
 TakesItems {X} item_at Is =
     (k : ℕ) (bytes : List ℕ) (x : X × List ℕ) → IsBytes bytes → item_at k bytes ≡ Ok x
-    → (front : List ℕ) × (bytes ≡ front ++ x.1) × Is front x.0
+    → (prefix : List ℕ) × (bytes ≡ prefix ++ x.1) × Is prefix x.0
 
 -- An item has at least one byte.
 abbrev pub HasLength : {X : Type 0} → (List ℕ → X → Type 0) → Type 0
-HasLength {X} Is = (front : List ℕ) (x : X) → Is front x → 0 < length front
+HasLength {X} Is = (prefix : List ℕ) (x : X) → Is prefix x → 0 < length prefix
 
 -- A reader of items: what it takes is an item, each item is read, an item has at least one byte, and a fault is one of the item's
 -- number.
 pub record ReadsItems {X E : Type 0} (item_at : ℕ → List ℕ → Result (X × List ℕ) E) (Is : List ℕ → X → Type 0)
     (Fails : ℕ → List ℕ → E → Type 0) : Type 0 where
   pub takes : TakesItems item_at Is
-  pub again : (k : ℕ) (front : List ℕ) (x : X) (rest : List ℕ) → Is front x → item_at k (front ++ rest) ≡ Ok (x, rest)
+  pub again : (k : ℕ) (prefix : List ℕ) (x : X) (rest : List ℕ) → Is prefix x → item_at k (prefix ++ rest) ≡ Ok (x, rest)
   pub some : HasLength Is
   pub fault : (k : ℕ) (bytes : List ℕ) (d : E) → IsBytes bytes → item_at k bytes ≡ Err d → Fails k bytes d
 
@@ -45,20 +45,20 @@ module _ {X E : Type 0} {item_at : ℕ → List ℕ → Result (X × List ℕ) E
   -- ---- reading from left to right
 
   pub no_item : (k : ℕ) (bytes : List ℕ) (d : E) → item_at k bytes ≡ Err d → HasNoItem Is bytes
-  no_item k bytes d e x front rest parts is =
-      ok_not_err (x, rest) d (sym (ap (item_at k) parts ∙ r.again k front x rest is) ∙ e)
+  no_item k bytes d e x prefix rest parts is =
+      ok_not_err (x, rest) d (sym (ap (item_at k) parts ∙ r.again k prefix x rest is) ∙ e)
 
-  reading_after : (k : ℕ) (bytes front after : List ℕ) (x : X) (reading : Result (List X) E) → bytes ≡ front ++ after → Is front x
+  reading_after : (k : ℕ) (bytes prefix after : List ℕ) (x : X) (reading : Result (List X) E) → bytes ≡ prefix ++ after → Is prefix x
       → IsItemsReading Is Fails (k + 1) after reading → IsItemsReading Is Fails k bytes (reading >>= λ others. Ok (x ∷ others))
-  reading_after k bytes front after x (Ok others) parts is are = (front, after, parts, is, are)
-  reading_after k bytes front after x (Err d) parts is fails = record {
+  reading_after k bytes prefix after x (Ok others) parts is are = (prefix, after, parts, is, are)
+  reading_after k bytes prefix after x (Err d) parts is fails = record {
     items = x ∷ fails.items;
     rest = fails.rest;
     begins = record {
-      front = front ++ fails.begins.front;
-      parts = parts ∙ ap (λ (t : List ℕ). front ++ t) fails.begins.parts
-          ∙ sym (append_assoc front fails.begins.front fails.rest);
-      are = (front, fails.begins.front, refl, is, fails.begins.are);
+      prefix = prefix ++ fails.begins.prefix;
+      parts = parts ∙ ap (λ (t : List ℕ). prefix ++ t) fails.begins.parts
+          ∙ sym (append_assoc prefix fails.begins.prefix fails.rest);
+      are = (prefix, fails.begins.prefix, refl, is, fails.begins.are);
     };
     some_left = fails.some_left;
     no_item = fails.no_item;
@@ -75,7 +75,7 @@ module _ {X E : Type 0} {item_at : ℕ → List ℕ → Result (X × List ℕ) E
   reading_first k bytes (Err d) others fits some e next = record {
     items = [];
     rest = bytes;
-    begins = record { front = []; parts = refl; are = refl };
+    begins = record { prefix = []; parts = refl; are = refl };
     some_left = some;
     no_item = no_item k bytes d e;
     fault_is = subst (λ (n : ℕ). Fails n bytes d) (omega arith) (r.fault k bytes d fits e);
@@ -100,23 +100,23 @@ module _ {X E : Type 0} {item_at : ℕ → List ℕ → Result (X × List ℕ) E
 
   -- ---- the items that bytes begin with
 
-  pub one_item : (front other rest left : List ℕ) (x y : X) → Is front x → Is other y → front ++ rest ≡ other ++ left
+  pub one_item : (prefix other rest left : List ℕ) (x y : X) → Is prefix x → Is other y → prefix ++ rest ≡ other ++ left
       → (x ≡ y) × (rest ≡ left)
-  one_item front other rest left x y is-x is-y same =
-      let e = ok_is (x, rest) (y, left) (sym (r.again 0 front x rest is-x) ∙ ap (item_at 0) same ∙ r.again 0 other y left is-y) in
+  one_item prefix other rest left x y is-x is-y same =
+      let e = ok_is (x, rest) (y, left) (sym (r.again 0 prefix x rest is-x) ∙ ap (item_at 0) same ∙ r.again 0 other y left is-y) in
       (ap (λ (p : X × List ℕ). p.0) e, ap (λ (p : X × List ℕ). p.1) e)
 
   -- The first item and what follows it.
   first_of : (bytes : List ℕ) (x : X) (xs : List X) (rest : List ℕ) → BeginsWithItems Is bytes (x ∷ xs) rest
-      → (front after : List ℕ) × (bytes ≡ front ++ after) × Is front x × BeginsWithItems Is after xs rest
+      → (prefix after : List ℕ) × (bytes ≡ prefix ++ after) × Is prefix x × BeginsWithItems Is after xs rest
   first_of bytes x xs rest begins =
-      let front = begins.are.0 in
+      let prefix = begins.are.0 in
       let others = begins.are.1 in (
-        front,
+        prefix,
         others ++ rest,
-        begins.parts ∙ ap (λ (t : List ℕ). t ++ rest) begins.are.2 ∙ append_assoc front others rest,
+        begins.parts ∙ ap (λ (t : List ℕ). t ++ rest) begins.are.2 ∙ append_assoc prefix others rest,
         begins.are.3,
-        record { front = others; parts = refl; are = begins.are.4 },
+        record { prefix = others; parts = refl; are = begins.are.4 },
       )
 
   none_left : (bytes rest : List ℕ) → BeginsWithItems Is bytes [] rest → bytes ≡ rest
@@ -149,13 +149,13 @@ module _ {X E : Type 0} {item_at : ℕ → List ℕ → Result (X × List ℕ) E
       omega (arith, no_longer xs ys p.1 rest left p.4 none (rw same.1 q.4))
 
   pub none_in_nothing : HasNoItem Is []
-  none_in_nothing x front rest parts is = omega (arith, r.some front x is, ap length parts, length-append front rest)
+  none_in_nothing x prefix rest parts is = omega (arith, r.some prefix x is, ap length parts, length-append prefix rest)
 
   -- Bytes are at most one list of items.
   pub one_list : (bytes : List ℕ) (xs ys : List X) → AreItems Is bytes xs → AreItems Is bytes ys → xs ≡ ys
   one_list bytes xs ys a b =
-      let begins-a : BeginsWithItems Is bytes xs [] = record { front = bytes; parts = sym (append-nil bytes); are = a } in
-      let begins-b : BeginsWithItems Is bytes ys [] = record { front = bytes; parts = sym (append-nil bytes); are = b } in
+      let begins-a : BeginsWithItems Is bytes xs [] = record { prefix = bytes; parts = sym (append-nil bytes); are = a } in
+      let begins-b : BeginsWithItems Is bytes ys [] = record { prefix = bytes; parts = sym (append-nil bytes); are = b } in
       let up = no_longer xs ys bytes [] [] begins-a none_in_nothing begins-b in
       let down = no_longer ys xs bytes [] [] begins-b none_in_nothing begins-a in
       (same_items xs ys bytes [] [] (omega (arith, up, down)) begins-a begins-b).0

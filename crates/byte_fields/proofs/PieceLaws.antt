@@ -8,30 +8,30 @@ use Rattle.byte_fields.proofs.ItemLaws.{ReadsItems, no_item, no_longer, same_ite
 
 -- ---- one more item
 
-are_more : {X : Type 0} (Is : List ℕ → X → Type 0) (front last : List ℕ) (items : List X) (x : X) → AreItems Is front items → Is last x
-    → AreItems Is (front ++ last) (items ++ x ∷ [])
-are_more Is front last [] x are is = (last, [], ap (λ (t : List ℕ). t ++ last) are ∙ sym (append-nil last), is, refl)
-are_more Is front last (y ∷ items) x are is =
+are_more : {X : Type 0} (Is : List ℕ → X → Type 0) (prefix last : List ℕ) (items : List X) (x : X) → AreItems Is prefix items → Is last x
+    → AreItems Is (prefix ++ last) (items ++ x ∷ [])
+are_more Is prefix last [] x are is = (last, [], ap (λ (t : List ℕ). t ++ last) are ∙ sym (append-nil last), is, refl)
+are_more Is prefix last (y ∷ items) x are is =
     let others = are_more Is are.1 last items x are.4 is in
     (are.0, are.1 ++ last, ap (λ (t : List ℕ). t ++ last) are.2 ∙ append_assoc are.0 are.1 last, are.3, others)
 
 -- Where one more item follows some items, what remains is what the one item leaves.
-pub one_more : {X : Type 0} {Is : List ℕ → X → Type 0} (bytes rest front after : List ℕ) (items : List X) (x : X)
-    → rest ≡ front ++ after → Is front x → BeginsWithItems Is bytes items rest → BeginsWithItems Is bytes (items ++ x ∷ []) after
-one_more {X} {Is} bytes rest front after items x parts is begins = record {
-  front = begins.front ++ front;
-  parts = begins.parts ∙ ap (λ (t : List ℕ). begins.front ++ t) parts ∙ sym (append_assoc begins.front front after);
-  are = are_more Is begins.front front items x begins.are is;
+pub one_more : {X : Type 0} {Is : List ℕ → X → Type 0} (bytes rest prefix after : List ℕ) (items : List X) (x : X)
+    → rest ≡ prefix ++ after → Is prefix x → BeginsWithItems Is bytes items rest → BeginsWithItems Is bytes (items ++ x ∷ []) after
+one_more {X} {Is} bytes rest prefix after items x parts is begins = record {
+  prefix = begins.prefix ++ prefix;
+  parts = begins.parts ∙ ap (λ (t : List ℕ). begins.prefix ++ t) parts ∙ sym (append_assoc begins.prefix prefix after);
+  are = are_more Is begins.prefix prefix items x begins.are is;
 }
 
 -- ---- what stays when more bytes follow
 
--- Items at the front are still there when more bytes follow.
+-- Items at the start are still there when more bytes follow.
 pub items_longer : {X : Type 0} {Is : List ℕ → X → Type 0} (bytes more : List ℕ) (items : List X) (rest : List ℕ)
     → BeginsWithItems Is bytes items rest → BeginsWithItems Is (bytes ++ more) items (rest ++ more)
 items_longer bytes more items rest begins = record {
-  front = begins.front;
-  parts = ap (λ (t : List ℕ). t ++ more) begins.parts ∙ append_assoc begins.front rest more;
+  prefix = begins.prefix;
+  parts = ap (λ (t : List ℕ). t ++ more) begins.parts ∙ append_assoc begins.prefix rest more;
   are = begins.are;
 }
 
@@ -41,7 +41,7 @@ FaultsLast {X} {E} item_at Fails Lasts =
     (k : ℕ) (bytes more : List ℕ) (d : E) → Lasts d → Fails k bytes d
     → Fails k (bytes ++ more) d × (item_at k (bytes ++ more) ≡ Err d)
 
--- What was read so far: the items at the front of the bytes, and the bytes kept after them, which begin with no item and have no
+-- What was read so far: the items at the start of the bytes, and the bytes kept after them, which begin with no item and have no
 -- fault that lasts.
 pub record AreReadSoFar {X E : Type 0} (Is : List ℕ → X → Type 0) (Fails : ℕ → List ℕ → E → Type 0) (Lasts : E → Type 0)
     (bytes : List ℕ) (items : List X) (kept : List ℕ) : Type 0 where
@@ -49,13 +49,13 @@ pub record AreReadSoFar {X E : Type 0} (Is : List ℕ → X → Type 0) (Fails :
   pub no_item : HasNoItem Is kept
   pub no_fault : (k : ℕ) (d : E) → Lasts d → Fails k kept d → ⊥
 
--- Where two texts are the same, and the first has the shorter rest, its front is the other's front and what lies between.
-overlap : {A : Type 0} (front other rest left : List A) → front ++ rest ≡ other ++ left → length rest ≤ length left
-    → (middle : List A) × (front ≡ other ++ middle) × (left ≡ middle ++ rest)
-overlap front [] rest left same shorter = (front, refl, sym same)
+-- Where two texts are the same, and the first has the shorter rest, its prefix is the other's prefix and what lies between.
+overlap : {A : Type 0} (prefix other rest left : List A) → prefix ++ rest ≡ other ++ left → length rest ≤ length left
+    → (middle : List A) × (prefix ≡ other ++ middle) × (left ≡ middle ++ rest)
+overlap prefix [] rest left same shorter = (prefix, refl, sym same)
 overlap [] (y ∷ other) rest left same shorter = absurd (omega (arith, ap length same, length-append other left))
-overlap {A} (x ∷ front) (y ∷ other) rest left same shorter =
-    let further = overlap front other rest left (ap (drop 1) same) shorter in
+overlap {A} (x ∷ prefix) (y ∷ other) rest left same shorter =
+    let further = overlap prefix other rest left (ap (drop 1) same) shorter in
     let head : x ≡ y = cc in
     (further.0, ap (λ (t : List A). x ∷ t) further.1 ∙ ap (λ (z : A). z ∷ (other ++ further.0)) head, further.2)
 
@@ -93,8 +93,8 @@ module _ {X E : Type 0} {item_at : ℕ → List ℕ → Result (X × List ℕ) E
   ends_in_chunk bytes kept chunk surplus items others so_far more begins =
       elim (cases_lt (length chunk) (length surplus)) [
         | inl lt ↦
-            let split = overlap bytes begins.front chunk surplus begins.parts (omega arith) in
-            let whole : BeginsWithItems Is bytes others split.0 = record { front = begins.front; parts = split.1; are = begins.are } in
+            let split = overlap bytes begins.prefix chunk surplus begins.parts (omega arith) in
+            let whole : BeginsWithItems Is bytes others split.0 = record { prefix = begins.prefix; parts = split.1; are = begins.are } in
             absurd (omega (arith, more, no_longer r items others bytes kept split.0 so_far.begins so_far.no_item whole))
         | inr le ↦ le
       ]
@@ -104,7 +104,7 @@ pub after_chunk : {X : Type 0} {Is : List ℕ → X → Type 0} (bytes chunk sur
     → length surplus ≤ length chunk → BeginsWithItems Is (bytes ++ chunk) items surplus
     → BeginsWithItems Is ((bytes ++ chunk) ++ after) items (drop (length chunk - length surplus) (chunk ++ after))
 after_chunk bytes chunk surplus after items shorter begins =
-    let split = overlap begins.front bytes surplus chunk (sym begins.parts) shorter in
+    let split = overlap begins.prefix bytes surplus chunk (sym begins.parts) shorter in
     let count : length split.0 ≡ length chunk - length surplus =
     omega (arith, ap length split.2, length-append split.0 surplus) in
     let left : drop (length chunk - length surplus) (chunk ++ after) ≡ surplus ++ after =

@@ -49,19 +49,19 @@ items_enough {X} {E} item_at lost shortens (suc steps) (suc more) k (byte ∷ by
     ap (λ (r : Result (List X) E). r >>= λ others. Ok (item ∷ others))
     (items_enough item_at lost shortens steps more (k + 1) after shorter.0 (omega (arith, shorter.1)) (omega (arith, shorter.1))))
 
--- What is read after these items, with these in front.
-abbrev pub with_front : {X E : Type 0} → List X → Result (List X) E → Result (List X) E
-with_front front reading = reading >>= λ others. Ok (front ++ others)
+-- What is read after these items, with these before them.
+abbrev pub with_prefix : {X E : Type 0} → List X → Result (List X) E → Result (List X) E
+with_prefix prefix reading = reading >>= λ others. Ok (prefix ++ others)
 
 -- After some of the items: reading what is left gives what reading all gives.
 pub record ReadsOn {X E : Type 0} (item_at : ℕ → List ℕ → Result (X × List ℕ) E) (lost : ℕ → E) (start : ℕ) (bytes : List ℕ)
     (items : List X) (rest : List ℕ) : Type 0 where
-  pub reading : with_front items (items_from item_at lost (length items + start) rest) ≡ items_from item_at lost start bytes
+  pub reading : with_prefix items (items_from item_at lost (length items + start) rest) ≡ items_from item_at lost start bytes
   pub fits : IsBytes rest
   pub shorter : length items + length rest ≤ length bytes
   pub begun : ((items ≡ []) × (rest ≡ bytes)) ⊎ IsOk (item_at start bytes)
 
-pub with_none : {X E : Type 0} (r : Result (List X) E) → with_front [] r ≡ r
+pub with_none : {X E : Type 0} (r : Result (List X) E) → with_prefix [] r ≡ r
 with_none (Ok items) = refl
 with_none (Err fault) = refl
 
@@ -70,16 +70,16 @@ pub reads_at_first : {X E : Type 0} (item_at : ℕ → List ℕ → Result (X ×
 reads_at_first {X} item_at lost start bytes fits =
     let none : 0 + start ≡ start = omega arith in
     record {
-      reading = ap (λ (k : ℕ). with_front [] (items_from item_at lost k bytes)) none ∙ with_none (items_from item_at lost start bytes);
+      reading = ap (λ (k : ℕ). with_prefix [] (items_from item_at lost k bytes)) none ∙ with_none (items_from item_at lost start bytes);
       fits = fits;
       shorter = omega arith;
       begun = inl (refl, refl);
     }
 
-with_one_more : {X E : Type 0} (front : List X) (item : X) (r : Result (List X) E)
-    → with_front front (r >>= λ others. Ok (item ∷ others)) ≡ with_front (front ++ item ∷ []) r
-with_one_more {X} front item (Ok others) = ap (λ (xs : List X). Ok xs) (sym (append_assoc front (item ∷ []) others))
-with_one_more front item (Err fault) = refl
+with_one_more : {X E : Type 0} (prefix : List X) (item : X) (r : Result (List X) E)
+    → with_prefix prefix (r >>= λ others. Ok (item ∷ others)) ≡ with_prefix (prefix ++ item ∷ []) r
+with_one_more {X} prefix item (Ok others) = ap (λ (xs : List X). Ok xs) (sym (append_assoc prefix (item ∷ []) others))
+with_one_more prefix item (Err fault) = refl
 
 -- Reading what is left is reading its first item, and then the rest.
 pub from_first : {X E : Type 0} (item_at : ℕ → List ℕ → Result (X × List ℕ) E) (lost : ℕ → E) → Shortens item_at
@@ -127,7 +127,7 @@ reads_on item_at lost shortens start bytes items rest item after some on e =
     let first = from_first item_at lost shortens (length items + start) rest item after on.fits some e in
     record {
       reading = rw count (sym (with_one_more items item (items_from item_at lost (length items + start + 1) after))
-          ∙ ap (with_front items) (sym first) ∙ on.reading);
+          ∙ ap (with_prefix items) (sym first) ∙ on.reading);
       fits = shorter.0;
       shorter = omega (arith, on.shorter, shorter.1, length-append items (item ∷ []));
       begun = inr (has_begun item_at lost start bytes items rest (item, after) on e);
@@ -138,14 +138,14 @@ pub reads_fault : {X E : Type 0} (item_at : ℕ → List ℕ → Result (X × Li
     → 0 < length rest → ReadsOn item_at lost start bytes items rest → item_at (length items + start) rest ≡ Err fault
     → items_from item_at lost start bytes ≡ Err fault
 reads_fault item_at lost start bytes items rest fault some on e =
-    sym on.reading ∙ ap (with_front items) (from_fault item_at lost (length items + start) rest fault some e)
+    sym on.reading ∙ ap (with_prefix items) (from_fault item_at lost (length items + start) rest fault some e)
 
 pub reads_to_end : {X E : Type 0} (item_at : ℕ → List ℕ → Result (X × List ℕ) E) (lost : ℕ → E) (start : ℕ) (bytes : List ℕ)
     (items : List X) (rest : List ℕ)
     → rest ≡ [] → ReadsOn item_at lost start bytes items rest → items_from item_at lost start bytes ≡ Ok items
 reads_to_end {X} {E} item_at lost start bytes items rest none on =
     let last : items_from item_at lost (length items + start) rest ≡ Ok [] = rw none (items_none item_at lost 0 (length items + start)) in
-    sym on.reading ∙ ap (with_front items) last ∙ ap (λ (xs : List X). Ok xs) (append-nil items)
+    sym on.reading ∙ ap (with_prefix items) last ∙ ap (λ (xs : List X). Ok xs) (append-nil items)
 
 -- ---- a loop over `count` items: reading what is left gives what reading all gives
 

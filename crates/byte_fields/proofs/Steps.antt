@@ -1,4 +1,4 @@
--- Steps that may fail, and what a reader took from the front of the bytes.
+-- Steps that may fail, and what a reader took from the start of the bytes.
 use Rattle.std.proofs.Common.{◌≡◌, ℕ, ◌+◌, Bool, true, false, cond, List, ◌++◌, take, drop, Option, Some, None, Result, Ok, Err, refl, arith, inl, inr}
 use Rattle.std.specs.Prelude.{ok_or, IsOk}
 use Rattle.std.proofs.lemmas.Bool.{cases_lt}
@@ -33,7 +33,7 @@ pub guard_ok : {A E : Type 0} (b : Bool) (d : E) (r : Result A E) (y : A) → co
 guard_ok true d r y e = absurd cc
 guard_ok false d r y e = (refl, e)
 
--- The same: failing is its second branch.
+-- A test whose second branch fails.
 pub test_ok : {A E : Type 0} (b : Bool) (d : E) (r : Result A E) (y : A) → cond b r (Err d) ≡ Ok y → (b ≡ true) × (r ≡ Ok y)
 test_ok true d r y e = (refl, e)
 test_ok false d r y e = absurd cc
@@ -60,7 +60,7 @@ is_ok_value (Err fault) ok = absurd cc
 pub fault_is : {A E : Type 0} (r : Result A E) (y f g : E) → r ≡ Err y → y ≡ f → r ≡ Err g → f ≡ g
 fault_is r y f g a b c = cc
 
--- What a reader took from the front, and the rest.
+-- What a reader took from the start, and the rest.
 pub record Takes (bytes text rest : List ℕ) : Type 0 where
   pub parts : bytes ≡ text ++ rest
   pub rest_fits : IsBytes rest

@@ -1,11 +1,11 @@
--- Formats as values: which values a format can spell, how it spells them, how it reads one from the front of bytes, and which
+-- Formats as values: which values a format can spell, how it spells them, how it reads one from the start of bytes, and which
 -- bytes fail with which fault. That the four agree is proved once for each way to build a format from others.
 use Rattle.std.specs.Prelude.{◌≡◌, ℕ, zero, suc, ◌^◌, ◌*◌, ◌<◌, ◌⊎◌, Bool, true, false, if◌then◌else◌, ◌==◌, List, [], ◌∷◌, ◌++◌, length, Option, ok_or, Result, Ok, Err}
 use Rattle.std.specs.Int.{Width, w32, byte_len, to_le_bytes}
 use Rattle.byte_fields.specs.Reading.{◌>>=◌, number_at, part_at, byte_at, sized_at, items_at}
 
 pub record Format (X E : Type 0) : Type 1 where
-  -- the value at the front of the bytes and the remaining bytes, or the fault
+  -- the value at the start of the bytes and the remaining bytes, or the fault
   pub at : List ℕ → Result (X × List ℕ) E
   -- the value has a spelling
   pub Is : X → Type 0
@@ -87,11 +87,11 @@ unless bad fault format = viewed (λ x. if bad x then Err fault else Ok x) (λ x
 abbrev pub telling : {A B E : Type 0} → (A → Option B) → E → Format A E → Format (A × B) E
 telling tell fault format = viewed (λ a. ok_or (tell a) fault >>= λ b. Ok (a, b)) (λ x. x.0) format
 
--- The same value in another form.
+-- A format whose values have another form.
 abbrev pub mapped : {A X E : Type 0} → (A → X) → (X → A) → Format A E → Format X E
 mapped to back format = viewed (λ a. Ok (to a)) back format
 
--- The same format with another reader, which must read the same.
+-- The format with another reader, which must read the same.
 abbrev pub read_by : {X E : Type 0} → (List ℕ → Result (X × List ℕ) E) → Format X E → Format X E
 read_by at format = record format { at = at }
 
@@ -108,7 +108,7 @@ abbrev pub either : {X E : Type 0} → Bool → Format X E → Format X E → Fo
 either true this other = this
 either false this other = other
 
--- A value at the front of the next `count` bytes, and the rest of these bytes.
+-- A value at the start of the next `count` bytes, and the rest of these bytes.
 abbrev pub within : {X E : Type 0} → E → ℕ → Format X E → Format (X × List ℕ) E
 within fault count format = record {
   at = λ bytes. part_at fault count bytes >>= λ region. format.at region.0 >>= λ x. Ok (x, region.1);

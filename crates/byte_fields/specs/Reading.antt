@@ -14,7 +14,7 @@ abbrev pub Reads : {X Y E : Type 0} → (X → Y) → Result X E → Result Y E 
 Reads view (Ok x) reading = reading ≡ Ok (view x)
 Reads view (Err fault) reading = reading ≡ Err fault
 
--- The same, unless the result is the fault `memory`, which means out of memory.
+-- The result is the reading's, unless it is the fault `memory`, which means out of memory.
 abbrev pub ReadsInMemory : {X Y E : Type 0} → E → (X → Y) → Result X E → Result Y E → Type 0
 ReadsInMemory memory view (Ok x) reading = reading ≡ Ok (view x)
 ReadsInMemory memory view (Err fault) reading = (fault ≡ memory) ⊎ (reading ≡ Err fault)

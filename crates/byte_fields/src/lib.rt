@@ -1,4 +1,4 @@
-//! Readers of fields at the front of a slice: little-endian numbers and parts of a given length.
+//! Readers of fields at the start of a slice: little-endian numbers and parts of a given length.
 //!
 //! Each reader returns the field and the remaining bytes, or the given fault if bytes are missing.
 #![tactic(auto)]

@@ -33,14 +33,14 @@ Appends-kept (Some bytes) (Some more) (Some most) text p q = q ∙ p
 
 -- A whole text is a prefix of it.
 TakesPart-whole : (old new : Option (List ℕ)) (text : List ℕ) → Appends old new text → TakesPart old new text
-TakesPart-whole old new text p = record { front = text; rest = []; whole = sym (append-nil text); taken = p }
+TakesPart-whole old new text p = record { prefix = text; rest = []; whole = sym (append-nil text); taken = p }
 
 -- A prefix of the first text is one of both.
 TakesPart-first : (old new : Option (List ℕ)) (first second : List ℕ) → TakesPart old new first → TakesPart old new (first ++ second)
 TakesPart-first old new first second p = record {
-  front = p.front;
+  prefix = p.prefix;
   rest = p.rest ++ second;
-  whole = ap (λ l. l ++ second) p.whole ∙ append_assoc p.front p.rest second;
+  whole = ap (λ l. l ++ second) p.whole ∙ append_assoc p.prefix p.rest second;
   taken = p.taken;
 }
 
@@ -48,10 +48,10 @@ TakesPart-first old new first second p = record {
 TakesPart-append : (old mid new : Option (List ℕ)) (first second : List ℕ)
     → Appends old mid first → TakesPart mid new second → TakesPart old new (first ++ second)
 TakesPart-append old mid new first second p q = record {
-  front = first ++ q.front;
+  prefix = first ++ q.prefix;
   rest = q.rest;
-  whole = ap (λ l. first ++ l) q.whole ∙ sym (append_assoc first q.front q.rest);
-  taken = Appends-append old mid new first q.front p q.taken;
+  whole = ap (λ l. first ++ l) q.whole ∙ sym (append_assoc first q.prefix q.rest);
+  taken = Appends-append old mid new first q.prefix p q.taken;
 }
 
 -- ---- texts that are sent
@@ -101,7 +101,7 @@ Sends-stops Q old new fault (Err other) first second err p = record {
   counts = p.counts;
 }
 
--- The same text, in another form.
+-- A text that was sent, in another form.
 pub Sends-same : {A E : Type 0} (old new : SinkState) (result : Result A E) (text other : List ℕ) → text ≡ other
     → Sends old new result text → Sends old new result other
 Sends-same {A} {E} old new result text other same p = subst (λ (t : List ℕ). Sends {A = A} {E = E} old new result t) same p
@@ -110,12 +110,12 @@ Sends-same {A} {E} old new result text other same p = subst (λ (t : List ℕ). 
 
 -- What a sink took of a text, and what is left of it.
 pub record IsSent (old new : SinkState) (text rest : List ℕ) : Type 0 where
-  pub front : List ℕ
-  pub whole : text ≡ front ++ rest
-  pub sent : Sent old new front
+  pub prefix : List ℕ
+  pub whole : text ≡ prefix ++ rest
+  pub sent : Sent old new prefix
 
 pub IsSent-none : (state : SinkState) (text : List ℕ) → IsSent state state text text
-IsSent-none state text = record { front = []; whole = refl; sent = Sends-none state tt }
+IsSent-none state text = record { prefix = []; whole = refl; sent = Sends-none state tt }
 
 -- The rest of a list from n on, as a slice.
 pub take-drop-all : (n : ℕ) (rest : List ℕ) → take (length rest - n) (drop n rest) ≡ drop n rest
@@ -134,12 +134,12 @@ write_sent old new n rest p = record {
 pub IsSent-more : {E : Type 0} (old mid new : SinkState) (text rest left : List ℕ) (n : ℕ)
     → IsSent old mid text rest → Takes {E = E} mid new (Ok n) rest → left ≡ drop n rest → IsSent old new text left
 IsSent-more old mid new text rest left n p q e = record {
-  front = p.front ++ take n rest;
+  prefix = p.prefix ++ take n rest;
   whole =
       p.whole
-      ∙ ap (λ l. p.front ++ l) (sym (take-append-drop n rest) ∙ ap (λ l. take n rest ++ l) (sym e))
-      ∙ sym (append_assoc p.front (take n rest) left);
-  sent = Sends-then old mid new tt (Ok tt) p.front (take n rest) p.sent (write_sent mid new n rest q);
+      ∙ ap (λ l. p.prefix ++ l) (sym (take-append-drop n rest) ∙ ap (λ l. take n rest ++ l) (sym e))
+      ∙ sym (append_assoc p.prefix (take n rest) left);
+  sent = Sends-then old mid new tt (Ok tt) p.prefix (take n rest) p.sent (write_sent mid new n rest q);
 }
 
 -- Nothing is left.
@@ -147,7 +147,7 @@ pub IsSent-all : {A E : Type 0} (old new : SinkState) (value : A) (text rest : L
     → IsSent old new text rest → rest ≡ [] → Sends {A = A} {E = E} old new (Ok value) text
 IsSent-all old new value text rest p none =
     Sends-ok old new tt value text
-    (Sends-same old new (Ok tt) p.front text (sym (p.whole ∙ ap (λ l. p.front ++ l) none ∙ append-nil p.front)) p.sent)
+    (Sends-same old new (Ok tt) p.prefix text (sym (p.whole ∙ ap (λ l. p.prefix ++ l) none ∙ append-nil p.prefix)) p.sent)
 
 -- The sink failed.
 pub IsSent-fails : {A E F : Type 0} (Q : F → Type 0) (old mid new : SinkState) (fault : E) (result : Result A F) (text rest : List ℕ)
@@ -156,10 +156,10 @@ IsSent-fails Q old mid new fault (Ok value) text rest err p q = absurd err
 IsSent-fails Q old mid new fault (Err other) text rest err p q = record {
   ok = tt;
   part = record {
-    front = p.front;
+    prefix = p.prefix;
     rest = rest;
     whole = p.whole;
-    taken = Appends-kept old.taken mid.taken new.taken p.front p.sent.ok q.takes;
+    taken = Appends-kept old.taken mid.taken new.taken p.prefix p.sent.ok q.takes;
   };
   telling = q.telling ∙ p.sent.telling;
   counts = q.counts ∙ ap (λ (failures : ℕ). failures_once failures) p.sent.counts;

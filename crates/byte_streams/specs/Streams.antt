@@ -1,4 +1,4 @@
--- The state of sinks and sources, and how a call changes it. All of this is this project's choice.
+-- The state of sinks and sources, and how a call changes it.
 use Rattle.std.specs.Prelude.{◌≡◌, ℕ, ◌+◌, ◌-◌, ◌^◌, ◌<◌, ◌≤◌, min, List, ◌++◌, length, Option, is_some, Result, Ok, Err, IfOk, OnOk}
 use Rattle.std.specs.Io.KnownBytes.{Appends, Consumes, IsAtEnd, ReadConsumes, WriteAppends}
 use Rattle.byte_streams.specs.declared.pieces.ReadFault.{ReadFault}
@@ -37,10 +37,10 @@ pub record Gives {E : Type 0} (old new : SourceState) (result : Result ℕ E) (b
 
 -- A sink took a prefix of the text, and nothing else.
 pub record TakesPart (old new : Option (List ℕ)) (text : List ℕ) : Type 0 where
-  pub front : List ℕ
+  pub prefix : List ℕ
   pub rest : List ℕ
-  pub whole : text ≡ front ++ rest
-  pub taken : Appends old new front
+  pub whole : text ≡ prefix ++ rest
+  pub taken : Appends old new prefix
 
 -- A text was sent to a sink: after `Ok` it took the whole text, and in any case a prefix of it. `Err` is one failure more, `Ok`
 -- is none. Whether the sink tells its bytes never changes.
@@ -56,12 +56,12 @@ pub record Sends {A E : Type 0} (old new : SinkState) (result : Result A E) (tex
 abbrev pub piece_limit : ℕ
 piece_limit = 65536
 
--- A source lost some bytes from its front, and nothing else.
-pub record LosesFront (old new : Option (List ℕ)) : Type 0 where
-  pub front : List ℕ
-  pub lost : Consumes old new front
+-- A source lost some bytes from its start, and nothing else.
+pub record LosesPrefix (old new : Option (List ℕ)) : Type 0 where
+  pub prefix : List ℕ
+  pub lost : Consumes old new prefix
 
--- `count` bytes, at most one piece, came from the source's front and were appended to those before; `count` is 0 only where none
+-- `count` bytes, at most one piece, came from the source's start and were appended to those before; `count` is 0 only where none
 -- remain.
 pub record GivesPiece (old new : Option (List ℕ)) (before after : List ℕ) (count : ℕ) : Type 0 where
   pub came : List ℕ

@@ -7,10 +7,10 @@
 
 mod memory;
 mod pieces;
-mod sending;
+mod senders;
 mod streams;
 
 pub use memory::{SliceSource, VecSink};
-pub use pieces::{PieceReader, ReadFault, remove_front};
-pub use sending::{send, send_pieces};
+pub use pieces::{PieceReader, ReadFault, remove_prefix};
+pub use senders::{send, send_pieces};
 pub use streams::{Failed, Sink, Source};

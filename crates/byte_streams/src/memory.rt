@@ -78,8 +78,8 @@ impl Source for SliceSource<'_> {
         ensures rest { IfOk result (λ n. slice_source_rest self.new ≡ drop n (slice_source_rest self.old)) }
     {
         let count = self.rest.len().min(buffer.len());
-        let (front, rest) = self.rest.split_at(count);
-        buffer[..count].copy_from_slice(front);
+        let (prefix, rest) = self.rest.split_at(count);
+        buffer[..count].copy_from_slice(prefix);
         self.rest = rest;
         Ok(count)
     }

@@ -30,7 +30,7 @@ pub trait Source {
     // The remaining bytes, where they are known, and the number of failures.
     ghost state: { Self → SourceState };
 
-    /// Reads bytes. After `Ok(n)` the next `n` of them are at the front of the buffer; `Ok(0)` for a non-empty buffer means that
+    /// Reads bytes. After `Ok(n)` the next `n` of them are at the start of the buffer; `Ok(0)` for a non-empty buffer means that
     /// none remain. After `Err` the source has given nothing, and counts one more failure.
     fn read(&mut self, buffer: &mut [u8]) -> Result<usize, Failed>
         ensures within { IfOk result (λ n. n ≤ length buffer.old) }

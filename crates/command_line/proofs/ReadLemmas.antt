@@ -1,5 +1,5 @@
 -- clap's matches, and what is read from them.
-use Rattle.std.proofs.Common.{◌≡◌, ◌⊎◌, ℕ, List, [], ◌∷◌, map, true, false, Option, None, Some, Bor, String, string_bytes, refl, sym, ap, subst, ◌∙◌, inl, inr}
+use Rattle.std.proofs.Common.{◌≡◌, List, [], ◌∷◌, map, true, false, Option, None, Some, Bor, String, string_bytes, refl, sym, ap, subst, ◌∙◌, inl}
 use Rattle.std.specs.Prelude.{is_some, option_map, slice_get, unwrap_or}
 use Rattle.std.specs.Global.{Global}
 use Rattle.std.proofs.lemmas.Option.{same_Some}
@@ -8,8 +8,7 @@ use Rattle.clap.specs.declared.parser.matches.Found.{Found}
 use Rattle.clap.specs.declared.parser.matches.MatchedArg.{MatchedArg}
 use Rattle.clap.proofs.OnLiterals.{clap_on_literals}
 use Rattle.clap.proofs.WalkLemmas.{raw_values-rows}
-use Rattle.command_line.specs.Commands.{AreNotTaken, IsMatched, Parsers, commands}
-use Rattle.command_line.specs.Plans.{HasHelpWord, IsAskedBy, IsHelp, IsOfCommand}
+use Rattle.command_line.specs.Plans.{Parsers, commands, IsRequestedBy, IsPlanOrHelp}
 use Rattle.command_line.specs.declared.plan.Plan.{Plan}
 
 pub commands_are_simple : (parsers : Parsers) → is_simple (commands parsers) ≡ true
@@ -17,10 +16,10 @@ unfolding clap_on_literals
 commands_are_simple parsers = refl
 
 -- The values of an argument that may be missing.
-pub words_or_none : (o : Option (Bor (List (Bor Text)))) (none given : Bor (List (Bor Text))) → none.now ≡ [] → given ≡ unwrap_or o none
-    → map (λ word. word.now) given.now ≡ unwrap_or (option_map (λ words. map (λ word. word.now) words.now) o) []
-words_or_none None none given empty is = ap (λ (words : Bor (List (Bor Text))). map (λ word. word.now) words.now) is ∙ ap (map (λ word. word.now)) empty
-words_or_none (Some words) none given empty is = ap (λ (words : Bor (List (Bor Text))). map (λ word. word.now) words.now) is
+pub arguments_or_none : (o : Option (Bor (List (Bor Text)))) (none given : Bor (List (Bor Text))) → none.now ≡ [] → given ≡ unwrap_or o none
+    → map (λ word. word.now) given.now ≡ unwrap_or (option_map (λ arguments. map (λ word. word.now) arguments.now) o) []
+arguments_or_none None none given empty is = ap (λ (arguments : Bor (List (Bor Text))). map (λ word. word.now) arguments.now) is ∙ ap (map (λ word. word.now)) empty
+arguments_or_none (Some arguments) none given empty is = ap (λ (arguments : Bor (List (Bor Text))). map (λ word. word.now) arguments.now) is
 
 -- What was not found has no values.
 pub no_values : (f : Found) (id : Text) → is_some (matched_of f id) ≡ false → all_of id (rows_of f) ≡ None
@@ -30,13 +29,9 @@ no_values f id missing = sym (raw_values-rows f id) ∙ go (matched_of f id) mis
     go None e = refl
     go (Some found) e = cc
 
--- The first argument is the command, and the plan is of it; or the help is asked for.
-pub asked_by : (words : List (String Global)) (word : String Global) (command : List ℕ) (plan : Plan) → Some word ≡ slice_get words 0
-    → command ≡ string_bytes word
-    → (IsOfCommand command plan × IsMatched (map string_bytes words) plan)
-    ⊎ (HasHelpWord words × IsHelp plan × AreNotTaken (map string_bytes words)) → IsAskedBy words plan
-asked_by [] word command plan first is asked = let clash = first in cc
-asked_by (first ∷ rest) word command plan here is (inl matched) =
-    let named = is ∙ ap string_bytes (same_Some word first here) in
-    inl (subst (λ (name : List ℕ). IsOfCommand name plan) named matched.0, matched.1)
-asked_by (first ∷ rest) word command plan here is (inr help) = inr (inl help)
+-- The first argument is the command.
+pub requested_by : (arguments : List (String Global)) (word : String Global) (command : Text) (plan : Plan) → Some word ≡ slice_get arguments 0
+    → command ≡ string_bytes word → IsPlanOrHelp arguments command plan → IsRequestedBy arguments plan
+requested_by [] word command plan first is request = let clash = first in cc
+requested_by (first ∷ rest) word command plan here is request =
+    inl (subst (λ (name : Text). IsPlanOrHelp (first ∷ rest) name plan) (is ∙ ap string_bytes (same_Some word first here)) request)

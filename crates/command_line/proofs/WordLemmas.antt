@@ -9,16 +9,16 @@ use Rattle.std.specs.Iterator.{DrainsIf}
 use Rattle.std.specs.Iterator.Adapters.{skip_source, skip_count, skip_steps}
 use Rattle.std.proofs.lemmas.Iterator.Adapters.{YieldsList-from_skip, YieldsList-from_vec, fact_from_collect}
 
-vec_of : {E : Type 0} (words : List (String Global)) (r : Result (Vec (String Global) Global) E)
-    → IfOk r (λ v. (v.items ≡ words) × (vec_len v ≡ length words)) → IfOk r (λ v. v.items ≡ words)
-vec_of words (Ok v) made = made.0
-vec_of words (Err e) made = tt
+vec_of : {E : Type 0} (arguments : List (String Global)) (r : Result (Vec (String Global) Global) E)
+    → IfOk r (λ v. (v.items ≡ arguments) × (vec_len v ≡ length arguments)) → IfOk r (λ v. v.items ≡ arguments)
+vec_of arguments (Ok v) made = made.0
+vec_of arguments (Err e) made = tt
 
-pub collected_after : {E : Type 0} (words : IntoIter (String Global) Global) (skipped : Skip (IntoIter (String Global) Global)) (n : ℕ)
-    (r : Result (Vec (String Global) Global) E) → skip_source skipped ≡ words → skip_count skipped ≡ n
+pub collected_after : {E : Type 0} (arguments : IntoIter (String Global) Global) (skipped : Skip (IntoIter (String Global) Global)) (n : ℕ)
+    (r : Result (Vec (String Global) Global) E) → skip_source skipped ≡ arguments → skip_count skipped ≡ n
     → IfOk r (λ v. (xs : List (String Global)) × DrainsIf (skip_steps into_iter_steps) ⊤ skipped xs × ((v.items ≡ xs) × (vec_len v ≡ length xs)))
-    → IfOk r (λ v. v.items ≡ drop n (into_iter_items words))
-collected_after words skipped n r source count ran =
-    let counted : into_iter_len words ≡ length (into_iter_items words) = search rules in
-    let given = YieldsList-from_vec (into_iter_items words) (ap into_iter_items source) (ap into_iter_len source ∙ counted) in
-    vec_of (drop n (into_iter_items words)) r (fact_from_collect (λ xs v. (v.items ≡ xs) × (vec_len v ≡ length xs)) r ran (YieldsList-from_skip n given count))
+    → IfOk r (λ v. v.items ≡ drop n (into_iter_items arguments))
+collected_after arguments skipped n r source count ran =
+    let counted : into_iter_len arguments ≡ length (into_iter_items arguments) = search rules in
+    let given = YieldsList-from_vec (into_iter_items arguments) (ap into_iter_items source) (ap into_iter_len source ∙ counted) in
+    vec_of (drop n (into_iter_items arguments)) r (fact_from_collect (λ xs v. (v.items ≡ xs) × (vec_len v ≡ length xs)) r ran (YieldsList-from_skip n given count))

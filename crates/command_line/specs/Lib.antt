@@ -1,4 +1,2 @@
-pub mod Tasks
 pub mod Plans
-pub mod Commands
 pub mod parts

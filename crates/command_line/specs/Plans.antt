@@ -1,21 +1,272 @@
--- What the arguments of the command line request. All of this is this project's choice.
-use Rattle.std.specs.Prelude.{◌≡◌, ℕ, ◌⊎◌, ◌||◌, ◌==◌, Bool, IsTrue, List, [], ◌∷◌, Some, bytes_eq, codes, map, String, string_bytes}
-use Rattle.std.specs.List.{list_any, starts_with}
+-- What is to be done, the plans that request it, and how they come from the arguments.
+use Rattle.std.specs.Prelude.{◌≡◌, ◌≤◌, ◌<◌, ◌^◌, not, Bool, false, true, Option, None, is_some, String, vec_len, List, [], ◌∷◌, codes, Some, ℕ, ◌⊎◌, ◌||◌, ◌==◌, IsTrue, bytes_eq, map, option_map, unwrap_or, string_bytes}
 use Rattle.std.specs.Global.{Global}
-use Rattle.command_line.specs.Commands.{AreNotTaken, IsMatched}
-use Rattle.command_line.specs.Tasks.{IsWithin, command_of, task_of}
+use Rattle.command_line.specs.declared.plan.Scope.TheVariants.{Whole, Prefix}
+pub use Rattle.command_line.specs.declared.plan.Form.{Form}
 use Rattle.command_line.specs.declared.plan.Form.TheVariants as forms
-use Rattle.command_line.specs.declared.plan.Plan.{Plan}
+pub use Rattle.command_line.specs.declared.plan.Judged.{Judged}
+use Rattle.command_line.specs.declared.plan.Judged.TheVariants as judged
+pub use Rattle.command_line.specs.declared.plan.Measurement.{Measurement}
+pub use Rattle.command_line.specs.declared.plan.Plan.{Plan}
 use Rattle.command_line.specs.declared.plan.Plan.TheVariants as plans
-use Rattle.command_line.specs.declared.plan.Task.TheVariants.{Version}
+pub use Rattle.command_line.specs.declared.plan.Print.{Print}
+use Rattle.command_line.specs.declared.plan.Print.TheVariants.{Binary}
+use Rattle.command_line.specs.declared.plan.Question.TheVariants as questions
+pub use Rattle.command_line.specs.declared.plan.Task.{Task}
+use Rattle.command_line.specs.declared.plan.Task.TheVariants as tasks
+use Rattle.std.specs.List.{fold, list_any, starts_with}
+use Rattle.clap.specs.Words.{App, Rule, Text, new_app, new_rule, with_rule, with_subcommand, Row, all_of, first_of, subcommand_of}
+use Rattle.clap.specs.Lexer.{usize_max}
+use Rattle.clap.specs.declared.builder.ArgAction.TheVariants.{Append, SetTrue, Version as show_version}
+use Rattle.clap.specs.declared.builder.ValueParser.{ValueParser}
+use Rattle.std.specs.Str.Parse.{IsNumeral, digits_value, without_leading_plus}
+use Rattle.clap.specs.Takes.{takes}
+use Rattle.pcr_banks.specs.Hashing.{name_of}
+use Rattle.ima_list.specs.Templates.{template_name}
+use Rattle.command_line.specs.declared.plan.DataShown.TheVariants.{Size, Bytes}
+use Rattle.command_line.specs.declared.plan.NameEnd.TheVariants.{LineFeed, Nul}
+use Rattle.command_line.specs.declared.plan.Names.{Names}
+use Rattle.command_line.specs.declared.plan.Print.TheVariants as prints
+use Rattle.command_line.specs.declared.plan.Question.{Question}
+
+-- The task that a plan requests, and the form in which its result is shown.
+abbrev pub task_of : Plan → Task × Form
+task_of plans.Registers = (tasks.Registers, forms.Text)
+task_of (plans.Measure alg template workers limit print log files) = (
+  tasks.Measure
+      (record { alg = alg; template = template; workers = workers; limit = limit; print = print; log = log; files = files; names = None }),
+  forms.Text,
+)
+task_of (plans.Verify log list expected) =
+    (tasks.Answer (questions.Judge (record { judged = judged.Verdict log Whole None None; list = list; expected = expected; required = None })), forms.Text)
+task_of (plans.Show list) = (tasks.Entries list, forms.Text)
+task_of (plans.Help text) = (tasks.Help text, forms.Text)
+task_of (plans.Task task form) = (task, form)
+
+-- ---- one plan for each
+
+-- The verdict on a whole list, and nothing more.
+abbrev pub is_plain_verdict : Judged → Option (String Global) → Bool
+is_plain_verdict (judged.Verdict log Whole None None) None = true
+is_plain_verdict judged required = false
+
+-- Some other plan than `Task` requests this, as text.
+abbrev pub has_plan : Task → Bool
+has_plan tasks.Registers = true
+has_plan (tasks.Answer (questions.Judge judge)) = is_plain_verdict judge.judged judge.required
+has_plan (tasks.Measure request) = not (is_some request.names)
+has_plan (tasks.Entries list) = true
+has_plan (tasks.Help text) = true
+has_plan task = false
+
+-- A plan `Task` is only for what no other plan requests.
+abbrev pub IsOneOf : Plan → Type 0
+IsOneOf (plans.Task task forms.Text) = has_plan task ≡ false
+IsOneOf plan = Unit {0}
+
+-- ---- ranges
+
+-- What is printed of a measurement can be shown in this form: there is no JSON of the binary list.
+abbrev pub HasForm : Form → Print → Type 0
+HasForm forms.Json Binary = ⊥
+HasForm form print = Unit {0}
+
+-- A measurement has 1 to 8 workers, a limit of at least one record, and fewer than 2^32 files named by arguments.
+abbrev pub IsWithinLimits : Form → Measurement → Type 0
+IsWithinLimits form request =
+    (1 ≤ request.workers) × (request.workers ≤ 8) × (1 ≤ request.limit) × (vec_len request.files < 2 ^ 32) × HasForm form request.print
+
+abbrev pub IsWithin : Form → Task → Type 0
+IsWithin form (tasks.Measure request) = IsWithinLimits form request
+IsWithin form task = Unit {0}
+
+-- ---- the commands, as clap takes them
+
+-- clap's parsers of the values of options. They are left open: a plan says what the values are.
+pub record Parsers : Type 0 where
+  pub algs : ValueParser
+  pub templates : ValueParser
+  pub workers : ValueParser
+  pub limit : ValueParser
+  pub prints : ValueParser
+
+-- A required argument. (The rule of one that may be left out is `new_rule`.)
+abbrev pub required : Text → Rule
+required id = record (new_rule id) { required = true }
+
+-- An option without a default value.
+abbrev pub without_default : Text → Rule
+without_default id = record (new_rule id) { long = Some id; value_names = 1 }
+
+-- An option with this default value.
+abbrev pub optional : Text → Text → ValueParser → Rule
+optional id default parser = record (without_default id) { defaults = default ∷ []; parser = Some parser }
+
+-- A flag.
+abbrev pub flag : Text → Rule
+flag id = record (new_rule id) { long = Some id; action = Some SetTrue }
+
+-- An option or a flag that requires another argument. Which one that is, a plan says (`HasValues`).
+abbrev pub beside : Rule → Rule
+beside rule = record rule { is_free = false }
+
+-- An argument with any number of values.
+abbrev pub repeated : Text → Rule
+repeated id = record (new_rule id) {
+  action = Some Append;
+  range = Some (record { start_inclusive = 0; end_inclusive = usize_max });
+}
+
+-- The commands: their names and arguments.
+abbrev pub table : Parsers → List (Text × List Rule)
+table parsers = (
+  codes "measure",
+  optional (codes "alg") (codes "sha256") parsers.algs
+      ∷ optional (codes "template") (codes "ima-ng") parsers.templates
+      ∷ optional (codes "workers") (codes "2") parsers.workers
+      ∷ optional (codes "limit") (codes "100000") parsers.limit
+      ∷ optional (codes "print") (codes "ascii") parsers.prints
+      ∷ without_default (codes "files-from")
+      ∷ beside (flag (codes "null"))
+      ∷ flag (codes "json")
+      ∷ required (codes "LOG")
+      ∷ repeated (codes "FILE")
+      ∷ [],
+)
+    ∷ (
+      codes "verify",
+      without_default (codes "require")
+          ∷ flag (codes "prefix")
+          ∷ without_default (codes "save")
+          ∷ without_default (codes "resume")
+          ∷ flag (codes "json")
+          ∷ required (codes "LOG")
+          ∷ required (codes "LIST")
+          ∷ required (codes "EXPECTED")
+          ∷ [],
+    )
+    ∷ (codes "locate", without_default (codes "require") ∷ flag (codes "json") ∷ required (codes "LOG") ∷ required (codes "LIST") ∷ required (codes "EXPECTED") ∷ [])
+    ∷ (codes "expected", without_default (codes "registers") ∷ flag (codes "json") ∷ required (codes "PCRREAD") ∷ [])
+    ∷ (codes "registers", flag (codes "json") ∷ required (codes "LOG") ∷ [])
+    ∷ (codes "events", flag (codes "data") ∷ flag (codes "json") ∷ required (codes "LOG") ∷ [])
+    ∷ (codes "show", flag (codes "json") ∷ required (codes "LIST") ∷ [])
+    ∷ (codes "replay", beside (without_default (codes "require")) ∷ flag (codes "json") ∷ required (codes "LIST") ∷ new_rule (codes "EXPECTED") ∷ [])
+    ∷ []
+
+-- The program, whose first argument is a command's name or the flag that asks for the version.
+abbrev pub program_app : App
+program_app = with_rule
+    (record { top = record (new_app (codes "ima-agent")).top { no_binary_name = true; disable_help_subcommand = true; subcommand_required = true }; subs = [] })
+    (record (new_rule (codes "version")) { long = Some (codes "version"); action = Some show_version })
+
+-- The program with all commands.
+abbrev pub commands : Parsers → App
+commands parsers = fold (λ app row. with_subcommand app (fold with_rule (new_app row.0) row.1).top) program_app (table parsers)
+
+-- ---- the values of arguments
+
+-- The argument of this name has this first value, or it is not present.
+abbrev pub IsGivenAs : Text → List Row → Option (String Global) → Type 0
+IsGivenAs id rows None = all_of id rows ≡ None
+IsGivenAs id rows (Some text) = first_of id rows ≡ Some (string_bytes text)
+
+-- The flag of this name says this: the second of two if it is present, else the first. clap gives it the value `true` or `false`.
+abbrev pub IsFlag : {A : Type 0} → Text → List Row → A → A → A → Type 0
+IsFlag id rows absent present it =
+    ((first_of id rows ≡ Some (codes "true")) × (it ≡ present)) ⊎ ((first_of id rows ≡ Some (codes "false")) × (it ≡ absent))
+
+-- The first value of this name is a number in decimal.
+pub record HasNumber (id : Text) (rows : List Row) (number : ℕ) : Type 0 where
+  pub text : Text
+  pub has : first_of id rows ≡ Some text
+  pub numeral : IsNumeral 10 (without_leading_plus text)
+  pub number_is : digits_value 10 (without_leading_plus text) ≡ number
+
+abbrev pub print_name : Print → Text
+print_name prints.Ascii = codes "ascii"
+print_name prints.Binary = codes "binary"
+print_name prints.Registers = codes "registers"
+
+-- The text of further names has this name, and this ends each in it; or neither `--files-from` nor `--null` is present.
+abbrev pub AreFurtherNames : List Row → Option Names → Type 0
+AreFurtherNames rows None = IsGivenAs (codes "files-from") rows None × IsFlag (codes "null") rows LineFeed Nul LineFeed
+AreFurtherNames rows (Some names) =
+    IsGivenAs (codes "files-from") rows (Some names.text) × IsFlag (codes "null") rows LineFeed Nul names.ends
+
+-- The matches have the options and names of this measurement.
+pub record HasMeasure (rows : List Row) (request : Measurement) : Type 0 where
+  pub alg_is : first_of (codes "alg") rows ≡ Some (name_of request.alg)
+  pub template_is : first_of (codes "template") rows ≡ Some (template_name request.template)
+  pub workers_is : HasNumber (codes "workers") rows request.workers
+  pub limit_is : HasNumber (codes "limit") rows request.limit
+  pub print_is : first_of (codes "print") rows ≡ Some (print_name request.print)
+  pub log_is : IsGivenAs (codes "LOG") rows (Some request.log)
+  pub files_are : unwrap_or (all_of (codes "FILE") rows) [] ≡ map string_bytes request.files.items
+  pub names_are : AreFurtherNames rows request.names
+
+-- ---- commands and their tasks
+
+-- The command of this name judges this, and the matches have the options and names that only this has.
+abbrev pub HasJudged : Text → List Row → Judged → Type 0
+HasJudged command rows (judged.Verdict log scope resume save) =
+    (command ≡ codes "verify")
+    × IsGivenAs (codes "LOG") rows (Some log)
+    × IsFlag (codes "prefix") rows Whole Prefix scope
+    × IsGivenAs (codes "resume") rows resume
+    × IsGivenAs (codes "save") rows save
+HasJudged command rows (judged.Positions log) = (command ≡ codes "locate") × IsGivenAs (codes "LOG") rows (Some log)
+HasJudged command rows judged.ListVerdict = command ≡ codes "replay"
+
+-- The command of this name asks this, and the matches have its options and names. `ListRegisters` requires that neither EXPECTED nor
+-- `--require` is present.
+abbrev pub HasQuestion : Text → List Row → Question → Type 0
+HasQuestion command rows (questions.LogRegisters log) = (command ≡ codes "registers") × IsGivenAs (codes "LOG") rows (Some log)
+HasQuestion command rows (questions.ListRegisters list) =
+    (command ≡ codes "replay")
+    × IsGivenAs (codes "LIST") rows (Some list)
+    × IsGivenAs (codes "EXPECTED") rows None
+    × IsGivenAs (codes "require") rows None
+HasQuestion command rows (questions.Judge judge) =
+    HasJudged command rows judge.judged
+    × IsGivenAs (codes "LIST") rows (Some judge.list)
+    × IsGivenAs (codes "EXPECTED") rows (Some judge.expected)
+    × IsGivenAs (codes "require") rows judge.required
+HasQuestion command rows (questions.Expected printed registers) =
+    (command ≡ codes "expected") × IsGivenAs (codes "PCRREAD") rows (Some printed) × IsGivenAs (codes "registers") rows registers
+
+-- The command of this name does this, and the matches have its options and names.
+abbrev pub HasValues : Text → List Row → Task → Type 0
+HasValues command rows (tasks.Answer question) = HasQuestion command rows question
+HasValues command rows (tasks.Measure request) = (command ≡ codes "measure") × HasMeasure rows request
+HasValues command rows (tasks.Events log shown) =
+    (command ≡ codes "events") × IsGivenAs (codes "LOG") rows (Some log) × IsFlag (codes "data") rows Size Bytes shown
+HasValues command rows (tasks.Entries list) = (command ≡ codes "show") × IsGivenAs (codes "LIST") rows (Some list)
+HasValues command rows task = ⊥
+
+-- The matches of the command of this name, which was found, have the options and names of the task. With `--json` the result is shown as
+-- JSON, and without it as text.
+pub record HasValuesIn (command : Text) (found : Option (Text × List Row)) (request : Task × Form) : Type 0 where
+  pub rows : List Row
+  pub rows_are : option_map (λ match. match.1) found ≡ Some rows
+  pub form_is : IsFlag (codes "json") rows forms.Text forms.Json request.1
+  pub values : HasValues command rows request.0
+
+-- ---- plans
+
+-- The plan is of the command of this name, and has the options and names that the arguments match.
+pub record IsMatched (command : Text) (arguments : List Text) (plan : Plan) : Type 0 where
+  pub parsers : Parsers
+  pub values : HasValuesIn command (subcommand_of (commands parsers) arguments) (task_of plan)
+  pub one : IsOneOf plan
+
+-- By its own definition clap does not take the arguments. (Of `measure` and `replay`, some of whose options go only with others, that
+-- says nothing.)
+abbrev pub AreNotTaken : List Text → Type 0
+AreNotTaken arguments = (parsers : Parsers) × (takes (commands parsers) arguments ≡ true → ⊥)
 
 -- What the plan requests is within its ranges.
 abbrev pub IsWithinRanges : Plan → Type 0
 IsWithinRanges plan = IsWithin (task_of plan).1 (task_of plan).0
-
--- The plan is of the command with this name.
-abbrev pub IsOfCommand : List ℕ → Plan → Type 0
-IsOfCommand command plan = command_of (task_of plan).0 ≡ Some command
 
 -- The argument requests help: it is `--help`, or short options of which the first is `-h`.
 abbrev pub asks_help : List ℕ → Bool
@@ -23,7 +274,7 @@ asks_help word = bytes_eq word (codes "--help") || starts_with (λ a b. a == b) 
 
 -- Some argument requests help.
 abbrev pub HasHelpWord : List (String Global) → Type 0
-HasHelpWord words = IsTrue (list_any (λ word. asks_help (string_bytes word)) words)
+HasHelpWord arguments = IsTrue (list_any (λ word. asks_help (string_bytes word)) arguments)
 
 -- The plan is help.
 abbrev pub IsHelp : Plan → Type 0
@@ -32,13 +283,17 @@ IsHelp plan = (text : String Global) × (plan ≡ plans.Help text)
 -- The first argument is `--version`.
 abbrev pub BeginsWithVersion : List (String Global) → Type 0
 BeginsWithVersion [] = ⊥
-BeginsWithVersion (word ∷ words) = string_bytes word ≡ codes "--version"
+BeginsWithVersion (word ∷ arguments) = string_bytes word ≡ codes "--version"
 
--- Without arguments the plan is `Registers`: the log on standard input. Otherwise the first argument is the command and all match
--- its options and names; or they are not taken, and one of them requests help; or the first is `--version`.
-abbrev pub IsAskedBy : List (String Global) → Plan → Type 0
-IsAskedBy [] plan = plan ≡ plans.Registers
-IsAskedBy (word ∷ words) plan =
-    (IsOfCommand (string_bytes word) plan × IsMatched (map string_bytes (word ∷ words)) plan)
-    ⊎ (HasHelpWord (word ∷ words) × IsHelp plan × AreNotTaken (map string_bytes (word ∷ words)))
-    ⊎ (BeginsWithVersion (word ∷ words) × (plan ≡ plans.Task Version forms.Text))
+-- The plan is of the command of this name, and all arguments match its options and names; or they are not taken, and one of them requests
+-- help.
+abbrev pub IsPlanOrHelp : List (String Global) → Text → Plan → Type 0
+IsPlanOrHelp arguments command plan =
+    IsMatched command (map string_bytes arguments) plan ⊎ (HasHelpWord arguments × IsHelp plan × AreNotTaken (map string_bytes arguments))
+
+-- Without arguments the plan is `Registers`: the log on standard input. Otherwise the first argument is the command; or it is
+-- `--version`.
+abbrev pub IsRequestedBy : List (String Global) → Plan → Type 0
+IsRequestedBy [] plan = plan ≡ plans.Registers
+IsRequestedBy (word ∷ arguments) plan =
+    IsPlanOrHelp (word ∷ arguments) (string_bytes word) plan ⊎ (BeginsWithVersion (word ∷ arguments) × (plan ≡ plans.Task tasks.Version forms.Text))

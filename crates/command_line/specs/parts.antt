@@ -1,2 +1,1 @@
 pub mod Commands
-pub mod Plans

@@ -3,43 +3,28 @@
 use crate::help_texts::{REQUIRED_REGISTERS, expected_help, require_help};
 use clap::builder::ValueParser;
 
-/// A command.
+/// A command. The end of its help is no field (`help_end_of` has it): a static that is borrowed stands in the borrow checker's part of a
+/// proof with all its texts, and these are long.
 pub(crate) struct CommandRow<'a> {
     /// Its name, which is the first argument of the command line.
     pub(crate) name: &'a str,
     /// What it does.
     pub(crate) about: &'a str,
-    /// Which end its help has.
-    pub(crate) end: HelpEnd,
     /// Its arguments, in the order of the help.
     pub(crate) arguments: &'a [ArgumentRow<'a>],
-}
-
-/// Which command's end the help has. The texts are in `help_end_of` (`help_texts.rt`), and not in the rows: a static that is lent stands in the borrow
-/// checker's part of a proof with all its texts, and these are long.
-#[derive(Clone, Copy)]
-pub(crate) enum HelpEnd {
-    Measure,
-    Verify,
-    Locate,
-    Expected,
-    Registers,
-    Events,
-    Show,
-    Replay,
 }
 
 /// An argument of a command.
 pub(crate) struct ArgumentRow<'a> {
     /// Its name: that of an option after the two hyphens, or what the help calls an argument that is no option.
     pub(crate) id: &'a str,
-    /// What it means.
-    pub(crate) help: &'a str,
     /// How it is given.
     pub(crate) form: Form<'a>,
+    /// What it means.
+    pub(crate) help: &'a str,
 }
 
-/// How an argument is given. `value` is what the help calls the value of an option.
+/// How an argument is given. The first text of an option with a value is what the help calls the value.
 pub(crate) enum Form<'a> {
     /// By one value, which has to be there.
     Required,
@@ -50,31 +35,13 @@ pub(crate) enum Form<'a> {
     /// As a flag.
     Flag,
     /// As a flag, and only beside this option.
-    FlagBeside {
-        /// The option that it requires.
-        option: &'a str,
-    },
+    FlagBeside(&'a str),
     /// As an option with a value, or not at all.
-    Optional {
-        /// What the help calls the value.
-        value: &'a str,
-    },
-    /// As an option with a value, or not at all, and only beside this argument.
-    OptionalBeside {
-        /// What the help calls the value.
-        value: &'a str,
-        /// The argument that it requires.
-        argument: &'a str,
-    },
-    /// As an option with a value; without it, the value is the default.
-    Defaulted {
-        /// What the help calls the value.
-        value: &'a str,
-        /// The value without the option.
-        default: &'a str,
-        /// The values that it takes.
-        values: Values<'a>,
-    },
+    Optional(&'a str),
+    /// As an option with a value, or not at all, and only beside this argument, which is the second text.
+    OptionalBeside(&'a str, &'a str),
+    /// As an option with one of these values; without it, the value is the second text.
+    Defaulted(&'a str, &'a str, Values<'a>),
 }
 
 /// The values that an option takes.
@@ -89,256 +56,131 @@ pub(crate) enum Values<'a> {
 }
 
 /// The greatest number of workers.
-pub(crate) const MOST_WORKERS: usize = 8;
+pub(crate) const MOST_WORKERS: u64 = 8;
+
+/// The greatest number of records.
+pub(crate) const MOST_RECORDS: u64 = u32::MAX as u64;
+
+/// The row of an argument: its name, how it is given, and its help.
+macro_rules! row {
+    ($id:literal, $form:expr; $help:expr) => {
+        ArgumentRow {
+            id: $id,
+            form: $form,
+            help: $help,
+        }
+    };
+}
 
 /// A firmware event log.
-const LOG: ArgumentRow<'static> = ArgumentRow {
-    id: "LOG",
-    help: "Firmware event log, binary, at most 64 MiB",
-    form: Form::Required,
-};
+const LOG: ArgumentRow<'static> =
+    row!("LOG", Form::Required; "Firmware event log, binary, at most 64 MiB");
 
 /// A measurement list.
-const LIST: ArgumentRow<'static> = ArgumentRow {
-    id: "LIST",
-    help: "Measurement list, binary, at most 64 MiB",
-    form: Form::Required,
-};
+const LIST: ArgumentRow<'static> =
+    row!("LIST", Form::Required; "Measurement list, binary, at most 64 MiB");
 
 /// Whether the result is printed as JSON.
-const JSON: ArgumentRow<'static> = ArgumentRow {
-    id: "json",
-    help: "Print the result as JSON, one object on one line",
-    form: Form::Flag,
-};
+const JSON: ArgumentRow<'static> =
+    row!("json", Form::Flag; "Print the result as JSON, one object on one line");
 
-/// The commands, in the order of the help. `table` of specs/Commands.antt has the same.
+/// The commands, in the order of the help. `table` of specs/Plans.antt has the same.
 pub(crate) static COMMANDS: [CommandRow; 8] = [
     CommandRow {
         name: "measure",
         about: "Measures files into the registers left by a firmware event log, and prints the result",
-        end: HelpEnd::Measure,
         arguments: &[
-            ArgumentRow {
-                id: "alg",
-                help: "Hash algorithm for the files' digests\n",
-                form: Form::Defaulted {
-                    value: "A",
-                    default: "sha256",
-                    values: Values::Algs,
-                },
-            },
-            ArgumentRow {
-                id: "template",
-                help: "Template of the list's entries\n",
-                form: Form::Defaulted {
-                    value: "T",
-                    default: "ima-ng",
-                    values: Values::Templates,
-                },
-            },
-            ArgumentRow {
-                id: "workers",
-                help: "\
+            row!("alg", Form::Defaulted("A", "sha256", Values::Algs); "Hash algorithm for the files' digests\n"),
+            row!("template", Form::Defaulted("T", "ima-ng", Values::Templates); "Template of the list's entries\n"),
+            row!("workers", Form::Defaulted("N", "2", Values::Parsed(ValueParser::Unsigned(1, MOST_WORKERS))); "\
 How many workers hash files at once, 1 to 8. Only with 1 are files
 measured in the given order, so that every run gives the same list
-and registers\n",
-                form: Form::Defaulted {
-                    value: "N",
-                    default: "2",
-                    values: Values::Parsed(ValueParser::Unsigned(1, MOST_WORKERS as u64)),
-                },
-            },
-            ArgumentRow {
-                id: "limit",
-                help: "Maximum number of records, including the opening record, 1 to 4294967295\n",
-                form: Form::Defaulted {
-                    value: "N",
-                    default: "100000",
-                    values: Values::Parsed(ValueParser::Unsigned(1, u32::MAX as u64)),
-                },
-            },
-            ArgumentRow {
-                id: "print",
-                help: "\
+and registers\n"),
+            row!("limit", Form::Defaulted("N", "100000", Values::Parsed(ValueParser::Unsigned(1, MOST_RECORDS)));
+                "Maximum number of records, including the opening record, 1 to 4294967295\n"),
+            row!("print", Form::Defaulted("P", "ascii", Values::Parsed(ValueParser::Names(&["ascii", "binary", "registers"]))); "\
 What to print: the list as text, the binary list, or the registers that
-differ from their reset values\n",
-                form: Form::Defaulted {
-                    value: "P",
-                    default: "ascii",
-                    values: Values::Parsed(ValueParser::Names(&["ascii", "binary", "registers"])),
-                },
-            },
-            ArgumentRow {
-                id: "files-from",
-                help: "File that names more files to measure, one per line, at most 64 MiB",
-                form: Form::Optional { value: "NAME" },
-            },
-            ArgumentRow {
-                id: "null",
-                help: "Names in that file end with NUL, as written by `find -print0`",
-                form: Form::FlagBeside {
-                    option: "files-from",
-                },
-            },
-            ArgumentRow {
-                id: "json",
-                help: "\
+differ from their reset values\n"),
+            row!("files-from", Form::Optional("NAME"); "File that names more files to measure, one per line, at most 64 MiB"),
+            row!("null", Form::FlagBeside("files-from"); "Names in that file end with NUL, as written by `find -print0`"),
+            row!("json", Form::Flag; "\
 Print the list as JSON, one object per line for each entry, or the
-registers, one object on one line; not with --print binary",
-                form: Form::Flag,
-            },
+registers, one object on one line; not with --print binary"),
             LOG,
-            ArgumentRow {
-                id: "FILE",
-                help: "Files to measure, each at most 64 MiB, recorded under the names given here",
-                form: Form::Repeated,
-            },
+            row!("FILE", Form::Repeated; "Files to measure, each at most 64 MiB, recorded under the names given here"),
         ],
     },
     CommandRow {
         name: "verify",
         about: "Replays a firmware event log and a measurement list, and compares the registers",
-        end: HelpEnd::Verify,
         arguments: &[
-            ArgumentRow {
-                id: "require",
-                help: require_help!("verdict is `differ`"),
-                form: Form::Optional {
-                    value: REQUIRED_REGISTERS,
-                },
-            },
-            ArgumentRow {
-                id: "prefix",
-                help: "Judge the shortest front of the list that matches; if none does, the whole list",
-                form: Form::Flag,
-            },
-            ArgumentRow {
-                id: "save",
-                help: "If the verdict is `match`, write the checkpoint of what was judged to FILE",
-                form: Form::Optional { value: "FILE" },
-            },
-            ArgumentRow {
-                id: "resume",
-                help: "Go on from the checkpoint in FILE, your own: LIST then has only the bytes after it",
-                form: Form::Optional { value: "FILE" },
-            },
+            row!("require", Form::Optional(REQUIRED_REGISTERS); require_help!("verdict is `differ`")),
+            row!("prefix", Form::Flag; "Judge the shortest prefix of the list that matches; if none does, the whole list"),
+            row!("save", Form::Optional("FILE"); "If the verdict is `match`, write the checkpoint of what was judged to FILE"),
+            row!("resume", Form::Optional("FILE"); "Go on from the checkpoint in FILE, your own: LIST then has only the bytes after it"),
             JSON,
             LOG,
             LIST,
-            ArgumentRow {
-                id: "EXPECTED",
-                help: expected_help!(
-                    "\
+            row!("EXPECTED", Form::Required; expected_help!("\
 An empty file compares no
 register: the verdict then depends on the list's boot aggregate alone,
-and is `differ` with --require, --prefix, --save or --resume"
-                ),
-                form: Form::Required,
-            },
+and is `differ` with --require, --prefix, --save or --resume")),
         ],
     },
     CommandRow {
         name: "locate",
         about: "Prints which event or entry first gives each expected register its value",
-        end: HelpEnd::Locate,
         arguments: &[
-            ArgumentRow {
-                id: "require",
-                help: require_help!("last line is `not located`"),
-                form: Form::Optional {
-                    value: REQUIRED_REGISTERS,
-                },
-            },
+            row!("require", Form::Optional(REQUIRED_REGISTERS); require_help!("last line is `not located`")),
             JSON,
             LOG,
             LIST,
-            ArgumentRow {
-                id: "EXPECTED",
-                help: expected_help!(),
-                form: Form::Required,
-            },
+            row!("EXPECTED", Form::Required; expected_help!()),
         ],
     },
     CommandRow {
         name: "expected",
         about: "Prints expected registers from what tpm2_pcrread or tpm2_checkquote printed",
-        end: HelpEnd::Expected,
         arguments: &[
-            ArgumentRow {
-                id: "registers",
-                help: "Only registers A to B, 0 to 23, for example 0-10; or only A, for example 4",
-                form: Form::Optional { value: "A-B" },
-            },
+            row!("registers", Form::Optional("A-B"); "Only registers A to B, 0 to 23, for example 0-10; or only A, for example 4"),
             JSON,
-            ArgumentRow {
-                id: "PCRREAD",
-                help: "Text that tpm2_pcrread or tpm2_checkquote printed, at most 64 MiB; no text tells whether a quote holds",
-                form: Form::Required,
-            },
+            row!("PCRREAD", Form::Required;
+                "Text that tpm2_pcrread or tpm2_checkquote printed, at most 64 MiB; no text tells whether a quote holds"),
         ],
     },
     CommandRow {
         name: "registers",
         about: "Prints the registers after a firmware event log that differ from their reset values",
-        end: HelpEnd::Registers,
         arguments: &[JSON, LOG],
     },
     CommandRow {
         name: "events",
         about: "Prints the events of a firmware event log as text",
-        end: HelpEnd::Events,
         arguments: &[
-            ArgumentRow {
-                id: "data",
-                help: "Print the data of each event in hexadecimal, not only how many bytes there are",
-                form: Form::Flag,
-            },
-            ArgumentRow {
-                id: "json",
-                help: "Print the events as JSON, one object per line, with the data of each event",
-                form: Form::Flag,
-            },
+            row!("data", Form::Flag; "Print the data of each event in hexadecimal, not only how many bytes there are"),
+            row!("json", Form::Flag; "Print the events as JSON, one object per line, with the data of each event"),
             LOG,
         ],
     },
     CommandRow {
         name: "show",
         about: "Prints the entries of a measurement list as text",
-        end: HelpEnd::Show,
         arguments: &[
-            ArgumentRow {
-                id: "json",
-                help: "Print the entries as JSON, one object per line",
-                form: Form::Flag,
-            },
+            row!("json", Form::Flag; "Print the entries as JSON, one object per line"),
             LIST,
         ],
     },
     CommandRow {
         name: "replay",
         about: "Replays a measurement list alone, and prints or compares the registers it gives",
-        end: HelpEnd::Replay,
         arguments: &[
-            ArgumentRow {
-                id: "require",
-                help: require_help!("verdict is `differ`. Only with EXPECTED"),
-                form: Form::OptionalBeside {
-                    value: REQUIRED_REGISTERS,
-                    argument: "EXPECTED",
-                },
-            },
+            row!("require", Form::OptionalBeside(REQUIRED_REGISTERS, "EXPECTED");
+                require_help!("verdict is `differ`. Only with EXPECTED")),
             JSON,
             LIST,
-            ArgumentRow {
-                id: "EXPECTED",
-                help: expected_help!(
-                    "\
+            row!("EXPECTED", Form::Omittable; expected_help!("\
 Without EXPECTED the
-registers are printed that differ from their reset values"
-                ),
-                form: Form::Omittable,
-            },
+registers are printed that differ from their reset values")),
         ],
     },
 ];

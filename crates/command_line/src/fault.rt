@@ -1,14 +1,14 @@
 //! Why the arguments were refused.
 
 ghost use Rattle.std.specs.Prelude.{◌≡◌};
-ghost use Rattle.command_line.specs.declared.fault.WordsFault.TheVariants.{Memory};
+ghost use Rattle.command_line.specs.declared.fault.ArgumentsFault.TheVariants.{Memory};
 
 use std::alloc::{AllocError, AllocFailed};
 use thiserror::Error;
 
 /// Why the arguments were refused.
 #[derive(Clone, Copy, Debug, PartialEq, Eq, Error)]
-pub enum WordsFault {
+pub enum ArgumentsFault {
     /// 1: the arguments are not those of a command.
     #[error("the arguments are not those of a command")]
     Usage,
@@ -17,18 +17,18 @@ pub enum WordsFault {
     Memory,
 }
 
-impl From<AllocError> for WordsFault {
+impl From<AllocError> for ArgumentsFault {
     ghost from_gives = { λ _ fault. fault ≡ Memory };
 
     fn from(_refused: AllocError) -> Self {
-        WordsFault::Memory
+        ArgumentsFault::Memory
     }
 }
 
-impl<T: Drop> From<AllocFailed<T>> for WordsFault {
+impl<T: Drop> From<AllocFailed<T>> for ArgumentsFault {
     ghost from_gives = { λ _ fault. fault ≡ Memory };
 
     fn from(_refused: AllocFailed<T>) -> Self {
-        WordsFault::Memory
+        ArgumentsFault::Memory
     }
 }

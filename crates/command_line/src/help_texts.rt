@@ -1,6 +1,5 @@
 //! Texts of the help that several rows of the table share, and the ends of the help.
 
-use crate::command_table::HelpEnd;
 use crate::fault_tables::with_fault_tables;
 
 /// The end of the help: an example, if there is one, the tables of the faults that may be answered, and the exit statuses.
@@ -70,21 +69,22 @@ and prints the registers that differ from their reset values.
 /// The end of the program's help.
 pub(crate) const PROGRAM_END: &str = help_end!(log);
 
-/// The text of the end of a command's help.
-pub(crate) fn help_end_of<'a>(end: HelpEnd) -> &'a str {
-    match end {
-        HelpEnd::Measure =>
+/// The end of the help of the command of this name: that of the program, for a command without one of its own.
+pub(crate) fn help_end_of<'a>(command: &str) -> &'a str {
+    match command {
+        "measure" =>
             help_end!("ima-agent measure --print registers firmware.log /bin/sh /bin/ls"; log book gather),
-        HelpEnd::Verify =>
+        "verify" =>
             help_end!("ima-agent verify --require sha256:0-10 firmware.log ima.list expected.txt"; log list replay expected checkpoint),
-        HelpEnd::Locate =>
+        "locate" =>
             help_end!("ima-agent locate firmware.log ima.list expected.txt"; log list replay expected),
-        HelpEnd::Expected =>
+        "expected" =>
             help_end!("ima-agent expected --registers 0-10 pcrread.txt > expected.txt"; expected),
-        HelpEnd::Registers => help_end!("ima-agent registers firmware.log"; log),
-        HelpEnd::Events => help_end!("ima-agent events --data firmware.log"; log),
-        HelpEnd::Show => help_end!("ima-agent show ima.list"; list),
-        HelpEnd::Replay =>
+        "registers" => help_end!("ima-agent registers firmware.log"; log),
+        "events" => help_end!("ima-agent events --data firmware.log"; log),
+        "show" => help_end!("ima-agent show ima.list"; list),
+        "replay" =>
             help_end!("ima-agent replay --require sha256:10 ima.list expected.txt"; list replay expected),
+        _ => PROGRAM_END,
     }
 }

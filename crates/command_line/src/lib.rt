@@ -1,6 +1,7 @@
 //! The command line: what its arguments request.
 #![tactic(auto)]
 
+mod arguments;
 mod command_table;
 mod commands;
 mod fault;
@@ -8,11 +9,9 @@ mod fault_tables;
 mod help_texts;
 mod plan;
 mod values;
-mod words;
 
-pub use fault::WordsFault;
+pub use arguments::{arguments_after_name, read_words, refusal_of};
+pub use fault::ArgumentsFault;
 pub use plan::{
-    DataShown, Extent, Form, Judge, Judged, Measurement, NameEnd, Names, Plan, Print, Question,
-    Task,
+    DataShown, Form, Judge, Judged, Measurement, NameEnd, Names, Plan, Print, Question, Scope, Task,
 };
-pub use words::{read_words, refusal_of, words_after_name};

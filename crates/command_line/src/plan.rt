@@ -1,7 +1,10 @@
 //! What the program's arguments request.
 
 ghost use Rattle.std.specs.Prelude.{◌≡◌};
-ghost use Rattle.command_line.specs.Tasks.{task_of};
+ghost use Rattle.command_line.specs.Plans.{IsOneOf, task_of};
+ghost use Rattle.command_line.specs.declared.plan.Form.TheVariants.{Text};
+ghost use Rattle.command_line.specs.declared.plan.Question.TheVariants as questions;
+ghost use Rattle.command_line.specs.declared.plan.Task.TheVariants as tasks;
 
 use ima_list::Template;
 use pcr_banks::Alg;
@@ -37,11 +40,11 @@ pub enum DataShown {
 
 /// Which part of a list a verdict is on.
 #[derive(Clone, Copy, PartialEq, Eq)]
-pub enum Extent {
+pub enum Scope {
     /// The whole list.
     Whole,
-    /// The shortest front of the list that matches; if none does, the whole list.
-    Front,
+    /// The shortest prefix of the list that matches; if none does, the whole list.
+    Prefix,
 }
 
 /// In which form a result is shown.
@@ -61,14 +64,14 @@ pub enum Judged {
         /// The name of the firmware event log, binary.
         log: String,
         /// Which part of the list the verdict is on.
-        extent: Extent,
+        scope: Scope,
         /// The name of the checkpoint to go on from, if there is one.
         resume: Option<String>,
         /// The name under which the checkpoint is saved, if it is.
         save: Option<String>,
     },
     /// Where the expected registers first have their values, in a log and a list.
-    Places {
+    Positions {
         /// The name of the firmware event log, binary.
         log: String,
     },
@@ -247,7 +250,7 @@ impl Plan {
             } => {
                 let judged = Judged::Verdict {
                     log,
-                    extent: Extent::Whole,
+                    scope: Scope::Whole,
                     resume: None,
                     save: None,
                 };
@@ -262,6 +265,80 @@ impl Plan {
             Plan::Show { list } => (Task::Entries { list }, Form::Text),
             Plan::Help(text) => (Task::Help(text), Form::Text),
             Plan::Task(task, form) => (task, form),
+        }
+    }
+
+    /// The plan of this task, shown in this form.
+    pub(crate) fn of(request: (Task, Form)) -> Plan
+        ensures task { task_of result ≡ request }
+        ensures one { IsOneOf result }
+    {
+        match request {
+            (Task::Registers, Form::Text) => Plan::Registers,
+            (
+                Task::Measure(
+                    Measurement {
+                        alg,
+                        template,
+                        workers,
+                        limit,
+                        print,
+                        log,
+                        files,
+                        names: None,
+                    },
+                ),
+                Form::Text,
+            ) => Plan::Measure {
+                alg,
+                template,
+                workers,
+                limit,
+                print,
+                log,
+                files,
+            },
+            (Task::Answer(Question::Judge(judge)), Form::Text) => judge_plan(judge),
+            (Task::Entries { list }, Form::Text) => Plan::Show { list },
+            (Task::Help(text), Form::Text) => Plan::Help(text),
+            (task, form) => Plan::Task(task, form),
+        }
+    }
+}
+
+// The plan of this question, shown as text: `Verify`, if it is the verdict on a whole list, and nothing more.
+fn judge_plan(judge: Judge) -> Plan
+    ensures task { task_of result ≡ (tasks.Answer (questions.Judge judge), Text) }
+    ensures one { IsOneOf result }
+{
+    let Judge {
+        judged,
+        list,
+        expected,
+        required,
+    } = judge;
+    match (judged, required) {
+        (
+            Judged::Verdict {
+                log,
+                scope: Scope::Whole,
+                resume: None,
+                save: None,
+            },
+            None,
+        ) => Plan::Verify {
+            log,
+            list,
+            expected,
+        },
+        (judged, required) => {
+            let judge = Judge {
+                judged,
+                list,
+                expected,
+                required,
+            };
+            Plan::Task(Task::Answer(Question::Judge(judge)), Form::Text)
         }
     }
 }

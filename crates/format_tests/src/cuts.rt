@@ -46,10 +46,10 @@ fn events_in(alloc: Global, bytes: &[u8]) -> Result<usize, LogFault> {
 }
 
 /// The first bytes of two entries, byte by byte and as a whole.
-fn assert_list_fronts(rt: &impl Abort, alloc: Global) -> Result<(), Fail> {
+fn assert_list_prefixes(rt: &impl Abort, alloc: Global) -> Result<(), Fail> {
     let bytes = joined(alloc, &[MEASUREMENT, VIOLATION])?;
     for length in 0..188 {
-        let front = bytes.get(..length).ok_or("too few bytes")?;
+        let prefix = bytes.get(..length).ok_or("too few bytes")?;
         let (count, fault) = match length {
             0 => (0, None),
             94 => (1, None),
@@ -58,22 +58,22 @@ fn assert_list_fronts(rt: &impl Abort, alloc: Global) -> Result<(), Fail> {
             _ => (1, Some(ListFault::Truncated { entry: 1 })),
         };
         assert_eq!(rt;
-            fed_byte_by_byte(alloc, front),
+            fed_byte_by_byte(alloc, prefix),
             (count, fault),
             "{length} bytes"
         );
-        let answer = entries_in(alloc, front);
+        let answer = entries_in(alloc, prefix);
         assert_eq!(rt; answer, fault.map_or(Ok(count), Err), "{length} bytes");
     }
     Ok(())
 }
 
 /// The first bytes of a header and two events.
-fn assert_log_fronts(rt: &impl Abort, alloc: Global) -> Result<(), Fail> {
+fn assert_log_prefixes(rt: &impl Abort, alloc: Global) -> Result<(), Fail> {
     let parts = [HEADER, EVENT_HEAD, FOUR_ZEROS, EVENT_HEAD, FOUR_ZEROS];
     let bytes = joined(alloc, &parts)?;
     for length in 0..174 {
-        let front = bytes.get(..length).ok_or("too few bytes")?;
+        let prefix = bytes.get(..length).ok_or("too few bytes")?;
         let answer = match length {
             65 => Ok(0),
             119 => Ok(1),
@@ -82,7 +82,7 @@ fn assert_log_fronts(rt: &impl Abort, alloc: Global) -> Result<(), Fail> {
             66..119 => Err(LogFault::Truncated { event: 1 }),
             _ => Err(LogFault::Truncated { event: 2 }),
         };
-        assert_eq!(rt; events_in(alloc, front), answer, "{length} bytes");
+        assert_eq!(rt; events_in(alloc, prefix), answer, "{length} bytes");
     }
     Ok(())
 }
@@ -91,12 +91,12 @@ fn assert_log_fronts(rt: &impl Abort, alloc: Global) -> Result<(), Fail> {
 fn assert_list_lies(rt: &impl Abort, alloc: Global) -> Result<(), Fail> {
     let truncated = ListFault::Truncated { entry: 0 };
     let long = ListFault::NameTooLong { entry: 0 };
-    for (front, rest, fault) in [
+    for (prefix, rest, fault) in [
         (&MEASUREMENT[..24], &MEASUREMENT[28..], truncated),
         (&MEASUREMENT[..34], &MEASUREMENT[38..], truncated),
         (IMA_HEAD, b"".as_slice(), long),
     ] {
-        let bytes = joined(alloc, &[front, LYING, rest])?;
+        let bytes = joined(alloc, &[prefix, LYING, rest])?;
         assert_eq!(rt; read_list(alloc, &bytes).err(), Some(fault));
         assert_eq!(rt; fed_byte_by_byte(alloc, &bytes), (0, Some(fault)));
     }
@@ -107,7 +107,7 @@ fn assert_list_lies(rt: &impl Abort, alloc: Global) -> Result<(), Fail> {
 /// fault, so a refused allocation is no answer.
 fn assert_log_lies(rt: &impl Abort, alloc: Global) -> Result<(), Fail> {
     let event = joined(alloc, &[HEADER, EVENT_HEAD])?;
-    for (front, rest, fault) in [
+    for (prefix, rest, fault) in [
         (
             &HEADER[..28],
             &HEADER[32..],
@@ -120,7 +120,7 @@ fn assert_log_lies(rt: &impl Abort, alloc: Global) -> Result<(), Fail> {
             LogFault::Truncated { event: 1 },
         ),
     ] {
-        let bytes = joined(alloc, &[front, LYING, rest])?;
+        let bytes = joined(alloc, &[prefix, LYING, rest])?;
         assert_eq!(rt; read_log(alloc, &bytes).err(), Some(fault));
     }
     Ok(())
@@ -129,8 +129,8 @@ fn assert_log_lies(rt: &impl Abort, alloc: Global) -> Result<(), Fail> {
 #[test]
 fn cuts_and_lying_lengths(rt: HostRuntime) -> Result<(), Fail> {
     let alloc = rt.alloc();
-    assert_list_fronts(&rt, alloc)?;
-    assert_log_fronts(&rt, alloc)?;
+    assert_list_prefixes(&rt, alloc)?;
+    assert_log_prefixes(&rt, alloc)?;
     assert_list_lies(&rt, alloc)?;
     assert_log_lies(&rt, alloc)
 }

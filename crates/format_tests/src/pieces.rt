@@ -110,12 +110,12 @@ fn each_allocation_refused_in_feed(rt: HostRuntime) -> Result<(), Fail> {
 fn assert_fault_at_the_end(
     rt: &impl Abort,
     alloc: Global,
-    front: &[u8],
+    prefix: &[u8],
     last: &[u8],
     fault: ListFault,
 ) -> Result<(), ListFault> {
     let mut reader = fed(alloc, MEASUREMENT, 7)?;
-    for byte in front {
+    for byte in prefix {
         feed(&mut reader, &[*byte])?;
     }
     assert_eq!(rt; feed(&mut reader, last), Err(fault));

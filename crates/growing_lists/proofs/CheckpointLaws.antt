@@ -26,7 +26,7 @@ use Rattle.pcr_banks.proofs.SetLaws.{bytes_again, has_where}
 use Rattle.boot_verdict.specs.declared.checkpoint.Checkpoint.{Checkpoint}
 use Rattle.boot_verdict.specs.declared.expected.Expected.{Expected}
 use Rattle.growing_lists.specs.CheckpointData.{HaveValues, IsHash, SameData, SameValues}
-use Rattle.growing_lists.specs.CheckpointTexts.{IsOfOtherVersion, bank_lines, banks_lines, checkpoint_text, checkpoint_body, data_lines, number_line, seal_line, stated_line, stated_words, value_line}
+use Rattle.growing_lists.specs.CheckpointTexts.{IsOfOtherVersion, bank_lines, banks_lines, checkpoint_text, checkpoint_body, data_lines, number_line, seal_line, recorded_line, recorded_words, value_line}
 use Rattle.boot_verdict.specs.ExpectedTexts.{IsRegisterLine}
 use Rattle.boot_verdict.specs.RegisterTexts.{all_registers, change_line, register_line}
 use Rattle.boot_verdict.specs.Replays as replays
@@ -52,10 +52,10 @@ after_word word line rest text left is found =
     append_cancel_left word left (line ++ 10 ∷ rest) (sym found ∙ is ∙ word_first word line rest)
 
 -- The line after a word is cut where it ends.
-pub cut_line : (word line rest text left front after : List ℕ) → Lacks 10 line → text ≡ (word ++ (line ++ 10 ∷ [])) ++ rest
-    → text ≡ word ++ left → IsSplitOnce 10 left front after → (front ≡ line) × (after ≡ rest)
-cut_line word line rest text left front after lacks is found cut =
-    one_cut 10 front line after rest (lacks_from 10 front cut.lacks) lacks (sym cut.parts ∙ after_word word line rest text left is found)
+pub cut_line : (word line rest text left prefix after : List ℕ) → Lacks 10 line → text ≡ (word ++ (line ++ 10 ∷ [])) ++ rest
+    → text ≡ word ++ left → IsSplitOnce 10 left prefix after → (prefix ≡ line) × (after ≡ rest)
+cut_line word line rest text left prefix after lacks is found cut =
+    one_cut 10 prefix line after rest (lacks_from 10 prefix cut.lacks) lacks (sym cut.parts ∙ after_word word line rest text left is found)
 
 pub has_line : (word line rest text left : List ℕ) → text ≡ (word ++ (line ++ 10 ∷ [])) ++ rest → text ≡ word ++ left → LacksByte 10 left → ⊥
 has_line word line rest text left is found lacks =
@@ -68,10 +68,10 @@ has_word word line rest text is none = none (line ++ rest) (is ∙ append_assoc 
 pub number_lacks : (n : ℕ) → n < 2 ^ 64 → Lacks 10 (decimal n)
 number_lacks n small = lacks_feed (decimal n) (shown (decimal n) (decimal_above n small))
 
-pub stated_lack : (stated : Option Digest) → IfSome stated (λ digest. IsHash (alg_of digest) (bytes_of digest)) → Lacks 10 (stated_words stated)
-stated_lack None is = search rules
-stated_lack (Some digest) is =
-    lacks_feed (stated_words (Some digest)) (shown_join (name_of (alg_of digest)) _ (names.name_above (alg_of digest))
+pub recorded_lack : (recorded : Option Digest) → IfSome recorded (λ digest. IsHash (alg_of digest) (bytes_of digest)) → Lacks 10 (recorded_words recorded)
+recorded_lack None is = search rules
+recorded_lack (Some digest) is =
+    lacks_feed (recorded_words (Some digest)) (shown_join (name_of (alg_of digest)) _ (names.name_above (alg_of digest))
     (omega arith, shown (encode_lower (bytes_of digest)) (encoded_above (bytes_of digest) is.1)))
 
 -- ---- the boot aggregate
@@ -80,32 +80,32 @@ not_s : {rest : List ℕ} → codes "none" ≡ 115 ∷ rest → ⊥
 not_s is = let byte : ◌≡◌ {A = ℕ} 110 115 = ap (λ (l : List ℕ). slice_index l 0) is in absurd (omega (arith, byte))
 
 -- What stands before the colon and after it, in the words of a boot aggregate that is one.
-aggregate_cut : (words name digits : List ℕ) (digest : Digest) → words ≡ stated_words (Some digest) → IsSplitOnce 58 words name digits
+aggregate_cut : (words name digits : List ℕ) (digest : Digest) → words ≡ recorded_words (Some digest) → IsSplitOnce 58 words name digits
     → (name ≡ name_of (alg_of digest)) × (digits ≡ encode_lower (bytes_of digest))
 aggregate_cut words name digits digest is cut =
     one_cut 58 name (name_of (alg_of digest)) digits (encode_lower (bytes_of digest)) (lacks_from 58 name cut.lacks)
     (colons.name_lacks (alg_of digest)) (sym cut.parts ∙ is)
 
-pub has_colon : (words : List ℕ) (stated : Option Digest) → (words ≡ codes "none" → ⊥) → words ≡ stated_words stated → LacksByte 58 words → ⊥
+pub has_colon : (words : List ℕ) (recorded : Option Digest) → (words ≡ codes "none" → ⊥) → words ≡ recorded_words recorded → LacksByte 58 words → ⊥
 has_colon words None other is lacks = other is
 has_colon words (Some digest) other is lacks =
     let whole : Lacks 58 (name_of (alg_of digest) ++ 58 ∷ encode_lower (bytes_of digest)) = rw is at (lacks_from 58 words lacks) in
     not_lacked 58 (name_of (alg_of digest)) (encode_lower (bytes_of digest)) whole
 
-pub has_alg_name : (words name digits : List ℕ) (stated : Option Digest) → (words ≡ codes "none" → ⊥) → words ≡ stated_words stated
+pub has_alg_name : (words name digits : List ℕ) (recorded : Option Digest) → (words ≡ codes "none" → ⊥) → words ≡ recorded_words recorded
     → IsSplitOnce 58 words name digits → ((alg : Alg) → name_of alg ≡ name → ⊥) → ⊥
 has_alg_name words name digits None other is cut unknown = other is
 has_alg_name words name digits (Some digest) other is cut unknown =
     unknown (alg_of digest) (sym (aggregate_cut words name digits digest is cut).0)
 
 -- The algorithm that is found, and what the digits spell.
-alg_found : (words name digits : List ℕ) (digest : Digest) (alg : Alg) → words ≡ stated_words (Some digest) → IsSplitOnce 58 words name digits
+alg_found : (words name digits : List ℕ) (digest : Digest) (alg : Alg) → words ≡ recorded_words (Some digest) → IsSplitOnce 58 words name digits
     → name_of alg ≡ name → alg ≡ alg_of digest
 alg_found words name digits digest alg is cut named =
     algs.same_name_is alg (alg_of digest) (named ∙ (aggregate_cut words name digits digest is cut).0)
 
-pub has_digits : (words name digits : List ℕ) (alg : Alg) (stated : Option Digest) → (words ≡ codes "none" → ⊥)
-    → IfSome stated (λ digest. IsHash (alg_of digest) (bytes_of digest)) → words ≡ stated_words stated → IsSplitOnce 58 words name digits
+pub has_digits : (words name digits : List ℕ) (alg : Alg) (recorded : Option Digest) → (words ≡ codes "none" → ⊥)
+    → IfSome recorded (λ digest. IsHash (alg_of digest) (bytes_of digest)) → words ≡ recorded_words recorded → IsSplitOnce 58 words name digits
     → name_of alg ≡ name → ((length digits ≡ 2 * size_of alg) × AllPass is_hex_digit digits → ⊥) → ⊥
 has_digits words name digits alg None other hash is cut named none = other is
 has_digits words name digits alg (Some digest) other hash is cut named none =
@@ -113,11 +113,11 @@ has_digits words name digits alg (Some digest) other hash is cut named none =
     let size : length (encode_lower (bytes_of digest)) ≡ 2 * size_of (alg_of digest) = spelled.2 ∙ ap (λ (n : ℕ). 2 * n) hash.0 in
     none (rw (alg_found words name digits digest alg is cut named, (aggregate_cut words name digits digest is cut).1) (size, spelled.1))
 
-pub same_stated : (words name digits : List ℕ) (alg : Alg) (found : Digest) (stated : Option Digest) → (words ≡ codes "none" → ⊥)
-    → IfSome stated (λ digest. IsHash (alg_of digest) (bytes_of digest)) → words ≡ stated_words stated → IsSplitOnce 58 words name digits
-    → name_of alg ≡ name → (alg_of found ≡ alg) × (decode_of digits ≡ Ok (bytes_of found)) → Some found ≡ stated
-same_stated words name digits alg found None other hash is cut named spells = absurd (other is)
-same_stated words name digits alg found (Some digest) other hash is cut named spells =
+pub same_recorded : (words name digits : List ℕ) (alg : Alg) (found : Digest) (recorded : Option Digest) → (words ≡ codes "none" → ⊥)
+    → IfSome recorded (λ digest. IsHash (alg_of digest) (bytes_of digest)) → words ≡ recorded_words recorded → IsSplitOnce 58 words name digits
+    → name_of alg ≡ name → (alg_of found ≡ alg) × (decode_of digits ≡ Ok (bytes_of found)) → Some found ≡ recorded
+same_recorded words name digits alg found None other hash is cut named spells = absurd (other is)
+same_recorded words name digits alg found (Some digest) other hash is cut named spells =
     let bytes = decode_of-same digits (bytes_of found) (bytes_of digest) spells.1
     (ap decode_of (aggregate_cut words name digits digest is cut).1 ∙ decode_of-encode_lower (bytes_of digest) hash.1) in
     ap (λ (d : Digest). Some d) (same_digest found digest (spells.0 ∙ alg_found words name digits digest alg is cut named) bytes)
@@ -128,9 +128,9 @@ not_named = every_alg (λ alg. (rest : List ℕ) → codes "none" ≡ name_of al
   (λ rest is. not_s is, (λ rest is. not_s is, (λ rest is. not_s is, tt))),
 )
 
-pub none_stated : (words : List ℕ) (stated : Option Digest) → words ≡ codes "none" → words ≡ stated_words stated → None ≡ stated
-none_stated words None none is = refl
-none_stated words (Some digest) none is =
+pub none_recorded : (words : List ℕ) (recorded : Option Digest) → words ≡ codes "none" → words ≡ recorded_words recorded → None ≡ recorded
+none_recorded words None none is = refl
+none_recorded words (Some digest) none is =
     absurd (not_named (alg_of digest) (codes ":" ++ encode_lower (bytes_of digest)) (sym none ∙ is))
 
 -- ---- the line of a register
@@ -433,7 +433,7 @@ text_same first second same =
     rw (
       same.entries,
       same.bytes,
-      same.stated,
+      same.recorded,
       banks_same first.before second.before same.before,
       banks_same first.after second.after same.after,
     ) refl in
@@ -450,11 +450,11 @@ some_then (Some x) is next = next x is
 abbrev pub after_before : Checkpoint → List ℕ → List ℕ
 after_before known rest = codes "after\n" ++ (banks_lines known.after ++ rest)
 
-abbrev pub after_stated : Checkpoint → List ℕ → List ℕ
-after_stated known rest = codes "before\n" ++ (banks_lines known.before ++ after_before known rest)
+abbrev pub after_recorded : Checkpoint → List ℕ → List ℕ
+after_recorded known rest = codes "before\n" ++ (banks_lines known.before ++ after_before known rest)
 
 abbrev pub after_bytes : Checkpoint → List ℕ → List ℕ
-after_bytes known rest = stated_line known.stated ++ after_stated known rest
+after_bytes known rest = recorded_line known.recorded ++ after_recorded known rest
 
 abbrev pub after_entries : Checkpoint → List ℕ → List ℕ
 after_entries known rest = number_line (codes "bytes ") known.bytes ++ after_bytes known rest
@@ -466,27 +466,27 @@ seven a b c d e f g rest = simp append_assoc refl
 pub data_apart : (known : Checkpoint) (rest : List ℕ)
     → data_lines known ++ rest ≡ number_line (codes "entries ") known.entries ++ after_entries known rest
 data_apart known rest =
-    seven (number_line (codes "entries ") known.entries) (number_line (codes "bytes ") known.bytes) (stated_line known.stated)
+    seven (number_line (codes "entries ") known.entries) (number_line (codes "bytes ") known.bytes) (recorded_line known.recorded)
     (codes "before\n") (banks_lines known.before) (codes "after\n") (banks_lines known.after) rest
 
-parts_joined : (entries bytes stated before after : List ℕ)
+parts_joined : (entries bytes recorded before after : List ℕ)
     → (codes "ima-agent checkpoint 1\nentries " ++ (entries ++ (codes "\nbytes " ++ (bytes ++ codes "\n"))))
-    ++ (stated ++ ((codes "before\n" ++ before) ++ (codes "after\n" ++ after)))
+    ++ (recorded ++ ((codes "before\n" ++ before) ++ (codes "after\n" ++ after)))
     ≡ codes "ima-agent checkpoint " ++ (codes "1\n" ++ ((codes "entries " ++ (entries ++ codes "\n"))
-    ++ ((codes "bytes " ++ (bytes ++ codes "\n")) ++ (stated ++ (codes "before\n" ++ (before ++ (codes "after\n" ++ after)))))))
-parts_joined entries bytes stated before after = simp append_assoc refl
+    ++ ((codes "bytes " ++ (bytes ++ codes "\n")) ++ (recorded ++ (codes "before\n" ++ (before ++ (codes "after\n" ++ after)))))))
+parts_joined entries bytes recorded before after = simp append_assoc refl
 
 -- The parts of the body, as they are written.
 pub body_parts : (known : Checkpoint)
     → (codes "ima-agent checkpoint 1\nentries " ++ (decimal known.entries ++ (codes "\nbytes " ++ (decimal known.bytes ++ codes "\n"))))
-    ++ (stated_line known.stated
+    ++ (recorded_line known.recorded
     ++ ((codes "before\n" ++ banks_lines known.before) ++ (codes "after\n" ++ banks_lines known.after)))
     ≡ checkpoint_body known
 body_parts known =
-    let stated = stated_line known.stated in
+    let recorded = recorded_line known.recorded in
     let before = banks_lines known.before in
     let after = banks_lines known.after in
-    parts_joined (decimal known.entries) (decimal known.bytes) stated before after
+    parts_joined (decimal known.entries) (decimal known.bytes) recorded before after
 
 -- ---- the whole text
 
@@ -525,7 +525,7 @@ pub same_both : (found first second : Checkpoint) → SameData found first → S
 same_both found first second one other = record {
   entries = sym one.entries ∙ other.entries;
   bytes = sym one.bytes ∙ other.bytes;
-  stated = sym one.stated ∙ other.stated;
+  recorded = sym one.recorded ∙ other.recorded;
   before = λ a r. sym (one.before a r) ∙ other.before a r;
   after = λ a r. sym (one.after a r) ∙ other.after a r;
 }

@@ -14,7 +14,7 @@ use Rattle.ima_list.specs.Replaying.{digests_of, replayed_value}
 use Rattle.ima_list.specs.Spelling.{list_spelling, payload_spelling, spelling}
 use Rattle.boot_verdict.specs.declared.checkpoint.Checkpoint.{Checkpoint}
 use Rattle.boot_verdict.specs.Checkpoints.{IsCheckpoint}
-use Rattle.boot_verdict.specs.Verdicts.{stated_aggregate}
+use Rattle.boot_verdict.specs.Verdicts.{recorded_aggregate}
 use Rattle.growing_lists.specs.CheckpointData.{HaveValues, IsCounted, IsPossible, LeavesRoom, SameData, SameValues}
 use Rattle.growing_lists.specs.Sessions.{IsOfBoot}
 
@@ -52,7 +52,7 @@ module _ (first second : Checkpoint) (one : IsPossible first) (two : IsPossible 
     };
     count = sym same.entries ∙ is.count;
     size = sym same.bytes ∙ is.size;
-    stated = ap (λ (stated : Option Digest). option_map (λ digest. (alg_of digest, bytes_of digest)) stated) (sym same.stated) ∙ is.stated;
+    recorded = ap (λ (recorded : Option Digest). option_map (λ digest. (alg_of digest, bytes_of digest)) recorded) (sym same.recorded) ∙ is.recorded;
   }
 
   -- They are those of the same boots.
@@ -84,7 +84,7 @@ counted_same first second before after possible same =
           let nothing = possible.counted.empty (sym same.entries ∙ none) in
           record {
             bytes = same.bytes ∙ nothing.bytes;
-            stated = same.stated ∙ nothing.stated;
+            recorded = same.recorded ∙ nothing.recorded;
             same = record { active = active; values = λ a r. same.before a r ∙ nothing.same.values a r ∙ sym (same.after a r) };
           };
     }
@@ -127,9 +127,9 @@ no_entries : (entries : List ListEntry) → length entries ≡ 0 → entries ≡
 no_entries [] none = refl
 no_entries (entry ∷ entries) none = let no : ⊥ = omega (arith, none) in absurd no
 
-none_stated : (stated : Option Digest) → option_map {U = Alg × List ℕ} (λ digest. (alg_of digest, bytes_of digest)) stated ≡ None → stated ≡ None
-none_stated None is = refl
-none_stated (Some digest) is = absurd (true≢false (ap (λ (value : Option (Alg × List ℕ)). is_some value) is))
+none_recorded : (recorded : Option Digest) → option_map {U = Alg × List ℕ} (λ digest. (alg_of digest, bytes_of digest)) recorded ≡ None → recorded ≡ None
+none_recorded None is = refl
+none_recorded (Some digest) is = absurd (true≢false (ap (λ (value : Option (Alg × List ℕ)). is_some value) is))
 
 same_option : (value : Option (List ℕ)) → option_map (λ bytes. bytes) value ≡ value
 same_option None = refl
@@ -151,7 +151,7 @@ counted_list known list is room =
           let empty = no_entries is.entries (sym is.count ∙ none) in
           record {
             bytes = size ∙ spelled ∙ ap (λ (entries : List ListEntry). length (list_spelling entries)) empty;
-            stated = none_stated known.stated (is.stated ∙ ap stated_aggregate empty);
+            recorded = none_recorded known.recorded (is.recorded ∙ ap recorded_aggregate empty);
             same = record {
               active = active;
               values = λ a r.

@@ -1,5 +1,5 @@
 pub mod CheckpointLaws
 pub mod SessionLaws
-pub mod FrontLaws
+pub mod PrefixLaws
 pub mod ConfirmLaws
 pub mod DataLaws

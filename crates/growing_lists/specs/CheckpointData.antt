@@ -1,4 +1,4 @@
--- Which data a checkpoint can have, and which have the same. All of this is this project's choice.
+-- Which data a checkpoint can have, and which have the same.
 use Rattle.std.specs.Prelude.{◌≡◌, ℕ, ◌+◌, ◌*◌, ◌^◌, ◌<◌, ◌≤◌, List, length, IsTrue, None, IsSome, IfSome}
 use Rattle.hex.specs.Hex.{IsBytes}
 use Rattle.pcr_banks.specs.declared.alg.Alg.{Alg}
@@ -18,7 +18,7 @@ pub record HaveValues (banks : Banks) : Type 0 where
   pub whole : (a : Alg) (r : ℕ) → IsTrue (is_active banks a) → r < register_count → IsSome (value_at banks a r)
   pub sized : (a : Alg) (r : ℕ) → IfSome (value_at banks a r) (IsHash a)
 
--- The same banks are active.
+-- Both have the same active banks.
 abbrev pub SameActive : Banks → Banks → Type 0
 SameActive first second = (a : Alg) → is_active first a ≡ is_active second a
 
@@ -26,7 +26,7 @@ SameActive first second = (a : Alg) → is_active first a ≡ is_active second a
 abbrev pub SameValues : Banks → Banks → Type 0
 SameValues first second = (a : Alg) (r : ℕ) → value_at first a r ≡ value_at second a r
 
--- The same banks are active, and all registers have the same values.
+-- Both have the same active banks, and all registers have the same values.
 pub record AreSameBanks (first second : Banks) : Type 0 where
   pub active : SameActive first second
   pub values : SameValues first second
@@ -38,7 +38,7 @@ LeavesRoom checkpoint = checkpoint.bytes + 2 ^ 26 < 2 ^ 63
 -- Nothing was taken: no byte, no boot aggregate, and no register is another.
 pub record HasTakenNothing (checkpoint : Checkpoint) : Type 0 where
   pub bytes : checkpoint.bytes ≡ 0
-  pub stated : checkpoint.stated ≡ None
+  pub recorded : checkpoint.recorded ≡ None
   pub same : AreSameBanks checkpoint.before checkpoint.after
 
 -- The counts, the boot aggregate and the active banks are such as a list leaves, each of whose entries has 32 bytes or more.
@@ -53,12 +53,12 @@ pub record IsPossible (checkpoint : Checkpoint) : Type 0 where
   pub counted : IsCounted checkpoint
   pub before : HaveValues checkpoint.before
   pub after : HaveValues checkpoint.after
-  pub stated : IfSome checkpoint.stated (λ digest. IsHash (alg_of digest) (bytes_of digest))
+  pub recorded : IfSome checkpoint.recorded (λ digest. IsHash (alg_of digest) (bytes_of digest))
 
 -- Two checkpoints of the same data.
 pub record SameData (first second : Checkpoint) : Type 0 where
   pub entries : first.entries ≡ second.entries
   pub bytes : first.bytes ≡ second.bytes
-  pub stated : first.stated ≡ second.stated
+  pub recorded : first.recorded ≡ second.recorded
   pub before : SameValues first.before second.before
   pub after : SameValues first.after second.after

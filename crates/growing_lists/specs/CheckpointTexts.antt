@@ -1,4 +1,4 @@
--- A checkpoint, as text. All of this is this project's choice.
+-- A checkpoint, as text.
 use Rattle.std.specs.Prelude.{◌≡◌, ℕ, List, ◌++◌, codes, decimal, flat_map, if◌then◌else◌, Option, Some, None, is_some}
 use Rattle.hex.specs.Hex.{encode_lower}
 use Rattle.pcr_banks.specs.declared.alg.Alg.{Alg}
@@ -16,12 +16,12 @@ abbrev pub number_line : List ℕ → ℕ → List ℕ
 number_line word number = word ++ (decimal number ++ codes "\n")
 
 -- The boot aggregate: its algorithm and its digits, or that there is none.
-abbrev pub stated_words : Option Digest → List ℕ
-stated_words None = codes "none"
-stated_words (Some digest) = name_of (alg_of digest) ++ (codes ":" ++ encode_lower (bytes_of digest))
+abbrev pub recorded_words : Option Digest → List ℕ
+recorded_words None = codes "none"
+recorded_words (Some digest) = name_of (alg_of digest) ++ (codes ":" ++ encode_lower (bytes_of digest))
 
-abbrev pub stated_line : Option Digest → List ℕ
-stated_line stated = codes "boot_aggregate " ++ (stated_words stated ++ codes "\n")
+abbrev pub recorded_line : Option Digest → List ℕ
+recorded_line recorded = codes "boot_aggregate " ++ (recorded_words recorded ++ codes "\n")
 
 -- The line of a register, where it has a value.
 abbrev pub value_line : Banks → Alg → ℕ → List ℕ
@@ -41,7 +41,7 @@ abbrev pub data_lines : Checkpoint → List ℕ
 data_lines checkpoint =
     number_line (codes "entries ") checkpoint.entries
     ++ (number_line (codes "bytes ") checkpoint.bytes
-    ++ (stated_line checkpoint.stated
+    ++ (recorded_line checkpoint.recorded
     ++ (codes "before\n" ++ (banks_lines checkpoint.before ++ (codes "after\n" ++ banks_lines checkpoint.after)))))
 
 -- What stands before the last line.

@@ -1,6 +1,5 @@
 pub mod CheckpointData
 pub mod CheckpointTexts
-pub mod FrontTexts
 pub mod Sessions
-pub mod Fronts
+pub mod Prefixes
 pub mod parts

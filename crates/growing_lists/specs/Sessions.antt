@@ -1,4 +1,4 @@
--- The verification of a list that grows. All of this is this project's choice.
+-- The verification of a list that grows.
 use Rattle.std.specs.Prelude.{◌≡◌, ℕ, List, ◌++◌, Option}
 use Rattle.boot_log.specs.declared.header.Row.{Row as TableRow}
 use Rattle.boot_log.specs.LogViews.{log_bytes}

@@ -11,19 +11,19 @@ ghost use Rattle.pcr_banks.specs.Registers.{is_active, register_count};
 ghost use Rattle.boot_verdict.specs.declared.checkpoint.Checkpoint.{Checkpoint};
 ghost use Rattle.boot_verdict.specs.Checkpoints.{IsCheckpoint};
 ghost use Rattle.boot_verdict.specs.RegisterTexts.{all_registers, register_line};
-ghost use Rattle.growing_lists.specs.declared.checkpoint_reader.CheckpointFault.TheVariants.{Memory};
 ghost use Rattle.growing_lists.specs.CheckpointData.{HasTakenNothing, HaveValues, IsCounted, IsHash, IsPossible, LeavesRoom, SameData, SameValues};
-ghost use Rattle.growing_lists.specs.CheckpointTexts.{IsOfOtherVersion, bank_lines, banks_lines, checkpoint_text, data_lines, number_line, stated_line, stated_words, value_line};
+ghost use Rattle.growing_lists.specs.CheckpointTexts.{IsOfOtherVersion, bank_lines, banks_lines, checkpoint_text, data_lines, number_line, recorded_line, recorded_words, value_line};
 ghost use Rattle.growing_lists.specs.Sessions.{IsOfBoot};
 ghost use Rattle.growing_lists.specs.parts.CheckpointParts.{HasBank, Sets, TakesBank};
 
 use crate::same_banks::{are_same_active, are_same_banks};
 use crate::texts::write_checkpoint;
-use boot_verdict::{Checkpoint, after_prefix, list_start, register_on, split_once};
+use boot_verdict::{
+    Checkpoint, CheckpointFault, after_prefix, list_start, register_on, split_once,
+};
 use pcr_banks::laws::{digest_is_a_hash, registers_have_hashes};
 use pcr_banks::{Alg, Banks, Digest, REGISTERS};
 use std::alloc::{AllocError, Global};
-use thiserror::Error;
 
 /// Law: a checkpoint whose data fit together is one that [`read_checkpoint`] reads from its text; and so do those of a list, if it
 /// [`leaves_room`].
@@ -33,7 +33,7 @@ pub fn counted_checkpoint_is_possible(checkpoint: &Checkpoint)
 {
     banks_have_values(&checkpoint.before);
     banks_have_values(&checkpoint.after);
-    if let Some(digest) = &checkpoint.stated {
+    if let Some(digest) = &checkpoint.recorded {
         digest_is_a_hash(digest);
     }
 }
@@ -53,28 +53,6 @@ pub fn same_data_is_of_the_same_lists()
     ensures boots { (first second : Checkpoint) → IsPossible first → IsPossible second → SameData first second
         → (log : List ℕ) → IsOfBoot log first → IsOfBoot log second }
 {}
-
-/// Why a text is not read as a checkpoint.
-#[derive(Clone, Copy, Debug, PartialEq, Eq, Error)]
-pub enum CheckpointFault {
-    /// The text begins as that of a checkpoint does, but has another version.
-    #[error("the checkpoint is of another version")]
-    Version,
-    /// It is not the text of a checkpoint, or it was damaged.
-    #[error("the text is not a whole checkpoint, as it was saved")]
-    Damaged,
-    /// Out of memory.
-    #[error("out of memory")]
-    Memory,
-}
-
-impl From<AllocError> for CheckpointFault {
-    ghost from_gives = { λ _ fault. fault ≡ Memory };
-
-    fn from(_refused: AllocError) -> CheckpointFault {
-        CheckpointFault::Memory
-    }
-}
 
 /// Reads the text that [`crate::write_checkpoint`] makes of a checkpoint, and no other.
 ///
@@ -101,11 +79,11 @@ pub fn read_checkpoint(alloc: Global, text: &[u8]) -> Result<Checkpoint, Checkpo
     let Some(checkpoint) = data_at(lines) else {
         return Err(CheckpointFault::Damaged);
     };
-    checked(alloc, checkpoint, text)
+    check_text(alloc, checkpoint, text)
 }
 
 // The checkpoint, if its counts are possible and this is its text.
-fn checked(
+fn check_text(
     alloc: Global,
     checkpoint: Checkpoint,
     text: &[u8],
@@ -150,7 +128,7 @@ fn has_taken_nothing(checkpoint: &Checkpoint) -> bool
     ensures { IsTrue result ↔ HasTakenNothing checkpoint.now }
 {
     checkpoint.bytes == 0
-        && checkpoint.stated.is_none()
+        && checkpoint.recorded.is_none()
         && are_same_banks(&checkpoint.before, &checkpoint.after)
 }
 
@@ -162,14 +140,14 @@ fn is_text_of(alloc: Global, checkpoint: &Checkpoint, text: &[u8]) -> Result<boo
     Ok(written.as_slice() == text)
 }
 
-// The data that lines at the front state, which may be those of no checkpoint.
+// The data that lines at the start state, which may be those of no checkpoint.
 fn data_at(text: &[u8]) -> Option<Checkpoint>
     ensures { (known : Checkpoint) (rest : List ℕ) → IsPossible known → text.now ≡ data_lines known ++ rest
         → IsSomeAnd result (λ found. SameData found known) }
 {
     let (entries, rest) = number_at(b"entries ", text)?;
     let (bytes, rest) = number_at(b"bytes ", rest)?;
-    let (stated, rest) = stated_at(rest)?;
+    let (recorded, rest) = recorded_at(rest)?;
     let (before, rest) = section_at(b"before\n", rest)?;
     let (after, _) = section_at(b"after\n", rest)?;
     Some(Checkpoint {
@@ -177,7 +155,7 @@ fn data_at(text: &[u8]) -> Option<Checkpoint>
         after,
         entries: entries as usize,
         bytes,
-        stated,
+        recorded,
     })
 }
 
@@ -200,19 +178,19 @@ fn number_named(digits: &[u8]) -> Option<u64>
     }
 }
 
-// The boot aggregate on the line at the front, and what follows the line.
-fn stated_at(text: &[u8]) -> Option<(Option<Digest>, &[u8])>
-    ensures { (stated : Option Digest) (rest : List ℕ) → IfSome stated (λ digest. IsHash (alg_of digest) (bytes_of digest))
-        → text.now ≡ stated_line stated ++ rest → IsSomeAnd result (λ x. (x.0 ≡ stated) × (x.1.now ≡ rest)) }
+// The boot aggregate on the line at the start, and what follows the line.
+fn recorded_at(text: &[u8]) -> Option<(Option<Digest>, &[u8])>
+    ensures { (recorded : Option Digest) (rest : List ℕ) → IfSome recorded (λ digest. IsHash (alg_of digest) (bytes_of digest))
+        → text.now ≡ recorded_line recorded ++ rest → IsSomeAnd result (λ x. (x.0 ≡ recorded) × (x.1.now ≡ rest)) }
 {
     let (words, rest) = split_once(b'\n', after_prefix(b"boot_aggregate ", text)?)?;
-    Some((stated_by(words)?, rest))
+    Some((recorded_by(words)?, rest))
 }
 
 // The boot aggregate that these words state.
-fn stated_by(words: &[u8]) -> Option<Option<Digest>>
-    ensures { (stated : Option Digest) → IfSome stated (λ digest. IsHash (alg_of digest) (bytes_of digest))
-        → words.now ≡ stated_words stated → IsSomeAnd result (λ x. x ≡ stated) }
+fn recorded_by(words: &[u8]) -> Option<Option<Digest>>
+    ensures { (recorded : Option Digest) → IfSome recorded (λ digest. IsHash (alg_of digest) (bytes_of digest))
+        → words.now ≡ recorded_words recorded → IsSomeAnd result (λ x. x ≡ recorded) }
 {
     if is_none(words) {
         return Some(None);
@@ -236,7 +214,7 @@ fn section_at<'a>(word: &[u8], text: &'a [u8]) -> Option<(Banks, &'a [u8])>
     banks_at(after_prefix(word, text)?)
 }
 
-// The banks whose lines are at the front, and what follows them.
+// The banks whose lines are at the start, and what follows them.
 fn banks_at(text: &[u8]) -> Option<(Banks, &[u8])>
     ensures { (known : Banks) (rest : List ℕ) → HaveValues known → text.now ≡ banks_lines known ++ rest
         → IsSomeAnd result (λ x. SameValues x.0 known × (x.1.now ≡ rest)) }
@@ -247,7 +225,7 @@ fn banks_at(text: &[u8]) -> Option<(Banks, &[u8])>
     bank_at(banks, Alg::Sha512, rest)
 }
 
-// These banks with one whose lines are at the front, and what follows the lines.
+// These banks with one whose lines are at the start, and what follows the lines.
 fn bank_at(banks: Banks, alg: Alg, text: &[u8]) -> Option<(Banks, &[u8])>
     ensures { (known : Banks) (rest : List ℕ) → HaveValues known → HasBank banks alg
         → text.now ≡ bank_lines known alg ++ rest
@@ -259,7 +237,7 @@ fn bank_at(banks: Banks, alg: Alg, text: &[u8]) -> Option<(Banks, &[u8])>
     }
 }
 
-// What follows the line that says that the bank is not active, if this line is at the front.
+// What follows the line that says that the bank is not active, if this line is at the start.
 fn after_none(alg: Alg, text: &[u8]) -> Option<&[u8]>
     ensures found { IfSome result (λ rest. text.now ≡ name_of alg ++ (codes " none\n" ++ rest.now)) }
     ensures none { IfNone result ((rest : List ℕ) → text.now ≡ name_of alg ++ (codes " none\n" ++ rest) → ⊥) }
@@ -267,7 +245,7 @@ fn after_none(alg: Alg, text: &[u8]) -> Option<&[u8]>
     after_prefix(b" none\n", after_prefix(alg.name().as_bytes(), text)?)
 }
 
-// These banks with the registers whose lines are at the front, as many as a bank has, and what follows the lines.
+// These banks with the registers whose lines are at the start, as many as a bank has, and what follows the lines.
 fn values_at(start: Banks, text: &[u8]) -> Option<(Banks, &[u8])>
     ensures { (known : Banks) (alg : Alg) (rest : List ℕ) → HaveValues known → HasBank start alg
         → IsTrue (is_active known alg) → text.now ≡ flat_map (value_line known alg) all_registers ++ rest
@@ -283,7 +261,7 @@ fn values_at(start: Banks, text: &[u8]) -> Option<(Banks, &[u8])>
     Some((banks, rest))
 }
 
-// These banks with the register whose line is at the front, and what follows the line.
+// These banks with the register whose line is at the start, and what follows the line.
 fn value_at(banks: Banks, text: &[u8]) -> Option<(Banks, &[u8])>
     ensures { (alg : Alg) (register : ℕ) (value rest : List ℕ) → register < register_count → IsHash alg value
         → text.now ≡ register_line alg register value ++ rest

@@ -1,19 +1,16 @@
 //! The verification of a measurement list that grows: sessions, which take the list as it comes and report on what they have taken;
-//! the front of the list that the expected registers confirm; and the text of where a session stopped, from which another goes on.
+//! the prefix of the list that the expected registers confirm; and the text of where a session stopped, from which another goes on.
 #![tactic(auto)]
 
 mod checkpoint_reader;
-mod confirming;
-mod front_report;
-mod fronts;
+mod confirmation;
+mod prefixes;
 mod same_banks;
 mod session;
 mod texts;
 
 pub use checkpoint_reader::{
-    CheckpointFault, counted_checkpoint_is_possible, leaves_room, read_checkpoint,
-    same_data_is_of_the_same_lists,
+    counted_checkpoint_is_possible, leaves_room, read_checkpoint, same_data_is_of_the_same_lists,
 };
-pub use front_report::{FrontReport, Unconfirmed};
-pub use session::{ResumeFault, Session};
-pub use texts::{write_checkpoint, write_front_report, write_required_front_report};
+pub use session::Session;
+pub use texts::write_checkpoint;

@@ -1,7 +1,7 @@
 //! A verification of a list that grows: of a log, it takes the list's bytes as they come, and reports on what it has taken.
 
 ghost use Rattle.std.specs.Prelude.{◌≡◌, List, [], Some, is_some, IsOk, IfOk, IfErr, IsErrOf, OnOk, OnErr, ℕ};
-ghost use Rattle.byte_streams.specs.Streams.{LosesFront};
+ghost use Rattle.byte_streams.specs.Streams.{LosesPrefix};
 ghost use Rattle.boot_log.specs.Reading.{log_fault};
 ghost use Rattle.boot_log.specs.declared.header.Row.{Row as TableRow};
 ghost use Rattle.boot_log.specs.LogViews.{log_bytes};
@@ -12,21 +12,9 @@ ghost use Rattle.boot_verdict.specs.Verdicts.{IsSomeLog, IsVerdict, verdict_of};
 
 use crate::same_banks::are_same_banks;
 use boot_log::{LogFault, LogView};
-use boot_verdict::{Checkpoint, Expected, Report, VerifyFault, report_on};
+use boot_verdict::{Checkpoint, Expected, Report, ResumeFault, VerifyFault, report_on};
 use byte_streams::Source;
 use std::alloc::Global;
-use thiserror::Error;
-
-/// Why a session does not go on from a checkpoint.
-#[derive(Clone, Copy, Debug, PartialEq, Eq, Error)]
-pub enum ResumeFault {
-    /// The log is invalid.
-    #[error("the log is invalid: {0}")]
-    Log(LogFault),
-    /// The checkpoint is of another boot: the log leaves other registers than those before its list.
-    #[error("the checkpoint is of another boot: the log's registers are not those it began from")]
-    OtherBoot,
-}
 
 /// A verification of a list that grows. It has looked through the log, and has taken some bytes of the list: it knows what they leave,
 /// and keeps none of them.
@@ -54,7 +42,7 @@ impl<'a> Session<'a> {
     ///
     /// Fails with the fault of the log, or with [`ResumeFault::OtherBoot`] if the log leaves other registers than those before the
     /// checkpoint's list.
-    pub fn resumed(log: &'a [u8], known: Checkpoint) -> Result<Self, ResumeFault>
+    pub fn resume(log: &'a [u8], known: Checkpoint) -> Result<Self, ResumeFault>
         // If it is the checkpoint of a list, the session has taken that list.
         ensures taken { IfOk result (λ session. (list : List ℕ) → IsCheckpoint list known → HasTaken log.now list session) }
         ensures log { IfOk result (λ session. log_bytes session.log ≡ log.now) }
@@ -76,7 +64,7 @@ impl<'a> Session<'a> {
         Ok(Session { log, known })
     }
 
-    /// What is known after the bytes taken so far: enough to go on later with [`Session::resumed`].
+    /// What is known after the bytes taken so far: enough to go on later with [`Session::resume`].
     pub fn checkpoint(&self) -> &Checkpoint
         ensures { result.now ≡ self.now.known }
     {
@@ -96,11 +84,11 @@ impl<'a> Session<'a> {
         ensures taken { OnOk result ((log list : List ℕ) → HasTaken log list self.old
             → TakesMore log list (R.state source.old).remaining (R.state source.new).remaining (most_after self.old.known limit) self.new) }
         ensures kept { OnErr result (self.new ≡ self.old) }
-        // Any fault is the first cause.
+        // Any fault is the first reason.
         ensures fault { IfErr result (λ fault. (log list : List ℕ) → HasTaken log list self.old
             → IsMoreFault list (R.state source.old).remaining (R.state source.new).remaining (most_after self.old.known limit) fault) }
-        // In any case the source loses bytes from its front, and nothing else.
-        ensures front { LosesFront (R.state source.old).remaining (R.state source.new).remaining }
+        // In any case the source loses bytes from its start, and nothing else.
+        ensures prefix { LosesPrefix (R.state source.old).remaining (R.state source.new).remaining }
         ensures telling { is_some (R.state source.new).remaining ≡ is_some (R.state source.old).remaining }
         ensures counts { (R.state source.new).failures ≡ failures_after_list result (R.state source.old).failures }
     {

@@ -106,10 +106,10 @@ refused_op origin count Makes records job fault of not_memory full = elim of.bec
   | inl memory ↦ absurd (not_memory cc)
   | inr made ↦ elim made.2 [
     | inl memory ↦ absurd (not_memory memory)
-    | inr cause ↦ record {
+    | inr reason ↦ record {
       op = made.0;
       has = made.1;
-      refusal = refusal_at_end origin cause.0 records made.0 fault cause.1 full;
+      refusal = refusal_at_end origin reason.0 records made.0 fault reason.1 full;
     }
   ]
 ]

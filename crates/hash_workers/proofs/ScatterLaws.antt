@@ -18,15 +18,15 @@ get_set_same xs i x within = grind (arith, common_steps, gets)
 pub get_set_other : {X : Type 0} → (xs : List X) (i j : ℕ) (x : X) → j ≢ i → slice_get (set xs i x) j ≡ slice_get xs j
 get_set_other xs i j x other = grind (arith, common_steps, gets)
 
--- A list has all that its front has.
-pub front_less : {X : Type 0} → (all longer front : List X) (x : X) → longer ≡ front ++ x ∷ []
-    → ((i : ℕ) (y : X) → slice_get longer i ≡ Some y → slice_get all i ≡ Some y) → (i : ℕ) (y : X) → slice_get front i ≡ Some y
+-- A list has all that its prefix has.
+pub prefix_less : {X : Type 0} → (all longer prefix : List X) (x : X) → longer ≡ prefix ++ x ∷ []
+    → ((i : ℕ) (y : X) → slice_get longer i ≡ Some y → slice_get all i ≡ Some y) → (i : ℕ) (y : X) → slice_get prefix i ≡ Some y
     → slice_get all i ≡ Some y
-front_less all longer front x is has i y here = has i y (rw is (at_longer front x i y here))
+prefix_less all longer prefix x is has i y here = has i y (rw is (at_longer prefix x i y here))
 
-pub front_last : {X : Type 0} → (all longer front : List X) (x : X) (n : ℕ) → longer ≡ front ++ x ∷ [] → n ≡ length front
+pub prefix_last : {X : Type 0} → (all longer prefix : List X) (x : X) (n : ℕ) → longer ≡ prefix ++ x ∷ [] → n ≡ length prefix
     → ((i : ℕ) (y : X) → slice_get longer i ≡ Some y → slice_get all i ≡ Some y) → slice_get all n ≡ Some x
-front_last all longer front x n is last has = has n x (rw (is, last) (at_last front x))
+prefix_last all longer prefix x n is last has = has n x (rw (is, last) (at_last prefix x))
 
 pub items_here : {T : Type 0} → (lists : List (Vec T Global)) (worker : ℕ) (one : Vec T Global) → worker < length lists
     → one ≡ get_or lists worker one

@@ -14,7 +14,7 @@ use Rattle.hash_workers.specs.declared.work.Unmade.{Unmade}
 use Rattle.hash_workers.specs.declared.work.Work.{Work}
 use Rattle.hash_workers.specs.Claims.{ClaimsState, SeatState, HandsOutEach}
 use Rattle.hash_workers.specs.parts.Taking.{NumbersRiseForEach}
-use Rattle.hash_workers.specs.parts.Ending.{AnyCause, IsEnd, IsTakenUnmade}
+use Rattle.hash_workers.specs.parts.Ending.{AnyReason, IsEnd, IsTakenUnmade}
 use Rattle.hash_workers.specs.parts.Scattering.{ArePairs}
 use Rattle.hash_workers.specs.parts.Seats.{AreWorksOf, HandBack, HasNoEnd, HaveUnmade, IsLeastUnmade, IsSeatEnd, IsSinglePlace, draws_of, outcomes_of, seat_of, some_ended, taken_of}
 use Rattle.hash_workers.specs.parts.Settling.{AreTakenBefore, IsUnmadeOf}
@@ -51,7 +51,7 @@ hand_back origin Makes Fails claims works are = record {
   seat = λ worker work here. (are.each worker work here).seat;
   ended = λ worker work here. seat_end origin work work.end (are.each worker work here).ends;
   unmade = λ worker work unmade here has. let right = rw has at (are.each worker work here).unmade in
-      record { index = right.index; stands = right.stands; within = right.within; cause = tt };
+      record { index = right.index; stands = right.stands; within = right.within; reason = tt };
 }
 
 pub have_unmade : (claims : ClaimsState) (works : List Work) → HandBack claims works → HaveUnmade works
@@ -90,7 +90,7 @@ above_all rest taken index number beyond has =
 
 -- Each number that a worker's seat drew is a job that the worker took, or above its first unmade job.
 took_or_passed : (jobs : ℕ) (work : Work) (end : End) (index job : ℕ) → end ≢ OutOfMemory → end ≢ ForeignBook → IsSeatEnd work end
-    → ((unmade : Unmade) → work.unmade ≡ Some unmade → IsTakenUnmade jobs AnyCause work.taken.items unmade)
+    → ((unmade : Unmade) → work.unmade ≡ Some unmade → IsTakenUnmade jobs AnyReason work.taken.items unmade)
     → slice_get work.seat.draws index ≡ Some job
     → ((at : ℕ) × (slice_get work.taken.items at ≡ Some job)) ⊎ ((unmade : Unmade) × (work.unmade ≡ Some unmade) × (unmade.job < job))
 took_or_passed jobs work NoneLeft index job memory foreign ends known drew = inl (index, rw ends.1 at drew)

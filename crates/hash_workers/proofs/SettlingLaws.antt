@@ -15,7 +15,7 @@ use Rattle.hash_workers.specs.declared.batch.Batch.{Batch}
 use Rattle.hash_workers.specs.declared.fault.AgentFault.{AgentFault}
 use Rattle.hash_workers.specs.declared.fault.AgentFault.TheVariants as agents
 use Rattle.hash_workers.specs.declared.fault.JobFault.{JobFault}
-use Rattle.hash_workers.specs.declared.fault.JobFault.TheVariants as causes
+use Rattle.hash_workers.specs.declared.fault.JobFault.TheVariants as reasons
 use Rattle.hash_workers.specs.declared.fault.JobsFault.{JobsFault}
 use Rattle.hash_workers.specs.declared.fault.JobsFault.TheVariants as jobs
 use Rattle.hash_workers.specs.declared.work.End.TheVariants.{NoOperation}
@@ -31,8 +31,8 @@ use Rattle.hash_workers.specs.Outcomes.{IsOutcomeOf}
 use Rattle.hash_workers.specs.parts.Ending.{IsFound, IsHad}
 use Rattle.hash_workers.specs.parts.Scattering.{items_of}
 use Rattle.hash_workers.specs.parts.Seats.{AreWorksOf, HasNoEnd, IsLeastUnmade, outcomes_of, taken_of}
-use Rattle.hash_workers.specs.parts.Settling.{AreTakenBefore, IsAllWork, IsFirstCause, IsUnmadeOf, IsMadeOf, IsUnsettled, outcomes_by_worker, takings_of}
-use Rattle.hash_workers.specs.Causes.{AllMadeUnlessMemory, IsCauseOf, IsFirstUnmade, IsMadeUnlessMemory}
+use Rattle.hash_workers.specs.parts.Settling.{AreTakenBefore, IsAllWork, IsFirstReason, IsUnmadeOf, IsMadeOf, IsUnsettled, outcomes_by_worker, takings_of}
+use Rattle.hash_workers.specs.Reasons.{AllMadeUnlessMemory, IsReasonOf, IsFirstUnmade, IsMadeUnlessMemory}
 use Rattle.hash_workers.proofs.ListLaws.{at_map, in_mapped}
 use Rattle.hash_workers.proofs.SeatLaws.{rises_of, pairs_of}
 use Rattle.hash_workers.proofs.BatchLaws.{from_groups, job_for}
@@ -71,7 +71,7 @@ module _ (origin : Origin) (Makes : ℕ → BookOp → Type 0) (Fails : ℕ → 
       let right = rw has.has at (are.each has.worker has.work has.stands).unmade in
       record {
         within = right.within;
-        cause = right.cause;
+        reason = right.reason;
         before = λ job earlier.
             let taken = before job earlier in
             let one = in_mapped taken_of works taken.worker taken.index job (rw is at taken.took) in
@@ -116,31 +116,31 @@ module _ (origin : Origin) (Makes : ℕ → BookOp → Type 0) (Fails : ℕ → 
 
 -- ---- faults
 
-gather_fault : (workers : ℕ) (origin : Origin) (cause : GatherFault) → MayBegin workers origin
-    → IsAgentFaultOf workers origin (fault_of_gather cause)
+gather_fault : (workers : ℕ) (origin : Origin) (reason : GatherFault) → MayBegin workers origin
+    → IsAgentFaultOf workers origin (fault_of_gather reason)
 gather_fault workers origin gathers.Memory may = may
-gather_fault workers origin cause may = (may, λ same. cc)
+gather_fault workers origin reason may = (may, λ same. cc)
 
 fault_for_unmade : (workers : ℕ) (origin : Origin) (job : ℕ) (fault : JobFault) → MayBegin workers origin
     → IsJobsFaultOf workers origin (fault_for job fault)
-fault_for_unmade workers origin job causes.Memory may = may
+fault_for_unmade workers origin job reasons.Memory may = may
 fault_for_unmade workers origin job fault may = may
 
 pub settled_fault : (workers : ℕ) (origin : Origin) (all : AllWork) (book : BookState) (result : Result Batch JobsFault)
     → MayBegin workers origin → IfErr result (IsUnsettled all book origin)
     → MatchResult result (λ _. MayBegin workers origin) (IsJobsFaultOf workers origin)
 settled_fault workers origin all book (Ok batch) may known = may
-settled_fault workers origin all book (Err fault) may (inl known) = rw known.fault_is (gather_fault workers origin known.cause may)
+settled_fault workers origin all book (Err fault) may (inl known) = rw known.fault_is (gather_fault workers origin known.reason may)
 settled_fault workers origin all book (Err fault) may (inr known) =
     rw known.fault_is (fault_for_unmade workers origin known.unmade.job known.unmade.fault may)
 
 -- ---- what a fault tells
 
-same_cause : (one other : GatherFault) → agents.Gather one ≡ fault_of_gather other → one ≡ other
-same_cause one gathers.Memory is = cc
-same_cause one other is = cc
+same_reason : (one other : GatherFault) → agents.Gather one ≡ fault_of_gather other → one ≡ other
+same_reason one gathers.Memory is = cc
+same_reason one other is = cc
 
--- Groups without an outcome, of which `ForeignBook` is the first cause as of any.
+-- Groups without an outcome, of which `ForeignBook` is the first reason as of any.
 abbrev no_outcomes : ℕ → List (List BookOutcome)
 no_outcomes workers = replicate workers []
 
@@ -153,9 +153,9 @@ replicated : (workers : ℕ) → length (no_outcomes workers) ≡ workers
 replicated zero = refl
 replicated (suc workers) = ap suc (replicated workers)
 
-foreign_cause : (workers : ℕ) (origin : Origin) (count : ℕ) (Makes : ℕ → BookOp → Type 0) (cause : GatherFault) → IsFound origin
-    → cause ≡ gathers.ForeignBook → IsCauseOf workers origin count Makes cause
-foreign_cause workers origin count Makes cause found is = rw is (record {
+foreign_reason : (workers : ℕ) (origin : Origin) (count : ℕ) (Makes : ℕ → BookOp → Type 0) (reason : GatherFault) → IsFound origin
+    → reason ≡ gathers.ForeignBook → IsReasonOf workers origin count Makes reason
+foreign_reason workers origin count Makes reason found is = rw is (record {
   book = found.book;
   is_book = found.is_book;
   groups = no_outcomes workers;
@@ -168,28 +168,28 @@ foreign_cause workers origin count Makes cause found is = rw is (record {
 
 -- The fault of an unmade job is neither one of `gather` nor a wrong number of workers.
 unmade_no_agent : (job : ℕ) (fault : JobFault) (agent : AgentFault) → agent ≢ agents.Memory → jobs.Agent agent ≡ fault_for job fault → ⊥
-unmade_no_agent job causes.Memory agent other is = other cc
+unmade_no_agent job reasons.Memory agent other is = other cc
 unmade_no_agent job fault agent other is = absurd cc
 
 -- A fault of `gather` is not a wrong number of workers.
-no_number : (cause : GatherFault) → agents.Workers ≡ fault_of_gather cause → ⊥
+no_number : (reason : GatherFault) → agents.Workers ≡ fault_of_gather reason → ⊥
 no_number gathers.Memory is = absurd cc
-no_number cause is = absurd cc
+no_number reason is = absurd cc
 
 pub settled_number : (origin : Origin) (all : AllWork) (book : BookState) (result : Result Batch JobsFault)
     → IfErr result (IsUnsettled all book origin) → result ≡ Err (jobs.Agent agents.Workers) → ⊥
 settled_number origin all book (Ok batch) known is = absurd cc
 settled_number origin all book (Err fault) (inl known) is =
-    let same : agents.Workers ≡ fault_of_gather known.cause = cc known.fault_is in no_number known.cause same
+    let same : agents.Workers ≡ fault_of_gather known.reason = cc known.fault_is in no_number known.reason same
 settled_number origin all book (Err fault) (inr known) is =
     let same : jobs.Agent agents.Workers ≡ fault_of_unmade known.unmade = cc known.fault_is in
     unmade_no_agent known.unmade.job known.unmade.fault agents.Workers (λ memory. cc) same
 
 -- The job that the fault names is the first unmade job.
-job_of_unmade : (job other : ℕ) (fault : JobFault) (cause : JobFault) → jobs.Job job fault ≡ fault_for other cause
-    → (job ≡ other) × (fault ≡ cause) × (fault ≢ causes.Memory)
-job_of_unmade job other fault causes.Memory is = absurd cc
-job_of_unmade job other fault cause is = (cc, cc, λ memory. cc)
+job_of_unmade : (job other : ℕ) (fault : JobFault) (reason : JobFault) → jobs.Job job fault ≡ fault_for other reason
+    → (job ≡ other) × (fault ≡ reason) × (fault ≢ reasons.Memory)
+job_of_unmade job other fault reasons.Memory is = absurd cc
+job_of_unmade job other fault reason is = (cc, cc, λ memory. cc)
 
 module _ (workers : ℕ) (origin : Origin) (count : ℕ) (Makes : ℕ → BookOp → Type 0) (Fails : ℕ → JobFault → Type 0) (all : AllWork)
     (are : IsAllWork origin count Makes Fails workers all) (book : BookState) where
@@ -219,9 +219,9 @@ module _ (workers : ℕ) (origin : Origin) (count : ℕ) (Makes : ℕ → BookOp
       let there = (took_of other at another also).0 in
       (take_each count (takings_of all) hands).once worker other index at (job_of other at) (rw same at one) there
 
-  cause_against : (cause : GatherFault) → HandsOutEach count (concat (takings_of all)) → IsBook book
-      → IsFirstFault book origin (outcomes_by_worker all) cause → IsCauseOf workers origin count Makes cause
-  cause_against cause hands is_book first =
+  reason_against : (reason : GatherFault) → HandsOutEach count (concat (takings_of all)) → IsBook book
+      → IsFirstFault book origin (outcomes_by_worker all) reason → IsReasonOf workers origin count Makes reason
+  reason_against reason hands is_book first =
       let pairs = are.pairs.workers in
       let takings = length-map all.takings.items items_of in
       let lists = length-map all.groups.items items_of in
@@ -238,26 +238,26 @@ module _ (workers : ℕ) (origin : Origin) (count : ℕ) (Makes : ℕ → BookOp
         first = first;
       }
 
-  cause_of : (cause : GatherFault) (foreign : Bool) → all.foreign ≡ foreign → (foreign ≡ false → all.unmade ≡ None)
-      → IsFirstCause foreign book origin (outcomes_by_worker all) cause → IsCauseOf workers origin count Makes cause
-  cause_of cause true is made first = foreign_cause workers origin count Makes cause (are.found is) first
-  cause_of cause false is made first = cause_against cause (are.each is (made refl)) first.0 first.1
+  reason_of : (reason : GatherFault) (foreign : Bool) → all.foreign ≡ foreign → (foreign ≡ false → all.unmade ≡ None)
+      → IsFirstReason foreign book origin (outcomes_by_worker all) reason → IsReasonOf workers origin count Makes reason
+  reason_of reason true is made first = foreign_reason workers origin count Makes reason (are.found is) first
+  reason_of reason false is made first = reason_against reason (are.each is (made refl)) first.0 first.1
 
-  pub settled_cause : (cause : GatherFault) (result : Result Batch JobsFault) → IfErr result (IsUnsettled all book origin)
-      → result ≡ Err (jobs.Agent (agents.Gather cause)) → IsCauseOf workers origin count Makes cause
-  settled_cause cause (Ok batch) known is = absurd cc
-  settled_cause cause (Err fault) (inl known) is =
-      let same : agents.Gather cause ≡ fault_of_gather known.cause = cc known.fault_is in
-      cause_of cause all.foreign refl known.made (rw (same_cause cause known.cause same) known.first)
-  settled_cause cause (Err fault) (inr known) is =
-      let same : jobs.Agent (agents.Gather cause) ≡ fault_of_unmade known.unmade = cc known.fault_is in
-      absurd (unmade_no_agent known.unmade.job known.unmade.fault (agents.Gather cause) (λ memory. cc) same)
+  pub settled_reason : (reason : GatherFault) (result : Result Batch JobsFault) → IfErr result (IsUnsettled all book origin)
+      → result ≡ Err (jobs.Agent (agents.Gather reason)) → IsReasonOf workers origin count Makes reason
+  settled_reason reason (Ok batch) known is = absurd cc
+  settled_reason reason (Err fault) (inl known) is =
+      let same : agents.Gather reason ≡ fault_of_gather known.reason = cc known.fault_is in
+      reason_of reason all.foreign refl known.made (rw (same_reason reason known.reason same) known.first)
+  settled_reason reason (Err fault) (inr known) is =
+      let same : jobs.Agent (agents.Gather reason) ≡ fault_of_unmade known.unmade = cc known.fault_is in
+      absurd (unmade_no_agent known.unmade.job known.unmade.fault (agents.Gather reason) (λ memory. cc) same)
 
   pub settled_job : (job : ℕ) (fault : JobFault) (result : Result Batch JobsFault) → IfErr result (IsUnsettled all book origin)
-      → result ≡ Err (jobs.Job job fault) → IsFirstUnmade count Makes Fails job fault × (fault ≢ causes.Memory)
+      → result ≡ Err (jobs.Job job fault) → IsFirstUnmade count Makes Fails job fault × (fault ≢ reasons.Memory)
   settled_job job fault (Ok batch) known is = absurd cc
   settled_job job fault (Err told) (inl known) is =
-      let same : jobs.Job job fault ≡ jobs.Agent (fault_of_gather known.cause) = cc known.fault_is in absurd cc
+      let same : jobs.Job job fault ≡ jobs.Agent (fault_of_gather known.reason) = cc known.fault_is in absurd cc
   settled_job job fault (Err told) (inr known) is =
       let told_is : jobs.Job job fault ≡ fault_of_unmade known.unmade = cc known.fault_is in
       let same = job_of_unmade job known.unmade.job fault known.unmade.fault told_is in

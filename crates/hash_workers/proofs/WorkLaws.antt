@@ -21,10 +21,10 @@ use Rattle.hash_workers.specs.declared.job.Job.{Job}
 use Rattle.hash_workers.specs.Jobs.{operation_of, operations_of}
 use Rattle.hash_workers.specs.parts.Taking.{NumbersRise}
 use Rattle.hash_workers.specs.Outcomes.{MayBecome}
-use Rattle.hash_workers.specs.Causes.{IsMadeUnlessMemory}
+use Rattle.hash_workers.specs.Reasons.{IsMadeUnlessMemory}
 use Rattle.hash_workers.specs.parts.Working.{IsWorked, IsEntered, Records, IsDoneAfter, AreDoneInOrder}
 use Rattle.hash_workers.specs.declared.fault.JobFault.{JobFault}
-use Rattle.hash_workers.specs.declared.fault.JobFault.TheVariants as causes
+use Rattle.hash_workers.specs.declared.fault.JobFault.TheVariants as reasons
 use Rattle.hash_workers.specs.declared.work.Turn.{Turn}
 use Rattle.hash_workers.specs.declared.work.Turn.TheVariants.{Next, Last}
 use Rattle.hash_workers.specs.declared.work.Unmade.{Unmade}
@@ -44,7 +44,7 @@ may_become origin before after op (done receipt) entered = entered.runs.0.operat
 may_become origin before after op (refused fault) entered =
     elim (refusal_cases (refusal_of origin (length before.records) op) fault entered.runs.0) [
       | inl memory ↦ inl memory
-      | inr cause ↦ inr (length before.records, cause)
+      | inr reason ↦ inr (length before.records, reason)
     ]
 
 -- A recorded operation has its outcome, and turns the private book.
@@ -130,7 +130,7 @@ module _ (count : ℕ) (Makes : ℕ → BookOp → Type 0) (Fails : ℕ → JobF
     index = right.index;
     stands = at_longer taken job right.index unmade.job right.stands;
     within = right.within;
-    cause = right.cause;
+    reason = right.reason;
   })
 
   -- After a job with an operation, the first unmade job is as before.
@@ -145,22 +145,22 @@ module _ (count : ℕ) (Makes : ℕ → BookOp → Type 0) (Fails : ℕ → JobF
   -- After a job without one, it is the one before, if there was one, else this job's.
   pub unmade_noted : (fault : JobFault) (old new : Option Unmade) → job < count → Fails job fault → IsNoted job fault old new
       → IsUnmadeAfter count Makes Fails job taken now_taken old new
-  unmade_noted fault None new within cause noted = record {
+  unmade_noted fault None new within reason noted = record {
     had = λ _. inr (rw noted (le_refl job));
     before = λ earlier had. elim had [ inl made ↦ inl made | inr never ↦ absurd never ];
-    right = λ _. rw noted (record { index = length taken; stands = rw takes (at_last taken job); within = within; cause = cause });
+    right = λ _. rw noted (record { index = length taken; stands = rw takes (at_last taken job); within = within; reason = reason });
   }
-  unmade_noted fault (Some unmade) new within cause noted = record {
+  unmade_noted fault (Some unmade) new within reason noted = record {
     had = λ before. inr (rw noted before);
     before = λ earlier had. rw noted had;
     right = λ right. rw noted (taken_unmade (Some unmade) right);
   }
 
--- A worker that goes on after a cause of memory alone turns as it should after a job without an operation.
+-- A worker that goes on after a reason of memory alone turns as it should after a job without an operation.
 pub turn_after : (Makes : ℕ → BookOp → Type 0) (Fails : ℕ → JobFault → Type 0) (job : ℕ) (fault : JobFault) (turn : Turn)
-    → Fails job fault → (turn ≡ Next → fault ≡ causes.Memory) → (turn ≡ Last → fault ≢ causes.Memory) → IsTurnAfter Makes Fails job turn
-turn_after Makes Fails job fault Next cause next last = inr (rw (next refl) at cause)
-turn_after Makes Fails job fault Last cause next last = record { fault = fault; cause = cause; other = last refl }
+    → Fails job fault → (turn ≡ Next → fault ≡ reasons.Memory) → (turn ≡ Last → fault ≢ reasons.Memory) → IsTurnAfter Makes Fails job turn
+turn_after Makes Fails job fault Next reason next last = inr (rw (next refl) at reason)
+turn_after Makes Fails job fault Last reason next last = record { fault = fault; reason = reason; other = last refl }
 
 -- After one more job whose operation was made unless memory ran out, all are such.
 pub made_more : (Makes : ℕ → BookOp → Type 0) (Fails : ℕ → JobFault → Type 0) (taken now_taken : List ℕ) (job : ℕ)

@@ -19,7 +19,7 @@ pub record IsReceiptOfJob (Makes : ℕ → BookOp → Type 0) (job : ℕ) (recei
   pub has : Makes job op
   pub operation : receipt.operation ≡ op
 
--- After `count` records, this is the first cause against an operation of the job.
+-- After `count` records, this is the first reason against an operation of the job.
 pub record IsRefusalOfJob (origin : Origin) (Makes : ℕ → BookOp → Type 0) (count job : ℕ) (fault : BookFault) : Type 0 where
   pub op : BookOp
   pub has : Makes job op
@@ -52,10 +52,10 @@ pub record IsBatchOf (origin : Origin) (count : ℕ) (Makes : ℕ → BookOp →
   pub rise : (worker first second : ℕ) (earlier later : BookReceipt) → first < second
       → slice_get by first ≡ Some worker → slice_get by second ≡ Some worker
       → IsDone outcomes first earlier → IsDone outcomes second later → earlier.place < later.place
-  -- Each refusal other than `Memory` is the first cause against an operation of the job at the book's end.
+  -- Each refusal other than `Memory` is the first reason against an operation of the job at the book's end.
   pub refusals : (job : ℕ) (fault : BookFault) → slice_get outcomes job ≡ Some (refused fault) → fault ≢ Memory
       → IsRefusalOfJob origin Makes (length book.records) job fault
 
--- The same of jobs that become these operations.
+-- What became of jobs that become these operations.
 abbrev pub IsBatch : Origin → List BookOp → ℕ → BookState → List BookOutcome → List ℕ → Type 0
 IsBatch origin ops workers book outcomes by = IsBatchOf origin (length ops) (IsAt ops) workers book outcomes by

@@ -41,7 +41,7 @@ abbrev pub jobs_fault_of_book : BookFault → JobsFault
 jobs_fault_of_book fault = Agent (fault_of_book fault)
 
 abbrev pub jobs_fault_of_gather : GatherFault → JobsFault
-jobs_fault_of_gather cause = Agent (fault_of_gather cause)
+jobs_fault_of_gather reason = Agent (fault_of_gather reason)
 
 -- When each fault is possible, for this number of workers and this origin.
 abbrev pub IsJobsFaultOf : ℕ → Origin → JobsFault → Type 0

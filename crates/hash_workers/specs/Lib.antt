@@ -2,6 +2,6 @@ pub mod Jobs
 pub mod Faults
 pub mod Batches
 pub mod Claims
-pub mod Causes
+pub mod Reasons
 pub mod Outcomes
 pub mod parts

@@ -17,7 +17,7 @@ IsAt ops job op = slice_get ops job ≡ Some op
 -- they are known only of a book whose history is known.
 
 -- What becomes of an operation, whatever the book had before: it is done, with a receipt of its own; or refused because memory
--- ran out, or for the first cause that holds after some number of records.
+-- ran out, or for the first reason that holds after some number of records.
 abbrev pub MayBecome : Origin → BookOp → BookOutcome → Type 0
 MayBecome origin op (done receipt) = receipt.operation ≡ op
 MayBecome origin op (refused fault) = (fault ≡ Memory) ⊎ ((count : ℕ) × (refusal_of origin count op ≡ Some fault))

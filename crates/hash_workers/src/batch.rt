@@ -13,7 +13,7 @@ ghost use Rattle.hash_workers.specs.declared.fault.JobFault.TheVariants.{Memory}
 ghost use Rattle.hash_workers.specs.Faults.{IsAgentFaultOf, IsJobsFaultOf, IsNumberOfWorkers, MayBegin};
 ghost use Rattle.hash_workers.specs.parts.Faults.{fault_of_unmade};
 ghost use Rattle.hash_workers.specs.parts.Settling.{IsAllWork, IsUnsettled};
-ghost use Rattle.hash_workers.specs.Causes.{AllMadeUnlessMemory, IsCauseAmong, IsCauseOf, IsFirstUnmade};
+ghost use Rattle.hash_workers.specs.Reasons.{AllMadeUnlessMemory, IsReasonAmong, IsReasonOf, IsFirstUnmade};
 ghost use Rattle.hash_workers.specs.Batches.{IsBatch, IsBatchOf};
 
 use crate::claims::Claims;
@@ -66,16 +66,16 @@ pub fn measure_files<R: Threads + Wait + Sync, G: Gate + Sync>(
         batch.book (map book_outcome_of batch.outcomes.items) batch.by.items) }
     // Its book is one: the records are a legal history.
     ensures is_book { IfOk result (λ batch. IsBook batch.book) }
-    // Workers start only if their number is right and a book may be opened, and each fault has its cause.
+    // Workers start only if their number is right and a book may be opened, and each fault has its reason.
     ensures fault { MatchResult result (λ _. MayBegin workers origin) (IsAgentFaultOf workers origin) }
     // `Workers` exactly where the number of workers is not 1 to 8.
     ensures workers { (result ≡ Err AgentFault.Workers) ↔ (IsNumberOfWorkers workers → ⊥) }
     // If the number is right and `open_refusal_of` is `Some fault`, the result is `Err(Book(fault))`.
     ensures book { (fault : BookFault) → IsNumberOfWorkers workers → open_refusal_of origin ≡ Some fault
         → result ≡ Err (AgentFault.Book fault) }
-    // `Gather` names the first cause that holds for some book and some outcomes of distinct jobs, one group per worker.
-    ensures gather { (cause : GatherFault) → result ≡ Err (AgentFault.Gather cause)
-        → IsCauseAmong workers origin (operations_of origin.alg jobs.now) cause }
+    // `Gather` names the first reason that holds for some book and some outcomes of distinct jobs, one group per worker.
+    ensures gather { (reason : GatherFault) → result ≡ Err (AgentFault.Gather reason)
+        → IsReasonAmong workers origin (operations_of origin.alg jobs.now) reason }
 {
     match record_jobs(rt, alloc, origin, &Listed { jobs }, workers, gate) {
         Ok(batch) => Ok(batch),
@@ -86,13 +86,13 @@ pub fn measure_files<R: Threads + Wait + Sync, G: Gate + Sync>(
 
 /// As [`measure_files`], for jobs of any kind. Their operations are made on the workers' threads.
 ///
-/// If an operation cannot be made for a cause other than memory, the worker draws all jobs that are left, and there is no batch.
+/// If an operation cannot be made for a reason other than memory, the worker draws all jobs that are left, and there is no batch.
 /// The fault is then that of the first such job in the order of the jobs, whatever the schedule: the operations of all jobs
 /// before it were made. If only memory ran out for operations, there may be a batch, in which their jobs' outcome is
 /// `Refused(Memory)`.
 ///
 /// Fails, in this order, with `Workers`; `Book`; `Memory` for the lists; `Gather` if a worker found a book with another origin;
-/// `Job`, or `Memory` if memory ran out for the operation of an earlier job; and `Gather` for any other cause (or `Memory` if
+/// `Job`, or `Memory` if memory ran out for the operation of an earlier job; and `Gather` for any other reason (or `Memory` if
 /// that check runs out of memory). In all but the first two cases the book is dropped.
 pub fn record_jobs<R: Threads + Wait + Sync, J: Jobs + Sync, G: Gate + Sync>(
     rt: &R,
@@ -110,19 +110,19 @@ pub fn record_jobs<R: Threads + Wait + Sync, J: Jobs + Sync, G: Gate + Sync>(
     ensures is_book { IfOk result (λ batch. IsBook batch.book) }
     // There is a batch only if each job's operation was made, unless memory ran out for it.
     ensures made { IfOk result (λ _. AllMadeUnlessMemory (J.total jobs.now) (J.makes jobs.now origin.alg) (J.fails jobs.now)) }
-    // Workers start only if their number is right and a book may be opened, and each fault has its cause.
+    // Workers start only if their number is right and a book may be opened, and each fault has its reason.
     ensures fault { MatchResult result (λ _. MayBegin workers origin) (IsJobsFaultOf workers origin) }
     // `Workers` exactly where the number of workers is not 1 to 8.
     ensures workers { (result ≡ Err (JobsFault.Agent AgentFault.Workers)) ↔ (IsNumberOfWorkers workers → ⊥) }
     // If the number is right and `open_refusal_of` is `Some fault`, the result is `Err(Agent(Book(fault)))`.
     ensures book { (fault : BookFault) → IsNumberOfWorkers workers → open_refusal_of origin ≡ Some fault
         → result ≡ Err (JobsFault.Agent (AgentFault.Book fault)) }
-    // `Job` names the first job whose operation could not be made, and the cause, which is never memory.
+    // `Job` names the first job whose operation could not be made, and the reason, which is never memory.
     ensures job { (job : ℕ) (fault : JobFault) → result ≡ Err (JobsFault.Job job fault)
         → IsFirstUnmade (J.total jobs.now) (J.makes jobs.now origin.alg) (J.fails jobs.now) job fault × (fault ≢ Memory) }
-    // `Gather` names the first cause that holds for some book and some outcomes of distinct jobs, one group per worker.
-    ensures gather { (cause : GatherFault) → result ≡ Err (JobsFault.Agent (AgentFault.Gather cause))
-        → IsCauseOf workers origin (J.total jobs.now) (J.makes jobs.now origin.alg) cause }
+    // `Gather` names the first reason that holds for some book and some outcomes of distinct jobs, one group per worker.
+    ensures gather { (reason : GatherFault) → result ≡ Err (JobsFault.Agent (AgentFault.Gather reason))
+        → IsReasonOf workers origin (J.total jobs.now) (J.makes jobs.now origin.alg) reason }
 {
     if workers == 0 || workers > MOST_WORKERS {
         return Err(JobsFault::Agent(AgentFault::Workers));
@@ -154,7 +154,7 @@ fn all_taken<R: Threads + Wait + Sync, J: Jobs + Sync, G: Gate + Sync>(
 }
 
 // Checks what all workers did against the book, and puts their outcomes in the order of the jobs. The lists for that are passed
-// in, so no cause comes before their memory. `_jobs` is for the contract only.
+// in, so no reason comes before their memory. `_jobs` is for the contract only.
 fn settle<J: Jobs>(
     alloc: Global,
     book: Book,
@@ -169,7 +169,7 @@ fn settle<J: Jobs>(
         batch.book (map book_outcome_of batch.outcomes.items) batch.by.items) }
     ensures is_book { IfOk result (λ batch. IsBook batch.book) }
     ensures made { IfOk result (λ _. AllMadeUnlessMemory (J.total _jobs.now) (J.makes _jobs.now origin.now.alg) (J.fails _jobs.now)) }
-    // The fault is the first cause that holds for this book and the workers' outcomes, or that of the first unmade job.
+    // The fault is the first reason that holds for this book and the workers' outcomes, or that of the first unmade job.
     ensures fault { IfErr result (IsUnsettled all book origin.now) }
 {
     if all.foreign {

@@ -7,7 +7,7 @@ use measure_book::{BookFault, GatherFault};
 use std::alloc::AllocError;
 use thiserror::Error;
 
-/// Why a list of jobs has no batch. Causes are checked in the order `Workers`, `Book`, `Memory`, `Gather`, as
+/// Why a list of jobs has no batch. Reasons are checked in the order `Workers`, `Book`, `Memory`, `Gather`, as
 /// [`measure_files`](crate::measure_files) says.
 #[derive(Clone, Copy, Debug, PartialEq, Eq, Error)]
 pub enum AgentFault {

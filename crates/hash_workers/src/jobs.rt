@@ -23,7 +23,7 @@ pub trait Jobs {
     // known to contracts, such as a file's content.
     ghost makes: { Self → Alg → ℕ → BookOp → Type 0 };
 
-    // The operation of the job with this number cannot be made, for this cause.
+    // The operation of the job with this number cannot be made, for this reason.
     ghost fails: { Self → ℕ → JobFault → Type 0 };
 
     /// The number of jobs.

@@ -31,7 +31,7 @@ enum End {
     OutOfMemory,
     /// The book has another origin.
     ForeignBook,
-    /// A job's operation could not be made, for a cause other than memory.
+    /// A job's operation could not be made, for a reason other than memory.
     NoOperation,
 }
 
@@ -82,7 +82,7 @@ pub(crate) struct Work {
     end: End,
 }
 
-/// Draws jobs and takes each, until none is left or the worker has to stop. If a job's operation cannot be made for a cause other
+/// Draws jobs and takes each, until none is left or the worker has to stop. If a job's operation cannot be made for a reason other
 /// than memory, draws all jobs that are left, so that no worker takes another.
 pub(crate) fn take_jobs<B: Recorder, J: Jobs, G: Gate>(
     alloc: Global,
@@ -102,7 +102,7 @@ pub(crate) fn take_jobs<B: Recorder, J: Jobs, G: Gate>(
     ensures had { AreHad (J.makes jobs.now origin.now.alg) result.taken.items result.unmade }
     ensures unmade { IfSome result.unmade (IsTakenUnmade (J.total jobs.now) (J.fails jobs.now) result.taken.items) }
     ensures end { IsEnd origin.now result.seat result.taken.items result.unmade result.end }
-    // It stops for a job exactly if the operation of that could not be made for a cause other than memory.
+    // It stops for a job exactly if the operation of that could not be made for a reason other than memory.
     ensures made { result.end ≢ NoOperation → AreMadeUnlessMemory (J.makes jobs.now origin.now.alg) (J.fails jobs.now) result.taken.items }
     ensures stopped { result.end ≡ NoOperation → (job : ℕ) × IsStopped (J.fails jobs.now) job }
     ensures told { TellsAll origin.now (J.makes jobs.now origin.now.alg) (B.told recorder.old) (B.told recorder.new)
@@ -134,7 +134,7 @@ pub(crate) fn take_jobs<B: Recorder, J: Jobs, G: Gate>(
 
 impl Work {
     // Takes one job: makes its operation and records it. If the operation cannot be made, notes that, and gives the job the
-    // outcome `Refused(Memory)`, whatever the cause.
+    // outcome `Refused(Memory)`, whatever the reason.
     fn take<B: Recorder, J: Jobs, G: Gate>(
         &mut self,
         alloc: Global,

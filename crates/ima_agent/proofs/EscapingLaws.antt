@@ -8,9 +8,9 @@ use Rattle.hex.specs.Hex.{encode_with, lower_digits}
 use Rattle.ima_agent.specs.Escaping.{escaped_byte, is_printable, is_shown}
 
 -- Texts that pass, joined.
-pub all_joined : (test : ℕ → Bool) (front back : List ℕ) → list_all test front ≡ true → list_all test back ≡ true
-    → list_all test (front ++ back) ≡ true
-all_joined test front back fronts backs = rw (list_all-append test front back, fronts, backs) refl
+pub all_joined : (test : ℕ → Bool) (prefix back : List ℕ) → list_all test prefix ≡ true → list_all test back ≡ true
+    → list_all test (prefix ++ back) ≡ true
+all_joined test prefix back prefixes backs = rw (list_all-append test prefix back, prefixes, backs) refl
 
 -- What is printable is shown.
 pub printable_is_shown : (text : List ℕ) → list_all is_printable text ≡ true → list_all is_shown text ≡ true

@@ -1,19 +1,23 @@
 -- What was sent is what is asked for, and is answered with its status.
 use Rattle.std.proofs.Common.{◌≡◌, ℕ, List, [], ◌++◌, Result, Ok, Err, refl, ap, ◌∙◌, append_assoc, append-nil, inl, inr}
-use Rattle.std.specs.Prelude.{IfErr, IfOk, OnErr}
+use Rattle.std.specs.Prelude.{IfErr, IfOk, OnErr, Some, String, string_bytes}
+use Rattle.std.specs.Global.{Global}
 use Rattle.byte_streams.specs.declared.streams.Failed.{Failed}
 use Rattle.byte_streams.specs.Streams.{Sends, SinkState}
 use Rattle.byte_streams.proofs.SinkLaws.{Sends-none, Sends-then}
 use Rattle.agent_inputs.specs.declared.fault.RunFault.{RunFault}
-use Rattle.agent_inputs.specs.Loading.{Inputs, Saved}
+use Rattle.agent_inputs.specs.Loading.{Holds, Inputs, IsInputFault, Saved}
+use Rattle.command_line.specs.declared.plan.DataShown.{DataShown}
 use Rattle.command_line.specs.declared.plan.Form.{Form}
+use Rattle.command_line.specs.declared.plan.Form.TheVariants.{Json, Text}
 use Rattle.command_line.specs.declared.plan.Task.{Task}
+use Rattle.command_line.specs.declared.plan.Task.TheVariants as tasks
 use Rattle.rendering.specs.declared.output.Output.{Output}
-use Rattle.ima_agent.specs.declared.streaming.StreamFault.{StreamFault}
-use Rattle.ima_agent.specs.declared.streaming.StreamFault.TheVariants as streams
-use Rattle.ima_agent.specs.JsonFaults.{IsFailure}
-use Rattle.ima_agent.specs.Program.{Answers, IsFaultOf, IsOutcome, IsOutputFor}
-use Rattle.ima_agent.specs.Streaming.{SendsOutput, SendsText, Streams}
+use Rattle.ima_agent.specs.declared.streams.StreamFault.{StreamFault}
+use Rattle.ima_agent.specs.declared.streams.StreamFault.TheVariants as streams
+use Rattle.ima_agent.specs.FaultTexts.{IsFailure}
+use Rattle.ima_agent.specs.Program.{Answers, IsFaultOf, IsOutcome, IsOutputFor, SendsOutput, SendsText, Streams, status_after}
+use Rattle.ima_agent.specs.Showing.{ShowsEntriesOf, ShowsEventsIn, ShowsPlainEventsIn}
 
 -- A sink that failed in a text did not take more.
 sent_less : {A B E F : Type 0} (old new : SinkState) (fault : E) (other : F) (text more : List ℕ)
@@ -21,9 +25,9 @@ sent_less : {A B E F : Type 0} (old new : SinkState) (fault : E) (other : F) (te
 sent_less old new fault other text more sends = record {
   ok = tt;
   part = record {
-    front = sends.part.front;
+    prefix = sends.part.prefix;
     rest = sends.part.rest ++ more;
-    whole = ap (λ (t : List ℕ). t ++ more) sends.part.whole ∙ append_assoc sends.part.front sends.part.rest more;
+    whole = ap (λ (t : List ℕ). t ++ more) sends.part.whole ∙ append_assoc sends.part.prefix sends.part.rest more;
     taken = sends.part.taken;
   };
   telling = sends.telling;
@@ -37,28 +41,81 @@ pub kept_so : {A E P : Type 0} (result : Result A E) → P → OnErr result P
 kept_so (Ok value) holds = tt
 kept_so (Err fault) holds = holds
 
-pub text_sent : {form : Form} (IsAsked : List ℕ → ℕ → Type 0) (text : List ℕ) (status : ℕ) (old new : SinkState) (result : Result ℕ StreamFault)
-    → IsAsked text status → SendsText text status old new result → Streams form IsAsked old new result
-text_sent IsAsked text status old new (Ok answer) asked sent = record { text = text; sends = sent.0; goes_on = rw sent.1 asked }
-text_sent IsAsked text status old new (Err (streams.Sink failed)) asked sent =
-    record { text = text; sends = sent; goes_on = ([], status, rw (append-nil text) asked) }
-text_sent IsAsked text status old new (Err (streams.Run fault)) asked sent = absurd sent
+pub text_sent : {form : Form} (IsWanted : List ℕ → ℕ → Type 0) (text : List ℕ) (status : ℕ) (old new : SinkState) (result : Result ℕ StreamFault)
+    → IsWanted text status → SendsText text status old new result → Streams form IsWanted old new result
+text_sent IsWanted text status old new (Ok answer) request sent = record { text = text; sends = sent.0; goes_on = rw sent.1 request }
+text_sent IsWanted text status old new (Err (streams.Sink failed)) request sent =
+    record { text = text; sends = sent; goes_on = ([], status, rw (append-nil text) request) }
+text_sent IsWanted text status old new (Err (streams.Run fault)) request sent = absurd sent
 
 module _ (inputs : Inputs) (task : Task) (form : Form) (old new : Saved) where
+  pub none_sent : (sink : SinkState) (fault : RunFault) → IsFaultOf inputs task form fault → new ≡ old
+      → Streams form (IsOutcome inputs task form old new) sink sink (Err (streams.Run fault))
+  none_sent sink fault is kept = record {
+    text = [];
+    sends = Sends-none sink tt;
+    goes_on = λ last status failure. inr (inl (fault, is, failure, kept));
+  }
+
   pub outcome_sent : (output : Result Output RunFault) (before after : SinkState) (result : Result ℕ StreamFault)
       → IfOk output (λ o. IsOutputFor inputs task form old new o.text.items o.status) → OnErr output (new ≡ old)
       → IfErr output (IsFaultOf inputs task form) → SendsOutput output before after result
       → Streams form (IsOutcome inputs task form old new) before after result
   outcome_sent (Ok output) before after result shown kept fault sent =
       text_sent (IsOutcome inputs task form old new) output.text.items output.status before after result (inl shown) sent
-  outcome_sent (Err fault) before after result shown kept is sent =
-      rw (sent.0, sent.1) (record {
-        text = [];
-        sends = Sends-none before tt;
-        goes_on = λ last status failure. inr (inl (fault, is, failure, kept));
-      })
+  outcome_sent (Err fault) before after result shown kept is sent = rw (sent.0, sent.1) (none_sent before fault is kept)
+
+-- ---- outputs that were sent while their input was read
+
+pub not_loaded : (inputs : Inputs) (log : String Global) (requested : DataShown) (form : Form) (fault : RunFault)
+    → IsInputFault inputs (Some (string_bytes log)) fault → IsFaultOf inputs (tasks.Events log requested) form fault
+not_loaded inputs log requested Text fault is = inl is
+not_loaded inputs log requested Json fault is = is
+
+module _ (inputs : Inputs) (log : String Global) (requested : DataShown) (old new : Saved) (bytes : List ℕ)
+    (held : Holds inputs (Some (string_bytes log)) bytes) (kept : new ≡ old) where
+  pub plain_outcome : (text : List ℕ) (status : ℕ) → ShowsPlainEventsIn bytes requested text status
+      → IsOutcome inputs (tasks.Events log requested) Text old new text status
+  plain_outcome text status (inl (shown, done)) = inl (((bytes, held, shown), done), kept)
+  plain_outcome text status (inr (fault, is, failure)) = inr (inl (fault, inr (bytes, held, is), failure, kept))
+
+  pub events_outcome : (text : List ℕ) (status : ℕ) → ShowsEventsIn bytes text status
+      → IsOutcome inputs (tasks.Events log requested) Json old new text status
+  events_outcome text status (inl all) = inl ((bytes, held, inl all), kept)
+  events_outcome text status (inr (begun, fault, line, inl fails, reported, is)) =
+      inl ((bytes, held, inr (begun, fault, line, fails, reported, is)), kept)
+  events_outcome text status (inr (begun, fault, line, inr (inl out), reported, is)) =
+      inr (inr ((bytes, held, (begun, fault, line, out, reported, is)), kept))
+  events_outcome text status (inr (begun, fault, line, inr (inr (memory, none)), reported, is)) =
+      inr (inl (fault, inr (inr memory), inl (rw (is, none) reported), kept))
+
+pub entries_outcome : (inputs : Inputs) (list : String Global) (old new : Saved) → new ≡ old → (text : List ℕ) (status : ℕ)
+    → ShowsEntriesOf inputs (string_bytes list) text status → IsOutcome inputs (tasks.Entries list) Json old new text status
+entries_outcome inputs list old new kept text status (inl ((bytes, held, all), done)) = inl ((bytes, held, inl (all, done)), kept)
+entries_outcome inputs list old new kept text status (inr (begun, fault, line, inl (bytes, held, fails), reported, is)) =
+    inl ((bytes, held, inr (begun, fault, line, fails, reported, is)), kept)
+entries_outcome inputs list old new kept text status (inr (begun, fault, line, inr breaks, reported, is)) =
+    inr (inr ((begun, fault, line, breaks, reported, is), kept))
 
 -- ---- the answer to what was sent
+
+-- What answers one thing answers another.
+pub answers_so : (P Q : List ℕ → ℕ → Type 0) (answer : ℕ) (old new : SinkState) → ((text : List ℕ) (status : ℕ) → P text status → Q text status)
+    → Answers P answer old new → Answers Q answer old new
+answers_so P Q answer old new so said = record {
+  text = said.text;
+  status = said.status;
+  sent = said.sent;
+  output = so said.text said.status said.output;
+  sends = said.sends;
+  answer_is = said.answer_is;
+}
+
+-- A line was sent.
+pub line_sent : (P : List ℕ → ℕ → Type 0) (text : List ℕ) (status answer : ℕ) (sent : Result (Unit {0}) Failed) (old new : SinkState)
+    → P text status → Sends old new sent text → answer ≡ status_after sent status → Answers P answer old new
+line_sent P text status answer sent old new is sends answer_is =
+    record { text = text; status = status; sent = sent; output = is; sends = sends; answer_is = answer_is }
 
 pub answers_done : {form : Form} (P : List ℕ → ℕ → Type 0) (old new : SinkState) (status : ℕ) → Streams form P old new (Ok status)
     → Answers P status old new
@@ -84,11 +141,11 @@ answers_cut P old new failed sent = record {
 
 pub answers_failed : {form : Form} (P : List ℕ → ℕ → Type 0) (old mid new : SinkState) (fault : RunFault) (answer : ℕ)
     → Streams form P old mid (Err (streams.Run fault)) → Answers (IsFailure form fault) answer mid new → Answers P answer old new
-answers_failed P old mid new fault answer sent told = record {
-  text = sent.text ++ told.text;
-  status = told.status;
-  sent = told.sent;
-  output = sent.goes_on told.text told.status told.output;
-  sends = Sends-then old mid new tt told.sent sent.text told.text sent.sends told.sends;
-  answer_is = told.answer_is;
+answers_failed P old mid new fault answer sent reported = record {
+  text = sent.text ++ reported.text;
+  status = reported.status;
+  sent = reported.sent;
+  output = sent.goes_on reported.text reported.status reported.output;
+  sends = Sends-then old mid new tt reported.sent sent.text reported.text sent.sends reported.sends;
+  answer_is = reported.answer_is;
 }

@@ -1,6 +1,6 @@
 -- The lines of a list whose entries are read in place.
 use Rattle.std.proofs.Common.{◌≡◌, ℕ, Bool, true, false, eqb, ◌+◌, ◌<◌, ◌≤◌, List, [], ◌∷◌, ◌++◌, length, Ok, Err, refl, sym, ap, subst, ◌∙◌, arith, inl, inr}
-use Rattle.std.specs.Prelude.{flat_map}
+use Rattle.std.specs.Prelude.{◌⊎◌, IsErr, flat_map}
 use Rattle.hex.specs.Hex.{decode_of}
 use Rattle.std.proofs.lemmas.Bool.{eqb-true}
 use Rattle.std.proofs.lemmas.List.{length-append, append-nil}
@@ -11,12 +11,12 @@ use Rattle.ima_list.specs.Lines.{line_of}
 use Rattle.ima_list.specs.Spelling.{BeginsWith, IsReading}
 use Rattle.agent_inputs.specs.Faults.{fault_of_list}
 use Rattle.agent_inputs.specs.declared.fault.RunFault.{RunFault}
-use Rattle.agent_inputs.specs.Loading.{untold}
-use Rattle.judging.specs.Asking.{LogRegistersOf}
+use Rattle.agent_inputs.specs.declared.fault.RunFault.TheVariants.{Memory, NotHex}
+use Rattle.agent_inputs.specs.Loading.{unknown}
+use Rattle.judging.specs.Requests.{LogRegistersOf}
 use Rattle.judging.specs.Inputs.{BytesOf}
-use Rattle.rendering.specs.Outputs.{IsRefusalOn}
-use Rattle.ima_agent.specs.Hexadecimal.{without_white_space}
-use Rattle.ima_agent.specs.Showing.{IsNoListFor, IsRefusedFor, ShowsList}
+use Rattle.rendering.specs.Rendering.{IsRefusalOn}
+use Rattle.ima_agent.specs.Showing.{AreAllEntries, IsNoListFor, IsRefusedFor, without_white_space}
 
 -- The text has the lines of the entries so far, and `rest` is left of the list.
 pub record HasShown (list text rest : List ℕ) (number : ℕ) : Type 0 where
@@ -45,7 +45,7 @@ shown_more list text rest more after number entry shown read line shorter = reco
 }
 
 pub shows_all : (list text rest : List ℕ) (number : ℕ) → HasShown list text rest number → rest ≡ []
-    → ((bytes : List ℕ) (entries : List ListEntry) → BeginsWith bytes entries [] → IsReading bytes (Ok entries)) → ShowsList list text
+    → ((bytes : List ℕ) (entries : List ListEntry) → BeginsWith bytes entries [] → IsReading bytes (Ok entries)) → AreAllEntries (flat_map line_of) list text
 shows_all list text rest number shown none law = record {
   entries = shown.entries;
   reading = law list shown.entries (subst (BeginsWith list shown.entries) none shown.begins);
@@ -56,7 +56,7 @@ pub shows_none : (list text rest : List ℕ) (number : ℕ) (fault : ListFault) 
     → ((list : List ℕ) (before : List ListEntry) → BeginsWith list before rest → length before ≡ number → 0 < length rest
     → IsReading list (Err fault)) → IsNoListFor list (fault_of_list fault)
 shows_none list text rest number fault shown some read =
-    inl (record { first = fault; reading = read list shown.entries shown.begins (sym shown.count) some; says = refl })
+    inl (fault, read list shown.entries shown.begins (sym shown.count) some, refl)
 
 -- ---- what is left
 
@@ -73,5 +73,10 @@ some_left is_empty (byte ∷ rest) tells empty = omega arith
 
 -- If there is no answer to what is asked of bytes, there is none of the text that spells them.
 pub refused_text : (text bytes : List ℕ) (fault : RunFault) → decode_of (without_white_space text) ≡ Ok bytes
-    → IsRefusalOn untold (LogRegistersOf (BytesOf bytes)) fault → IsRefusedFor text fault
-refused_text text bytes fault decoded refusal = inr (inl (record { bytes = bytes; decoded = decoded; refusal = refusal }))
+    → IsRefusalOn unknown (LogRegistersOf (BytesOf bytes)) fault → IsRefusedFor text fault
+refused_text text bytes fault decoded refusal = inr (inl (bytes, decoded, refusal))
+
+pub not_decoded : (text : List ℕ) (fault : RunFault) → ((fault ≡ NotHex) × IsErr (decode_of (without_white_space text))) ⊎ (fault ≡ Memory)
+    → IsRefusedFor text fault
+not_decoded text fault (inl not_hex) = inl not_hex
+not_decoded text fault (inr memory) = inr (inr memory)

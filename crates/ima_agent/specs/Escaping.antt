@@ -1,4 +1,4 @@
--- A text as a terminal shows it, and obeys nothing of it. All of this is this project's choice.
+-- A text as a terminal shows it, and obeys nothing of it.
 use Rattle.std.specs.Prelude.{ℕ, Bool, List, [], ◌∷◌, ◌++◌, ◌&&◌, ◌||◌, ◌==◌, nat_le, if◌then◌else◌, codes, flat_map}
 use Rattle.hex.specs.Hex.{encode_lower}
 
@@ -11,8 +11,8 @@ abbrev pub escaped_byte : ℕ → List ℕ
 escaped_byte byte = if is_printable byte then byte ∷ [] else codes "\\x" ++ encode_lower (byte ∷ [])
 
 -- A text as it is shown within a line.
-abbrev pub escaped : List ℕ → List ℕ
-escaped text = flat_map escaped_byte text
+abbrev pub escape : List ℕ → List ℕ
+escape text = flat_map escaped_byte text
 
 -- A byte of such a line, or its line feed.
 abbrev pub is_shown : ℕ → Bool

@@ -1,102 +1,99 @@
--- The line of a fault, and the exit status after it. All of this is this project's choice.
-use Rattle.std.specs.Prelude.{ℕ, List, [], ◌++◌, codes, decimal, Option, Some, None, string_bytes}
-use Rattle.boot_log.specs.declared.fault.LogFault.{LogFault}
-use Rattle.boot_log.specs.declared.fault.LogFault.TheVariants as logs
-use Rattle.boot_log.specs.Faults.{log_fault_number, log_fault_event}
-use Rattle.ima_list.specs.declared.fault.ListFault.{ListFault}
-use Rattle.ima_list.specs.declared.fault.ListFault.TheVariants as lists
-use Rattle.ima_list.specs.ListFaults.{list_fault_number, list_fault_entry, replay_fault_number, replay_fault_entry}
-use Rattle.measure_book.specs.declared.fault.BookFault.{BookFault}
-use Rattle.measure_book.specs.declared.fault.BookFault.TheVariants as books
-use Rattle.measure_book.specs.declared.gathers.GatherFault.{GatherFault}
-use Rattle.measure_book.specs.declared.gathers.GatherFault.TheVariants as gathers
-use Rattle.measure_book.specs.Faults.{fault_number, gather_fault_number}
-use Rattle.boot_verdict.specs.declared.expected.ExpectFault.{ExpectFault}
-use Rattle.boot_verdict.specs.declared.expected.ExpectFault.TheVariants as expects
-use Rattle.boot_verdict.specs.ExpectFaults.{expect_fault_number, expect_fault_line}
+-- The line of a fault, and the exit status after it.
+use Rattle.std.specs.Prelude.{ℕ, List, [], ◌++◌, codes, decimal, Option, Some, None, string_bytes, ◌≡◌, ◌⊎◌}
+use Rattle.agent_inputs.specs.declared.fault.FaultKind.{FaultKind}
+use Rattle.agent_inputs.specs.declared.fault.FaultKind.TheVariants as kinds
 use Rattle.agent_inputs.specs.declared.fault.RunFault.{RunFault}
 use Rattle.agent_inputs.specs.declared.fault.RunFault.TheVariants as runs
-use Rattle.agent_inputs.specs.Faults.{not_resumed_number}
+use Rattle.agent_inputs.specs.Faults.{fault_head}
+use Rattle.json_texts.specs.declared.faults.FaultPlace.{FaultPlace}
+use Rattle.json_texts.specs.declared.faults.FaultPlace.TheVariants.{Event, Entry}
+use Rattle.json_texts.specs.FaultJson.{fault_json}
+use Rattle.json_texts.specs.JsonValues.{line_of}
+use Rattle.command_line.specs.declared.plan.Form.{Form}
+use Rattle.command_line.specs.declared.plan.Form.TheVariants as forms
 
--- ---- lines
+-- How a fault of each kind is said: the words that begin its line, its kind in JSON, and the exit status after it: 2 for refused input, 3 if
+-- memory ran out, outcomes do not account for the book, or a device failed.
+abbrev pub said_of : FaultKind → List ℕ × List ℕ × ℕ
+said_of kinds.Usage = (codes "refused: command line", codes "command_line", 2)
+said_of kinds.NotHex = (codes "refused: not hexadecimal", codes "not_hexadecimal", 2)
+said_of kinds.Log = (codes "refused: log fault ", codes "log", 2)
+said_of kinds.List = (codes "refused: list fault ", codes "list", 2)
+said_of kinds.Replay = (codes "refused: replay fault ", codes "replay", 2)
+said_of kinds.Expect = (codes "refused: expected fault ", codes "expected", 2)
+said_of kinds.Checkpoint = (codes "refused: checkpoint fault ", codes "checkpoint", 2)
+said_of kinds.Book = (codes "refused: book fault ", codes "book", 2)
+said_of kinds.Outcome = (codes "refused: job ", codes "job", 2)
+said_of kinds.TooLong = (codes "refused: too long ", codes "too_long", 2)
+said_of kinds.Read = (codes "failed: read ", codes "read", 3)
+said_of kinds.Write = (codes "failed: write ", codes "write", 3)
+said_of kinds.NotUtf8 = (codes "refused: not UTF-8 ", codes "not_utf8", 2)
+said_of kinds.Gather = (codes "failed: gather fault ", codes "gather", 3)
+said_of kinds.Memory = (codes "failed: memory", codes "memory", 3)
 
--- Words and a number; then, if there is a place, its words and its number.
-abbrev pub numbered_line : List ℕ → ℕ → List ℕ → Option ℕ → List ℕ
-numbered_line words number place-words None = words ++ (decimal number ++ codes "\n")
-numbered_line words number place-words (Some place) = words ++ (decimal number ++ (place-words ++ (decimal place ++ codes "\n")))
+-- The words before the second number of a line, if there is one.
+abbrev pub place_words : FaultKind → Option ℕ → List ℕ
+place_words kind None = []
+place_words kinds.Log (Some event) = codes " at event "
+place_words kinds.Expect (Some line) = codes " at line "
+place_words kinds.Outcome (Some number) = codes " book fault "
+place_words kind (Some entry) = codes " at entry "
 
--- Words and a name.
-abbrev pub named_line : List ℕ → List ℕ → List ℕ
-named_line words name = words ++ (name ++ codes "\n")
+-- The numbers in a line, in their order: of a refused job that of its file comes first.
+abbrev pub numbers_in : FaultKind → Option ℕ → Option ℕ → Option ℕ × Option ℕ
+numbers_in kinds.Outcome number job = (job, number)
+numbers_in kind number place = (number, place)
 
--- Out of memory has one line, wherever it happens.
-abbrev pub memory_line : List ℕ
-memory_line = codes "failed: memory\n"
+-- The name of the file that a fault names, if it names one.
+abbrev pub name_in : RunFault → List ℕ
+name_in (runs.TooLong name) = string_bytes name
+name_in (runs.Read name) = string_bytes name
+name_in (runs.Write name) = string_bytes name
+name_in (runs.NotUtf8 name) = string_bytes name
+name_in fault = []
 
-abbrev pub log_line : LogFault → List ℕ
-log_line logs.Memory = memory_line
-log_line fault = numbered_line (codes "refused: log fault ") (log_fault_number fault) (codes " at event ") (log_fault_event fault)
+abbrev pub digits_of : Option ℕ → List ℕ
+digits_of None = []
+digits_of (Some number) = decimal number
 
-abbrev pub list_line : ListFault → List ℕ
-list_line lists.Memory = memory_line
-list_line fault = numbered_line (codes "refused: list fault ") (list_fault_number fault) (codes " at entry ") (list_fault_entry fault)
-
-abbrev pub expected_line : ExpectFault → List ℕ
-expected_line expects.Memory = memory_line
-expected_line fault =
-    numbered_line (codes "refused: expected fault ") (expect_fault_number fault) (codes " at line ") (expect_fault_line fault)
-
-abbrev pub book_line : BookFault → List ℕ
-book_line books.Memory = memory_line
-book_line fault = numbered_line (codes "refused: book fault ") (fault_number fault) [] None
-
-abbrev pub job_line : ℕ → BookFault → List ℕ
-job_line job books.Memory = memory_line
-job_line job fault = numbered_line (codes "refused: job ") job (codes " book fault ") (Some (fault_number fault))
-
-abbrev pub gather_line : GatherFault → List ℕ
-gather_line gathers.Memory = memory_line
-gather_line fault = numbered_line (codes "failed: gather fault ") (gather_fault_number fault) [] None
+-- The line of a fault of this kind, with this name and these numbers.
+abbrev pub line_with : FaultKind → List ℕ → Option ℕ × Option ℕ → List ℕ
+line_with kind name numbers =
+    (said_of kind).0
+    ++ (name ++ (digits_of numbers.0 ++ (place_words kind numbers.1 ++ (digits_of numbers.1 ++ codes "\n"))))
 
 -- The line that says why the program failed.
 abbrev pub fault_line : RunFault → List ℕ
-fault_line runs.Usage = codes "refused: command line\n"
-fault_line runs.NotHex = codes "refused: not hexadecimal\n"
-fault_line (runs.Log fault) = log_line fault
-fault_line (runs.List fault) = list_line fault
-fault_line (runs.Replay fault) =
-    numbered_line (codes "refused: replay fault ") (replay_fault_number fault) (codes " at entry ") (Some (replay_fault_entry fault))
-fault_line (runs.Expect fault) = expected_line fault
-fault_line (runs.Checkpoint fault) = numbered_line (codes "refused: checkpoint fault ") (not_resumed_number fault) [] None
-fault_line (runs.Book fault) = book_line fault
-fault_line (runs.Outcome job fault) = job_line job fault
-fault_line (runs.TooLong name) = named_line (codes "refused: too long ") (string_bytes name)
-fault_line (runs.Read name) = named_line (codes "failed: read ") (string_bytes name)
-fault_line (runs.Write name) = named_line (codes "failed: write ") (string_bytes name)
-fault_line (runs.NotUtf8 name) = named_line (codes "refused: not UTF-8 ") (string_bytes name)
-fault_line (runs.Gather fault) = gather_line fault
-fault_line runs.Memory = memory_line
+fault_line fault =
+    let head = fault_head fault in line_with head.kind (name_in fault) (numbers_in head.kind head.number head.place)
 
--- The exit status after a fault: 2 for refused input, 3 if memory ran out, outcomes do not account for the book, or a device
--- failed.
+-- The exit status after a fault.
 abbrev pub fault_status : RunFault → ℕ
-fault_status runs.Usage = 2
-fault_status runs.NotHex = 2
-fault_status (runs.Log logs.Memory) = 3
-fault_status (runs.Log fault) = 2
-fault_status (runs.List lists.Memory) = 3
-fault_status (runs.List fault) = 2
-fault_status (runs.Replay fault) = 2
-fault_status (runs.Expect expects.Memory) = 3
-fault_status (runs.Expect fault) = 2
-fault_status (runs.Checkpoint fault) = 2
-fault_status (runs.Book books.Memory) = 3
-fault_status (runs.Book fault) = 2
-fault_status (runs.Outcome job books.Memory) = 3
-fault_status (runs.Outcome job fault) = 2
-fault_status (runs.NotUtf8 name) = 2
-fault_status (runs.TooLong name) = 2
-fault_status (runs.Read name) = 3
-fault_status (runs.Write name) = 3
-fault_status (runs.Gather fault) = 3
-fault_status runs.Memory = 3
+fault_status fault = (said_of (fault_head fault).kind).2
+
+-- ---- faults as JSON
+
+-- The event or the entry that a fault of this kind names by this place. The line of expected registers stands in the message alone.
+abbrev pub json_place : FaultKind → Option ℕ → Option FaultPlace
+json_place kinds.Log (Some event) = Some (Event event)
+json_place kinds.List (Some entry) = Some (Entry entry)
+json_place kinds.Replay (Some entry) = Some (Entry entry)
+json_place kind place = None
+
+-- The text is the fault as a line of JSON: its kind, in one word; where it has them, its number, and the event or the entry that it names; and
+-- as its message the fault's plain line, without the line feed.
+pub record IsFaultAsJson (fault : RunFault) (text : List ℕ) : Type 0 where
+  pub message : List ℕ
+  pub message_is : message ++ codes "\n" ≡ fault_line fault
+  pub text_is : let head = fault_head fault in
+      text ≡ line_of (fault_json (said_of head.kind).1 head.number (json_place head.kind head.place) message)
+
+-- It is, and this is the status after the fault.
+abbrev pub IsReportedAsJson : RunFault → List ℕ → ℕ → Type 0
+IsReportedAsJson fault text status = IsFaultAsJson fault text × (status ≡ fault_status fault)
+
+-- What is written for a fault in this form, and the status: its plain line; or the line of JSON, or that of `Memory` if memory runs out for
+-- it.
+abbrev pub IsFailure : Form → RunFault → List ℕ → ℕ → Type 0
+IsFailure forms.Text fault text status = (text ≡ fault_line fault) × (status ≡ fault_status fault)
+IsFailure forms.Json fault text status = IsReportedAsJson fault text status ⊎ IsReportedAsJson runs.Memory text status

@@ -1,15 +1,8 @@
-pub mod Hexadecimal
-pub mod FaultTexts
 pub mod Escaping
 pub mod Showing
-pub mod JsonFaults
-pub mod JsonShowing
-pub mod Streaming
-pub mod Version
-pub mod Requests
+pub mod FaultTexts
 pub mod Program
-pub mod parts
 pub use Rattle.agent_inputs.specs.Loading
-pub use Rattle.agent_inputs.specs.Hashing
+pub use Rattle.agent_inputs.specs.Loading
 pub use Rattle.agent_inputs.specs.Faults
 pub use Rattle.agent_inputs.specs.System

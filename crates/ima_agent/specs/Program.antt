@@ -1,50 +1,95 @@
--- What the program writes and returns. All of this is this project's choice.
-use Rattle.std.specs.Prelude.{◌≡◌, ℕ, ◌⊎◌, List, string_bytes, None, Some, Result, Ok, Err, String}
+-- What the program is asked for, sends and returns.
+use Rattle.std.specs.Prelude.{◌≡◌, ℕ, ◌⊎◌, List, flat_map, string_bytes, ◌++◌, Option, None, Some, option_map, Result, Ok, Err, String}
 use Rattle.std.specs.Global.{Global, Vec}
 use Rattle.byte_streams.specs.declared.streams.Failed.{Failed}
 use Rattle.byte_streams.specs.Streams.{SinkState, Sends}
+use Rattle.ima_list.specs.Lines.{line_of}
+use Rattle.boot_verdict.specs.EventTexts.{events_text}
 use Rattle.agent_inputs.specs.declared.fault.RunFault.{RunFault}
 use Rattle.agent_inputs.specs.declared.fault.RunFault.TheVariants as runs
-use Rattle.agent_inputs.specs.Faults.{IsWordsFault}
+use Rattle.agent_inputs.specs.Faults.{IsArgumentsFault}
 use Rattle.agent_inputs.specs.Loading.{Inputs, IsInputFault, OfInput, Saved}
+use Rattle.command_line.specs.declared.plan.Scope.TheVariants.{Whole}
 use Rattle.command_line.specs.declared.plan.Form.{Form}
 use Rattle.command_line.specs.declared.plan.Form.TheVariants as forms
-use Rattle.command_line.specs.declared.plan.Measurement.{Measurement}
+use Rattle.command_line.specs.declared.plan.Judge.{Judge}
+use Rattle.command_line.specs.declared.plan.Judged.{Judged}
+use Rattle.command_line.specs.declared.plan.Judged.TheVariants as judged
 use Rattle.command_line.specs.declared.plan.Plan.{Plan}
+use Rattle.command_line.specs.declared.plan.Question.{Question}
+use Rattle.command_line.specs.declared.plan.Question.TheVariants as questions
 use Rattle.command_line.specs.declared.plan.Task.{Task}
 use Rattle.command_line.specs.declared.plan.Task.TheVariants as tasks
-use Rattle.command_line.specs.Plans.{IsAskedBy, IsWithinRanges}
-use Rattle.command_line.specs.Tasks.{task_of}
-use Rattle.measuring.specs.declared.recording.Measured.{Measured}
+use Rattle.command_line.specs.Plans.{IsRequestedBy, IsWithinRanges, task_of}
+use Rattle.judging.specs.Requests.{Any, Requested, Compared, Compares, ExpectedOf, Judgement, ListRegistersOf, ListVerdictOf, LogRegistersOf, Nothing, PositionsOf, Requires, These, VerdictOf}
+use Rattle.judging.specs.Inputs.{FileOf, Where}
+use Rattle.measuring.specs.declared.file_book.Measured.{Measured}
 use Rattle.measuring.specs.Measuring.{IsMeasured, IsMeasuringFault}
-use Rattle.rendering.specs.Outputs.{IsOutputFault, ShowsAnswer}
-use Rattle.rendering.specs.Rendering.{printed}
-use Rattle.ima_agent.specs.FaultTexts.{fault_line, fault_status}
-use Rattle.ima_agent.specs.JsonFaults.{IsFailure}
-use Rattle.ima_agent.specs.JsonShowing.{FailsAfterEntries, RunsOutAfterEvents, ShowsEntries, ShowsJsonEvents}
-use Rattle.ima_agent.specs.Requests.{asked_by, save_by}
-use Rattle.ima_agent.specs.Showing.{IsNoListFor, IsNoLogFor, IsRefusedFor, ShowsEvents, ShowsHexadecimal, ShowsList}
-use Rattle.ima_agent.specs.Version.{version_text}
+use Rattle.rendering.specs.declared.output.Output.{Output}
+use Rattle.rendering.specs.Rendering.{IsOutputFault, ShowsAnswer, print_measured}
+use Rattle.ima_agent.specs.declared.streams.StreamFault.{StreamFault}
+use Rattle.ima_agent.specs.declared.streams.StreamFault.TheVariants as streams
+use Rattle.ima_agent.specs.FaultTexts.{fault_line, fault_status, IsFailure, IsReportedAsJson}
+use Rattle.ima_agent.specs.Showing.{AreAllEntries, AreAllEvents, BreaksOffAfterEntries, EndsWithFault, IsNoListFor, IsNoLogFor, IsRefusedFor, RunsOutAfterEvents, ShowsEntries, ShowsHexadecimal, ShowsJsonEvents, data_of, version_text}
+
+-- ---- a question
+
+-- The file of this name.
+abbrev pub file_of : String Global → Where
+file_of name = FileOf (string_bytes name)
+
+abbrev pub judgement_by : Judged → Judgement
+judgement_by (judged.Verdict log scope resume save) = VerdictOf (file_of log) scope (option_map file_of resume)
+judgement_by (judged.Positions log) = PositionsOf (file_of log)
+judgement_by judged.ListVerdict = ListVerdictOf
+
+-- What has to be among the expected registers: those that the text spells, if it is given; else some register, if the verdict is on a list
+-- that grows.
+abbrev pub requires_by : Judged → Option (String Global) → Requires
+requires_by judged (Some text) = These (string_bytes text)
+requires_by (judged.Verdict log Whole None None) None = Nothing
+requires_by (judged.Verdict log scope resume save) None = Any
+requires_by (judged.Positions log) None = Nothing
+requires_by judged.ListVerdict None = Nothing
+
+abbrev pub compared_by : Judge → Compared
+compared_by judge = record {
+  judgement = judgement_by judge.judged;
+  list = file_of judge.list;
+  expected = file_of judge.expected;
+  required = requires_by judge.judged judge.required;
+}
+
+-- What a question asks.
+abbrev pub requested_by : Question → Requested
+requested_by (questions.LogRegisters log) = LogRegistersOf (file_of log)
+requested_by (questions.ListRegisters list) = ListRegistersOf (file_of list)
+requested_by (questions.Judge judge) = Compares (compared_by judge)
+requested_by (questions.Expected printed registers) = ExpectedOf (file_of printed) (option_map string_bytes registers)
+
+-- The name under which the checkpoint is saved, if it is.
+abbrev pub save_of : Judged → Option (List ℕ)
+save_of (judged.Verdict log scope resume save) = option_map string_bytes save
+save_of judged = None
+
+abbrev pub save_by : Question → Option (List ℕ)
+save_by (questions.Judge judge) = save_of judge.judged
+save_by question = None
 
 -- ---- a task
-
--- What is shown is printed of this measurement, in this form.
-pub record ShowsMeasured (inputs : Inputs) (asked : Measurement) (form : Form) (shown : List ℕ) : Type 0 where
-  pub given : Measured
-  pub measured : IsMeasured inputs asked given
-  pub text_is : shown ≡ printed form asked.print given
 
 -- This text and this exit status are shown of the task in this form, which asks no question.
 abbrev pub Shows : Inputs → Task → Form → List ℕ → ℕ → Type 0
 Shows inputs tasks.Registers form shown status = OfInput inputs None (λ text. ShowsHexadecimal form text shown status)
 Shows inputs (tasks.Answer question) form shown status = ⊥
-Shows inputs (tasks.Measure asked) form shown status = ShowsMeasured inputs asked form shown × (status ≡ 0)
+Shows inputs (tasks.Measure request) form shown status =
+    ((given : Measured) × IsMeasured inputs request given × (shown ≡ print_measured form request.print given)) × (status ≡ 0)
 Shows inputs (tasks.Events log requested) forms.Text shown status =
-    OfInput inputs (Some (string_bytes log)) (λ bytes. ShowsEvents bytes requested shown) × (status ≡ 0)
+    OfInput inputs (Some (string_bytes log)) (λ bytes. AreAllEvents (events_text (data_of requested)) bytes shown) × (status ≡ 0)
 Shows inputs (tasks.Events log requested) forms.Json shown status =
     OfInput inputs (Some (string_bytes log)) (λ bytes. ShowsJsonEvents bytes shown status)
 Shows inputs (tasks.Entries list) forms.Text shown status =
-    OfInput inputs (Some (string_bytes list)) (λ bytes. ShowsList bytes shown) × (status ≡ 0)
+    OfInput inputs (Some (string_bytes list)) (λ bytes. AreAllEntries (flat_map line_of) bytes shown) × (status ≡ 0)
 Shows inputs (tasks.Entries list) forms.Json shown status =
     OfInput inputs (Some (string_bytes list)) (λ bytes. ShowsEntries bytes shown status)
 Shows inputs (tasks.Help text) form shown status = (shown ≡ string_bytes text) × (status ≡ 0)
@@ -54,14 +99,14 @@ Shows inputs tasks.Version form shown status = (shown ≡ version_text) × (stat
 -- is answered; with any other output nothing is saved.
 abbrev pub IsOutputFor : Inputs → Task → Form → Saved → Saved → List ℕ → ℕ → Type 0
 IsOutputFor inputs (tasks.Answer question) form old new shown status =
-    ShowsAnswer inputs (asked_by question) (save_by question) form old new shown status
+    ShowsAnswer inputs (requested_by question) (save_by question) form old new shown status
 IsOutputFor inputs task form old new shown status = Shows inputs task form shown status × (new ≡ old)
 
 -- The fault may come of the task in this form, with these inputs. As JSON, a damaged log is shown as far as it goes, and any list.
 abbrev pub IsFaultOf : Inputs → Task → Form → RunFault → Type 0
 IsFaultOf inputs tasks.Registers form fault = IsInputFault inputs None fault ⊎ OfInput inputs None (λ text. IsRefusedFor text fault)
-IsFaultOf inputs (tasks.Answer question) form fault = IsOutputFault inputs (asked_by question) (save_by question) fault
-IsFaultOf inputs (tasks.Measure asked) form fault = IsMeasuringFault inputs asked fault
+IsFaultOf inputs (tasks.Answer question) form fault = IsOutputFault inputs (requested_by question) (save_by question) fault
+IsFaultOf inputs (tasks.Measure request) form fault = IsMeasuringFault inputs request fault
 IsFaultOf inputs (tasks.Events log requested) forms.Text fault =
     IsInputFault inputs (Some (string_bytes log)) fault
     ⊎ OfInput inputs (Some (string_bytes log)) (λ bytes. IsNoLogFor bytes fault)
@@ -69,15 +114,13 @@ IsFaultOf inputs (tasks.Events log requested) forms.Json fault = IsInputFault in
 IsFaultOf inputs (tasks.Entries list) forms.Text fault =
     IsInputFault inputs (Some (string_bytes list)) fault
     ⊎ OfInput inputs (Some (string_bytes list)) (λ bytes. IsNoListFor bytes fault)
-IsFaultOf inputs (tasks.Entries list) forms.Json fault = ⊥
-IsFaultOf inputs (tasks.Help text) form fault = ⊥
-IsFaultOf inputs tasks.Version form fault = fault ≡ runs.Memory
+IsFaultOf inputs task form fault = ⊥
 
 -- The output of a task that is written while its input is read, if it fails in between: what was read till then, and then the fault.
 abbrev pub IsBrokenOff : Inputs → Task → Form → List ℕ → ℕ → Type 0
 IsBrokenOff inputs (tasks.Events log requested) forms.Json text status =
-    OfInput inputs (Some (string_bytes log)) (λ bytes. RunsOutAfterEvents bytes text status)
-IsBrokenOff inputs (tasks.Entries list) forms.Json text status = FailsAfterEntries inputs (string_bytes list) text status
+    OfInput inputs (Some (string_bytes log)) (λ bytes. EndsWithFault (RunsOutAfterEvents bytes) IsReportedAsJson text status)
+IsBrokenOff inputs (tasks.Entries list) forms.Json text status = EndsWithFault (BreaksOffAfterEntries inputs (string_bytes list)) IsReportedAsJson text status
 IsBrokenOff inputs task form text status = ⊥
 
 -- The text to be written for the task, the status if the sink takes it all, and what was saved before and after: the task's output, with
@@ -91,17 +134,12 @@ IsOutcome inputs task form old new text status =
 
 -- ---- arguments
 
--- The plan is what the arguments request.
-pub record IsPlanOf (words : List (String Global)) (plan : Plan) : Type 0 where
-  pub asked : IsAskedBy words plan
-  pub within : IsWithinRanges plan
-
 -- What is written for the arguments: the outcome of what they request; or if they are refused, the fault's line and its status, and nothing
 -- is saved.
 abbrev pub IsOutput : Inputs → List (String Global) → Saved → Saved → List ℕ → ℕ → Type 0
-IsOutput inputs words old new text status =
-    ((plan : Plan) × IsPlanOf words plan × IsOutcome inputs (task_of plan).0 (task_of plan).1 old new text status)
-    ⊎ ((fault : RunFault) × IsWordsFault fault × (text ≡ fault_line fault) × (status ≡ fault_status fault) × (new ≡ old))
+IsOutput inputs arguments old new text status =
+    ((plan : Plan) × IsRequestedBy arguments plan × IsWithinRanges plan × IsOutcome inputs (task_of plan).0 (task_of plan).1 old new text status)
+    ⊎ ((fault : RunFault) × IsArgumentsFault fault × (text ≡ fault_line fault) × (status ≡ fault_status fault) × (new ≡ old))
 
 -- The status after an output was sent; 3 if the sink failed.
 abbrev pub status_after : {A E : Type 0} → Result A E → ℕ → ℕ
@@ -109,16 +147,48 @@ status_after (Ok value) status = status
 status_after (Err fault) status = 3
 
 -- The returned status: an output was sent, and `answer` is its status, or 3 if the sink failed.
-pub record Answers (IsAsked : List ℕ → ℕ → Type 0) (answer : ℕ) (old new : SinkState) : Type 0 where
+pub record Answers (IsWanted : List ℕ → ℕ → Type 0) (answer : ℕ) (old new : SinkState) : Type 0 where
   pub text : List ℕ
   pub status : ℕ
   pub sent : Result (Unit {0}) Failed
-  pub output : IsAsked text status
+  pub output : IsWanted text status
   pub sends : Sends old new sent text
   pub answer_is : answer ≡ status_after sent status
 
 -- The output for the arguments; if they could not be obtained, that of a program out of memory, and nothing is saved.
 abbrev pub IsOutputOf : {E : Type 0} → Inputs → Result (Vec (String Global)) E → Saved → Saved → List ℕ → ℕ → Type 0
-IsOutputOf inputs (Ok words) old new text status = IsOutput inputs words.items old new text status
+IsOutputOf inputs (Ok arguments) old new text status = IsOutput inputs arguments.items old new text status
 IsOutputOf inputs (Err fault) old new text status =
     (text ≡ fault_line runs.Memory) × (status ≡ fault_status runs.Memory) × (new ≡ old)
+
+-- ---- outputs that are sent, some of them while their input is read
+
+-- What the sink says of a call with this result: it failed only at `Sink`.
+abbrev pub as_sent : Result ℕ StreamFault → Result (Unit {0}) Failed
+as_sent (Ok status) = Ok tt
+as_sent (Err (streams.Sink failed)) = Err failed
+as_sent (Err (streams.Run fault)) = Ok tt
+
+-- What is asked for, after this text was sent: the text itself, with the returned status; the text with the line of the fault of the run, in
+-- this form; or the text with more that the sink did not take.
+abbrev pub GoesOn : Form → (List ℕ → ℕ → Type 0) → List ℕ → Result ℕ StreamFault → Type 0
+GoesOn form IsWanted text (Ok status) = IsWanted text status
+GoesOn form IsWanted text (Err (streams.Sink failed)) = (rest : List ℕ) × (status : ℕ) × IsWanted (text ++ rest) status
+GoesOn form IsWanted text (Err (streams.Run fault)) = (last : List ℕ) (status : ℕ) → IsFailure form fault last status → IsWanted (text ++ last) status
+
+-- A text was sent, and with the line of a fault, if there is one, it is what is asked for.
+pub record Streams (form : Form) (IsWanted : List ℕ → ℕ → Type 0) (old new : SinkState) (result : Result ℕ StreamFault) : Type 0 where
+  pub text : List ℕ
+  pub sends : Sends old new (as_sent result) text
+  pub goes_on : GoesOn form IsWanted text result
+
+-- This text was sent, and this is its status.
+abbrev pub SendsText : List ℕ → ℕ → SinkState → SinkState → Result ℕ StreamFault → Type 0
+SendsText text status old new (Ok answer) = Sends {A = Unit {0}} {E = Failed} old new (Ok tt) text × (answer ≡ status)
+SendsText text status old new (Err (streams.Sink failed)) = Sends {A = Unit {0}} old new (Err failed) text
+SendsText text status old new (Err (streams.Run fault)) = ⊥
+
+-- The output was sent; or there is none, and nothing was.
+abbrev pub SendsOutput : Result Output RunFault → SinkState → SinkState → Result ℕ StreamFault → Type 0
+SendsOutput (Ok output) old new result = SendsText output.text.items output.status old new result
+SendsOutput (Err fault) old new result = (new ≡ old) × (result ≡ Err (streams.Run fault))

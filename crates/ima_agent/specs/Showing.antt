@@ -1,74 +1,139 @@
--- The registers and the events of a log and the entries of a list, as the program shows them. All of this is this project's choice.
-use Rattle.std.specs.Prelude.{◌≡◌, ℕ, ◌⊎◌, List, flat_map, Option, Ok, Err, IsErr}
+-- What the tasks show that ask no question: the registers and the events of a log, the entries of a list, the version.
+use Rattle.std.specs.Prelude.{◌≡◌, ℕ, ◌⊎◌, ◌==◌, ◌||◌, not, Bool, List, [], ◌++◌, codes, filter, length, Option, Some, Ok, Err, IsErr}
 use Rattle.hex.specs.Hex.{decode_of}
 use Rattle.boot_log.specs.declared.header.Row.{Row}
-use Rattle.boot_log.specs.Spelling.{LogEvent, IsLog}
+use Rattle.boot_log.specs.Spelling.{LogEvent}
+use Rattle.boot_log.specs.Spelling as logs
 use Rattle.ima_list.specs.declared.fault.ListFault.{ListFault}
 use Rattle.ima_list.specs.ListEntry.{ListEntry}
-use Rattle.ima_list.specs.Spelling.{IsReading}
-use Rattle.ima_list.specs.Lines.{line_of}
+use Rattle.ima_list.specs.Spelling.{BeginsWith, IsReading}
 use Rattle.boot_verdict.specs.declared.checkpoint.Checkpoint.{Checkpoint}
 use Rattle.boot_verdict.specs.declared.texts.events.EventData.{EventData}
 use Rattle.boot_verdict.specs.declared.texts.events.EventData.TheVariants as texts
 use Rattle.boot_verdict.specs.EventTexts.{events_text}
+pub use Rattle.json_texts.specs.ItemLines.{entry_lines, event_lines, numbered_lines, AreAllEntries, AreAllEvents, EndsWithFault, FailsAfterEntries, FailsAfterEvents, ShowsToFault}
+use Rattle.json_texts.specs.SentEntries.{AreAllIn}
+pub use Rattle.json_texts.specs.SentEvents.{log_lines}
 use Rattle.command_line.specs.declared.plan.DataShown.{DataShown}
-use Rattle.command_line.specs.declared.plan.DataShown.TheVariants as words
+use Rattle.command_line.specs.declared.plan.DataShown.TheVariants as arguments
 use Rattle.command_line.specs.declared.plan.Form.{Form}
+use Rattle.command_line.specs.declared.plan.Form.TheVariants.{Text}
 use Rattle.agent_inputs.specs.declared.fault.RunFault.{RunFault}
 use Rattle.agent_inputs.specs.declared.fault.RunFault.TheVariants as runs
-use Rattle.agent_inputs.specs.Faults.{HasLogFault, fault_of_list}
-use Rattle.agent_inputs.specs.Loading.{untold}
-use Rattle.judging.specs.Asking.{LogRegistersOf}
+use Rattle.agent_inputs.specs.Faults.{HasLogFault, fault_of_list, fault_of_log}
+use Rattle.agent_inputs.specs.Loading.{Holds, HoldsTooMuch, Inputs, IsReadFailure, IsTooLong, OfInput, input_limit, unknown}
+use Rattle.judging.specs.Requests.{LogRegistersOf}
 use Rattle.judging.specs.Inputs.{BytesOf}
-use Rattle.rendering.specs.Outputs.{IsRefusalOn, IsShown}
-use Rattle.ima_agent.specs.Hexadecimal.{without_white_space}
+use Rattle.rendering.specs.Rendering.{IsRefusalOn, IsShown}
+use Rattle.ima_agent.specs.FaultTexts.{IsFailure, IsReportedAsJson}
+
+-- The program and its version; and the logic that the proofs rest on, as the kit's `rt version` names it.
+abbrev pub version_text : List ℕ
+version_text = codes "ima-agent 1.0.0\nlogic dac8208d650f15bf\n"
+
+-- ---- registers
+
+-- Space, tab, carriage return or line feed.
+abbrev pub is_white_space : ℕ → Bool
+is_white_space byte = byte == 32 || byte == 9 || byte == 13 || byte == 10
+
+-- A text without its white space.
+abbrev pub without_white_space : List ℕ → List ℕ
+without_white_space text = filter (λ byte. not (is_white_space byte)) text
+
+-- The text is these bytes in hexadecimal.
+abbrev pub Spells : List ℕ → List ℕ → Type 0
+Spells text bytes = decode_of (without_white_space text) ≡ Ok bytes
 
 -- The text is a firmware event log in hexadecimal, and what is shown is the answer to what is asked of its bytes, in this form.
-pub record ShowsHexadecimal (form : Form) (text shown : List ℕ) (status : ℕ) : Type 0 where
-  pub bytes : List ℕ
-  pub next : Option Checkpoint
-  pub decoded : decode_of (without_white_space text) ≡ Ok bytes
-  pub answer : IsShown untold (LogRegistersOf (BytesOf bytes)) form shown status next
+abbrev pub ShowsHexadecimal : Form → List ℕ → List ℕ → ℕ → Type 0
+ShowsHexadecimal form text shown status =
+    (bytes : List ℕ) × (next : Option Checkpoint) × Spells text bytes × IsShown unknown (LogRegistersOf (BytesOf bytes)) form shown status next
 
--- The text is hexadecimal, and there is no answer to what is asked of its bytes.
-pub record SpellsNoLog (text : List ℕ) (fault : RunFault) : Type 0 where
-  pub bytes : List ℕ
-  pub decoded : decode_of (without_white_space text) ≡ Ok bytes
-  pub refusal : IsRefusalOn untold (LogRegistersOf (BytesOf bytes)) fault
-
--- Why no registers are shown: the text is not hexadecimal, or its bytes are no log; or memory ran out.
+-- Why no registers are shown: the text is not hexadecimal; or there is no answer to what is asked of its bytes; or memory ran out.
 abbrev pub IsRefusedFor : List ℕ → RunFault → Type 0
 IsRefusedFor text fault =
-    ((fault ≡ runs.NotHex) × IsErr (decode_of (without_white_space text))) ⊎ SpellsNoLog text fault ⊎ (fault ≡ runs.Memory)
+    ((fault ≡ runs.NotHex) × IsErr (decode_of (without_white_space text)))
+    ⊎ ((bytes : List ℕ) × Spells text bytes × IsRefusalOn unknown (LogRegistersOf (BytesOf bytes)) fault) ⊎ (fault ≡ runs.Memory)
+
+-- ---- events and entries as text
 
 -- What an event's line has of its data, as the arguments request it.
 abbrev pub data_of : DataShown → EventData
-data_of words.Size = texts.Size
-data_of words.Bytes = texts.Bytes
-
--- The bytes are a firmware event log, and what is shown are the lines of its header and its events.
-pub record ShowsEvents (log : List ℕ) (requested : DataShown) (shown : List ℕ) : Type 0 where
-  pub table : List Row
-  pub events : List LogEvent
-  pub log_is : IsLog log table events
-  pub text_is : shown ≡ events_text (data_of requested) table events
+data_of arguments.Size = texts.Size
+data_of arguments.Bytes = texts.Bytes
 
 -- Why nothing of a log is shown: the bytes are no log, or memory ran out.
 abbrev pub IsNoLogFor : List ℕ → RunFault → Type 0
 IsNoLogFor log fault = HasLogFault log fault ⊎ (fault ≡ runs.Memory)
 
--- The bytes are a measurement list, and what is shown are the lines of its entries.
-pub record ShowsList (bytes shown : List ℕ) : Type 0 where
-  pub entries : List ListEntry
-  pub reading : IsReading bytes (Ok entries)
-  pub text_is : shown ≡ flat_map line_of entries
-
--- The bytes are no list, and the fault is that of their reading.
-pub record IsNoList (bytes : List ℕ) (fault : RunFault) : Type 0 where
-  pub first : ListFault
-  pub reading : IsReading bytes (Err first)
-  pub says : fault ≡ fault_of_list first
-
--- Why no list is shown: the bytes are no list, or memory ran out.
+-- Why no list is shown: the bytes are no list, and the fault is that of their reading; or memory ran out.
 abbrev pub IsNoListFor : List ℕ → RunFault → Type 0
-IsNoListFor bytes fault = IsNoList bytes fault ⊎ (fault ≡ runs.Memory)
+IsNoListFor list fault = ((first : ListFault) × IsReading list (Err first) × (fault ≡ fault_of_list first)) ⊎ (fault ≡ runs.Memory)
+
+-- ---- events and entries as JSON
+
+-- What can be read of the bytes as a log is shown; and as a list.
+abbrev pub ShowsJsonEvents : List ℕ → List ℕ → ℕ → Type 0
+ShowsJsonEvents log shown status =
+    ShowsToFault (AreAllEvents log_lines log) (FailsAfterEvents log_lines fault_of_log log) IsReportedAsJson shown status
+
+abbrev pub ShowsEntries : List ℕ → List ℕ → ℕ → Type 0
+ShowsEntries list shown status =
+    ShowsToFault (AreAllEntries entry_lines list) (FailsAfterEntries entry_lines fault_of_list list) IsReportedAsJson shown status
+
+-- The text is the lines of a header and events that the bytes begin with, and then memory ran out.
+abbrev pub RunsOutAfterEvents : List ℕ → List ℕ → RunFault → Type 0
+RunsOutAfterEvents log text fault =
+    (fault ≡ runs.Memory)
+    × ((table : List Row) × (events : List LogEvent) × (rest : List ℕ) × logs.BeginsWith log table events rest × (text ≡ log_lines table events))
+
+-- Why no more entries of the file of this name are shown, of which the bytes `came` were read. It could not be opened or read, or it is
+-- longer than an input may be and its first bytes came, as many as one may have: then these are all entries of what came, of which none was refused (how much of a file
+-- came before a read failed, only json_texts' `SendsEntries` says). Or memory ran out.
+abbrev pub EndsAfterEntries : Inputs → List ℕ → List ℕ → List ListEntry → RunFault → Type 0
+EndsAfterEntries inputs name came entries fault =
+    (IsReadFailure inputs (Some name) fault × AreAllIn came entries)
+    ⊎ (IsTooLong name fault × HoldsTooMuch inputs (Some name) × (length came ≡ input_limit) × AreAllIn came entries)
+    ⊎ (fault ≡ runs.Memory)
+
+-- The file of this name begins with the bytes `came`, and these with entries, whose lines are the text, and this is why there are no more.
+pub record BreaksOffAfterEntries (inputs : Inputs) (name text : List ℕ) (fault : RunFault) : Type 0 where
+  pub came : List ℕ
+  pub more : List ℕ
+  pub entries : List ListEntry
+  pub rest : List ℕ
+  pub held : Holds inputs (Some name) (came ++ more)
+  pub begins : BeginsWith came entries rest
+  pub ends : EndsAfterEntries inputs name came entries fault
+  pub text_is : text ≡ entry_lines entries
+
+-- ---- what is shown while its input is read
+
+-- The plain lines of the log in these bytes are shown, or why not.
+abbrev pub ShowsPlainEventsIn : List ℕ → DataShown → List ℕ → ℕ → Type 0
+ShowsPlainEventsIn log requested shown status =
+    (AreAllEvents (events_text (data_of requested)) log shown × (status ≡ 0))
+    ⊎ ((fault : RunFault) × IsNoLogFor log fault × IsFailure Text fault shown status)
+
+-- Why no more of the log in these bytes is shown than this text: it fails; or memory ran out, after some events or before the first line.
+abbrev pub StopsInLog : List ℕ → List ℕ → RunFault → Type 0
+StopsInLog log text fault =
+    FailsAfterEvents log_lines fault_of_log log text fault ⊎ RunsOutAfterEvents log text fault ⊎ ((fault ≡ runs.Memory) × (text ≡ []))
+
+-- The log in these bytes is shown as JSON, as far as it goes.
+abbrev pub ShowsEventsIn : List ℕ → List ℕ → ℕ → Type 0
+ShowsEventsIn log shown status = ShowsToFault (AreAllEvents log_lines log) (StopsInLog log) IsReportedAsJson shown status
+
+-- The file of this name is a list, and the text is the lines of its entries as JSON.
+abbrev pub AreAllInFile : Inputs → List ℕ → List ℕ → Type 0
+AreAllInFile inputs name text = OfInput inputs (Some name) (λ list. AreAllEntries entry_lines list text)
+
+-- Why no more of the list in the file of this name is shown than this text: it fails, or it comes no further.
+abbrev pub StopsInFile : Inputs → List ℕ → List ℕ → RunFault → Type 0
+StopsInFile inputs name text fault =
+    OfInput inputs (Some name) (λ list. FailsAfterEntries entry_lines fault_of_list list text fault) ⊎ BreaksOffAfterEntries inputs name text fault
+
+-- The list in the file of this name is shown as JSON while it is read, as far as it comes.
+abbrev pub ShowsEntriesOf : Inputs → List ℕ → List ℕ → ℕ → Type 0
+ShowsEntriesOf inputs name shown status = ShowsToFault (AreAllInFile inputs name) (StopsInFile inputs name) IsReportedAsJson shown status

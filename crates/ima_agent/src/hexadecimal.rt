@@ -1,18 +1,11 @@
-ghost use Rattle.std.specs.Prelude.{◌≡◌, not, Ok, IfOk, IsErr, IsErrOf};
+ghost use Rattle.std.specs.Prelude.{◌≡◌, ◌⊎◌, not, Ok, IfOk, IfErr, IsErr};
+ghost use Rattle.agent_inputs.specs.declared.fault.RunFault.TheVariants.{Memory, NotHex};
 ghost use Rattle.hex.specs.Hex.{decode_of};
-ghost use Rattle.ima_agent.specs.Hexadecimal.{is_white_space, without_white_space};
+ghost use Rattle.ima_agent.specs.Showing.{is_white_space, without_white_space};
 
+use agent_inputs::RunFault;
 use hex::FromHexError;
 use std::alloc::Global;
-
-/// Why a text was not decoded.
-#[derive(Clone, Copy)]
-pub(crate) enum HexFault {
-    /// A byte is not a hexadecimal digit, or the number of digits is odd.
-    NotHex,
-    /// Out of memory.
-    Memory,
-}
 
 /// Whether a byte of a hexadecimal text is kept: all but space, tab, carriage return and line feed.
 fn is_kept(byte: u8) -> bool
@@ -29,15 +22,15 @@ fn drop_white_space(text: &mut Vec<u8>)
 }
 
 /// Decodes a text of two hexadecimal digits of either case per byte, with white space anywhere. The digits are not copied.
-pub(crate) fn decode_hexadecimal(alloc: Global, text: Vec<u8>) -> Result<Vec<u8>, HexFault>
+pub(crate) fn decode_hexadecimal(alloc: Global, text: Vec<u8>) -> Result<Vec<u8>, RunFault>
     ensures ok { IfOk result (λ bytes. decode_of (without_white_space text.items) ≡ Ok bytes.items) }
-    ensures not_hex { IsErrOf result HexFault.NotHex → IsErr (decode_of (without_white_space text.items)) }
+    ensures fault { IfErr result (λ fault. ((fault ≡ NotHex) × IsErr (decode_of (without_white_space text.items))) ⊎ (fault ≡ Memory)) }
 {
     let mut digits = text;
     drop_white_space(&mut digits);
     match hex::decode(alloc, digits) {
         Ok(bytes) => Ok(bytes),
-        Err(FromHexError::OutOfMemory) => Err(HexFault::Memory),
-        Err(_) => Err(HexFault::NotHex),
+        Err(FromHexError::OutOfMemory) => Err(RunFault::Memory),
+        Err(_) => Err(RunFault::NotHex),
     }
 }

@@ -2,39 +2,38 @@
 //! `agent_inputs`, what `command_line` reads from arguments, and the verdict and its texts from `boot_verdict`.
 #![tactic(auto)]
 
-mod escaping;
-mod explaining;
+mod arguments;
+mod escapes;
+mod explanations;
 mod hexadecimal;
 mod program;
 mod progress;
 mod requests;
-mod showing;
-mod streaming;
+mod shown;
 mod streams;
 mod texts;
 mod version;
-mod words;
 
 pub use agent_inputs::{
     AgentFiles, Files, Input, LoadFault, NotResumed, ReadSource, RunFault, SharedFiles,
     SystemFiles, WriteSink, hash_from, load,
 };
+pub use arguments::read_words;
 pub use boot_verdict::{
-    Aggregate, BankRange, EventData, ExpectFault, Expected, Located, Place, RegisterRange, Report,
-    Requirement, RequirementFault, Row, State, VerifyFault, all_found, list_start, locate,
+    Aggregate, BankRange, EventData, ExpectFault, Expected, Located, Position, RegisterRange,
+    Report, Requirement, RequirementFault, Row, State, VerifyFault, all_found, list_start, locate,
     locate_from, read_expected, read_printed, replay_from, required_found, verify, verify_from,
-    write_events, write_expected, write_places, write_registers, write_report,
-    write_required_places, write_required_report,
+    write_events, write_expected, write_positions, write_registers, write_report,
+    write_required_positions, write_required_report,
 };
 pub use command_line::{
-    DataShown, Extent, Form, Judge, Judged, Measurement, NameEnd, Names, Plan, Print, Question,
-    Task, words_after_name,
+    DataShown, Form, Judge, Judged, Measurement, NameEnd, Names, Plan, Print, Question, Scope,
+    Task, arguments_after_name,
 };
-pub use escaping::escaped;
-pub use explaining::{Failure, explanation};
+pub use escapes::escape;
+pub use explanations::{Failure, explanation};
 pub use measuring::FileProgress;
 pub use program::{exit_code, run, run_with_progress};
 pub use progress::{NoProgress, Progress, SystemProgress};
 pub use rendering::Output;
 pub use texts::{json_fault_line, json_memory_line, status_of, write_fault};
-pub use words::read_words;

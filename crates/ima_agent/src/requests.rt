@@ -1,15 +1,15 @@
 //! What questions ask of logs and lists.
 
 ghost use Rattle.std.specs.Prelude.{◌≡◌, option_map};
-ghost use Rattle.judging.specs.Asking.{asked_of, compared_of, judgement_of, requires_of};
-ghost use Rattle.ima_agent.specs.Requests.{asked_by, compared_by, judgement_by, requires_by, save_by};
+ghost use Rattle.judging.specs.Requests.{requested_of, compared_of, judgement_of, requires_of};
+ghost use Rattle.ima_agent.specs.Program.{requested_by, compared_by, judgement_by, requires_by, save_by};
 
-use command_line::{Extent, Judge, Judged, Question};
+use command_line::{Judge, Judged, Question, Scope};
 use judging::{Comparison, Input, Request, Required, Wanted};
 
 /// What a question asks.
 pub(crate) fn request_of(question: &Question) -> Request<'_>
-    ensures { asked_of result ≡ asked_by question.now }
+    ensures { requested_of result ≡ requested_by question.now }
 {
     match question {
         Question::LogRegisters { log } => Request::LogRegisters {
@@ -48,18 +48,18 @@ fn wanted_of(judged: &Judged) -> Wanted<'_>
     match judged {
         Judged::Verdict {
             log,
-            extent,
+            scope,
             resume,
             ..
         } => Wanted::Verdict {
             log: Input::File(log),
-            extent: *extent,
+            scope: *scope,
             resume: match resume {
                 None => None,
                 Some(name) => Some(Input::File(name)),
             },
         },
-        Judged::Places { log } => Wanted::Places {
+        Judged::Positions { log } => Wanted::Positions {
             log: Input::File(log),
         },
         Judged::ListVerdict => Wanted::ListVerdict,
@@ -75,14 +75,14 @@ fn required_of(judge: &Judge) -> Required<'_>
         (
             None,
             Judged::Verdict {
-                extent: Extent::Whole,
+                scope: Scope::Whole,
                 resume: None,
                 save: None,
                 ..
             },
         ) => Required::Nothing,
         (None, Judged::Verdict { .. }) => Required::Any,
-        (None, Judged::Places { .. } | Judged::ListVerdict) => Required::Nothing,
+        (None, Judged::Positions { .. } | Judged::ListVerdict) => Required::Nothing,
     }
 }
 

@@ -1,15 +1,15 @@
 //! The program `ima-agent`, which is `ima_agent::exit_code` over the system's files and streams.
 #![tactic(auto)]
 
-use ima_agent::{SystemFiles, SystemProgress, WriteSink, exit_code, words_after_name};
+use ima_agent::{SystemFiles, SystemProgress, WriteSink, arguments_after_name, exit_code};
 use std::io::IsTerminal;
 use std::process::ExitCode;
 use std::rt::Env;
 use std::{env, io};
 
 /// The arguments after the program's name. Fails if memory runs out, or if one is not UTF-8.
-fn words(rt: &(impl Env + AllocGlobal)) -> io::Result<Vec<String>> {
-    Ok(words_after_name(rt.alloc(), env::args(rt)?)?)
+fn arguments(rt: &(impl Env + AllocGlobal)) -> io::Result<Vec<String>> {
+    Ok(arguments_after_name(rt.alloc(), env::args(rt)?)?)
 }
 
 fn main(rt: HostRuntime) -> ExitCode {
@@ -18,7 +18,7 @@ fn main(rt: HostRuntime) -> ExitCode {
     exit_code(
         &rt,
         rt.alloc(),
-        words(&rt),
+        arguments(&rt),
         &mut SystemFiles::new(&rt),
         &mut output,
         &progress,

@@ -7,7 +7,7 @@ use Rattle.std.proofs.lemmas.List.FromFn.{map-range_with_len_more, length-map-ra
 use Rattle.pcr_banks.specs.declared.alg.Alg.{Alg}
 use Rattle.pcr_banks.specs.declared.banks.Banks.{Banks}
 use Rattle.pcr_banks.specs.declared.digest.Digest.{Digest}
-use Rattle.pcr_banks.specs.declared.hashing.Hasher.{Hasher}
+use Rattle.pcr_banks.specs.declared.hasher.Hasher.{Hasher}
 use Rattle.pcr_banks.specs.Hashing.{hash_of}
 use Rattle.pcr_banks.specs.Digests.{bytes_of, digest_of}
 use Rattle.pcr_banks.specs.Hashers.{HasTaken}
@@ -17,24 +17,24 @@ use Rattle.ima_list.specs.Aggregates.{aggregate_register_count, all_joined, join
 
 -- ---- values joined
 
-swapped : (front value : List ℕ) (o : Option (List ℕ))
-    → option_map (λ rest. front ++ rest) (option_map (λ text. text ++ value) o) ≡ option_map (λ text. text ++ value)
-    (option_map (λ rest. front ++ rest) o)
-swapped front value None = refl
-swapped front value (Some text) = ap (λ (t : List ℕ). Some t) (sym (append_assoc front text value))
+swapped : (prefix value : List ℕ) (o : Option (List ℕ))
+    → option_map (λ rest. prefix ++ rest) (option_map (λ text. text ++ value) o) ≡ option_map (λ text. text ++ value)
+    (option_map (λ rest. prefix ++ rest) o)
+swapped prefix value None = refl
+swapped prefix value (Some text) = ap (λ (t : List ℕ). Some t) (sym (append_assoc prefix text value))
 
 one_more : (values : List (Option (List ℕ))) (value : List ℕ)
     → all_joined (values ++ Some value ∷ []) ≡ option_map (λ text. text ++ value) (all_joined values)
 one_more [] value = ap (λ (t : List ℕ). Some t) (append-nil value)
 one_more (None ∷ values) value = refl
-one_more (Some front ∷ values) value =
-    ap (option_map (λ rest. front ++ rest)) (one_more values value) ∙ swapped front value (all_joined values)
+one_more (Some prefix ∷ values) value =
+    ap (option_map (λ rest. prefix ++ rest)) (one_more values value) ∙ swapped prefix value (all_joined values)
 
 one_missing : (values : List (Option (List ℕ))) (i : ℕ) → i < length values → get_or values i (Some []) ≡ None → all_joined values ≡ None
 one_missing [] i lt e = absurd (omega arith)
 one_missing (None ∷ values) i lt e = refl
-one_missing (Some front ∷ values) zero lt e = absurd cc
-one_missing (Some front ∷ values) (suc i) lt e = ap (option_map (λ rest. front ++ rest)) (one_missing values i (omega arith) e)
+one_missing (Some prefix ∷ values) zero lt e = absurd cc
+one_missing (Some prefix ∷ values) (suc i) lt e = ap (option_map (λ rest. prefix ++ rest)) (one_missing values i (omega arith) e)
 
 joined_none : (value_of : ℕ → Option (List ℕ)) → joined_values value_of 0 ≡ Some []
 unfolding joined_values

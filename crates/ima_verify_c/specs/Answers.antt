@@ -1,30 +1,108 @@
--- What a caller in C finds after a call. All of this is this project's choice.
-use Rattle.std.specs.Prelude.{◌≡◌, ℕ, ℤ, pos, ◌<◌, ◌≤◌, ◌⊎◌, List, [], ◌++◌, length, drop, Option, None, Some}
-use Rattle.agent_inputs.specs.declared.fault.RunFault.{RunFault}
-use Rattle.agent_inputs.specs.declared.fault.RunFault.TheVariants.{Memory}
-use Rattle.agent_inputs.specs.Loading.{untold}
+-- What a call with these bytes requests, and what it gives.
+use Rattle.std.specs.Prelude.{ℕ, ◌==◌, if◌then◌else◌, Bool, List, bytes_eq, codes, length, Option, None, Some, option_map, ◌≡◌, ℤ, pos, ◌<◌, ◌≤◌, ◌⊎◌, false, [], ◌++◌, drop, Result, Ok, Err, unwrap_or}
+use Rattle.command_line.specs.declared.plan.Scope.TheVariants.{Prefix, Whole}
 use Rattle.command_line.specs.declared.plan.Form.{Form}
 use Rattle.command_line.specs.declared.plan.Form.TheVariants.{Json, Text}
-use Rattle.judging.specs.Asking.{Asked}
-use Rattle.rendering.specs.Outputs.{GivesAnswer, IsRefusalOn}
-use Rattle.ima_agent.specs.FaultTexts.{fault_line, fault_status}
-use Rattle.ima_agent.specs.JsonFaults.{ToldAsJson}
+use Rattle.judging.specs.Requests.{Any, Requested, Compares, Judgement, ListRegistersOf, ListVerdictOf, LogRegistersOf, Nothing, PositionsOf, Requires, These, VerdictOf}
+use Rattle.judging.specs.Inputs.{BytesOf}
+use Rattle.agent_inputs.specs.declared.fault.FaultKind.{FaultKind}
+use Rattle.agent_inputs.specs.declared.fault.FaultKind.TheVariants as kinds
+use Rattle.agent_inputs.specs.declared.fault.RunFault.{RunFault}
+use Rattle.agent_inputs.specs.declared.fault.RunFault.TheVariants.{Memory}
+use Rattle.agent_inputs.specs.Faults.{fault_head}
+use Rattle.agent_inputs.specs.Loading.{unknown}
+use Rattle.rendering.specs.Rendering.{GivesAnswer, IsRefusalOn}
+use Rattle.pieces.specs.declared.piece.End.{End}
+use Rattle.pieces.specs.declared.piece.End.TheVariants.{Last, Longer, More}
+use Rattle.pieces.specs.declared.piece.Piece.{Piece}
+use Rattle.pieces.specs.declared.piece.Position.{Position}
+use Rattle.pieces.specs.Pieces.{AreEntriesBefore, FailsAfterEntries, IsEntryPiece, AreEventsBefore, FailsAfterEvents, IsEventPiece, is_within}
+use Rattle.ima_agent.specs.FaultTexts.{fault_line, fault_status, IsReportedAsJson}
 use Rattle.ima_verify_c.specs.declared.told.Told.{Told}
-use Rattle.ima_verify_c.specs.Told.{told_of}
 
--- What a call returns if there is too little room.
-abbrev pub too_short : ℤ
-too_short = pos 4
+abbrev pub interface_version : ℕ
+interface_version = 1
+
+abbrev pub form_of : Bool → Form
+form_of json = if json then Json else Text
+
+-- These bytes, if there are any.
+abbrev pub given_bytes : List ℕ → Option (List ℕ)
+given_bytes bytes = if length bytes == 0 then None else Some bytes
+
+-- What has to be among the expected registers: this, if the text is the word `none`; else those that it spells. Without bytes it spells none,
+-- and is refused.
+abbrev pub required_by : Requires → List ℕ → Requires
+required_by none text = if bytes_eq text (codes "none") then none else These text
+
+-- What a list is worth against expected registers; the word `none` requires this.
+abbrev pub requested_by : Requires → Judgement → List ℕ → List ℕ → List ℕ → Requested
+requested_by none judgement list expected require = Compares (record {
+  judgement = judgement;
+  list = BytesOf list;
+  expected = BytesOf expected;
+  required = required_by none require;
+})
+
+-- The verdict on a log and a list, or on its confirmed prefix, from a checkpoint on, if it has bytes.
+abbrev pub verdict_of : List ℕ → List ℕ → Bool → Judgement
+verdict_of log state prefix =
+    VerdictOf (BytesOf log) (if prefix then Prefix else Whole) (option_map BytesOf (given_bytes state))
+
+-- The verdict on a log and a list; where the registers have their values; and the verdict on a list alone. `none` requires nothing.
+abbrev pub requested_of_verdict : List ℕ → List ℕ → List ℕ → List ℕ → Requested
+requested_of_verdict log list expected require = requested_by Nothing (VerdictOf (BytesOf log) Whole None) list expected require
+
+abbrev pub requested_of_positions : List ℕ → List ℕ → List ℕ → List ℕ → Requested
+requested_of_positions log list expected require = requested_by Nothing (PositionsOf (BytesOf log)) list expected require
+
+abbrev pub requested_of_list : List ℕ → List ℕ → List ℕ → Requested
+requested_of_list list expected require = requested_by Nothing ListVerdictOf list expected require
+
+-- The verdict on a list that grows; `none` requires that some register is expected.
+abbrev pub requested_of_more : List ℕ → List ℕ → List ℕ → List ℕ → List ℕ → Bool → Requested
+requested_of_more log state more expected require prefix = requested_by Any (verdict_of log state prefix) more expected require
+
+-- The registers after a list alone, or after a log.
+abbrev pub requested_of_registers : Bool → List ℕ → Requested
+requested_of_registers of_list bytes = if of_list then ListRegistersOf (BytesOf bytes) else LogRegistersOf (BytesOf bytes)
+
+-- ---- what a caller is told of a text
+
+-- The size of the text; and of its fault the kind, the number, or 0, and the place: 2^64 - 1 where it names none.
+abbrev pub told_with : ℕ → ℕ → Option ℕ → Option ℕ → Told
+told_with size kind number place = record {
+  size = size;
+  fault_kind = kind;
+  fault_number = unwrap_or number 0;
+  fault_place = unwrap_or place 18446744073709551615;
+}
+
+-- The other faults are those of files, which a caller in C does not name.
+abbrev pub head_told : ℕ → FaultKind → Option ℕ → Option ℕ → Told
+head_told size kinds.Usage number place = told_with size 1 number place
+head_told size kinds.Log number place = told_with size 2 number place
+head_told size kinds.List number place = told_with size 3 number place
+head_told size kinds.Replay number place = told_with size 4 number place
+head_told size kinds.Expect number place = told_with size 5 number place
+head_told size kinds.Checkpoint number place = told_with size 6 number place
+head_told size kinds.Memory number place = told_with size 7 number place
+head_told size kind number place = told_with size 0 None None
+
+-- What is told of a text of this size, which is the line of the fault, if there is one.
+abbrev pub told_of : ℕ → Option RunFault → Told
+told_of size None = told_with size 0 None None
+told_of size (Some fault) = head_told size (fault_head fault).kind (fault_head fault).number (fault_head fault).place
 
 -- ---- what stands in the caller's room
 
--- The text has no room: the call returns that, tells the size and no fault, and wrote nothing.
+-- The text has no room: the call returns 4, tells the size and no fault, and wrote nothing.
 pub record IsTooShort (size : ℕ) (answer : ℤ) (told : Told) (old new : List ℕ) : Type 0 where
-  pub answer_is : answer ≡ too_short
+  pub answer_is : answer ≡ pos 4
   pub told_is : told ≡ told_of size None
   pub same : new ≡ old
 
--- The text stands at the front of the room, the rest of which is as it was. The call returns the status, and tells the size of the text and its
+-- The text stands at the start of the room, the rest of which is as it was. The call returns the status, and tells the size of the text and its
 -- fault, if it is the line of one.
 pub record IsWritten (text : List ℕ) (status : ℕ) (fault : Option RunFault) (answer : ℤ) (told : Told) (old new : List ℕ) : Type 0 where
   pub answer_is : answer ≡ pos status
@@ -67,23 +145,67 @@ pub record AnswersMore (IsAnswer : List ℕ → ℕ → Option RunFault → List
 -- The text is the line of the fault in this form, and the status is that of the fault: 2 if an input is refused, or 3 if memory ran out.
 abbrev pub IsLineOf : Form → RunFault → List ℕ → ℕ → Type 0
 IsLineOf Text fault text status = (text ≡ fault_line fault) × (status ≡ fault_status fault)
-IsLineOf Json fault text status = ToldAsJson fault text status
+IsLineOf Json fault text status = IsReportedAsJson fault text status
 
--- It is that of a fault with this cause, which is told.
+-- It is that of a fault with this reason, which is told.
 abbrev pub IsRefusal : (RunFault → Type 0) → Form → List ℕ → ℕ → Option RunFault → Type 0
-IsRefusal HasCause form text status fault = (cause : RunFault) × (fault ≡ Some cause) × HasCause cause × IsLineOf form cause text status
+IsRefusal HasReason form text status fault = (reason : RunFault) × (fault ≡ Some reason) × HasReason reason × IsLineOf form reason text status
 
 -- Why there is no answer to what is asked, or memory ran out for what is to be given.
-abbrev pub HasNoAnswerOn : Asked → RunFault → Type 0
-HasNoAnswerOn asked fault = IsRefusalOn untold asked fault ⊎ (fault ≡ Memory)
+abbrev pub HasNoAnswerOn : Requested → RunFault → Type 0
+HasNoAnswerOn request fault = IsRefusalOn unknown request fault ⊎ (fault ≡ Memory)
 
 -- The answer to what is asked, in this form, with its status, and the text of the checkpoint of what it is on, which has no bytes unless all
 -- is well; or why there is no answer, and no text of a checkpoint.
-abbrev pub IsAnswerAndNext : Asked → Form → List ℕ → ℕ → Option RunFault → List ℕ → Type 0
-IsAnswerAndNext asked form text status fault state =
-    ((fault ≡ None) × GivesAnswer untold asked form text status state)
-    ⊎ (IsRefusal (HasNoAnswerOn asked) form text status fault × (state ≡ []))
+abbrev pub IsAnswerAndNext : Requested → Form → List ℕ → ℕ → Option RunFault → List ℕ → Type 0
+IsAnswerAndNext request form text status fault state =
+    ((fault ≡ None) × GivesAnswer unknown request form text status state)
+    ⊎ (IsRefusal (HasNoAnswerOn request) form text status fault × (state ≡ []))
 
 -- The answer, whatever checkpoint there is.
-abbrev pub IsAnswerTo : Asked → Form → List ℕ → ℕ → Option RunFault → Type 0
-IsAnswerTo asked form text status fault = (state : List ℕ) × IsAnswerAndNext asked form text status fault state
+abbrev pub IsAnswerTo : Requested → Form → List ℕ → ℕ → Option RunFault → Type 0
+IsAnswerTo request form text status fault = (state : List ℕ) × IsAnswerAndNext request form text status fault state
+
+-- ---- lines
+
+-- A piece that ends so was given: its text is written, and the position is where the next lines begin, with 0 if these are the last lines and 5 if
+-- there are more; or its one line has no room, and the position is as it was.
+abbrev pub GivesText : End → List ℕ → Position → Position → Position → ℤ → Told → List ℕ → List ℕ → Type 0
+GivesText Last text next position after answer told old new = (after ≡ next) × IsWritten text 0 None answer told old new
+GivesText More text next position after answer told old new = (after ≡ next) × IsWritten text 5 None answer told old new
+GivesText (Longer size) text next position after answer told old new = (after ≡ position) × IsTooShort size answer told old new
+
+abbrev pub GivesPiece : Piece → Position → Position → ℤ → Told → List ℕ → List ℕ → Type 0
+GivesPiece piece position after answer told old new = GivesText piece.end piece.text.items piece.next position after answer told old new
+
+-- The position is none: nothing was read or written.
+pub record IsMisused (position after : Position) (answer : ℤ) (told : Told) (old new : List ℕ) : Type 0 where
+  pub answer_is : answer ≡ pos 6
+  pub told_is : told ≡ told_of 0 None
+  pub position_is : after ≡ position
+  pub same : new ≡ old
+
+-- What was found was given: a piece; nothing, since the position is none; or the line of the fault.
+abbrev pub GivesFound : Form → Result (Option Piece) RunFault → Position → Position → ℤ → Told → List ℕ → List ℕ → Type 0
+GivesFound form (Ok (Some piece)) position after answer told old new = GivesPiece piece position after answer told old new
+GivesFound form (Ok None) position after answer told old new = IsMisused position after answer told old new
+GivesFound form (Err fault) position after answer told old new =
+    (after ≡ position) × Answers (IsRefusal (λ reason. (reason ≡ fault) ⊎ (reason ≡ Memory)) form) answer told old new
+
+-- What the call gives of so many bytes, from a position on. Where the lines before it have the text `before`: a piece of what comes then, or
+-- the line of the fault that comes, or that memory ran out.
+pub record GivesLines (AreBefore : Position → List ℕ → Type 0) (IsPiece : ℕ → List ℕ → Piece → Type 0) (FailsAfter : List ℕ → RunFault → Type 0)
+    (form : Form) (size : ℕ) (position after : Position) (answer : ℤ) (told : Told) (old new : List ℕ) : Type 0 where
+  pub misused : is_within position size ≡ false → IsMisused position after answer told old new
+  pub gives : (before : List ℕ) → AreBefore position before
+      → ((piece : Piece) × IsPiece (length old) before piece × GivesPiece piece position after answer told old new)
+      ⊎ ((after ≡ position) × Answers (IsRefusal (λ fault. FailsAfter before fault ⊎ (fault ≡ Memory)) form) answer told old new)
+
+abbrev pub GivesEntries : Form → List ℕ → Position → Position → ℤ → Told → List ℕ → List ℕ → Type 0
+GivesEntries form list position after answer told old new =
+    GivesLines (AreEntriesBefore form list) (IsEntryPiece form list) (FailsAfterEntries form list) form (length list) position after answer told
+    old new
+
+abbrev pub GivesEvents : List ℕ → Position → Position → ℤ → Told → List ℕ → List ℕ → Type 0
+GivesEvents log position after answer told old new =
+    GivesLines (AreEventsBefore log) (IsEventPiece log) (FailsAfterEvents log) Json (length log) position after answer told old new

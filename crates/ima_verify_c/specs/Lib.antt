@@ -1,4 +1,1 @@
-pub mod Told
-pub mod Asked
 pub mod Answers
-pub mod Lines

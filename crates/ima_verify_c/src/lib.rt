@@ -1,4 +1,4 @@
-//! The verifier for callers in C: verdicts, places, expected registers, registers, and by pieces entries and events, from bytes in the caller's
+//! The verifier for callers in C: verdicts, positions, expected registers, registers, and by pieces entries and events, from bytes in the caller's
 //! memory to a text in the caller's room. `bindings/c/ima_verify.h` says it to C, and has the functions that call these.
 //!
 //! Each call returns a number: 0 or 1 as the command of the same name exits, with its output in the room; 2 if an input is refused, or 3 if
@@ -8,23 +8,19 @@
 //! none.
 #![tactic(auto)]
 
-mod asking;
-mod giving;
+mod replies;
+mod requests;
 mod told;
 
 ghost use Rattle.std.specs.Prelude.{◌≡◌};
-ghost use Rattle.judging.specs.Asking.{ExpectedOf};
+ghost use Rattle.judging.specs.Requests.{ExpectedOf};
 ghost use Rattle.judging.specs.Inputs.{BytesOf};
-ghost use Rattle.ima_verify_c.specs.Answers.{Answers, AnswersMore, IsAnswerAndNext, IsAnswerTo};
-ghost use Rattle.ima_verify_c.specs.Asked.{asked_of_list, asked_of_more, asked_of_places, asked_of_registers, asked_of_verdict, form_of, interface_version, range_text};
-ghost use Rattle.ima_verify_c.specs.Lines.{GivesEntries, GivesEvents};
+ghost use Rattle.ima_verify_c.specs.Answers.{Answers, AnswersMore, GivesEntries, GivesEvents, IsAnswerAndNext, IsAnswerTo, requested_of_list, requested_of_more, requested_of_positions, requested_of_registers, requested_of_verdict, form_of, given_bytes, interface_version};
 
-use crate::asking::{
-    form_of, list_verdict_on, more_on, places_on, range_by, registers_on, verdict_on,
-};
-use crate::giving::{give, give_both, give_fault, give_misused, give_piece};
+use crate::replies::{give, give_both, give_lines};
+use crate::requests::{form_of, given_bytes, registers_on, requested_by, verdict_of};
 use ima_agent::Form;
-use judging::{Input, Request};
+use judging::{Input, Request, Required, Wanted};
 use pieces::{Position, entry_lines, event_lines};
 use std::alloc::Global;
 pub use told::Told;
@@ -40,70 +36,74 @@ pub extern "C" fn ima_verify_version() -> u32
 /// The verdict on a firmware event log, a measurement list and expected registers, as `verify` writes it: 0 if it is `match`, 1 if it
 /// is `differ`.
 #[unsafe(no_mangle)]
-pub extern "C" fn ima_verify_raw_verdict(
+pub extern "C" fn ima_verify_raw_verdict<'a>(
     alloc: Global,
-    log: &[u8],
-    list: &[u8],
-    expected: &[u8],
-    require: &[u8],
+    log: &'a [u8],
+    list: &'a [u8],
+    expected: &'a [u8],
+    require: &'a [u8],
     json: bool,
     out: &mut [u8],
     told: &mut Told,
 ) -> i32
-    ensures { Answers (IsAnswerTo (asked_of_verdict log.now list.now expected.now require.now) (form_of json)) result told.new out.old out.new }
+    ensures { Answers (IsAnswerTo (requested_of_verdict log.now list.now expected.now require.now) (form_of json)) result told.new out.old out.new }
 {
-    let asked = verdict_on(log, list, expected, require);
-    give(alloc, asked, form_of(json), out, told)
+    let verdict = verdict_of(log, b"", false);
+    let request = requested_by(Required::Nothing, verdict, list, expected, require);
+    give(alloc, request, form_of(json), out, told)
 }
 
 /// Where expected registers first have their values in a firmware event log and a measurement list, as `locate` writes it: 0 if some
 /// register is expected, each value was reached and none is missing, else 1.
 #[unsafe(no_mangle)]
-pub extern "C" fn ima_verify_raw_locate(
+pub extern "C" fn ima_verify_raw_locate<'a>(
     alloc: Global,
-    log: &[u8],
-    list: &[u8],
-    expected: &[u8],
-    require: &[u8],
+    log: &'a [u8],
+    list: &'a [u8],
+    expected: &'a [u8],
+    require: &'a [u8],
     json: bool,
     out: &mut [u8],
     told: &mut Told,
 ) -> i32
-    ensures { Answers (IsAnswerTo (asked_of_places log.now list.now expected.now require.now) (form_of json)) result told.new out.old out.new }
+    ensures { Answers (IsAnswerTo (requested_of_positions log.now list.now expected.now require.now) (form_of json)) result told.new out.old out.new }
 {
-    let asked = places_on(log, list, expected, require);
-    give(alloc, asked, form_of(json), out, told)
+    let log = Input::Bytes(log);
+    let positions = Wanted::Positions { log };
+    let request = requested_by(Required::Nothing, positions, list, expected, require);
+    give(alloc, request, form_of(json), out, told)
 }
 
 /// The verdict on a measurement list without a log, as `replay` writes it with expected registers: 0 if it is `match`, 1 if it is `differ`.
 #[unsafe(no_mangle)]
-pub extern "C" fn ima_verify_raw_replay(
+pub extern "C" fn ima_verify_raw_replay<'a>(
     alloc: Global,
-    list: &[u8],
-    expected: &[u8],
-    require: &[u8],
+    list: &'a [u8],
+    expected: &'a [u8],
+    require: &'a [u8],
     json: bool,
     out: &mut [u8],
     told: &mut Told,
 ) -> i32
-    ensures { Answers (IsAnswerTo (asked_of_list list.now expected.now require.now) (form_of json)) result told.new out.old out.new }
+    ensures { Answers (IsAnswerTo (requested_of_list list.now expected.now require.now) (form_of json)) result told.new out.old out.new }
 {
-    let asked = list_verdict_on(list, expected, require);
-    give(alloc, asked, form_of(json), out, told)
+    let alone = Wanted::ListVerdict;
+    let request = requested_by(Required::Nothing, alone, list, expected, require);
+    give(alloc, request, form_of(json), out, told)
 }
 
 /// The verdict on a list that grows, as `verify` writes it with `--prefix` and `--resume`, and in `next` the checkpoint that it saves with
 /// `--save`. `state` is the text of the checkpoint to go on from, and `more` are the list's bytes from there on; without `state`, all of
-/// them. `require` is `none` if it is enough that some register is expected. With `prefix` the report is on the confirmed front, if there is
+/// them. `require` is `none` if it is enough that some register is expected. With `prefix` the report is on the confirmed prefix, if there is
 /// one. There is a checkpoint with a verdict `match` alone: else `next_size` is 0.
 #[unsafe(no_mangle)]
-pub extern "C" fn ima_verify_raw_more(
+pub extern "C" fn ima_verify_raw_more<'a>(
     alloc: Global,
-    log: &[u8],
-    state: &[u8],
-    more: &[u8],
-    expected: &[u8],
-    require: &[u8],
+    log: &'a [u8],
+    state: &'a [u8],
+    more: &'a [u8],
+    expected: &'a [u8],
+    require: &'a [u8],
     prefix: bool,
     json: bool,
     next: &mut [u8],
@@ -111,11 +111,12 @@ pub extern "C" fn ima_verify_raw_more(
     out: &mut [u8],
     told: &mut Told,
 ) -> i32
-    ensures { AnswersMore (IsAnswerAndNext (asked_of_more log.now state.now more.now expected.now require.now prefix) (form_of json)) result
+    ensures { AnswersMore (IsAnswerAndNext (requested_of_more log.now state.now more.now expected.now require.now prefix) (form_of json)) result
         told.new out.old out.new next_size.new next.old next.new }
 {
-    let asked = more_on(log, state, more, expected, require, prefix);
-    give_both(alloc, asked, form_of(json), next, next_size, out, told)
+    let verdict = verdict_of(log, state, prefix);
+    let request = requested_by(Required::Any, verdict, more, expected, require);
+    give_both(alloc, request, form_of(json), next, next_size, out, told)
 }
 
 /// The expected registers that a text which tpm2_pcrread or tpm2_checkquote printed states within a range, as `0-10`, or all if that is
@@ -129,13 +130,13 @@ pub extern "C" fn ima_verify_raw_expected(
     out: &mut [u8],
     told: &mut Told,
 ) -> i32
-    ensures { Answers (IsAnswerTo (ExpectedOf (BytesOf printed.now) (range_text registers.now)) (form_of json)) result told.new out.old out.new }
+    ensures { Answers (IsAnswerTo (ExpectedOf (BytesOf printed.now) (given_bytes registers.now)) (form_of json)) result told.new out.old out.new }
 {
-    let asked = Request::Expected {
+    let request = Request::Expected {
         printed: Input::Bytes(printed),
-        range: range_by(registers),
+        range: given_bytes(registers),
     };
-    give(alloc, asked, form_of(json), out, told)
+    give(alloc, request, form_of(json), out, told)
 }
 
 /// The registers that differ from their reset values after a firmware event log, as `registers` writes them, or after a measurement list
@@ -149,10 +150,10 @@ pub extern "C" fn ima_verify_raw_registers(
     out: &mut [u8],
     told: &mut Told,
 ) -> i32
-    ensures { Answers (IsAnswerTo (asked_of_registers of_list bytes.now) (form_of json)) result told.new out.old out.new }
+    ensures { Answers (IsAnswerTo (requested_of_registers of_list bytes.now) (form_of json)) result told.new out.old out.new }
 {
-    let asked = registers_on(of_list, bytes);
-    give(alloc, asked, form_of(json), out, told)
+    let request = registers_on(of_list, bytes);
+    give(alloc, request, form_of(json), out, told)
 }
 
 /// The algorithms and the events of a firmware event log, as `events --json` writes them, from a position on: as many whole lines as there is
@@ -173,11 +174,8 @@ pub extern "C" fn ima_verify_raw_events(
         offset: *offset,
         number: *number,
     };
-    match event_lines(alloc, log, position, out.len()) {
-        Ok(Some(piece)) => give_piece(&piece, offset, number, out, told),
-        Ok(None) => give_misused(told),
-        Err(fault) => give_fault(alloc, Form::Json, &fault, out, told),
-    }
+    let found = event_lines(alloc, log, position, out.len());
+    give_lines(alloc, Form::Json, found, offset, number, out, told)
 }
 
 /// The entries of a measurement list, as `show` writes them, from a position on, as [`ima_verify_raw_events`] gives events.
@@ -199,9 +197,6 @@ pub extern "C" fn ima_verify_raw_entries(
         number: *number,
     };
     let form = form_of(json);
-    match entry_lines(alloc, list, position, form, out.len()) {
-        Ok(Some(piece)) => give_piece(&piece, offset, number, out, told),
-        Ok(None) => give_misused(told),
-        Err(fault) => give_fault(alloc, form, &fault, out, told),
-    }
+    let found = entry_lines(alloc, list, position, form, out.len());
+    give_lines(alloc, form, found, offset, number, out, told)
 }

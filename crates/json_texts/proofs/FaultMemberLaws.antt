@@ -1,24 +1,17 @@
 -- Only a fault's value has a member `fault`.
-use Rattle.std.proofs.Common.{◌≡◌, ℕ, Bool, true, false, cond, List, ◌++◌, Option, Some, None, refl, codes}
-use Rattle.std.specs.Prelude.{⊤, option_map}
+use Rattle.std.proofs.Common.{◌≡◌, ℕ, Bool, true, false, cond, List, Option, Some, None, refl, codes}
+use Rattle.std.specs.Prelude.{⊤}
 use Rattle.std.specs.Str.{bytes_eq, is_utf8}
-use Rattle.json.specs.Json.{Json, object, string, Members, no_members, member}
+use Rattle.json.specs.Json.{Json, object, Members, no_members, member}
 use Rattle.json.specs.Find.{get, get_member}
-use Rattle.boot_log.specs.EventTypes.{event_type_name}
-use Rattle.boot_log.specs.Spelling.{LogEvent}
 use Rattle.ima_list.specs.declared.template.Template.{Template}
 use Rattle.ima_list.specs.declared.template.Template.TheVariants.{Ima, ImaNg, ImaSig}
 use Rattle.ima_list.specs.ListEntry.{ListEntry}
 use Rattle.ima_list.specs.FieldKinds.{FileFields}
 use Rattle.ima_list.specs.Fields.{fields_of}
 use Rattle.ima_list.specs.Templates.{template_named}
-use Rattle.growing_lists.specs.declared.front_report.Unconfirmed.{Unconfirmed}
-use Rattle.boot_verdict.specs.declared.requirement.BankRange.{BankRange}
-use Rattle.boot_verdict.specs.Verdicts.{Verdict}
-use Rattle.json_texts.specs.JsonValues.{Member, members_of, optional}
+use Rattle.json_texts.specs.JsonValues.{members_of}
 use Rattle.json_texts.specs.EntryJson.{content_members, entry_json, signature_members}
-use Rattle.json_texts.specs.EventJson.{event_json}
-use Rattle.json_texts.specs.ReportJson.{front_report_json}
 
 abbrev the_name : List ℕ
 the_name = codes "fault"
@@ -58,17 +51,3 @@ entry_lacks number entry =
     let name = either (is_utf8 entry.name) (codes "template") (codes "template_hex") refl refl in
     let content = content_other (template_named entry.name) (fields_of entry) entry.payload in
     lacks (entry_json number entry) refl (refl, (refl, (name, (refl, (refl, (refl, content))))))
-
-optional_other : (value : Option (List ℕ)) (members : List Member) → AreOther (members_of members)
-    → AreOther (members_of (optional (codes "type") (option_map string value) ++ members))
-optional_other None members other = other
-optional_other (Some value) members other = (refl, other)
-
-pub event_lacks : (number : ℕ) (event : LogEvent) → get the_name (event_json number event) ≡ None
-event_lacks number event =
-    lacks (event_json number event) refl (refl, (refl, optional_other (event_type_name event.kind) _ (refl, (refl, (refl, tt)))))
-
-pub front_report_lacks : (required : Option (List BankRange)) (front : Verdict) (entries : ℕ) (unconfirmed : Option Unconfirmed)
-    → get the_name (front_report_json required front entries unconfirmed) ≡ None
-front_report_lacks required front entries None = refl
-front_report_lacks required front entries (Some fault) = refl

@@ -2,6 +2,7 @@
 use Rattle.std.proofs.Common.{◌≡◌, ℕ, suc, zero, ◌+◌, ◌%◌, ◌^◌, ◌<◌, ◌≤◌, Bool, true, false, cond, ◌&&◌, List, [], ◌∷◌, ◌++◌, Some, refl, sym, ap, subst, ◌∙◌, arith, decimal, inl, inr}
 use Rattle.std.specs.Prelude.{⊤, nat_le}
 use Rattle.std.specs.List.{AllByRecursion}
+use Rattle.std.proofs.ByRecursion.{All-append}
 use Rattle.std.proofs.lemmas.Bool.{and_from, and_parts, cases_eq, cases_lt, le-leb}
 use Rattle.std.proofs.lemmas.Fmt.{decimal_by_steps}
 use Rattle.std.proofs.lemmas.List.{append_cancel_right}
@@ -61,10 +62,6 @@ quoted_in_line s = joined (34 ∷ []) (escape s ++ 34 ∷ []) refl (joined (esca
 
 InLine : Token → Type 0
 InLine t = has_no_control (token_text t) ≡ true
-
-all_joined : (xs ys : List Token) → AllByRecursion InLine xs → AllByRecursion InLine ys → AllByRecursion InLine (xs ++ ys)
-all_joined [] ys first second = second
-all_joined (x ∷ xs) ys first second = (first.0, all_joined xs ys first.1 second)
 
 comma_in_line : (b : Bool) → has_no_control (cond b (44 ∷ []) []) ≡ true
 comma_in_line true = refl
@@ -138,7 +135,7 @@ mutual
   tokens_of_items (item j js) most is =
       let first = tokens j most is.0 in
       let rest = tokens_of_items js most is.1 in
-      ((first.0, rest.0), omega (arith, first.1, rest.1), all_joined (json_tokens j) (items_tokens js) first.2 rest.2)
+      ((first.0, rest.0), omega (arith, first.1, rest.1), All-append InLine (json_tokens j) (items_tokens js) first.2 rest.2)
 
   tokens_of_members : (ms : Members) (most : ℕ) → MembersArePlain ms most
       → MembersHaveNumbers ms × (members_depth ms ≤ most) × AllByRecursion InLine (members_tokens ms)
@@ -148,7 +145,7 @@ mutual
       let rest = tokens_of_members ms most is.1 in (
         (first.0, rest.0),
         omega (arith, first.1, rest.1),
-        (joined (quoted k) (58 ∷ []) (quoted_in_line k) refl, all_joined (json_tokens j) (members_tokens ms) first.2 rest.2),
+        (joined (quoted k) (58 ∷ []) (quoted_in_line k) refl, All-append InLine (json_tokens j) (members_tokens ms) first.2 rest.2),
       )
 
 pub one_line : (j : Json) → IsPlain j 3 → IsOneLine j

@@ -6,45 +6,37 @@ use Rattle.std.proofs.lemmas.List.Concat.{flat_map-append}
 use Rattle.json.specs.Json.{Json, string}
 use Rattle.hex.specs.Hex.{encode_lower}
 use Rattle.pcr_banks.specs.declared.alg.Alg.{Alg}
-use Rattle.pcr_banks.specs.declared.banks.Banks.{Banks}
 use Rattle.pcr_banks.specs.declared.sets.PerBank.{PerBank}
 use Rattle.pcr_banks.specs.Hashing.{all_algs, name_of}
-use Rattle.pcr_banks.specs.Registers.{value_at}
 use Rattle.pcr_banks.specs.Sets.{digest_in}
 use Rattle.boot_log.specs.declared.header.Row.{Row as TableRow}
-use Rattle.boot_log.specs.EventTypes.{event_type_name}
-use Rattle.boot_log.specs.Spelling.{IsRow, LogEvent}
+use Rattle.boot_log.specs.Spelling.{IsRow}
 use Rattle.pcr_banks.specs.Digests.{bytes_of}
 use Rattle.ima_list.specs.declared.fault.ListFault.TheVariants as lists
-use Rattle.ima_list.specs.declared.replaying.ReplayFault.TheVariants as replays
+use Rattle.ima_list.specs.declared.list_replay.ReplayFault.TheVariants as replays
 use Rattle.boot_verdict.specs.declared.expected.Expected.{Expected}
-use Rattle.growing_lists.specs.declared.front_report.Unconfirmed.{Unconfirmed}
-use Rattle.growing_lists.specs.declared.front_report.Unconfirmed.TheVariants as faults
-use Rattle.boot_verdict.specs.declared.places.Located.{Located}
-use Rattle.boot_verdict.specs.declared.places.Place.{Place}
-use Rattle.boot_verdict.specs.declared.places.Place.TheVariants as places
+use Rattle.boot_verdict.specs.declared.prefix_report.Unconfirmed.{Unconfirmed}
+use Rattle.boot_verdict.specs.declared.prefix_report.Unconfirmed.TheVariants as faults
+use Rattle.boot_verdict.specs.declared.positions.Position.{Position}
+use Rattle.boot_verdict.specs.declared.positions.Position.TheVariants as positions
 use Rattle.boot_verdict.specs.declared.report.Row.{Row}
 use Rattle.boot_verdict.specs.declared.report.State.{State}
 use Rattle.boot_verdict.specs.declared.report.State.TheVariants.{Match, Differ, Absent}
 use Rattle.boot_verdict.specs.declared.requirement.BankRange.{BankRange}
 use Rattle.boot_verdict.specs.EventTexts.{algorithm_with}
-use Rattle.growing_lists.specs.FrontTexts.{unconfirmed_entry, unconfirmed_kind, unconfirmed_message, unconfirmed_number}
-use Rattle.boot_verdict.specs.ListVerdicts.{ListVerdict}
+use Rattle.boot_verdict.specs.PrefixTexts.{unconfirmed_entry, unconfirmed_kind, unconfirmed_message, unconfirmed_number}
 use Rattle.boot_verdict.specs.declared.register_range.RegisterRange.{RegisterRange}
 use Rattle.boot_verdict.specs.RegisterRanges.{is_within}
 use Rattle.boot_verdict.specs.RegisterTexts.{all_registers, differs, every_register}
 use Rattle.boot_verdict.specs.Requirements.{is_missing}
-use Rattle.boot_verdict.specs.Verdicts.{Verdict}
 use Rattle.json_texts.specs.declared.faults.FaultPlace.{FaultPlace}
 use Rattle.json_texts.specs.declared.faults.FaultPlace.TheVariants.{Event, Entry}
-use Rattle.json_texts.specs.JsonValues.{IsCount, IsOneLine, Member, hex_json, items_of, number_json, optional}
-use Rattle.json_texts.specs.EventJson.{algorithm_json, algorithms_json, event_json}
-use Rattle.json_texts.specs.FaultJson.{fault_json, fault_members, number_at, place_members}
-use Rattle.json_texts.specs.PlaceJson as place
-use Rattle.json_texts.specs.PlaceJson.{IsCountedPlace, places_json}
-use Rattle.json_texts.specs.RegisterJson.{change_values, changed_register, expected_json, missing_among, register_json, registers_json, row_json, rows_values, value_if_missing, value_within}
-use Rattle.json_texts.specs.ReportJson.{front_report_json, list_report_json, report_json, report_rows, state_members, unconfirmed_members}
-use Rattle.json_texts.proofs.LineLaws.{ArePlain, IsPlain, ItemsArePlain, members_joined, one_line}
+use Rattle.json_texts.specs.JsonValues.{IsCount, Member, hex_json, items_of, number_json, optional}
+use Rattle.json_texts.specs.EventJson.{algorithm_json}
+use Rattle.json_texts.specs.FaultJson.{fault_members, number_at, place_members}
+use Rattle.json_texts.specs.ReportJson as position
+use Rattle.json_texts.specs.ReportJson.{IsCountedPosition, change_values, missing_among, register_json, row_json, rows_values, value_if_missing, value_within, report_rows, state_members, unconfirmed_members}
+use Rattle.json_texts.proofs.LineLaws.{ArePlain, IsPlain, ItemsArePlain, members_joined}
 
 -- ---- lists of values
 
@@ -56,12 +48,12 @@ rows_joined : (js ks : List Json) → AreRows js → AreRows ks → AreRows (js 
 rows_joined [] ks first second = second
 rows_joined (j ∷ js) ks first second = (first.0, rows_joined js ks first.1 second)
 
-each_plain : {A : Type 0} (Q : A → Type 0) (f : A → List Json) → ((x : A) → Q x → AreRows (f x)) → (xs : List A) → AllByRecursion Q xs
+pub each_plain : {A : Type 0} (Q : A → Type 0) (f : A → List Json) → ((x : A) → Q x → AreRows (f x)) → (xs : List A) → AllByRecursion Q xs
     → AreRows (flat_map f xs)
 each_plain Q f plain [] are = tt
 each_plain Q f plain (x ∷ xs) are = rows_joined (f x) (flat_map f xs) (plain x are.0) (each_plain Q f plain xs are.1)
 
-mapped_plain : {A : Type 0} (Q : A → Type 0) (f : A → Json) → ((x : A) → Q x → IsPlain (f x) 1) → (xs : List A) → AllByRecursion Q xs
+pub mapped_plain : {A : Type 0} (Q : A → Type 0) (f : A → Json) → ((x : A) → Q x → IsPlain (f x) 1) → (xs : List A) → AllByRecursion Q xs
     → AreRows (map f xs)
 mapped_plain Q f plain [] are = tt
 mapped_plain Q f plain (x ∷ xs) are = (plain x are.0, mapped_plain Q f plain xs are.1)
@@ -83,7 +75,7 @@ module _ (f : Alg → ℕ → List Json) (plain : (alg : Alg) (r : ℕ) → IsCo
       rw (flat_map-append value bank (flat_map (λ alg. map (λ r. (alg, r)) (range_with_len 0 24)) algs))
       (rows_joined (flat_map value bank) _ (bank_plain alg 0 24 (omega arith)) (banks_plain algs))
 
-  of_each_register : AreRows (flat_map (λ register. f register.0 register.1) every_register)
+  pub of_each_register : AreRows (flat_map (λ register. f register.0 register.1) every_register)
   unfolding every_register all_registers value
   of_each_register = banks_plain all_algs
 
@@ -103,7 +95,7 @@ place_of_fault (Some (Event number)) fits = ((number, fits, refl), tt)
 place_of_fault (Some (Entry number)) fits = ((number, fits, refl), tt)
 
 -- What is told of a fault.
-told_plain : (kind : List ℕ) (number : Option ℕ) (place : Option FaultPlace) (message : List ℕ)
+pub told_plain : (kind : List ℕ) (number : Option ℕ) (place : Option FaultPlace) (message : List ℕ)
     → IfSome number IsCount → IfSome place (λ at. IsCount (number_at at)) → ArePlain (fault_members kind number place message) 1
 told_plain kind number place message fits placed = (
   tt,
@@ -111,35 +103,19 @@ told_plain kind number place message fits placed = (
       (members_joined 1 (place_members place) _ (place_of_fault place placed) (tt, tt)),
 )
 
-pub fault_line : (kind : List ℕ) (number : Option ℕ) (place : Option FaultPlace) (message : List ℕ)
-    → IfSome number IsCount → IfSome place (λ at. IsCount (number_at at)) → IsOneLine (fault_json kind number place message)
-fault_line kind number place message fits placed =
-    one_line (fault_json kind number place message) (told_plain kind number place message fits placed, tt)
-
 -- ---- registers
 
 register_plain : (alg : Alg) (register : ℕ) (value : List ℕ) → IsCount register → IsPlain (register_json alg register value) 1
 register_plain alg register value fits = (tt, ((register, fits, refl), (tt, tt)))
 
-change_plain : (alg : Alg) (register : ℕ) (before now : Option (List ℕ)) → IsCount register → AreRows (change_values alg register before now)
+pub change_plain : (alg : Alg) (register : ℕ) (before now : Option (List ℕ)) → IsCount register → AreRows (change_values alg register before now)
 change_plain alg register before None fits = tt
 change_plain alg register before (Some value) fits =
     if_plain (differs before value) (register_json alg register value) (register_plain alg register value fits)
 
-pub registers_line : (now start : Banks) → IsOneLine (registers_json now start)
-registers_line now start =
-    let all = of_each_register (changed_register now start) (λ alg r. change_plain alg r (value_at start alg r) (value_at now alg r)) in
-    one_line (registers_json now start) (all, tt)
-
-within_plain : (range : RegisterRange) (e : Expected) → IsCount e.register → AreRows (value_within range e)
+pub within_plain : (range : RegisterRange) (e : Expected) → IsCount e.register → AreRows (value_within range e)
 within_plain range e fits =
     if_plain (is_within range e.register) (register_json e.alg e.register (bytes_of e.value)) (register_plain e.alg e.register (bytes_of e.value) fits)
-
-pub expected_line : (range : RegisterRange) (expected : List Expected) → AllByRecursion (λ e. IsCount e.register) expected
-    → IsOneLine (expected_json range expected)
-expected_line range expected fit =
-    let all = each_plain (λ e. IsCount e.register) (value_within range) (within_plain range) expected fit in
-    one_line (expected_json range expected) (all, tt)
 
 -- ---- required registers
 
@@ -150,7 +126,7 @@ missing_plain name (Some ranges) expected =
     (λ alg r fits. if_plain (is_missing ranges expected alg r) (row_json alg r ((name, string (codes "missing")) ∷ [])) (tt, ((r, fits, refl), (tt, tt))))
 
 -- Rows, of which some are of each kind.
-rows_plain : {A : Type 0} (Q : A → Type 0) (name : List ℕ) (expected_of : A → Expected) (members_of : A → List Member)
+pub rows_plain : {A : Type 0} (Q : A → Type 0) (name : List ℕ) (expected_of : A → Expected) (members_of : A → List Member)
     → ((row : A) → Q row → IsCount (expected_of row).register × ArePlain (members_of row) 0) → (required : Option (List BankRange)) (rows : List A)
     → AllByRecursion Q rows → AreRows (rows_values name expected_of members_of required rows)
 rows_plain {A} Q name expected_of members_of plain required rows fit =
@@ -166,26 +142,11 @@ state_plain Match = (tt, tt)
 state_plain (Differ value) = (tt, (tt, tt))
 state_plain Absent = (tt, tt)
 
-report_plain : (required : Option (List BankRange)) (rows : List Row) → AllByRecursion (λ row. IsCount row.expected.register) rows
+pub report_plain : (required : Option (List BankRange)) (rows : List Row) → AllByRecursion (λ row. IsCount row.expected.register) rows
     → IsPlain (report_rows required rows) 2
 report_plain required rows fit =
     rows_plain (λ row. IsCount row.expected.register) (codes "state") (λ row. row.expected) (λ row. state_members row.state)
     (λ row is. (is, state_plain row.state)) required rows fit
-
-pub report_line : (required : Option (List BankRange)) (is_match : Bool) (verdict : Verdict)
-    → IsCount verdict.events → IsCount verdict.locality → IsCount verdict.entries
-    → AllByRecursion (λ row. IsCount row.expected.register) verdict.rows → IsOneLine (report_json required is_match verdict)
-report_line required is_match verdict events locality entries rows =
-    one_line (report_json required is_match verdict) (
-      (verdict.events, events, refl),
-      (
-        (verdict.locality, locality, refl),
-        (
-          (verdict.entries, entries, refl),
-          (tt, (report_plain required verdict.rows rows, (tt, tt))),
-        ),
-      ),
-    )
 
 number_after : (fault : Unconfirmed) → IsCount (unconfirmed_number fault)
 number_after (faults.List (lists.Truncated entry)) = omega arith
@@ -198,7 +159,7 @@ place_after : (entry : Option ℕ) → IfSome entry IsCount → IfSome (option_m
 place_after None fits = tt
 place_after (Some entry) fits = fits
 
-unconfirmed_plain : (unconfirmed : Option Unconfirmed) → IfSome unconfirmed (λ fault. IfSome (unconfirmed_entry fault) IsCount)
+pub unconfirmed_plain : (unconfirmed : Option Unconfirmed) → IfSome unconfirmed (λ fault. IfSome (unconfirmed_entry fault) IsCount)
     → ArePlain (unconfirmed_members unconfirmed) 2
 unconfirmed_plain None fits = tt
 unconfirmed_plain (Some fault) fits = (
@@ -207,80 +168,32 @@ unconfirmed_plain (Some fault) fits = (
   tt,
 )
 
-pub front_report_line : (required : Option (List BankRange)) (front : Verdict) (entries : ℕ) (unconfirmed : Option Unconfirmed)
-    → IsCount front.events → IsCount front.locality → IsCount front.entries → IsCount entries
-    → IfSome unconfirmed (λ fault. IfSome (unconfirmed_entry fault) IsCount)
-    → AllByRecursion (λ row. IsCount row.expected.register) front.rows → IsOneLine (front_report_json required front entries unconfirmed)
-front_report_line required front entries unconfirmed events locality confirmed all after rows =
-    one_line (front_report_json required front entries unconfirmed) (
-      (front.events, events, refl),
-      (
-        (front.locality, locality, refl),
-        (
-          (entries, all, refl),
-          (
-            (front.entries, confirmed, refl),
-            members_joined 2 (unconfirmed_members unconfirmed) _ (unconfirmed_plain unconfirmed after)
-                (tt, (report_plain required front.rows rows, (tt, tt))),
-          ),
-        ),
-      ),
-    )
-
-pub list_report_line : (required : Option (List BankRange)) (verdict : ListVerdict) → IsCount verdict.entries
-    → AllByRecursion (λ row. IsCount row.expected.register) verdict.rows → IsOneLine (list_report_json required verdict)
-list_report_line required verdict entries rows =
-    one_line (list_report_json required verdict) ((verdict.entries, entries, refl), (report_plain required verdict.rows rows, (tt, tt)))
-
 -- ---- places
 
-place_plain : (at : Place) → IsCountedPlace at → ArePlain (place.place_members at) 0
-place_plain places.Reset fits = (tt, tt)
-place_plain (places.Event number) fits = (tt, ((number, fits, refl), tt))
-place_plain (places.Entry number) fits = (tt, ((number, fits, refl), tt))
-place_plain places.Nowhere fits = (tt, tt)
-place_plain places.Absent fits = (tt, tt)
-
-pub places_line : (required : Option (List BankRange)) (located : List Located)
-    → AllByRecursion (λ row. IsCount row.expected.register × IsCountedPlace row.place) located → IsOneLine (places_json required located)
-places_line required located fit =
-    let rows = rows_plain (λ row. IsCount row.expected.register × IsCountedPlace row.place) (codes "place") (λ row. row.expected)
-    (λ row. place.place_members row.place) (λ row is. (is.0, place_plain row.place is.1)) required located fit in
-    one_line (places_json required located) (rows, (tt, tt))
+pub position_plain : (at : Position) → IsCountedPosition at → ArePlain (position.position_members at) 0
+position_plain positions.Reset fits = (tt, tt)
+position_plain (positions.Event number) fits = (tt, ((number, fits, refl), tt))
+position_plain (positions.Entry number) fits = (tt, ((number, fits, refl), tt))
+position_plain positions.Nowhere fits = (tt, tt)
+position_plain positions.Absent fits = (tt, tt)
 
 -- ---- events
 
 -- A text, if there is one.
-text_plain : {A : Type 0} (most : ℕ) (name : List ℕ) (text : A → List ℕ) (value : Option A)
+pub text_plain : {A : Type 0} (most : ℕ) (name : List ℕ) (text : A → List ℕ) (value : Option A)
     → ArePlain (optional name (option_map (λ x. string (text x)) value)) most
 text_plain most name text None = tt
 text_plain most name text (Some x) = (tt, tt)
 
-algorithm_plain : (row : TableRow) → IsRow row → IsPlain (algorithm_json row) 1
+pub algorithm_plain : (row : TableRow) → IsRow row → IsPlain (algorithm_json row) 1
 algorithm_plain row is =
     members_joined 0 (optional (codes "name") (option_map (λ alg. string (name_of alg)) (algorithm_with row.id))) _
     (text_plain 0 (codes "name") name_of (algorithm_with row.id))
     ((row.id, omega (arith, is.id_fits), refl), ((row.size, omega (arith, is.size_fits), refl), tt))
 
-pub algorithms_line : (rows : List TableRow) → AllByRecursion IsRow rows → IsOneLine (algorithms_json rows)
-algorithms_line rows are = one_line (algorithms_json rows) (mapped_plain IsRow algorithm_json algorithm_plain rows are, tt)
-
-digests_plain : (digests : PerBank) (algs : List Alg)
+pub digests_plain : (digests : PerBank) (algs : List Alg)
     → ArePlain (flat_map (λ alg. optional (name_of alg) (option_map hex_json (digest_in digests alg))) algs) 1
 digests_plain digests [] = tt
 digests_plain digests (alg ∷ algs) =
     members_joined 1 (optional (name_of alg) (option_map hex_json (digest_in digests alg))) _
     (text_plain 1 (name_of alg) encode_lower (digest_in digests alg)) (digests_plain digests algs)
-
-pub event_line : (number : ℕ) (event : LogEvent) → IsCount number → IsCount event.register → IsCount event.kind
-    → IsOneLine (event_json number event)
-event_line number event count register kind =
-    one_line (event_json number event) (
-      (number, count, refl),
-      (
-        (event.register, register, refl),
-        members_joined 2 (optional (codes "type") (option_map string (event_type_name event.kind))) _
-            (text_plain 2 (codes "type") (λ name. name) (event_type_name event.kind))
-            ((event.kind, kind, refl), (digests_plain event.digests all_algs, (tt, tt))),
-      ),
-    )

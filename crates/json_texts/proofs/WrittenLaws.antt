@@ -1,66 +1,135 @@
 -- Tokens of members and of items that are written one after another.
-use Rattle.std.proofs.Common.{◌≡◌, zero, suc, arith, ℕ, ◌+◌, ◌<◌, List, [], ◌∷◌, ◌++◌, length, get_or, take, map, refl, sym, ap, ◌∙◌, append_assoc}
+use Rattle.std.proofs.Common.{◌≡◌, zero, suc, arith, ℕ, ◌+◌, ◌<◌, List, [], ◌∷◌, ◌++◌, Ok, length, get_or, take, map, refl, sym, ap, subst, ◌∙◌, append_assoc, append-nil}
 use Rattle.std.specs.Prelude.{flat_map}
 use Rattle.std.proofs.lemmas.List.{flat_map_more, take_more}
 use Rattle.std.proofs.lemmas.List.Concat.{flat_map-append}
 use Rattle.std.proofs.lemmas.List.Folds.{flat_map-map}
 use Rattle.std.proofs.Math.Seq.{take-length}
 use Rattle.std.specs.Str.{IsAscii, IsUtf8}
+use Rattle.std.specs.declared.alloc.AllocError.{AllocError}
 use Rattle.std.proofs.lemmas.Str.{IsUtf8-append, IsUtf8-from_ascii}
 use Rattle.json.specs.Token.{Token}
 use Rattle.json.specs.Json.{Json}
 use Rattle.json.specs.Tree.{items_tokens, json_tokens, members_tokens}
-use Rattle.json_texts.specs.JsonValues.{Member, items_of, members_of}
-use Rattle.json_texts.specs.parts.WrittenParts.{items_written, member_tokens, members_written}
+use Rattle.json.specs.Written.{Writes, Written}
+use Rattle.json_texts.specs.JsonValues.{Member, array_of, items_of, members_of, object_of}
+use Rattle.json_texts.specs.parts.WrittenParts.{WritesItems, WritesMembers, WritesValue, items_written, member_tokens, members_written}
 
 -- The tokens of an object's members, and its end.
-pub members_and_end : (ms : List Member) → members_tokens (members_of ms) ≡ members_written ms ++ Token.end_object ∷ []
+members_and_end : (ms : List Member) → members_tokens (members_of ms) ≡ members_written ms ++ Token.end_object ∷ []
 members_and_end [] = refl
 members_and_end (m ∷ ms) =
     ap (λ (ts : List Token). Token.key m.0 ∷ (json_tokens m.1 ++ ts)) (members_and_end ms)
     ∙ sym (append_assoc (member_tokens m) (members_written ms) (Token.end_object ∷ []))
 
 -- The tokens of an array's items, and its end.
-pub items_and_end : (js : List Json) → items_tokens (items_of js) ≡ items_written js ++ Token.end_array ∷ []
+items_and_end : (js : List Json) → items_tokens (items_of js) ≡ items_written js ++ Token.end_array ∷ []
 items_and_end [] = refl
 items_and_end (j ∷ js) =
     ap (λ (ts : List Token). json_tokens j ++ ts) (items_and_end js)
     ∙ sym (append_assoc (json_tokens j) (items_written js) (Token.end_array ∷ []))
 
-pub members_joined : (ms ns : List Member) → members_written (ms ++ ns) ≡ members_written ms ++ members_written ns
-members_joined ms ns = flat_map-append member_tokens ms ns
+-- Two runs of tokens, one after another.
+one_run : (start first second : List Token) {mid last : List Token} → mid ≡ start ++ first → last ≡ mid ++ second
+    → last ≡ start ++ (first ++ second)
+one_run start first second before after =
+    after ∙ ap (λ (ts : List Token). ts ++ second) before ∙ append_assoc start first second
 
-pub items_joined : (js ks : List Json) → items_written (js ++ ks) ≡ items_written js ++ items_written ks
-items_joined js ks = flat_map-append json_tokens js ks
+module _ {E : Type 0} {old mid new : Written} where
+  pub joined : {ms ns : List Member} → WritesMembers {E = E} (Ok tt) old mid ms → WritesMembers {E = E} (Ok tt) mid new ns
+      → WritesMembers {E = E} (Ok tt) old new (ms ++ ns)
+  joined {ms} {ns} first second = record {
+    before = second.before ∙ first.before;
+    tokens = one_run old.tokens (members_written ms) (members_written ns) first.tokens second.tokens
+        ∙ ap (λ (ts : List Token). old.tokens ++ ts) (sym (flat_map-append member_tokens ms ns));
+  }
+
+  pub items_joined : {js ks : List Json} → WritesItems {E = E} (Ok tt) old mid js → WritesItems {E = E} (Ok tt) mid new ks
+      → WritesItems {E = E} (Ok tt) old new (js ++ ks)
+  items_joined {js} {ks} first second = record {
+    before = second.before ∙ first.before;
+    tokens = one_run old.tokens (items_written js) (items_written ks) first.tokens second.tokens
+        ∙ ap (λ (ts : List Token). old.tokens ++ ts) (sym (flat_map-append json_tokens js ks));
+  }
+
+  -- A key and a value are a member.
+  pub named : {name : List ℕ} {value : Json} → Writes {E = E} (Ok tt) old mid (Token.key name) → WritesValue {E = E} (Ok tt) mid new value
+      → WritesMembers {E = E} (Ok tt) old new ((name, value) ∷ [])
+  named {name} {value} key written = record {
+    before = written.before ∙ key.room.0;
+    tokens = one_run old.tokens (Token.key name ∷ []) (json_tokens value) key.ok written.tokens
+        ∙ ap (λ (ts : List Token). old.tokens ++ ts) (sym (append-nil (Token.key name ∷ json_tokens value)));
+  }
+
+module _ {E : Type 0} {old opened closed new : Written} where
+  pub in_object : {ms : List Member} → Writes {E = E} (Ok tt) old opened Token.begin_object → WritesMembers {E = E} (Ok tt) opened closed ms
+      → Writes {E = E} (Ok tt) closed new Token.end_object → WritesValue {E = E} (Ok tt) old new (object_of ms)
+  in_object {ms} first members last = record {
+    before = last.room.0 ∙ members.before ∙ first.room.0;
+    tokens = one_run old.tokens (Token.begin_object ∷ []) (members_written ms ++ Token.end_object ∷ []) first.ok
+        (one_run opened.tokens (members_written ms) (Token.end_object ∷ []) members.tokens last.ok)
+        ∙ ap (λ (ts : List Token). old.tokens ++ Token.begin_object ∷ ts) (sym (members_and_end ms));
+  }
+
+  pub in_array : {js : List Json} → Writes {E = E} (Ok tt) old opened Token.begin_array → WritesItems {E = E} (Ok tt) opened closed js
+      → Writes {E = E} (Ok tt) closed new Token.end_array → WritesValue {E = E} (Ok tt) old new (array_of js)
+  in_array {js} first items last = record {
+    before = last.room.0 ∙ items.before ∙ first.room.0;
+    tokens = one_run old.tokens (Token.begin_array ∷ []) (items_written js ++ Token.end_array ∷ []) first.ok
+        (one_run opened.tokens (items_written js) (Token.end_array ∷ []) items.tokens last.ok)
+        ∙ ap (λ (ts : List Token). old.tokens ++ Token.begin_array ∷ ts) (sym (items_and_end js));
+  }
 
 -- The tokens of what one thing more gives.
-pub more_written : {X Y : Type 0} (g : Y → List Token) (f : X → List Y) (xs : List X) (i : ℕ) (d : X) (start now next : List Token) → i < length xs
+more_written : {X Y : Type 0} (g : Y → List Token) (f : X → List Y) (xs : List X) (i : ℕ) (d : X) (start now next : List Token) → i < length xs
     → now ≡ start ++ flat_map g (flat_map f (take i xs)) → next ≡ now ++ flat_map g (f (get_or xs i d))
     → next ≡ start ++ flat_map g (flat_map f (take (i + 1) xs))
 more_written {X} {Y} g f xs i d start now next lt before more =
     let x = get_or xs i d in
     let so-far = flat_map f (take i xs) in
-    more ∙ ap (λ (ts : List Token). ts ++ flat_map g (f x)) before ∙ append_assoc start (flat_map g so-far) (flat_map g (f x))
+    one_run start (flat_map g so-far) (flat_map g (f x)) before more
     ∙ ap (λ (ts : List Token). start ++ ts)
     (sym (flat_map-append g so-far (f x))
     ∙ ap (λ (ys : List Y). flat_map g ys) (flat_map_more f [] (take i xs) x ∙ ap (λ (ys : List X). flat_map f ys) (sym (take_more xs i d lt))))
 
--- The tokens of one item more.
-pub more_mapped : {X : Type 0} (f : X → Json) (xs : List X) (i : ℕ) (d : X) (start now next : List Token) → i < length xs
-    → now ≡ start ++ items_written (map f (take i xs)) → next ≡ now ++ json_tokens (f (get_or xs i d))
-    → next ≡ start ++ items_written (map f (take (i + 1) xs))
-more_mapped {X} f xs i d start now next lt before more =
-    let tokens = λ (x : X). json_tokens (f x) in
-    let same = λ (ys : List X). ap (λ (ts : List Token). start ++ ts) (flat_map-map json_tokens f ys) in
-    more ∙ ap (λ (ts : List Token). ts ++ tokens (get_or xs i d)) (before ∙ same (take i xs))
-    ∙ flat_map_more tokens start (take i xs) (get_or xs i d)
-    ∙ ap (λ (ys : List X). start ++ flat_map tokens ys) (sym (take_more xs i d lt)) ∙ sym (same (take (i + 1) xs))
+module _ {E X : Type 0} {start now next : Written} (xs : List X) (i : ℕ) (d : X) (within : i < length xs) where
+  -- What one thing more gives, in an array or in an object.
+  pub more_items : (f : X → List Json) → WritesItems {E = E} (Ok tt) start now (flat_map f (take i xs))
+      → WritesItems {E = E} (Ok tt) now next (f (get_or xs i d)) → WritesItems {E = E} (Ok tt) start next (flat_map f (take (i + 1) xs))
+  more_items f before more = record {
+    before = more.before ∙ before.before;
+    tokens = more_written json_tokens f xs i d start.tokens now.tokens next.tokens within before.tokens more.tokens;
+  }
 
--- The tokens of all.
-pub all_written : {X : Type 0} (F : List X → List Token) (xs : List X) (i : ℕ) (start now : List Token) → i ≡ length xs
-    → now ≡ start ++ F (take i xs) → now ≡ start ++ F xs
-all_written {X} F xs i start now all before =
-    before ∙ ap (λ (n : ℕ). start ++ F (take n xs)) all ∙ ap (λ (ys : List X). start ++ F ys) (take-length xs)
+  pub more_members : (f : X → List Member) → WritesMembers {E = E} (Ok tt) start now (flat_map f (take i xs))
+      → WritesMembers {E = E} (Ok tt) now next (f (get_or xs i d)) → WritesMembers {E = E} (Ok tt) start next (flat_map f (take (i + 1) xs))
+  more_members f before more = record {
+    before = more.before ∙ before.before;
+    tokens = more_written member_tokens f xs i d start.tokens now.tokens next.tokens within before.tokens more.tokens;
+  }
+
+  pub more_mapped : (f : X → Json) → WritesItems {E = E} (Ok tt) start now (map f (take i xs))
+      → WritesValue {E = E} (Ok tt) now next (f (get_or xs i d)) → WritesItems {E = E} (Ok tt) start next (map f (take (i + 1) xs))
+  more_mapped f before more =
+      let tokens = λ (x : X). json_tokens (f x) in
+      let same = λ (ys : List X). ap (λ (ts : List Token). start.tokens ++ ts) (flat_map-map json_tokens f ys) in
+      record {
+        before = more.before ∙ before.before;
+        tokens =
+            more.tokens ∙ ap (λ (ts : List Token). ts ++ tokens (get_or xs i d)) (before.tokens ∙ same (take i xs))
+            ∙ flat_map_more tokens start.tokens (take i xs) (get_or xs i d)
+            ∙ ap (λ (ys : List X). start.tokens ++ flat_map tokens ys) (sym (take_more xs i d within)) ∙ sym (same (take (i + 1) xs));
+      }
+
+-- What a loop has written, in which nothing was refused.
+abbrev pub HasItems : Written → Written → List Json → Type 0
+HasItems old new values = WritesItems {E = AllocError} (Ok tt) old new values
+
+-- All of them are taken.
+pub all_items : {E X : Type 0} {old now : Written} (f : List X → List Json) (xs : List X) (i : ℕ) → i ≡ length xs
+    → WritesItems {E = E} (Ok tt) old now (f (take i xs)) → WritesItems {E = E} (Ok tt) old now (f xs)
+all_items {E} {old = old} {now = now} f xs i all written =
+    subst (λ ys. WritesItems {E = E} (Ok tt) old now (f ys)) (ap (λ (n : ℕ). take n xs) all ∙ take-length xs) written
 
 line_feed : IsAscii (10 ∷ [])
 line_feed zero = omega arith

@@ -1,7 +1,6 @@
 -- A refusal as JSON. The members and their order are this project's choice.
 use Rattle.std.specs.Prelude.{ℕ, List, [], ◌∷◌, ◌++◌, codes, Option, Some, None, option_map}
-use Rattle.json.specs.Json.{Json}
-use Rattle.json.specs.Json as json
+use Rattle.json.specs.Json.{Json, string}
 use Rattle.json_texts.specs.declared.faults.FaultPlace.{FaultPlace}
 use Rattle.json_texts.specs.declared.faults.FaultPlace.TheVariants.{Event, Entry}
 use Rattle.json_texts.specs.JsonValues.{Member, number_json, object_of, optional}
@@ -20,8 +19,8 @@ number_at (Entry number) = number
 -- What is told of the fault.
 abbrev pub fault_members : List ℕ → Option ℕ → Option FaultPlace → List ℕ → List Member
 fault_members kind number place message =
-    (codes "kind", json.string kind)
-    ∷ (optional (codes "number") (option_map number_json number) ++ (place_members place ++ (codes "message", json.string message) ∷ []))
+    (codes "kind", string kind)
+    ∷ (optional (codes "number") (option_map number_json number) ++ (place_members place ++ (codes "message", string message) ∷ []))
 
 -- A fault, in an object of its own. A law says that no other value has a member `fault`.
 abbrev pub fault_json : List ℕ → Option ℕ → Option FaultPlace → List ℕ → Json

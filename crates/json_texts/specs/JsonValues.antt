@@ -1,4 +1,4 @@
--- JSON (RFC 8259) as this crate writes it: its values, and their lines. All of this is this project's choice.
+-- JSON (RFC 8259) as this crate writes it: its values, and their lines.
 use Rattle.std.specs.Prelude.{◌≡◌, ℕ, ◌^◌, ◌<◌, nat_le, Bool, true, if◌then◌else◌, List, [], ◌∷◌, ◌++◌, codes, decimal, Option, None, Some, Result, OnOk, OnErr}
 use Rattle.std.specs.List.{list_all}
 use Rattle.std.specs.Str.{IsUtf8, is_utf8}

@@ -1,9 +1,7 @@
 pub mod JsonValues
 pub mod EntryJson
 pub mod FaultJson
-pub mod RegisterJson
 pub mod ReportJson
-pub mod PlaceJson
 pub mod EventJson
 pub mod ItemLines
 pub mod SentEntries

@@ -1,28 +1,95 @@
--- Reports as JSON, with the words of their texts. The members and their order are this project's choice.
-use Rattle.std.specs.Prelude.{ℕ, Bool, true, false, List, [], ◌∷◌, ◌++◌, codes, Option, Some, None, option_map}
-use Rattle.json.specs.Json.{Json}
-use Rattle.json.specs.Json as json
+-- Registers, reports and positions as JSON. The members and their order are this project's choice.
+use Rattle.std.specs.Prelude.{ℕ, List, [], ◌∷◌, ◌++◌, codes, flat_map, map, if◌then◌else◌, Option, Some, None, Bool, true, false, option_map, ⊤}
+use Rattle.json.specs.Json.{Json, string, boolean}
+use Rattle.pcr_banks.specs.declared.alg.Alg.{Alg}
+use Rattle.pcr_banks.specs.declared.banks.Banks.{Banks}
+use Rattle.pcr_banks.specs.Hashing.{name_of}
+use Rattle.pcr_banks.specs.Registers.{value_at}
 use Rattle.pcr_banks.specs.Digests.{bytes_of}
-use Rattle.growing_lists.specs.declared.front_report.Unconfirmed.{Unconfirmed}
+use Rattle.boot_verdict.specs.declared.expected.Expected.{Expected}
+use Rattle.boot_verdict.specs.declared.requirement.BankRange.{BankRange}
+use Rattle.boot_verdict.specs.declared.register_range.RegisterRange.{RegisterRange}
+use Rattle.boot_verdict.specs.RegisterRanges.{is_within}
+use Rattle.boot_verdict.specs.RegisterTexts.{differs, every_register}
+use Rattle.boot_verdict.specs.Requirements.{is_missing, required_matches, required_found}
+use Rattle.json_texts.specs.JsonValues.{Member, array_of, hex_json, number_json, object_of, IsCount}
+use Rattle.boot_verdict.specs.declared.prefix_report.Unconfirmed.{Unconfirmed}
 use Rattle.boot_verdict.specs.declared.report.Row.{Row}
 use Rattle.boot_verdict.specs.declared.report.State.{State}
 use Rattle.boot_verdict.specs.declared.report.State.TheVariants.{Match, Differ, Absent}
-use Rattle.boot_verdict.specs.declared.requirement.BankRange.{BankRange}
-use Rattle.growing_lists.specs.FrontTexts.{unconfirmed_entry, unconfirmed_kind, unconfirmed_message, unconfirmed_number}
+use Rattle.boot_verdict.specs.PrefixTexts.{unconfirmed_entry, unconfirmed_kind, unconfirmed_message, unconfirmed_number}
 use Rattle.boot_verdict.specs.ListVerdicts.{ListVerdict, list_matches, required_list_matches}
 use Rattle.boot_verdict.specs.ReportTexts.{aggregate_word}
-use Rattle.boot_verdict.specs.Requirements.{required_matches}
 use Rattle.boot_verdict.specs.Verdicts.{Verdict, matches}
 use Rattle.json_texts.specs.declared.faults.FaultPlace.TheVariants.{Entry}
 use Rattle.json_texts.specs.FaultJson.{fault_members}
-use Rattle.json_texts.specs.JsonValues.{Member, array_of, hex_json, number_json, object_of}
-use Rattle.json_texts.specs.RegisterJson.{rows_values}
+use Rattle.boot_verdict.specs.declared.positions.Located.{Located}
+use Rattle.boot_verdict.specs.declared.positions.Position.{Position}
+use Rattle.boot_verdict.specs.declared.positions.Position.TheVariants as positions
+use Rattle.boot_verdict.specs.Positions.{all_found}
+
+-- Which register it is: the bank's algorithm by name, and the number.
+abbrev pub register_members : Alg → ℕ → List Member
+register_members alg register = (codes "bank", string (name_of alg)) ∷ (codes "register", number_json register) ∷ []
+
+-- A register, and what is said of it.
+abbrev pub row_json : Alg → ℕ → List Member → Json
+row_json alg register members = object_of (register_members alg register ++ members)
+
+abbrev pub register_json : Alg → ℕ → List ℕ → Json
+register_json alg register value = row_json alg register ((codes "value", hex_json value) ∷ [])
+
+-- The register, if its value differs from the one before, or there was none; nothing if it has no value now.
+abbrev pub change_values : Alg → ℕ → Option (List ℕ) → Option (List ℕ) → List Json
+change_values alg register before None = []
+change_values alg register before (Some value) = if differs before value then register_json alg register value ∷ [] else []
+
+-- The register of a bank, if it differs from the start.
+abbrev pub changed_register : Banks → Banks → Alg → ℕ → List Json
+changed_register now start alg register = change_values alg register (value_at start alg register) (value_at now alg register)
+
+-- All that differ: the ones of which `registers_text` has a line.
+abbrev pub registers_json : Banks → Banks → Json
+registers_json now start =
+    object_of ((codes "registers", array_of (flat_map (λ register. changed_register now start register.0 register.1) every_register)) ∷ [])
+
+-- ---- expected registers
+
+-- An expected register within the range; nothing if it is not within it.
+abbrev pub value_within : RegisterRange → Expected → List Json
+value_within range expected =
+    if is_within range expected.register then register_json expected.alg expected.register (bytes_of expected.value) ∷ [] else []
+
+-- Those within the range, in order: the ones of which `expected_text` has a line.
+abbrev pub expected_json : RegisterRange → List Expected → Json
+expected_json range expected = object_of ((codes "registers", array_of (flat_map (value_within range) expected)) ∷ [])
+
+-- ---- rows
+
+-- The required register, if it is missing: `missing` under this name; nothing for any other.
+abbrev pub value_if_missing : List ℕ → List BankRange → List Expected → Alg → ℕ → List Json
+value_if_missing name ranges expected alg register =
+    if is_missing ranges expected alg register then row_json alg register ((name, string (codes "missing")) ∷ []) ∷ [] else []
+
+-- All that are missing; none where nothing is required.
+abbrev pub missing_among : List ℕ → Option (List BankRange) → List Expected → List Json
+missing_among name None expected = []
+missing_among name (Some ranges) expected =
+    flat_map (λ register. value_if_missing name ranges expected register.0 register.1) every_register
+
+-- The expected registers, each with what its row says of it, and then the required ones that have no row.
+abbrev pub rows_values : {A : Type 0} → List ℕ → (A → Expected) → (A → List Member) → Option (List BankRange) → List A → List Json
+rows_values name expected_of members_of required rows =
+    map (λ row. row_json (expected_of row).alg (expected_of row).register (members_of row)) rows
+    ++ missing_among name required (map expected_of rows)
+
+-- ---- reports
 
 -- How a register compares, and its value if it is another one.
 abbrev pub state_members : State → List Member
-state_members Match = (codes "state", json.string (codes "match")) ∷ []
-state_members (Differ value) = (codes "state", json.string (codes "differ")) ∷ (codes "value", hex_json (bytes_of value)) ∷ []
-state_members Absent = (codes "state", json.string (codes "absent")) ∷ []
+state_members Match = (codes "state", string (codes "match")) ∷ []
+state_members (Differ value) = (codes "state", string (codes "differ")) ∷ (codes "value", hex_json (bytes_of value)) ∷ []
+state_members Absent = (codes "state", string (codes "absent")) ∷ []
 
 -- The rows, and then the required registers that have none.
 abbrev pub report_rows : Option (List BankRange) → List Row → Json
@@ -49,18 +116,18 @@ count_members events locality entries =
 -- What comes after the counts, with whether it is a match.
 abbrev pub outcome_members : Option (List BankRange) → Bool → Verdict → List Member
 outcome_members required is_match verdict =
-    (codes "boot_aggregate", json.string (aggregate_word verdict.aggregate))
+    (codes "boot_aggregate", string (aggregate_word verdict.aggregate))
     ∷ (codes "registers", report_rows required verdict.rows)
-    ∷ (codes "verdict", json.string (verdict_word is_match))
+    ∷ (codes "verdict", string (verdict_word is_match))
     ∷ []
 
 abbrev pub report_json : Option (List BankRange) → Bool → Verdict → Json
 report_json required is_match verdict =
     object_of (count_members verdict.events verdict.locality verdict.entries ++ outcome_members required is_match verdict)
 
--- ---- a report on a confirmed front
+-- ---- a report on a confirmed prefix
 
--- What is wrong after the front, told as a fault is.
+-- What is wrong after the prefix, told as a fault is.
 abbrev pub unconfirmed_members : Option Unconfirmed → List Member
 unconfirmed_members None = []
 unconfirmed_members (Some fault) = (
@@ -70,12 +137,12 @@ unconfirmed_members (Some fault) = (
 )
     ∷ []
 
--- The counts of the whole list, of which the front has the verdict; how much of it is confirmed, and what is wrong after that; then what
--- comes after the counts of a report on the front.
-abbrev pub front_report_json : Option (List BankRange) → Verdict → ℕ → Option Unconfirmed → Json
-front_report_json required front entries unconfirmed =
-    object_of (count_members front.events front.locality entries ++ (codes "confirmed", number_json front.entries)
-    ∷ (unconfirmed_members unconfirmed ++ outcome_members required (meets required front) front))
+-- The counts of the whole list, of which the prefix has the verdict; how much of it is confirmed, and what is wrong after that; then what
+-- comes after the counts of a report on the prefix.
+abbrev pub prefix_report_json : Option (List BankRange) → Verdict → ℕ → Option Unconfirmed → Json
+prefix_report_json required prefix entries unconfirmed =
+    object_of (count_members prefix.events prefix.locality entries ++ (codes "confirmed", number_json prefix.entries)
+    ∷ (unconfirmed_members unconfirmed ++ outcome_members required (meets required prefix) prefix))
 
 -- ---- a report on a list alone
 
@@ -87,5 +154,33 @@ abbrev pub list_report_json : Option (List BankRange) → ListVerdict → Json
 list_report_json required verdict = object_of (
     (codes "entries", number_json verdict.entries)
     ∷ (codes "registers", report_rows required verdict.rows)
-    ∷ (codes "verdict", json.string (verdict_word (list_meets required verdict)))
+    ∷ (codes "verdict", string (verdict_word (list_meets required verdict)))
+    ∷ [])
+
+-- ---- positions
+
+-- A position in one word, and the number of the event or entry: events count from 1, entries from 0.
+abbrev pub position_members : Position → List Member
+position_members positions.Reset = (codes "place", string (codes "reset")) ∷ []
+position_members (positions.Event number) = (codes "place", string (codes "event")) ∷ (codes "number", number_json number) ∷ []
+position_members (positions.Entry number) = (codes "place", string (codes "entry")) ∷ (codes "number", number_json number) ∷ []
+position_members positions.Nowhere = (codes "place", string (codes "nowhere")) ∷ []
+position_members positions.Absent = (codes "place", string (codes "absent")) ∷ []
+
+-- The number of the event or entry, if there is one, fits.
+abbrev pub IsCountedPosition : Position → Type 0
+IsCountedPosition (positions.Event number) = IsCount number
+IsCountedPosition (positions.Entry number) = IsCount number
+IsCountedPosition position = ⊤
+
+-- Whether some register is expected, each value was reached at some position, and no register is missing.
+abbrev pub finds : Option (List BankRange) → List Located → Bool
+finds None located = all_found located
+finds (Some ranges) located = required_found ranges located
+
+-- The positions, then the required registers that have none, and whether they are located.
+abbrev pub positions_json : Option (List BankRange) → List Located → Json
+positions_json required located = object_of (
+    (codes "registers", array_of (rows_values (codes "place") (λ row. row.expected) (λ row. position_members row.position) required located))
+    ∷ (codes "located", boolean (finds required located))
     ∷ [])

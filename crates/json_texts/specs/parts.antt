@@ -1,4 +1,1 @@
 pub mod WrittenParts
-pub mod KnownEntries
-pub mod EntryLinesParts
-pub mod EventLinesParts

@@ -11,23 +11,20 @@ ghost use Rattle.ima_list.specs.Digesting.{IsGenuine};
 ghost use Rattle.ima_list.specs.FieldKinds.{FileFields};
 ghost use Rattle.ima_list.specs.Fields.{HasFields, fields_of};
 ghost use Rattle.boot_verdict.specs.declared.expected.Expected.{Expected};
-ghost use Rattle.growing_lists.specs.declared.front_report.Unconfirmed.{Unconfirmed};
+ghost use Rattle.boot_verdict.specs.declared.prefix_report.Unconfirmed.{Unconfirmed};
 ghost use Rattle.boot_verdict.specs.declared.register_range.RegisterRange.{RegisterRange};
-ghost use Rattle.boot_verdict.specs.declared.places.Located.{Located};
+ghost use Rattle.boot_verdict.specs.declared.positions.Located.{Located};
 ghost use Rattle.boot_verdict.specs.declared.requirement.BankRange.{BankRange};
-ghost use Rattle.growing_lists.specs.FrontTexts.{unconfirmed_entry};
+ghost use Rattle.boot_verdict.specs.PrefixTexts.{unconfirmed_entry};
 ghost use Rattle.boot_verdict.specs.ListVerdicts.{ListVerdict};
 ghost use Rattle.boot_verdict.specs.Verdicts.{Verdict};
 ghost use Rattle.json.specs.Find.{get};
 ghost use Rattle.json_texts.specs.declared.faults.FaultPlace.{FaultPlace};
 ghost use Rattle.json_texts.specs.JsonValues.{IsCount, IsOneLine, line_of, object_of};
-ghost use Rattle.json_texts.specs.EntryJson.{entry_json, is_genuine};
+ghost use Rattle.json_texts.specs.EntryJson.{HasBytes, IsKnown, entry_json, is_genuine};
 ghost use Rattle.json_texts.specs.EventJson.{algorithms_json, event_json};
 ghost use Rattle.json_texts.specs.FaultJson.{fault_json, fault_members, number_at};
-ghost use Rattle.json_texts.specs.PlaceJson.{IsCountedPlace, places_json};
-ghost use Rattle.json_texts.specs.RegisterJson.{expected_json, registers_json};
-ghost use Rattle.json_texts.specs.ReportJson.{front_report_json, list_report_json, report_json};
-ghost use Rattle.json_texts.specs.parts.KnownEntries.{HasBytes, IsKnown};
+ghost use Rattle.json_texts.specs.ReportJson.{IsCountedPosition, positions_json, expected_json, registers_json, prefix_report_json, list_report_json, report_json};
 
 use ima_list::EntryRef;
 
@@ -43,16 +40,16 @@ pub fn each_value_is_one_line()
     ensures report { (required : Option (List BankRange)) (is_match : Bool) (verdict : Verdict)
         → IsCount verdict.events → IsCount verdict.locality → IsCount verdict.entries
         → AllByRecursion (λ row. IsCount row.expected.register) verdict.rows → IsOneLine (report_json required is_match verdict) }
-    ensures front_report { (required : Option (List BankRange)) (front : Verdict) (entries : ℕ) (unconfirmed : Option Unconfirmed)
-        → IsCount front.events → IsCount front.locality → IsCount front.entries → IsCount entries
+    ensures prefix_report { (required : Option (List BankRange)) (prefix : Verdict) (entries : ℕ) (unconfirmed : Option Unconfirmed)
+        → IsCount prefix.events → IsCount prefix.locality → IsCount prefix.entries → IsCount entries
         → IfSome unconfirmed (λ fault. IfSome (unconfirmed_entry fault) IsCount)
-        → AllByRecursion (λ row. IsCount row.expected.register) front.rows
-        → IsOneLine (front_report_json required front entries unconfirmed) }
+        → AllByRecursion (λ row. IsCount row.expected.register) prefix.rows
+        → IsOneLine (prefix_report_json required prefix entries unconfirmed) }
     ensures list_report { (required : Option (List BankRange)) (verdict : ListVerdict) → IsCount verdict.entries
         → AllByRecursion (λ row. IsCount row.expected.register) verdict.rows → IsOneLine (list_report_json required verdict) }
-    ensures places { (required : Option (List BankRange)) (located : List Located)
-        → AllByRecursion (λ row. IsCount row.expected.register × IsCountedPlace row.place) located
-        → IsOneLine (places_json required located) }
+    ensures positions { (required : Option (List BankRange)) (located : List Located)
+        → AllByRecursion (λ row. IsCount row.expected.register × IsCountedPosition row.position) located
+        → IsOneLine (positions_json required located) }
     ensures fault { (kind : List ℕ) (number : Option ℕ) (place : Option FaultPlace) (message : List ℕ)
         → IfSome number IsCount → IfSome place (λ at. IsCount (number_at at)) → IsOneLine (fault_json kind number place message) }
 {}
@@ -68,12 +65,12 @@ pub fn only_faults_have_a_fault()
     ensures expected { (range : RegisterRange) (expected : List Expected) → get (codes "fault") (expected_json range expected) ≡ None }
     ensures report { (required : Option (List BankRange)) (is_match : Bool) (verdict : Verdict)
         → get (codes "fault") (report_json required is_match verdict) ≡ None }
-    ensures front_report { (required : Option (List BankRange)) (front : Verdict) (entries : ℕ) (unconfirmed : Option Unconfirmed)
-        → get (codes "fault") (front_report_json required front entries unconfirmed) ≡ None }
+    ensures prefix_report { (required : Option (List BankRange)) (prefix : Verdict) (entries : ℕ) (unconfirmed : Option Unconfirmed)
+        → get (codes "fault") (prefix_report_json required prefix entries unconfirmed) ≡ None }
     ensures list_report { (required : Option (List BankRange)) (verdict : ListVerdict)
         → get (codes "fault") (list_report_json required verdict) ≡ None }
-    ensures places { (required : Option (List BankRange)) (located : List Located)
-        → get (codes "fault") (places_json required located) ≡ None }
+    ensures positions { (required : Option (List BankRange)) (located : List Located)
+        → get (codes "fault") (positions_json required located) ≡ None }
 {}
 
 /// An entry's line says that it is genuine exactly where it is.

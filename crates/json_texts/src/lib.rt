@@ -1,4 +1,4 @@
-//! What this project tells, as lines of JSON (RFC 8259): reports, places, registers, a log's events, a list's entries, and faults.
+//! What this project tells, as lines of JSON (RFC 8259): reports, positions, registers, a log's events, a list's entries, and faults.
 //!
 //! Each value is an object on one line, in UTF-8. Its members have a fixed order. Numbers are JSON numbers; digests and data are strings
 //! of lower case hexadecimal digits. A line is appended to a vector of the caller's; [`send_entries`] sends the lines of a list to a sink,
@@ -9,13 +9,11 @@ mod entries;
 mod entry_lines;
 mod event_lines;
 mod events;
-mod expected;
 mod faults;
-mod front_reports;
 pub mod laws;
 mod lines;
 mod members;
-mod places;
+mod positions;
 mod registers;
 mod reports;
 mod rows;
@@ -24,9 +22,8 @@ pub use entries::append_entry;
 pub use entry_lines::{EntriesFault, send_entries};
 pub use event_lines::{EventsFault, send_events};
 pub use events::{append_algorithms, append_event};
-pub use expected::append_expected;
 pub use faults::{FaultPlace, FaultText, append_fault};
-pub use front_reports::append_front_report;
-pub use places::{append_places, finds};
-pub use registers::append_registers;
-pub use reports::{append_list_report, append_report, list_meets, meets};
+pub use lines::Written;
+pub use positions::{append_positions, finds};
+pub use registers::{append_expected, append_registers};
+pub use reports::{append_list_report, append_prefix_report, append_report, list_meets, meets};

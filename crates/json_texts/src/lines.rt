@@ -10,6 +10,9 @@ use json::Writer;
 use std::alloc::{AllocError, Global};
 use std::mem;
 
+/// What a call gives that writes: it fails only if memory runs out.
+pub type Written = Result<(), AllocError>;
+
 /// Sends all bytes of the vector, and empties it; it keeps its room for the next line. After `Err` the sink has taken a prefix of
 /// them, and the vector is empty too.
 pub(crate) fn send_line<S: Sink>(line: &mut Vec<u8>, sink: &mut S) -> Result<(), Failed>
@@ -21,24 +24,21 @@ pub(crate) fn send_line<S: Sink>(line: &mut Vec<u8>, sink: &mut S) -> Result<(),
     sent
 }
 
-/// A writer that goes on after the vector's bytes, and has its room.
-pub(crate) fn begin_line(alloc: Global, line: &mut Vec<u8>) -> Writer
-    ensures before { result.before ≡ line.old.items }
-    ensures tokens { result.tokens ≡ [] }
+/// A writer that goes on after the vector's bytes, and has its room; and their number.
+pub(crate) fn begin_line(alloc: Global, line: &mut Vec<u8>) -> (Writer, usize)
+    ensures before { result.0.before ≡ line.old.items }
+    ensures tokens { result.0.tokens ≡ [] }
+    ensures start { result.1 ≡ length line.old.items }
 {
-    Writer::new(mem::replace(line, Vec::new(alloc)))
+    let start = line.len();
+    (Writer::new(mem::replace(line, Vec::new(alloc))), start)
 }
 
-/// Gives the vector the bytes of a writer that began after `start` bytes, and a line feed; without what the writer added, if
+/// Gives the vector the bytes of a writer that began after `from` bytes, and a line feed; without what the writer added, if
 /// that was refused or the line feed is.
 #[tactic(auto, using(crate::proofs::WrittenLaws::with_line_feed))]
-pub(crate) fn end_line(
-    written: Result<(), AllocError>,
-    writer: Writer,
-    start: usize,
-    line: &mut Vec<u8>,
-) -> Result<(), AllocError>
-    requires { start ≡ length writer.before }
+pub(crate) fn end_line(written: Written, writer: Writer, from: usize, line: &mut Vec<u8>) -> Written
+    requires { from ≡ length writer.before }
     ensures written { OnOk result (IsOk written) }
     ensures ok { OnOk result (line.new.items ≡ writer.before ++ (print writer.tokens ++ codes "\n")) }
     ensures utf8 { OnOk result (IsUtf8 (print writer.tokens ++ codes "\n")) }
@@ -47,13 +47,13 @@ pub(crate) fn end_line(
     *line = writer.into_inner();
     let ended = end(written, line);
     if ended.is_err() {
-        line.truncate(start);
+        line.truncate(from);
     }
     ended
 }
 
 // Appends the line feed, if the line was written.
-fn end(written: Result<(), AllocError>, line: &mut Vec<u8>) -> Result<(), AllocError>
+fn end(written: Written, line: &mut Vec<u8>) -> Written
     ensures written { OnOk result (IsOk written) }
     ensures ok { OnOk result (line.new.items ≡ line.old.items ++ codes "\n") }
     ensures err { OnErr result (line.new.items ≡ line.old.items) }

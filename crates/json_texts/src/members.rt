@@ -1,17 +1,17 @@
 //! Writers of members.
 
-ghost use Rattle.std.specs.Prelude.{◌≡◌, [], ◌∷◌};
+ghost use Rattle.std.specs.Prelude.{[], ◌∷◌};
 ghost use Rattle.json.specs.Json.{boolean, string};
 ghost use Rattle.json_texts.specs.JsonValues.{hex_json, number_json, shown_member};
 ghost use Rattle.json_texts.specs.parts.WrittenParts.{WritesMembers};
 
+use crate::lines::Written;
 use json::Writer;
-use std::alloc::{AllocError, Global};
+use std::alloc::Global;
 
 /// Writes a member with a number.
-pub(crate) fn write_number(name: &str, number: u64, writer: &mut Writer) -> Result<(), AllocError>
-    ensures before { writer.new.before ≡ writer.old.before }
-    ensures tokens { WritesMembers result writer.old writer.new ((name.now, number_json number) ∷ []) }
+pub(crate) fn write_number(name: &str, number: u64, writer: &mut Writer) -> Written
+    ensures { WritesMembers result writer.old writer.new ((name.now, number_json number) ∷ []) }
 {
     writer.key(name)?;
     writer.u64(number)?;
@@ -19,9 +19,8 @@ pub(crate) fn write_number(name: &str, number: u64, writer: &mut Writer) -> Resu
 }
 
 /// Writes a member with a truth value.
-pub(crate) fn write_flag(name: &str, flag: bool, writer: &mut Writer) -> Result<(), AllocError>
-    ensures before { writer.new.before ≡ writer.old.before }
-    ensures tokens { WritesMembers result writer.old writer.new ((name.now, boolean flag) ∷ []) }
+pub(crate) fn write_flag(name: &str, flag: bool, writer: &mut Writer) -> Written
+    ensures { WritesMembers result writer.old writer.new ((name.now, boolean flag) ∷ []) }
 {
     writer.key(name)?;
     writer.boolean(flag)?;
@@ -29,9 +28,8 @@ pub(crate) fn write_flag(name: &str, flag: bool, writer: &mut Writer) -> Result<
 }
 
 /// Writes a member with a text.
-pub(crate) fn write_text(name: &str, text: &str, writer: &mut Writer) -> Result<(), AllocError>
-    ensures before { writer.new.before ≡ writer.old.before }
-    ensures tokens { WritesMembers result writer.old writer.new ((name.now, string text.now) ∷ []) }
+pub(crate) fn write_text(name: &str, text: &str, writer: &mut Writer) -> Written
+    ensures { WritesMembers result writer.old writer.new ((name.now, string text.now) ∷ []) }
 {
     writer.key(name)?;
     writer.string(text)?;
@@ -39,18 +37,11 @@ pub(crate) fn write_text(name: &str, text: &str, writer: &mut Writer) -> Result<
 }
 
 /// Writes a member with bytes in hexadecimal.
-pub(crate) fn write_hex(
-    alloc: Global,
-    name: &str,
-    bytes: &[u8],
-    writer: &mut Writer,
-) -> Result<(), AllocError>
-    ensures before { writer.new.before ≡ writer.old.before }
-    ensures tokens { WritesMembers result writer.old writer.new ((name.now, hex_json bytes.now) ∷ []) }
+pub(crate) fn write_hex(alloc: Global, name: &str, bytes: &[u8], writer: &mut Writer) -> Written
+    ensures { WritesMembers result writer.old writer.new ((name.now, hex_json bytes.now) ∷ []) }
 {
     let digits = hex::encode(alloc, bytes)?;
-    write_text(name, &digits, writer)?;
-    Ok(())
+    write_text(name, &digits, writer)
 }
 
 /// Writes a member that shows bytes: as text, or under the other name in hexadecimal where they are not UTF-8.
@@ -60,18 +51,11 @@ pub(crate) fn write_shown(
     hex_name: &str,
     bytes: &[u8],
     writer: &mut Writer,
-) -> Result<(), AllocError>
-    ensures before { writer.new.before ≡ writer.old.before }
-    ensures tokens { WritesMembers result writer.old writer.new (shown_member name.now hex_name.now bytes.now ∷ []) }
+) -> Written
+    ensures { WritesMembers result writer.old writer.new (shown_member name.now hex_name.now bytes.now ∷ []) }
 {
     match std::str::from_utf8(bytes) {
-        Ok(text) => {
-            write_text(name, text, writer)?;
-            Ok(())
-        }
-        Err(_) => {
-            write_hex(alloc, hex_name, bytes, writer)?;
-            Ok(())
-        }
+        Ok(text) => write_text(name, text, writer),
+        Err(_) => write_hex(alloc, hex_name, bytes, writer),
     }
 }

@@ -1,20 +1,25 @@
 //! The lines of reports.
 
-ghost use Rattle.std.specs.Prelude.{◌≡◌, option_map};
+ghost use Rattle.std.specs.Prelude.{◌≡◌, option_copied, option_map};
+ghost use Rattle.boot_verdict.specs.PrefixTexts.{unconfirmed_entry};
 ghost use Rattle.boot_verdict.specs.declared.report.State.TheVariants.{Differ};
 ghost use Rattle.boot_verdict.specs.ListVerdicts.{list_verdict_of};
 ghost use Rattle.boot_verdict.specs.Verdicts.{verdict_of};
+ghost use Rattle.json_texts.specs.declared.faults.FaultPlace.TheVariants.{Entry};
 ghost use Rattle.json_texts.specs.JsonValues.{AppendsLine};
-ghost use Rattle.json_texts.specs.ReportJson.{count_members, list_meets, list_report_json, meets, outcome_members, report_json, state_members, verdict_word};
+ghost use Rattle.json_texts.specs.ReportJson.{count_members, prefix_report_json, list_meets, list_report_json, meets, outcome_members, report_json, state_members, unconfirmed_members, verdict_word};
 ghost use Rattle.json_texts.specs.parts.WrittenParts.{WritesMembers, WritesValue};
 
-use crate::lines::{begin_line, end_line};
+use crate::faults::{FaultPlace, FaultText, write_fault_member};
+use crate::lines::{Written, begin_line, end_line};
 use crate::members::{write_hex, write_number, write_text};
 use crate::rows::{Says, write_rows};
-use boot_verdict::{ListReport, Report, Requirement, Row, State, aggregate_word};
+use boot_verdict::{
+    ListReport, PrefixReport, Report, Requirement, Row, State, Unconfirmed, aggregate_word,
+};
 use json::Writer;
 use pcr_banks::Digest;
-use std::alloc::{AllocError, Global};
+use std::alloc::Global;
 
 /// Appends the line of a report, in the words of [`boot_verdict::write_report`], or of [`boot_verdict::write_required_report`] where
 /// registers are required; the verdict is `match` if the caller says so.
@@ -31,12 +36,11 @@ pub fn append_report(
     requirement: Option<&Requirement>,
     is_match: bool,
     line: &mut Vec<u8>,
-) -> Result<(), AllocError>
+) -> Written
     ensures { AppendsLine result line.old.items line.new.items
-        (report_json (option_map (λ ranges. ranges.now) requirement.entry) is_match (verdict_of report.now)) }
+        (report_json (option_copied requirement.entry) is_match (verdict_of report.now)) }
 {
-    let start = line.len();
-    let mut writer = begin_line(alloc, line);
+    let (mut writer, start) = begin_line(alloc, line);
     let written = write_report(alloc, report, requirement, is_match, &mut writer);
     end_line(written, writer, start, line)
 }
@@ -49,13 +53,34 @@ pub fn append_list_report(
     report: &ListReport,
     requirement: Option<&Requirement>,
     line: &mut Vec<u8>,
-) -> Result<(), AllocError>
+) -> Written
     ensures { AppendsLine result line.old.items line.new.items
-        (list_report_json (option_map (λ ranges. ranges.now) requirement.entry) (list_verdict_of report.now)) }
+        (list_report_json (option_copied requirement.entry) (list_verdict_of report.now)) }
 {
-    let start = line.len();
-    let mut writer = begin_line(alloc, line);
+    let (mut writer, start) = begin_line(alloc, line);
     let written = write_list_report(alloc, report, requirement, &mut writer);
+    end_line(written, writer, start, line)
+}
+
+/// Appends the line of a report on a confirmed prefix, in the words of [`boot_verdict::write_prefix_report`], or of
+/// [`boot_verdict::write_required_prefix_report`] where registers are required.
+///
+/// Its members are those of [`append_report`], of which `entries` has the number of entries of the whole list. After it is
+/// `confirmed`, the number of entries of the prefix, and if something is wrong after the prefix `unconfirmed`, an object with `kind`, which is
+/// `list` or `replay`; `number`; `entry`, where the fault names one; and `message`, the fault in words.
+///
+/// Fails only if memory runs out; the vector then is as before.
+pub fn append_prefix_report(
+    alloc: Global,
+    prefix: &PrefixReport,
+    requirement: Option<&Requirement>,
+    line: &mut Vec<u8>,
+) -> Written
+    ensures { AppendsLine result line.old.items line.new.items
+        (prefix_report_json (option_copied requirement.entry) (verdict_of prefix.now.report) prefix.now.entries prefix.now.unconfirmed) }
+{
+    let (mut writer, start) = begin_line(alloc, line);
+    let written = write_prefix_report(alloc, prefix, requirement, &mut writer);
     end_line(written, writer, start, line)
 }
 
@@ -65,10 +90,8 @@ fn write_report(
     requirement: Option<&Requirement>,
     is_match: bool,
     writer: &mut Writer,
-) -> Result<(), AllocError>
-    ensures before { writer.new.before ≡ writer.old.before }
-    ensures tokens { WritesValue result writer.old writer.new
-        (report_json (option_map (λ ranges. ranges.now) requirement.entry) is_match (verdict_of report.now)) }
+) -> Written
+    ensures { WritesValue result writer.old writer.new (report_json (option_copied requirement.entry) is_match (verdict_of report.now)) }
 {
     writer.begin_object()?;
     write_counts(report.events, report.locality, report.entries, writer)?;
@@ -77,15 +100,9 @@ fn write_report(
     Ok(())
 }
 
-/// Writes the members of events, locality and entries.
-pub(crate) fn write_counts(
-    events: usize,
-    locality: u8,
-    entries: usize,
-    writer: &mut Writer,
-) -> Result<(), AllocError>
-    ensures before { writer.new.before ≡ writer.old.before }
-    ensures tokens { WritesMembers result writer.old writer.new (count_members events locality entries) }
+// Writes the members of events, locality and entries.
+fn write_counts(events: usize, locality: u8, entries: usize, writer: &mut Writer) -> Written
+    ensures { WritesMembers result writer.old writer.new (count_members events locality entries) }
 {
     write_number("events", events as u64, writer)?;
     write_number("locality", locality as u64, writer)?;
@@ -93,17 +110,16 @@ pub(crate) fn write_counts(
     Ok(())
 }
 
-/// Writes the members that come after the counts.
-pub(crate) fn write_outcome(
+// Writes the members that come after the counts.
+fn write_outcome(
     alloc: Global,
     report: &Report,
     requirement: Option<&Requirement>,
     is_match: bool,
     writer: &mut Writer,
-) -> Result<(), AllocError>
-    ensures before { writer.new.before ≡ writer.old.before }
-    ensures tokens { WritesMembers result writer.old writer.new
-        (outcome_members (option_map (λ ranges. ranges.now) requirement.entry) is_match (verdict_of report.now)) }
+) -> Written
+    ensures { WritesMembers result writer.old writer.new
+        (outcome_members (option_copied requirement.entry) is_match (verdict_of report.now)) }
 {
     write_text("boot_aggregate", aggregate_word(report.aggregate), writer)?;
     write_rows(alloc, "state", &report.rows, requirement, writer)?;
@@ -113,7 +129,7 @@ pub(crate) fn write_outcome(
 
 /// Whether the report matches and no required register is missing.
 pub fn meets(report: &Report, requirement: Option<&Requirement>) -> bool
-    ensures { result ≡ meets (option_map (λ ranges. ranges.now) requirement.entry) (verdict_of report.now) }
+    ensures { result ≡ meets (option_copied requirement.entry) (verdict_of report.now) }
 {
     match requirement {
         Some(requirement) => report.meets(requirement),
@@ -126,23 +142,66 @@ fn write_list_report(
     report: &ListReport,
     requirement: Option<&Requirement>,
     writer: &mut Writer,
-) -> Result<(), AllocError>
-    ensures before { writer.new.before ≡ writer.old.before }
-    ensures tokens { WritesValue result writer.old writer.new
-        (list_report_json (option_map (λ ranges. ranges.now) requirement.entry) (list_verdict_of report.now)) }
+) -> Written
+    ensures { WritesValue result writer.old writer.new (list_report_json (option_copied requirement.entry) (list_verdict_of report.now)) }
 {
-    let is_match = list_meets(report, requirement);
+    let word = verdict_word(list_meets(report, requirement));
     writer.begin_object()?;
     write_number("entries", report.entries as u64, writer)?;
     write_rows(alloc, "state", &report.rows, requirement, writer)?;
-    write_text("verdict", verdict_word(is_match), writer)?;
+    write_text("verdict", word, writer)?;
     writer.end_object()?;
     Ok(())
 }
 
+fn write_prefix_report(
+    alloc: Global,
+    prefix: &PrefixReport,
+    requirement: Option<&Requirement>,
+    writer: &mut Writer,
+) -> Written
+    ensures { WritesValue result writer.old writer.new
+        (prefix_report_json (option_copied requirement.entry) (verdict_of prefix.now.report) prefix.now.entries prefix.now.unconfirmed) }
+{
+    let report = &prefix.report;
+    let is_met = meets(report, requirement);
+    writer.begin_object()?;
+    write_counts(report.events, report.locality, prefix.entries, writer)?;
+    write_number("confirmed", report.entries as u64, writer)?;
+    write_unconfirmed(alloc, prefix.unconfirmed, writer)?;
+    write_outcome(alloc, report, requirement, is_met, writer)?;
+    writer.end_object()?;
+    Ok(())
+}
+
+// Writes the member of what is wrong after the prefix, if anything.
+fn write_unconfirmed(alloc: Global, after: Option<Unconfirmed>, writer: &mut Writer) -> Written
+    ensures { WritesMembers result writer.old writer.new (unconfirmed_members after) }
+{
+    let Some(fault) = after else { return Ok(()) };
+    let message = fault.message(alloc)?;
+    let text = FaultText {
+        kind: fault.kind(),
+        number: Some(fault.number()),
+        place: place_of(fault),
+        message: &message,
+    };
+    write_fault_member("unconfirmed", &text, writer)
+}
+
+// The place of a fault that names an entry.
+fn place_of(fault: Unconfirmed) -> Option<FaultPlace>
+    ensures { result ≡ option_map Entry (unconfirmed_entry fault) }
+{
+    match fault.entry() {
+        Some(entry) => Some(FaultPlace::Entry(entry)),
+        None => None,
+    }
+}
+
 /// Whether the report on a list alone matches and no required register is missing.
 pub fn list_meets(report: &ListReport, requirement: Option<&Requirement>) -> bool
-    ensures { result ≡ list_meets (option_map (λ ranges. ranges.now) requirement.entry) (list_verdict_of report.now) }
+    ensures { result ≡ list_meets (option_copied requirement.entry) (list_verdict_of report.now) }
 {
     match requirement {
         Some(requirement) => report.meets(requirement),
@@ -159,7 +218,7 @@ fn verdict_word(is_match: bool) -> &'static str
 impl Says for Row {
     ghost members_of = { λ row. state_members row.state };
 
-    fn write_members(&self, alloc: Global, writer: &mut Writer) -> Result<(), AllocError> {
+    fn write_members(&self, alloc: Global, writer: &mut Writer) -> Written {
         match self.state {
             State::Match => write_text("state", "match", writer),
             State::Differ(value) => write_differing(alloc, &value, writer),
@@ -169,9 +228,8 @@ impl Says for Row {
 }
 
 // Writes that a register differs, and its value.
-fn write_differing(alloc: Global, value: &Digest, writer: &mut Writer) -> Result<(), AllocError>
-    ensures before { writer.new.before ≡ writer.old.before }
-    ensures tokens { WritesMembers result writer.old writer.new (state_members (Differ value.now)) }
+fn write_differing(alloc: Global, value: &Digest, writer: &mut Writer) -> Written
+    ensures { WritesMembers result writer.old writer.new (state_members (Differ value.now)) }
 {
     write_text("state", "differ", writer)?;
     write_hex(alloc, "value", value.bytes(), writer)?;

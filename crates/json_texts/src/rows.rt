@@ -1,26 +1,25 @@
 //! Rows of registers, and the required registers that have none.
 
-ghost use Rattle.std.specs.Prelude.{◌≡◌, List, [], ◌∷◌, codes, map, Some, option_map};
-ghost use Rattle.json.specs.Json.{string};
+ghost use Rattle.std.specs.Prelude.{List, [], ◌∷◌, codes, map, option_copied};
 ghost use Rattle.json_texts.specs.JsonValues.{Member, array_of};
-ghost use Rattle.json_texts.specs.RegisterJson.{missing_among, row_json, rows_values, value_if_missing};
-ghost use Rattle.json_texts.specs.parts.WrittenParts.{WritesItems, WritesMembers, WritesValue};
+ghost use Rattle.json_texts.specs.ReportJson.{missing_among, row_json, rows_values, value_if_missing};
+ghost use Rattle.json_texts.specs.parts.WrittenParts.{WritesItems, WritesMembers};
 
+use crate::lines::Written;
 use crate::members::write_text;
 use crate::registers::write_register_members;
 use boot_verdict::{ALL_REGISTERS, HasExpected, Requirement, register_numbered};
 use json::Writer;
 use pcr_banks::Alg;
-use std::alloc::{AllocError, Global};
+use std::alloc::Global;
 
 /// A row that says something of an expected register.
 pub(crate) trait Says {
     ghost members_of: { Self → List Member };
 
     /// Writes what it says of the register.
-    fn write_members(&self, alloc: Global, writer: &mut Writer) -> Result<(), AllocError>
-        ensures before { writer.new.before ≡ writer.old.before }
-        ensures tokens { WritesMembers result writer.old writer.new (members_of self.now) };
+    fn write_members(&self, alloc: Global, writer: &mut Writer) -> Written
+        ensures { WritesMembers result writer.old writer.new (members_of self.now) };
 }
 
 /// Writes the member `registers` of the rows, and of the required registers that have none: there the member of this name says that they
@@ -31,14 +30,9 @@ pub(crate) fn write_rows<T: HasExpected + Says>(
     rows: &[T],
     requirement: Option<&Requirement>,
     writer: &mut Writer,
-) -> Result<(), AllocError>
-    ensures before { writer.new.before ≡ writer.old.before }
-    ensures tokens { WritesMembers result writer.old writer.new
-        ((
-          codes "registers",
-          array_of (rows_values name.now T.expected_of T.members_of
-              (option_map (λ ranges. ranges.now) requirement.entry) rows.now),
-        ) ∷ []) }
+) -> Written
+    ensures { WritesMembers result writer.old writer.new
+        ((codes "registers", array_of (rows_values name.now T.expected_of T.members_of (option_copied requirement.entry) rows.now)) ∷ []) }
 {
     writer.key("registers")?;
     writer.begin_array()?;
@@ -48,35 +42,17 @@ pub(crate) fn write_rows<T: HasExpected + Says>(
     Ok(())
 }
 
-fn write_each<T: HasExpected + Says>(
-    alloc: Global,
-    rows: &[T],
-    writer: &mut Writer,
-) -> Result<(), AllocError>
-    ensures before { writer.new.before ≡ writer.old.before }
-    ensures tokens { WritesItems result writer.old writer.new
+fn write_each<T: HasExpected + Says>(alloc: Global, rows: &[T], writer: &mut Writer) -> Written
+    ensures { WritesItems result writer.old writer.new
         (map (λ row. row_json (T.expected_of row).alg (T.expected_of row).register (T.members_of row)) rows.now) }
 {
     for row in rows {
-        write_row(alloc, row, writer)?;
+        let expected = row.expected();
+        writer.begin_object()?;
+        write_register_members(expected.alg, expected.register, writer)?;
+        row.write_members(alloc, writer)?;
+        writer.end_object()?;
     }
-    Ok(())
-}
-
-fn write_row<T: HasExpected + Says>(
-    alloc: Global,
-    row: &T,
-    writer: &mut Writer,
-) -> Result<(), AllocError>
-    ensures before { writer.new.before ≡ writer.old.before }
-    ensures tokens { WritesValue result writer.old writer.new
-        (row_json (T.expected_of row.now).alg (T.expected_of row.now).register (T.members_of row.now)) }
-{
-    let expected = row.expected();
-    writer.begin_object()?;
-    write_register_members(expected.alg, expected.register, writer)?;
-    row.write_members(alloc, writer)?;
-    writer.end_object()?;
     Ok(())
 }
 
@@ -86,29 +62,16 @@ fn write_missing<T: HasExpected>(
     requirement: Option<&Requirement>,
     rows: &[T],
     writer: &mut Writer,
-) -> Result<(), AllocError>
-    ensures before { writer.new.before ≡ writer.old.before }
-    ensures tokens { WritesItems result writer.old writer.new
-        (missing_among name.now (option_map (λ ranges. ranges.now) requirement.entry) (map T.expected_of rows.now)) }
+) -> Written
+    ensures { WritesItems result writer.old writer.new
+        (missing_among name.now (option_copied requirement.entry) (map T.expected_of rows.now)) }
 {
-    match requirement {
-        Some(requirement) => write_missing_of(name, requirement, rows, writer),
-        None => Ok(()),
-    }
-}
-
-fn write_missing_of<T: HasExpected>(
-    name: &str,
-    requirement: &Requirement,
-    rows: &[T],
-    writer: &mut Writer,
-) -> Result<(), AllocError>
-    ensures before { writer.new.before ≡ writer.old.before }
-    ensures tokens { WritesItems result writer.old writer.new (missing_among name.now (Some requirement.now) (map T.expected_of rows.now)) }
-{
+    let Some(required) = requirement else {
+        return Ok(());
+    };
     for number in 0..ALL_REGISTERS {
         let (alg, register) = register_numbered(number);
-        write_if_missing(name, requirement, rows, alg, register, writer)?;
+        write_if_missing(name, required, rows, alg, register, writer)?;
     }
     Ok(())
 }
@@ -121,21 +84,13 @@ fn write_if_missing<T: HasExpected>(
     alg: Alg,
     register: u32,
     writer: &mut Writer,
-) -> Result<(), AllocError>
-    ensures before { writer.new.before ≡ writer.old.before }
-    ensures tokens { WritesItems result writer.old writer.new
+) -> Written
+    ensures { WritesItems result writer.old writer.new
         (value_if_missing name.now requirement.now (map T.expected_of rows.now) alg register) }
 {
-    if requirement.is_missing(rows, alg, register) {
-        write_one(name, alg, register, writer)?;
+    if !requirement.is_missing(rows, alg, register) {
+        return Ok(());
     }
-    Ok(())
-}
-
-fn write_one(name: &str, alg: Alg, register: u32, writer: &mut Writer) -> Result<(), AllocError>
-    ensures before { writer.new.before ≡ writer.old.before }
-    ensures tokens { WritesValue result writer.old writer.new (row_json alg register ((name.now, string (codes "missing")) ∷ [])) }
-{
     writer.begin_object()?;
     write_register_members(alg, register, writer)?;
     write_text(name, "missing", writer)?;

@@ -1,34 +1,39 @@
 -- What a list that was read from the source of an input says of the input, whatever list was taken before.
-use Rattle.std.proofs.Common.{◌≡◌, ℕ, ◌<◌, ◌≤◌, List, [], ◌++◌, length, Option, None, Some, Err, refl, sym, ap, subst, ◌∙◌, append_assoc, append-nil, arith}
+use Rattle.std.proofs.Common.{◌≡◌, ◌⊎◌, ℕ, ◌≤◌, List, [], ◌++◌, length, Option, None, Some, Err, refl, sym, ap, subst, ◌∙◌, append_assoc, append-nil, arith, true, inl, inr}
 use Rattle.std.specs.Prelude.{IfSome}
 use Rattle.std.specs.Io.KnownBytes.{Consumes, IsAtEnd}
 use Rattle.std.proofs.lemmas.List.{length-append}
+use Rattle.byte_streams.specs.Streams.{SourceState}
 use Rattle.ima_list.specs.declared.fault.ListFault.{ListFault}
 use Rattle.ima_list.specs.declared.fault.ListFault.TheVariants as lists
 use Rattle.ima_list.specs.ListEntry.{ListEntry}
 use Rattle.ima_list.specs.Spelling.{BeginsWith, IsReading, list_spelling}
-use Rattle.boot_verdict.specs.declared.expected.Expected.{Expected}
+use Rattle.boot_verdict.specs.declared.report.Report.{Report}
 use Rattle.boot_verdict.specs.declared.verifier.VerifyFault.{VerifyFault}
 use Rattle.boot_verdict.specs.declared.verifier.VerifyFault.TheVariants as verdicts
-use Rattle.boot_verdict.specs.Checkpoints.{IsMoreFault}
-use Rattle.boot_verdict.specs.ListSources.{CameFrom, CameWhole, FailsFor, IsListFaultAfter, IsSound}
-use Rattle.boot_verdict.specs.Verdicts.{IsForged, Verdict}
-use Rattle.growing_lists.specs.declared.front_report.FrontReport.{FrontReport}
-use Rattle.growing_lists.specs.declared.front_report.Unconfirmed.{Unconfirmed}
-use Rattle.growing_lists.specs.declared.front_report.Unconfirmed.TheVariants as unconfirmed
+use Rattle.boot_verdict.specs.Checkpoints.{IsMoreFault, most_after}
+use Rattle.boot_verdict.specs.ListSources.{CameFrom, CameWhole, FailsFor, IsListFaultAfter}
+use Rattle.boot_verdict.specs.Verdicts.{IsSomeLog, IsVerdict, IsVerifyFaultFrom, verdict_of}
+use Rattle.boot_verdict.specs.declared.prefix_report.PrefixReport.{PrefixReport}
+use Rattle.boot_verdict.specs.declared.prefix_report.Unconfirmed.{Unconfirmed}
+use Rattle.boot_verdict.specs.declared.prefix_report.Unconfirmed.TheVariants as unconfirmed
 use Rattle.growing_lists.specs.declared.session.Session.{Session}
 use Rattle.growing_lists.specs.CheckpointData.{IsPossible}
-use Rattle.growing_lists.specs.Fronts.{CameUnconfirmed, IsFrontReport, IsUnconfirmedFault, IsWrongWith, TakesUnconfirmed}
-use Rattle.growing_lists.specs.Sessions.{HasTaken}
-use Rattle.judging.specs.Answering.{IsRefusedAfter}
-use Rattle.judging.specs.Growing.{BeginsUnconfirmed, HasNoFront, IsFrontOf, IsNext, IsUnconfirmedIn, IsWholeOf, IsWrongIn}
-use Rattle.agent_inputs.specs.Loading.{Inputs}
-use Rattle.judging.specs.Inputs.{MayFail, OfInput, Where, held_in}
-use Rattle.judging.specs.parts.Growing.{TakesVerdict}
+use Rattle.growing_lists.specs.Prefixes.{IsPrefixReport, IsUnconfirmedFault, IsWrongWith, TakesUnconfirmed}
+use Rattle.growing_lists.specs.Sessions.{HasTaken, TakesMore}
+use Rattle.command_line.specs.declared.plan.Scope.{Scope}
+use Rattle.agent_inputs.specs.declared.fault.RunFault.{RunFault}
+use Rattle.agent_inputs.specs.declared.fault.RunFault.TheVariants as runs
+use Rattle.agent_inputs.specs.Faults.{HasLogFault}
+use Rattle.agent_inputs.specs.Loading.{HasFailed, Inputs}
+use Rattle.judging.specs.declared.answer.Answer.TheVariants as answers
+use Rattle.judging.specs.Answering.{CanBeReadBack, Evidence, GivesInput, IsJudged, IsNext, IsNotFound, IsRefusedAfter, IsRefusedList, IsStarted, IsUnconfirmedIn, IsWrongIn, seeks_prefix}
+use Rattle.judging.specs.Requests.{VerdictOf}
+use Rattle.judging.specs.Inputs.{Holds, IsFaultAt, OfInput, Where, held_in, limit_of}
 
 -- The source gives exactly what the input holds.
 abbrev pub HasAll : Option (List ℕ) → Option (List ℕ) → Type 0
-HasAll told remaining = IfSome told (λ all. remaining ≡ Some all)
+HasAll known remaining = IfSome known (λ all. remaining ≡ Some all)
 
 -- ---- what came, and what is told
 
@@ -37,8 +42,8 @@ whole_from all None list lost end = absurd lost
 whole_from all (Some rest) list lost end =
     sym (lost ∙ ap (λ (r : List ℕ). (list ++ []) ++ r) end ∙ append-nil (list ++ []) ∙ append-nil list)
 
-pub held_whole : (told old new : Option (List ℕ)) (limit : ℕ) (list : List ℕ) → HasAll told old → CameWhole old new limit list
-    → IfSome told (λ all. list ≡ all)
+pub held_whole : (known old new : Option (List ℕ)) (limit : ℕ) (list : List ℕ) → HasAll known old → CameWhole old new limit list
+    → IfSome known (λ all. list ≡ all)
 held_whole None old new limit list has whole = tt
 held_whole (Some all) old new limit list has whole =
     whole_from all new list (subst (λ (o : Option (List ℕ)). Consumes o new (list ++ [])) has whole.came.lost) whole.end
@@ -50,8 +55,8 @@ begins_from bytes None list over lost = absurd lost
 begins_from bytes (Some rest) list over lost =
     (over ++ rest, sym (lost ∙ append_assoc list over rest), omega (arith, length-append over rest))
 
-pub held_more : (told old new : Option (List ℕ)) (limit : ℕ) (list over : List ℕ) → HasAll told old → CameFrom old new limit list over
-    → (later : List ℕ) × IfSome told (λ all. list ++ later ≡ all) × (length over ≤ length later)
+pub held_more : (known old new : Option (List ℕ)) (limit : ℕ) (list over : List ℕ) → HasAll known old → CameFrom old new limit list over
+    → (later : List ℕ) × IfSome known (λ all. list ++ later ≡ all) × (length over ≤ length later)
 held_more None old new limit list over has came = (over, tt, omega arith)
 held_more (Some bytes) old new limit list over has came =
     begins_from bytes new list over (subst (λ (o : Option (List ℕ)). Consumes o new (list ++ over)) has came.lost)
@@ -74,109 +79,165 @@ next_of is possible = record {
   possible = possible;
 }
 
--- Some bytes are those that are told.
-any : (told : Option (List ℕ)) (P : List ℕ → Type 0) → ((more : List ℕ) → P more) → (more : List ℕ) × IfSome told (λ all. more ≡ all) × P more
-any None P holds = ([], tt, holds [])
-any (Some bytes) P holds = (bytes, refl, holds bytes)
+module _ {inputs : Inputs} {list : Where} {old new : SourceState} (gives : GivesInput inputs list old new) where
+  -- All that came is all that the input holds.
+  pub held : {limit : ℕ} {came : List ℕ} → CameWhole old.remaining new.remaining limit came → Holds inputs list came
+  held {limit} {came} whole = held_whole (held_in inputs list) old.remaining new.remaining limit came gives.all whole
 
-module _ (inputs : Inputs) (place : Where) (old new : Option (List ℕ)) (limit : ℕ) (has : HasAll (held_in inputs place) old) (taken : List ℕ) where
-  -- What holds of the list with all that came holds of it with the input.
-  pub of_whole : (P : List ℕ → Type 0) (came : List ℕ) → CameWhole old new limit came → P came → OfInput inputs place P
-  of_whole P came whole holds = (came, held_whole (held_in inputs place) old new limit came has whole, holds)
+  -- What came is what the input holds first.
+  begun : {limit : ℕ} {came over : List ℕ} → CameFrom old.remaining new.remaining limit came over
+      → (later : List ℕ) × Holds inputs list (came ++ later) × (length over ≤ length later)
+  begun {limit} {came} {over} from = held_more (held_in inputs list) old.remaining new.remaining limit came over gives.all from
 
-  of_begun : (P : List ℕ → Type 0) (came over : List ℕ) → CameFrom old new limit came over
-      → ((later : List ℕ) → length over ≤ length later → P (came ++ later)) → OfInput inputs place P
-  of_begun P came over from holds =
-      let more = held_more (held_in inputs place) old new limit came over has from in (came ++ more.0, more.1, holds more.0 more.2)
+  module _ (taken : List ℕ) (limit : ℕ) where
+    lasting : (first : ListFault)
+        → ((came : List ℕ) × (over : List ℕ) × CameFrom old.remaining new.remaining limit came over × FailsFor (taken ++ came) first)
+        → OfInput inputs list (λ more. IsReading (taken ++ more) (Err first))
+    lasting first fails =
+        let more = begun fails.2 in
+        (fails.0 ++ more.0, more.1, subst (λ (bytes : List ℕ). IsReading bytes (Err first)) (append_assoc taken fails.0 more.0) (fails.3.1 more.0))
 
-  lasting : (first : ListFault) → ((came : List ℕ) × (over : List ℕ) × CameFrom old new limit came over × FailsFor (taken ++ came) first)
-      → OfInput inputs place (λ more. IsReading (taken ++ more) (Err first))
-  lasting first fails =
-      of_begun (λ (more : List ℕ). IsReading (taken ++ more) (Err first)) fails.0 fails.1 fails.2
-      (λ later long. subst (λ (bytes : List ℕ). IsReading bytes (Err first)) (append_assoc taken fails.0 later) (fails.3.1 later))
+    list_fault : (first : ListFault) → IsListFaultAfter taken old.remaining new.remaining limit (verdicts.List first)
+        → OfInput inputs list (λ more. IsReading (taken ++ more) (Err first))
+    list_fault (lists.Truncated entry) is = (is.0, held is.1, is.2)
+    list_fault (lists.BadRegister entry) is = lasting (lists.BadRegister entry) is
+    list_fault (lists.NameTooLong entry) is = lasting (lists.NameTooLong entry) is
+    list_fault lists.Memory is = lasting lists.Memory is
 
-  list_fault : (first : ListFault) → IsListFaultAfter taken old new limit (verdicts.List first)
-      → OfInput inputs place (λ more. IsReading (taken ++ more) (Err first))
-  list_fault (lists.Truncated entry) is =
-      of_whole (λ (more : List ℕ). IsReading (taken ++ more) (Err (lists.Truncated entry))) is.0 is.1 is.2
-  list_fault (lists.BadRegister entry) is = lasting (lists.BadRegister entry) is
-  list_fault (lists.NameTooLong entry) is = lasting (lists.NameTooLong entry) is
-  list_fault lists.Memory is = lasting lists.Memory is
+    wrong_with : (count : ℕ) (fault : Option Unconfirmed) → IsWrongWith taken old.remaining new.remaining limit count fault
+        → OfInput inputs list (λ more. IsWrongIn (taken ++ more) count fault)
+    wrong_with count None is = (is.0, held is.2, (is.1, is.3, is.4, is.5))
+    wrong_with count (Some (unconfirmed.Replay fault)) is = (is.0, held is.2, (is.1, is.3, is.4, is.5))
+    wrong_with count (Some (unconfirmed.List fault)) is = let list = list_fault fault is.0 in (list.0, list.1, (list.2, is.1))
 
   -- ---- why the list is refused
 
-  pub refused_after : (first : VerifyFault) → (first ≡ verdicts.Source → MayFail inputs place) → IsMoreFault taken old new limit first
-      → IsRefusedAfter inputs place limit taken first
-  refused_after (verdicts.Log first) failing is = is
-  refused_after (verdicts.List first) failing is = list_fault first is
-  refused_after (verdicts.Replay first) failing is = of_whole (λ (more : List ℕ). IsForged (taken ++ more) first) is.0 is.1 is.2
-  refused_after verdicts.Source failing is = failing refl
-  refused_after verdicts.TooLong failing is =
-      of_begun (λ (more : List ℕ). (front : List ℕ) × (over : List ℕ) × (more ≡ front ++ over) × (length front ≡ limit) × (0 < length over)
-      × IsSound (taken ++ front)) is.0 is.1 is.2
-      (λ later long. (is.0, later, refl, is.3, omega (arith, is.4, long), is.5))
-  refused_after verdicts.Memory failing is = tt
+  refused_after : (taken : List ℕ) (limit : ℕ) (first : VerifyFault) → (first ≡ verdicts.Source → HasFailed old new)
+      → IsMoreFault taken old.remaining new.remaining limit first → IsRefusedAfter inputs list limit taken first
+  refused_after taken limit (verdicts.Log first) failed is = is
+  refused_after taken limit (verdicts.List first) failed is = list_fault taken limit first is
+  refused_after taken limit (verdicts.Replay first) failed is = (is.0, held is.1, is.2)
+  refused_after taken limit verdicts.Source failed is = gives.failing (failed refl)
+  refused_after taken limit verdicts.TooLong failed is =
+      let more = begun is.2 in (is.0 ++ more.0, more.1, (is.0, more.0, refl, is.3, omega (arith, is.4, more.2), is.5))
+  refused_after taken limit verdicts.Memory failed is = tt
 
-  -- ---- what was judged
+  pub list_refused : (first : VerifyFault) (fault : RunFault) → (first ≡ verdicts.Source → HasFailed old new)
+      → IsMoreFault [] old.remaining new.remaining (limit_of list) first → IsFaultAt list first fault → IsRefusedList inputs list fault
+  list_refused first fault failed is says = (first, refused_after [] (limit_of list) first failed is, says)
 
-  module _ (log : List ℕ) (expected : List Expected) where
-    pub whole_after : (after : Session) (verdict : Verdict) → IsPossible after.known → TakesVerdict log taken old new limit expected after verdict
-        → OfInput inputs place (λ more. (length more ≤ limit) × IsWholeOf log (taken ++ more) expected verdict after.known)
-    whole_after after verdict possible is =
-        of_whole (λ (more : List ℕ). (length more ≤ limit) × IsWholeOf log (taken ++ more) expected verdict after.known) is.takes.more
-        is.takes.came (is.takes.came.came.within, (is.verdict_is, next_of is.takes.taken possible))
+  pub positions_refused : (evidence : Evidence) (first : VerifyFault) (fault : RunFault) → (first ≡ verdicts.Source → HasFailed old new)
+      → IsVerifyFaultFrom evidence.log old.remaining new.remaining (limit_of list) first → IsFaultAt list first fault
+      → (HasLogFault evidence.log fault ⊎ (IsSomeLog evidence.log × IsRefusedList inputs list fault)) ⊎ (fault ≡ runs.Memory)
+  positions_refused evidence (verdicts.Log first) fault failed is says = inl (inl (record { first = first; first_is = is.0; says = says }))
+  positions_refused evidence (verdicts.List first) fault failed is says =
+      inl (inr (is.0, list_refused (verdicts.List first) fault failed is.1 says))
+  positions_refused evidence (verdicts.Replay first) fault failed is says =
+      inl (inr (is.0, list_refused (verdicts.Replay first) fault failed is.1 says))
+  positions_refused evidence verdicts.Source fault failed is says = inl (inr (is.0, list_refused verdicts.Source fault failed is.1 says))
+  positions_refused evidence verdicts.TooLong fault failed is says = inl (inr (is.0, list_refused verdicts.TooLong fault failed is.1 says))
+  positions_refused evidence verdicts.Memory fault failed is says = inr says
 
-    module _ (least : ℕ) where
-      pub none_confirmed : (after : Session) → TakesUnconfirmed log taken old new limit expected least after
-          → OfInput inputs place (λ more. HasNoFront log (taken ++ more) expected least)
-      none_confirmed after is =
-          of_whole (λ (more : List ℕ). HasNoFront log (taken ++ more) expected least) is.takes.more is.takes.came
-          (record { entries = is.entries; list_is = is.list_is; none = is.none })
+  -- ---- a verdict
 
-      pub front_after : (after : Session) (report : FrontReport) → IsPossible after.known
-          → IsFrontReport log taken old new limit expected least after report
-          → OfInput inputs place (λ more. IsFrontOf log (taken ++ more) expected least report after.known)
-      front_after after report possible is =
-          of_begun (λ (more : List ℕ). IsFrontOf log (taken ++ more) expected least report after.known) is.came is.over is.came_is
-          (λ later long. record {
-            table = is.table;
-            events = is.events;
-            front = is.front;
-            rest = is.rest ++ later;
-            log_is = is.log_is;
-            begins = goes_on taken is.came later is.front is.rest is.begins;
-            confirmed = is.confirmed;
-            verdict_is = is.verdict_is;
-            next_is = next_of is.taken possible;
-          })
+  module _ (place : Where) (resume : Option Where) (scope : Scope) (evidence : Evidence) {before : Session}
+      (started : IsStarted evidence.log evidence.known before) where
+    -- All of the list was taken, and if a prefix is sought, none is confirmed.
+    pub whole_found : (after : Session) (report : Report) → CanBeReadBack after.known
+        → ((log taken : List ℕ) → HasTaken log taken before
+        → TakesMore log taken old.remaining new.remaining (most_after before.known (limit_of list)) after)
+        → (seeks_prefix scope evidence.required evidence.expected ≡ true → (log taken : List ℕ) → HasTaken log taken before
+        → TakesUnconfirmed log taken old.remaining new.remaining (most_after before.known (limit_of list)) evidence.expected
+        before.known.entries after)
+        → ((log all : List ℕ) → HasTaken log all after → IsVerdict log all evidence.expected (verdict_of report))
+        → IsJudged inputs (VerdictOf place scope resume) list evidence (answers.Report report) (Some after.known)
+    whole_found after report room takes none verdict = (
+      started.boot,
+      λ taken take.
+          let t = takes evidence.log taken (started.takes taken take) in (
+            t.more,
+            held t.came,
+            (
+              subst (λ (n : ℕ). length t.more ≤ n) (started.most list) t.came.came.within,
+              verdict evidence.log (taken ++ t.more) t.taken,
+              next_of t.taken (room _ t.taken.checkpoint),
+            ),
+          ),
+      λ sought taken take.
+          let n = rw started.count at (none sought evidence.log taken (started.takes taken take)) in
+          (n.takes.more, held n.takes.came, (n.entries, n.list_is, n.none)),
+    )
 
-      came_unconfirmed : (count : ℕ) → CameUnconfirmed log taken old new limit expected least count
-          → OfInput inputs place (λ more. BeginsUnconfirmed log (taken ++ more) expected least count)
-      came_unconfirmed count is =
-          of_begun (λ (more : List ℕ). BeginsUnconfirmed log (taken ++ more) expected least count) is.came is.over is.came_is
-          (λ later long. record {
-            entries = is.entries;
-            rest = is.rest ++ later;
-            begins = goes_on taken is.came later is.entries is.rest is.begins;
-            count_is = is.count_is;
-            none = is.none;
-          })
+    pub prefix_found : (after : Session) (report : PrefixReport) → CanBeReadBack after.known
+        → seeks_prefix scope evidence.required evidence.expected ≡ true
+        → ((log taken : List ℕ) → HasTaken log taken before → IsPrefixReport log taken old.remaining new.remaining
+        (most_after before.known (limit_of list)) evidence.expected before.known.entries after report)
+        → IsJudged inputs (VerdictOf place scope resume) list evidence (answers.Prefix report) (Some after.known)
+    prefix_found after report room sought prefixes = (
+      started.boot,
+      sought,
+      λ taken take.
+          let f = rw started.count at (prefixes evidence.log taken (started.takes taken take)) in
+          let more = begun f.came_is in (
+            f.came ++ more.0,
+            more.1,
+            record {
+              table = f.table;
+              events = f.events;
+              prefix = f.prefix;
+              rest = f.rest ++ more.0;
+              log_is = f.log_is;
+              begins = goes_on taken f.came more.0 f.prefix f.rest f.begins;
+              confirmed = f.confirmed;
+              verdict_is = f.verdict_is;
+              next_is = next_of f.taken (room _ f.taken.checkpoint);
+            },
+          ),
+      λ taken take.
+          wrong_with taken (most_after before.known (limit_of list)) report.entries report.unconfirmed
+          (prefixes evidence.log taken (started.takes taken take)).wrong,
+    )
 
-      pub unconfirmed_after : (first : VerifyFault) → IsUnconfirmedFault log taken old new limit expected least first
-          → OfInput inputs place (λ more. IsUnconfirmedIn log (taken ++ more) expected least first)
-      unconfirmed_after (verdicts.Log first) is = any (held_in inputs place) (λ (more : List ℕ). Unit {0}) (λ more. tt)
-      unconfirmed_after (verdicts.List first) is =
-          let came = came_unconfirmed is.0 is.2 in (came.0, came.1, (is.0, is.1, came.2))
-      unconfirmed_after (verdicts.Replay first) is =
-          of_whole (λ (more : List ℕ). HasNoFront log (taken ++ more) expected least) is.more is.came
-          (record { entries = is.entries; list_is = is.list_is; none = is.none })
-      unconfirmed_after verdicts.Source is = any (held_in inputs place) (λ (more : List ℕ). Unit {0}) (λ more. tt)
-      unconfirmed_after verdicts.TooLong is = any (held_in inputs place) (λ (more : List ℕ). Unit {0}) (λ more. tt)
-      unconfirmed_after verdicts.Memory is = any (held_in inputs place) (λ (more : List ℕ). Unit {0}) (λ more. tt)
+    unconfirmed_in : (first : VerifyFault) → ((log taken : List ℕ) → HasTaken log taken before → IsUnconfirmedFault log taken old.remaining
+        new.remaining (most_after before.known (limit_of list)) evidence.expected before.known.entries first)
+        → IsUnconfirmedIn inputs list evidence first
+    unconfirmed_in (verdicts.Log first) is = tt
+    unconfirmed_in (verdicts.List first) is =
+        λ taken take.
+        let u = rw started.count at (is evidence.log taken (started.takes taken take)) in
+        let more = begun u.2.came_is in (
+          u.2.came ++ more.0,
+          more.1,
+          (
+            u.2.entries,
+            u.2.rest ++ more.0,
+            rw u.2.count_is u.1,
+            goes_on taken u.2.came more.0 u.2.entries u.2.rest u.2.begins,
+            u.2.none,
+          ),
+        )
+    unconfirmed_in (verdicts.Replay first) is =
+        λ taken take.
+        let u = rw started.count at (is evidence.log taken (started.takes taken take)) in
+        (u.more, held u.came, (u.entries, u.list_is, u.none))
+    unconfirmed_in verdicts.Source is = tt
+    unconfirmed_in verdicts.TooLong is = tt
+    unconfirmed_in verdicts.Memory is = tt
 
-  pub wrong_with : (count : ℕ) (fault : Option Unconfirmed) → IsWrongWith taken old new limit count fault
-      → OfInput inputs place (λ more. IsWrongIn (taken ++ more) count fault)
-  wrong_with count None is = of_whole (λ (more : List ℕ). IsWrongIn (taken ++ more) count None) is.0 is.2 (is.1, is.3, is.4, is.5)
-  wrong_with count (Some (unconfirmed.Replay fault)) is =
-      of_whole (λ (more : List ℕ). IsWrongIn (taken ++ more) count (Some (unconfirmed.Replay fault))) is.0 is.2 (is.1, is.3, is.4, is.5)
-  wrong_with count (Some (unconfirmed.List fault)) is = let list = list_fault fault is.0 in (list.0, list.1, (list.2, is.1))
+    pub not_found : (first : VerifyFault) (fault : RunFault) → (first ≡ verdicts.Source → HasFailed old new)
+        → ((log taken : List ℕ) → HasTaken log taken before
+        → IsMoreFault taken old.remaining new.remaining (most_after before.known (limit_of list)) first)
+        → (seeks_prefix scope evidence.required evidence.expected ≡ true → (log taken : List ℕ) → HasTaken log taken before
+        → IsUnconfirmedFault log taken old.remaining new.remaining (most_after before.known (limit_of list)) evidence.expected
+        before.known.entries first) → IsFaultAt list first fault → IsNotFound inputs (VerdictOf place scope resume) list evidence fault
+    not_found first fault failed is unconfirmed says =
+        inr (inl (inr (record {
+          first = first;
+          log_is = started.valid;
+          boot = started.boot;
+          first_is = λ taken take.
+              subst (λ (n : ℕ). IsRefusedAfter inputs list n taken first) (started.most list)
+              (refused_after taken _ first failed (is evidence.log taken (started.takes taken take)));
+          unconfirmed = λ sought. unconfirmed_in first (unconfirmed sought);
+          says = says;
+        })))

@@ -1,53 +1,70 @@
--- The answer to what is asked for, and why there is none. All of this is this project's choice.
-use Rattle.std.specs.Prelude.{◌≡◌, ℕ, ◌<◌, ◌≤◌, ◌⊎◌, true, List, ◌++◌, length, [], Option, Some, None, Err, IfSome}
-use Rattle.ima_list.specs.Spelling.{IsReading}
+-- The answer to a request, and why there is none.
+use Rattle.std.specs.Prelude.{◌≡◌, ℕ, ◌<◌, ◌≤◌, ◌⊎◌, ◌==◌, not, Bool, true, false, List, [], ◌++◌, length, Option, Some, None, Result, Ok, Err, IfSome, IsSomeAnd, MatchResult, ◌&&◌, nat_lt, if◌then◌else◌, MatchOption}
+use Rattle.std.specs.Option.{option_map_or}
+use Rattle.byte_streams.specs.Streams.{SourceState}
+use Rattle.boot_log.specs.declared.header.Row.{Row as TableRow, Row}
+use Rattle.boot_log.specs.Spelling.{IsLog, LogEvent, algs_in}
+use Rattle.ima_list.specs.ListEntry.{ListEntry}
+use Rattle.ima_list.specs.ListFaults.{list_fault_entry}
+use Rattle.ima_list.specs.Replaying.{AreGenuine, IsReplayFault, IsReplayed}
+use Rattle.ima_list.specs.Spelling.{BeginsWith, IsReading, list_spelling}
 use Rattle.boot_verdict.specs.declared.checkpoint.Checkpoint.{Checkpoint}
 use Rattle.boot_verdict.specs.declared.expected.Expected.{Expected}
-use Rattle.boot_verdict.specs.declared.expected.ExpectFault.{ExpectFault}
 use Rattle.boot_verdict.specs.declared.requirement.BankRange.{BankRange}
 use Rattle.boot_verdict.specs.declared.verifier.VerifyFault.{VerifyFault}
 use Rattle.boot_verdict.specs.declared.verifier.VerifyFault.TheVariants as verdicts
 use Rattle.boot_verdict.specs.Checkpoints.{IsCheckpoint, most_after}
-use Rattle.boot_verdict.specs.ExpectedTexts.{HasFirstFault}
-use Rattle.boot_verdict.specs.ExpectedTexts.{IsExpectedText}
 use Rattle.boot_verdict.specs.ListSources.{IsSound}
-use Rattle.boot_verdict.specs.ListVerdicts.{IsListVerdict, list_verdict_of}
-use Rattle.boot_verdict.specs.Places.{AreLocated}
-use Rattle.boot_verdict.specs.Requirements.{IsRequirementText}
-use Rattle.boot_verdict.specs.Verdicts.{IsForged, IsSomeLog, verdict_of}
+use Rattle.boot_verdict.specs.ListVerdicts.{IsListVerdict, list_verdict_of, list_matches, required_list_matches}
+use Rattle.boot_verdict.specs.Positions.{AreLocated, all_found}
+use Rattle.boot_verdict.specs.Requirements.{is_complete, IsRequirementText, required_found, required_matches}
+use Rattle.boot_verdict.specs.Verdicts.{IsForged, IsSomeLog, IsVerdict, verdict_of, verdict_on, Verdict, matches}
+use Rattle.boot_verdict.specs.declared.prefix_report.PrefixReport.{PrefixReport}
+use Rattle.boot_verdict.specs.declared.prefix_report.Unconfirmed.{Unconfirmed}
+use Rattle.boot_verdict.specs.declared.prefix_report.Unconfirmed.TheVariants as unconfirmed
+use Rattle.growing_lists.specs.declared.session.Session.{Session}
 use Rattle.growing_lists.specs.CheckpointData.{IsPossible}
-use Rattle.growing_lists.specs.CheckpointTexts.{IsOfOtherVersion, checkpoint_text}
-use Rattle.growing_lists.specs.Sessions.{IsOfBoot}
-use Rattle.judging.specs.declared.answer.Answer.{Answer}
-use Rattle.judging.specs.declared.answer.Answer.TheVariants as answers
-use Rattle.judging.specs.declared.answer.Answered.{Answered}
-use Rattle.agent_inputs.specs.declared.fault.NotResumed.TheVariants.{Damaged, OtherBoot, Version}
+use Rattle.growing_lists.specs.Prefixes.{AreUnconfirmed, IsConfirmed}
+use Rattle.growing_lists.specs.Sessions.{HasTaken, IsOfBoot}
+use Rattle.command_line.specs.declared.plan.Scope.{Scope}
+use Rattle.command_line.specs.declared.plan.Scope.TheVariants.{Whole, Prefix}
+use Rattle.agent_inputs.specs.declared.fault.NotResumed.TheVariants.{OtherBoot, Damaged, Version}
 use Rattle.agent_inputs.specs.declared.fault.RunFault.{RunFault}
 use Rattle.agent_inputs.specs.declared.fault.RunFault.TheVariants as runs
-use Rattle.boot_verdict.specs.declared.register_range.RegisterRange.{RegisterRange}
-use Rattle.judging.specs.Asking.{Asked, Compared, Compares, ExpectedOf, Judgement, ListRegistersOf, ListVerdictOf, LogRegistersOf, PlacesOf, VerdictOf, log_of, resume_of, text_of}
 use Rattle.agent_inputs.specs.Faults.{HasLogFault, fault_of_expected}
-use Rattle.agent_inputs.specs.Loading.{Inputs}
-use Rattle.judging.specs.Expecting.{IsNotPrintedWithin, IsPrintedWithin, IsRangeFault, IsRequested}
-use Rattle.judging.specs.Growing.{IsFrontOf, HasNoFront, IsUnconfirmedIn, IsWholeOf, IsWrongIn, seeks_front}
-use Rattle.judging.specs.Inputs.{Holds, IsFaultAt, IsInputFault, IsReadFailure, MayFail, OfInput, Where, limit_of}
-use Rattle.judging.specs.Judging.{alone, is_well, next_if}
-use Rattle.judging.specs.Registers.{AreListRegisters, AreRegistersAfter}
+use Rattle.agent_inputs.specs.Loading.{GivesAll, HasFailed, Inputs}
+use Rattle.judging.specs.declared.answer.Answer.{Answer}
+use Rattle.judging.specs.declared.answer.Answer.TheVariants as answers
+use Rattle.judging.specs.Requests.{Judgement, ListVerdictOf, PositionsOf, VerdictOf, Requested, Compared, Compares, ExpectedOf, ListRegistersOf, LogRegistersOf, Nothing, Requires, These, held_bytes, log_of, resume_of}
+use Rattle.judging.specs.Inputs.{IsFaultAt, IsReadFailure, MayFail, OfInput, Where, held_in, limit_of, Holds, IsInputFault}
+use Rattle.pcr_banks.specs.declared.banks.Banks.{Banks}
+use Rattle.pcr_banks.specs.Registers.{IsReset, register_count}
+use Rattle.boot_log.specs.Replaying.{IsFirmware, startup_locality}
+use Rattle.boot_verdict.specs.declared.expected.ExpectFault.{ExpectFault}
+use Rattle.boot_verdict.specs.declared.expected.ExpectFault.TheVariants.{NoRegister}
+use Rattle.boot_verdict.specs.declared.register_range.RegisterRange.{RegisterRange}
+use Rattle.boot_verdict.specs.ExpectedTexts.{HasFirstFault, IsExpectedText}
+use Rattle.boot_verdict.specs.PrintedTexts.{HasPrintedFault, IsPrintedText}
+use Rattle.boot_verdict.specs.RegisterRanges.{IsRangeText, is_within}
+use Rattle.boot_verdict.specs.Replays.{IsListStart}
+use Rattle.boot_verdict.specs.WrittenTexts.{those_within}
+use Rattle.growing_lists.specs.CheckpointTexts.{IsOfOtherVersion, checkpoint_text}
+use Rattle.judging.specs.declared.answer.Answered.{Answered}
+use Rattle.judging.specs.declared.answers.Evidence.{Evidence as HeldEvidence}
 
--- ---- what is required
+-- What a list is judged with: the registers that are required, if a text spells some; the log, no bytes without one; the expected
+-- registers; and the checkpoint that is gone on from, if there is one.
+pub record Evidence : Type 0 where
+  pub required : Option (List BankRange)
+  pub log : List ℕ
+  pub expected : List Expected
+  pub known : Option Checkpoint
 
--- These registers are required: those that the text spells; none are without a text.
-abbrev pub IsRequired : Option (List ℕ) → Option (List BankRange) → Type 0
-IsRequired None None = Unit {0}
-IsRequired None (Some ranges) = ⊥
-IsRequired (Some text) None = ⊥
-IsRequired (Some text) (Some ranges) = IsRequirementText text ranges
-
--- Why a text that is given requires nothing: it spells no registers, or memory ran out.
-abbrev pub IsNotRequired : Option (List ℕ) → RunFault → Type 0
-IsNotRequired None fault = ⊥
-IsNotRequired (Some text) fault =
-    ((fault ≡ runs.Usage) × ((ranges : List BankRange) → IsRequirementText text ranges → ⊥)) ⊎ (fault ≡ runs.Memory)
+-- A prefix is asked for, and one can be confirmed: some register is expected, and all that is required.
+abbrev pub seeks_prefix : Scope → Option (List BankRange) → List Expected → Bool
+seeks_prefix Whole required expected = false
+seeks_prefix Prefix None expected = not (length expected == 0)
+seeks_prefix Prefix (Some ranges) expected = is_complete ranges expected
 
 -- ---- what is gone on from
 
@@ -58,24 +75,11 @@ IsTaken (Some known) list = IsCheckpoint list known
 
 -- How many entries it has.
 abbrev pub entries_taken : Option Checkpoint → ℕ
-entries_taken None = 0
-entries_taken (Some known) = known.entries
+entries_taken known = option_map_or (λ known. known.entries) known 0
 
 -- How many bytes of the input may follow it.
 abbrev pub most_more : Option Checkpoint → Where → ℕ
-most_more None place = limit_of place
-most_more (Some known) place = most_after known (limit_of place)
-
--- The text is that of this checkpoint, which is possible. Any other possible one of which it is has the same data, and so is that of the
--- same lists and boots.
-abbrev pub IsCheckpointText : List ℕ → Checkpoint → Type 0
-IsCheckpointText text known = IsPossible known × (text ≡ checkpoint_text known)
-
--- What is gone on from: the checkpoint of the input, if there is one.
-abbrev pub IsKnown : Inputs → Option Where → Option Checkpoint → Type 0
-IsKnown inputs None None = Unit {0}
-IsKnown inputs (Some place) (Some known) = OfInput inputs place (λ text. IsCheckpointText text known)
-IsKnown inputs resume known = ⊥
+most_more known place = option_map_or (λ known. most_after known (limit_of place)) known (limit_of place)
 
 -- This holds of the list that was taken before and of what the input adds to it, whatever that list was.
 abbrev pub OfMore : Inputs → Where → Option Checkpoint → (List ℕ → List ℕ → Type 0) → Type 0
@@ -85,67 +89,184 @@ OfMore inputs place known P = (taken : List ℕ) → IsTaken known taken → OfI
 abbrev pub OfList : Inputs → Where → Option Checkpoint → (List ℕ → Type 0) → Type 0
 OfList inputs place known P = OfMore inputs place known (λ taken more. P (taken ++ more))
 
--- ---- grounds
+-- ---- what is judged
 
--- All bytes of the log, if there is one.
-abbrev pub IsLogIn : Inputs → Option Where → List ℕ → Type 0
-IsLogIn inputs None log = log ≡ []
-IsLogIn inputs (Some place) log = Holds inputs place log
+-- This is the checkpoint of the list, in the boot of this log, and its text can be gone on from.
+pub record IsNext (log list : List ℕ) (next : Checkpoint) : Type 0 where
+  pub checkpoint : IsCheckpoint list next
+  pub boot : IsOfBoot log next
+  pub possible : IsPossible next
 
--- The text in this input states these registers.
-abbrev pub AreExpected : Inputs → Where → List Expected → Type 0
-AreExpected inputs place expected = OfInput inputs place (λ text. IsExpectedText text expected)
+-- No prefix of these entries is confirmed, with as many of them as were taken before, or more.
+abbrev pub AreUnconfirmedAfter : Evidence → List ListEntry → Type 0
+AreUnconfirmedAfter evidence entries =
+    (table : List TableRow) (events : List LogEvent) → IsLog evidence.log table events
+    → AreUnconfirmed (algs_in table) events evidence.expected (entries_taken evidence.known) entries
 
--- The log, the expected registers, and what is gone on from, of the inputs that are asked for.
-pub record AreGrounds (inputs : Inputs) (asked : Compared) (log : List ℕ) (expected : List Expected) (known : Option Checkpoint) : Type 0 where
-  pub log_is : IsLogIn inputs (log_of asked.judgement) log
-  pub expected_are : AreExpected inputs asked.expected expected
-  pub known_is : IsKnown inputs (resume_of asked.judgement) known
+-- No prefix of the list is confirmed.
+abbrev pub HasNoPrefix : Evidence → List ℕ → Type 0
+HasNoPrefix evidence list = (entries : List ListEntry) × IsReading list (Ok entries) × AreUnconfirmedAfter evidence entries
 
--- ---- the answer
+-- The list has so many entries, and this is wrong with it, if anything: the fault of its bytes, which has so many entries before it; or
+-- else that of its entries.
+abbrev pub IsWrongIn : List ℕ → ℕ → Option Unconfirmed → Type 0
+IsWrongIn list count None = (entries : List ListEntry) × IsReading list (Ok entries) × AreGenuine entries × (count ≡ length entries)
+IsWrongIn list count (Some (unconfirmed.Replay fault)) =
+    (entries : List ListEntry) × IsReading list (Ok entries) × IsReplayFault entries fault × (count ≡ length entries)
+IsWrongIn list count (Some (unconfirmed.List fault)) = IsReading list (Err fault) × (list_fault_entry fault ≡ Some count)
 
--- The answer is on this log, the list of this input, and these expected registers; and this is where to go on. A verdict is on the whole
--- list, of which no front is confirmed, if one is sought; or on its confirmed front.
-abbrev pub IsJudged : Inputs → Judgement → Where → Option (List BankRange) → List ℕ → List Expected → Option Checkpoint → Answer
-    → Option Checkpoint → Type 0
-IsJudged inputs (VerdictOf place extent resume) list required log expected known (answers.Report report) (Some next) =
-    OfMore inputs list known (λ taken more. (length more ≤ most_more known list) × IsWholeOf log (taken ++ more) expected (verdict_of report) next)
-    × (seeks_front extent required expected ≡ true → OfList inputs list known (λ all. HasNoFront log all expected (entries_taken known)))
-IsJudged inputs (VerdictOf place extent resume) list required log expected known (answers.Front report) (Some next) =
-    (seeks_front extent required expected ≡ true)
-    × OfList inputs list known (λ all. IsFrontOf log all expected (entries_taken known) report next)
-    × OfList inputs list known (λ all. IsWrongIn all report.entries report.unconfirmed)
-IsJudged inputs (PlacesOf place) list required log expected known (answers.Places located) None =
-    OfList inputs list known (λ all. AreLocated log all expected located.items)
-IsJudged inputs ListVerdictOf list required log expected known (answers.ListReport report) None =
-    OfList inputs list known (λ all. IsListVerdict all expected (list_verdict_of report))
-IsJudged inputs judgement list required log expected known answer next = ⊥
+-- The report is on the confirmed prefix of the list, no shorter than what was taken before; and this is the checkpoint of the prefix.
+pub record IsPrefixOf (evidence : Evidence) (list : List ℕ) (report : PrefixReport) (next : Checkpoint) : Type 0 where
+  pub table : List TableRow
+  pub events : List LogEvent
+  pub prefix : List ListEntry
+  pub rest : List ℕ
+  pub log_is : IsLog evidence.log table events
+  pub begins : BeginsWith list prefix rest
+  pub confirmed : IsConfirmed (algs_in table) events evidence.expected (entries_taken evidence.known) prefix
+  pub verdict_is : verdict_of report.report ≡ verdict_on (algs_in table) events prefix evidence.expected
+  pub next_is : IsNext evidence.log (list_spelling prefix) next
 
--- This was found in the list of this input. The log leaves the registers before what is gone on from.
-abbrev pub IsFound : Inputs → Judgement → Where → Option (List BankRange) → List ℕ → List Expected → Option Checkpoint → Answer
-    → Option Checkpoint → Type 0
-IsFound inputs judgement list required log expected known answer next =
-    IfSome known (IsOfBoot log) × IsJudged inputs judgement list required log expected known answer next
+-- The list is refused only if no prefix is confirmed: of the entries before the one that the fault names, or of all.
+abbrev pub IsUnconfirmedIn : Inputs → Where → Evidence → VerifyFault → Type 0
+IsUnconfirmedIn inputs place evidence (verdicts.List first) = OfList inputs place evidence.known (λ list.
+    (entries : List ListEntry) × (rest : List ℕ) × (list_fault_entry first ≡ Some (length entries)) × BeginsWith list entries rest
+    × AreUnconfirmedAfter evidence entries)
+IsUnconfirmedIn inputs place evidence (verdicts.Replay first) = OfList inputs place evidence.known (HasNoPrefix evidence)
+IsUnconfirmedIn inputs place evidence first = Unit {0}
 
--- This is what comes of what is compared, and what it is worth.
-pub record IsComparison (inputs : Inputs) (asked : Compared) (given : Answered) : Type 0 where
-  pub log : List ℕ
-  pub expected : List Expected
-  pub known : Option Checkpoint
-  pub next : Option Checkpoint
-  pub requires : IsRequired (text_of asked.required) given.requirement
-  pub grounds : AreGrounds inputs asked log expected known
-  pub found : IsFound inputs asked.judgement asked.list given.requirement log expected known given.answer next
-  pub well_is : given.is_well ≡ is_well asked.required given.requirement given.answer
-  pub next_is : given.next ≡ next_if given.is_well next
+-- The answer is on this evidence and the list of this input; and this is where to go on. A verdict is on a log that leaves the registers
+-- before what is gone on from, and on the whole list, of which no prefix is confirmed, if one is sought; or on its confirmed prefix.
+abbrev pub IsJudged : Inputs → Judgement → Where → Evidence → Answer → Option Checkpoint → Type 0
+IsJudged inputs (VerdictOf place scope resume) list evidence (answers.Report report) (Some next) =
+    IfSome evidence.known (IsOfBoot evidence.log)
+    × OfMore inputs list evidence.known (λ taken more. (length more ≤ most_more evidence.known list)
+    × IsVerdict evidence.log (taken ++ more) evidence.expected (verdict_of report) × IsNext evidence.log (taken ++ more) next)
+    × (seeks_prefix scope evidence.required evidence.expected ≡ true → OfList inputs list evidence.known (HasNoPrefix evidence))
+IsJudged inputs (VerdictOf place scope resume) list evidence (answers.Prefix report) (Some next) =
+    IfSome evidence.known (IsOfBoot evidence.log)
+    × (seeks_prefix scope evidence.required evidence.expected ≡ true)
+    × OfList inputs list evidence.known (λ all. IsPrefixOf evidence all report next)
+    × OfList inputs list evidence.known (λ all. IsWrongIn all report.entries report.unconfirmed)
+IsJudged inputs (PositionsOf place) list evidence (answers.Positions located) None =
+    OfInput inputs list (λ all. AreLocated evidence.log all evidence.expected located.items)
+IsJudged inputs ListVerdictOf list evidence (answers.ListReport report) None =
+    OfInput inputs list (λ all. IsListVerdict all evidence.expected (list_verdict_of report))
+IsJudged inputs judgement list evidence answer next = ⊥
 
--- ---- why there are no grounds
+-- ---- why there is no answer
 
--- The text in the input does not state expected registers, and the fault is that of its first wrong line.
-pub record IsNotExpected (inputs : Inputs) (place : Where) (fault : RunFault) : Type 0 where
-  pub first : ExpectFault
-  pub first_is : OfInput inputs place (λ text. HasFirstFault text first)
-  pub says : fault ≡ fault_of_expected first
+-- The log is refused; or it is valid, and leaves other registers than those before the checkpoint.
+abbrev pub IsLogRefused : List ℕ → Option Checkpoint → RunFault → Type 0
+IsLogRefused log known fault =
+    HasLogFault log fault ⊎ ((fault ≡ runs.Checkpoint OtherBoot) × IsSomeAnd known (λ known. IsSomeLog log × (IsOfBoot log known → ⊥)))
+
+-- Why the input is not taken as what goes on after this list, of which no more than `most` bytes may follow.
+abbrev pub IsRefusedAfter : Inputs → Where → ℕ → List ℕ → VerifyFault → Type 0
+IsRefusedAfter inputs place most taken (verdicts.Log first) = ⊥
+IsRefusedAfter inputs place most taken (verdicts.List first) = OfInput inputs place (λ more. IsReading (taken ++ more) (Err first))
+IsRefusedAfter inputs place most taken (verdicts.Replay first) = OfInput inputs place (λ more. IsForged (taken ++ more) first)
+IsRefusedAfter inputs place most taken verdicts.Source = MayFail inputs place
+IsRefusedAfter inputs place most taken verdicts.TooLong = OfInput inputs place (λ more.
+    (prefix : List ℕ) × (over : List ℕ) × (more ≡ prefix ++ over) × (length prefix ≡ most) × (0 < length over) × IsSound (taken ++ prefix))
+IsRefusedAfter inputs place most taken verdicts.Memory = Unit {0}
+
+-- The list of this input is refused: the first reason, or memory ran out.
+abbrev pub IsRefusedList : Inputs → Where → RunFault → Type 0
+IsRefusedList inputs list fault =
+    (first : VerifyFault) × IsRefusedAfter inputs list (limit_of list) [] first × IsFaultAt list first fault
+
+-- The log is valid, and what the input adds to a list is refused: the first reason, or memory ran out. If a prefix is sought, none is
+-- confirmed before what is refused.
+pub record IsNotTaken (inputs : Inputs) (scope : Scope) (list : Where) (evidence : Evidence) (fault : RunFault) : Type 0 where
+  pub first : VerifyFault
+  pub log_is : IsSomeLog evidence.log
+  pub boot : IfSome evidence.known (IsOfBoot evidence.log)
+  pub first_is : (taken : List ℕ) → IsTaken evidence.known taken → IsRefusedAfter inputs list (most_more evidence.known list) taken first
+  pub unconfirmed : seeks_prefix scope evidence.required evidence.expected ≡ true → IsUnconfirmedIn inputs list evidence first
+  pub says : IsFaultAt list first fault
+
+-- Why there is no answer on this evidence and what the list has: the log is refused, or of another boot than the checkpoint; or the list
+-- is refused.
+abbrev pub IsNotJudged : Inputs → Judgement → Where → Evidence → RunFault → Type 0
+IsNotJudged inputs (VerdictOf place scope resume) list evidence fault =
+    IsLogRefused evidence.log evidence.known fault ⊎ IsNotTaken inputs scope list evidence fault
+IsNotJudged inputs (PositionsOf place) list evidence fault =
+    HasLogFault evidence.log fault ⊎ (IsSomeLog evidence.log × IsRefusedList inputs list fault)
+IsNotJudged inputs ListVerdictOf list evidence fault = IsRefusedList inputs list fault
+
+-- Why nothing is found in the list of this input: it could not be opened; there is no answer; or memory ran out.
+abbrev pub IsNotFound : Inputs → Judgement → Where → Evidence → RunFault → Type 0
+IsNotFound inputs judgement list evidence fault =
+    IsReadFailure inputs list fault ⊎ IsNotJudged inputs judgement list evidence fault ⊎ (fault ≡ runs.Memory)
+
+-- ---- a list from one source
+
+-- The source gives all bytes of the input, and fails only where that may.
+pub record GivesInput (inputs : Inputs) (place : Where) (old new : SourceState) : Type 0 where
+  pub all : GivesAll (held_in inputs place) old
+  pub failing : HasFailed old new → MayFail inputs place
+
+-- The session is of this log, and has taken the list that was taken before.
+pub record IsStarted (log : List ℕ) (known : Option Checkpoint) (session : Session) : Type 0 where
+  pub valid : IsSomeLog log
+  pub boot : IfSome known (IsOfBoot log)
+  pub takes : (taken : List ℕ) → IsTaken known taken → HasTaken log taken session
+  pub count : session.known.entries ≡ entries_taken known
+  pub most : (place : Where) → most_after session.known (limit_of place) ≡ most_more known place
+
+-- If this is the checkpoint of a list, it is read back from its text.
+abbrev pub CanBeReadBack : Checkpoint → Type 0
+CanBeReadBack known = (list : List ℕ) → IsCheckpoint list known → IsPossible known
+
+-- What was found in the list of this input, or why nothing was.
+abbrev pub Finds : Inputs → Judgement → Where → Evidence → Result (Answer × Option Checkpoint) RunFault → Type 0
+Finds inputs judgement list evidence result =
+    MatchResult result (λ found. IsJudged inputs judgement list evidence found.0 found.1) (IsNotFound inputs judgement list evidence)
+
+-- So it is in the list of each input that the source gives.
+abbrev pub FindsFrom : Judgement → Where → Evidence → SourceState → SourceState → Result (Answer × Option Checkpoint) RunFault → Type 0
+FindsFrom judgement list evidence old new result = (inputs : Inputs) → GivesInput inputs list old new → Finds inputs judgement list evidence result
+
+-- So it is where a session goes on from what is known, if its checkpoint can be read back.
+abbrev pub JudgesFrom : Scope → Where → Evidence → SourceState → SourceState → Session → Session → Result Answer RunFault → Type 0
+JudgesFrom scope list evidence old new before after result =
+    (inputs : Inputs) (log : Where) (resume : Option Where) → GivesInput inputs list old new → IsStarted evidence.log evidence.known before
+    → MatchResult result (λ answer. CanBeReadBack after.known → IsJudged inputs (VerdictOf log scope resume) list evidence answer (Some after.known))
+    (IsNotFound inputs (VerdictOf log scope resume) list evidence)
+
+-- ---- evidence
+
+-- These registers are required: those that the text spells; none are without a text.
+abbrev pub IsRequired : Requires → Option (List BankRange) → Type 0
+IsRequired (These text) ranges = IsSomeAnd ranges (IsRequirementText text)
+IsRequired requires ranges = ranges ≡ None
+
+-- Why a text that is given requires nothing: it spells no registers, or memory ran out.
+abbrev pub IsNotRequired : Requires → RunFault → Type 0
+IsNotRequired (These text) fault =
+    ((fault ≡ runs.Usage) × ((ranges : List BankRange) → IsRequirementText text ranges → ⊥)) ⊎ (fault ≡ runs.Memory)
+IsNotRequired requires fault = ⊥
+
+-- The text is that of this checkpoint, which is possible. Any other possible one of which it is has the same data, and so is that of the
+-- same lists and boots.
+abbrev pub IsCheckpointText : List ℕ → Checkpoint → Type 0
+IsCheckpointText text known = IsPossible known × (text ≡ checkpoint_text known)
+
+-- What is gone on from: the checkpoint of the input, if there is one.
+abbrev pub IsKnown : Inputs → Option Where → Option Checkpoint → Type 0
+IsKnown inputs resume known =
+    MatchOption resume (known ≡ None) (λ place. IsSomeAnd known (λ known. OfInput inputs place (λ text. IsCheckpointText text known)))
+
+-- What is judged with is what the text requires, and what the inputs have that are asked for.
+pub record IsEvidence (inputs : Inputs) (request : Compared) (evidence : Evidence) : Type 0 where
+  pub required_are : IsRequired request.required evidence.required
+  pub log_is : MatchOption (log_of request.judgement) (evidence.log ≡ []) (λ place. Holds inputs place evidence.log)
+  pub expected_are : OfInput inputs request.expected (λ text. IsExpectedText text evidence.expected)
+  pub known_is : IsKnown inputs (resume_of request.judgement) evidence.known
+
+abbrev pub evidence_of : HeldEvidence → Evidence
+evidence_of held = record { required = held.requirement; log = held_bytes held.log; expected = held.expected.items; known = held.known }
 
 -- Why a text is not read as a checkpoint: it is of another version; or it is not, and no possible checkpoint's text; or memory ran out.
 abbrev pub IsNoCheckpoint : List ℕ → RunFault → Type 0
@@ -155,118 +276,115 @@ IsNoCheckpoint text fault =
     × ((known : Checkpoint) → IsPossible known → text ≡ checkpoint_text known → ⊥))
     ⊎ (fault ≡ runs.Memory)
 
--- Why there is no log, or no checkpoint, where one is asked for.
-abbrev pub IsNotIn : Inputs → Option Where → (Where → RunFault → Type 0) → RunFault → Type 0
-IsNotIn inputs None IsWrong fault = ⊥
-IsNotIn inputs (Some place) IsWrong fault = IsInputFault inputs place fault ⊎ IsWrong place fault
-
--- Why there are no grounds: an input was not loaded; the text does not state expected registers; it does, and the input to go on from has no
--- checkpoint, or the list could not be opened; or memory ran out.
-abbrev pub HasNoGrounds : Inputs → Compared → RunFault → Type 0
-HasNoGrounds inputs asked fault =
-    IsNotIn inputs (log_of asked.judgement) (λ place fault. ⊥) fault
-    ⊎ IsInputFault inputs asked.expected fault
-    ⊎ IsNotExpected inputs asked.expected fault
-    ⊎ (((expected : List Expected) × AreExpected inputs asked.expected expected)
-    × (IsNotIn inputs (resume_of asked.judgement) (λ place fault. OfInput inputs place (λ text. IsNoCheckpoint text fault)) fault
-    ⊎ IsReadFailure inputs asked.list fault))
+-- Why there is no evidence, where a text that is given spells registers: an input was not loaded; the text does not state expected
+-- registers, and the fault is that of its first wrong line; it does, and the input to go on from has no checkpoint; or memory ran out.
+abbrev pub HasNoEvidence : Inputs → Compared → RunFault → Type 0
+HasNoEvidence inputs request fault =
+    IsSomeAnd (log_of request.judgement) (λ place. IsInputFault inputs place fault)
+    ⊎ IsInputFault inputs request.expected fault
+    ⊎ ((first : ExpectFault) × OfInput inputs request.expected (λ text. HasFirstFault text first) × (fault ≡ fault_of_expected first))
+    ⊎ (((expected : List Expected) × OfInput inputs request.expected (λ text. IsExpectedText text expected))
+    × IsSomeAnd (resume_of request.judgement) (λ place. IsInputFault inputs place fault ⊎ OfInput inputs place (λ text. IsNoCheckpoint text fault)))
     ⊎ (fault ≡ runs.Memory)
 
--- ---- why there is no answer
+-- ---- what is compared
 
--- The log, if there is one, is refused; it is valid.
-abbrev pub IsLogRefused : Judgement → List ℕ → RunFault → Type 0
-IsLogRefused ListVerdictOf log fault = ⊥
-IsLogRefused judgement log fault = HasLogFault log fault
+-- Whether a verdict is 'match' where no text spells what is required: all that is compared matches, and something is compared, unless
+-- nothing has to be.
+abbrev pub is_match : Requires → Verdict → Bool
+is_match Nothing verdict = matches verdict
+is_match requires verdict = matches verdict && not (length verdict.rows == 0)
 
-abbrev pub IsLogValid : Judgement → List ℕ → Type 0
-IsLogValid ListVerdictOf log = Unit {0}
-IsLogValid judgement log = IsSomeLog log
+-- Whether all is well: the verdict is 'match', or each register was located; and no register is missing of those that are required, if a
+-- text spells some. (A prefix is confirmed only where some register is expected.) So it is with registers, which are compared with none.
+abbrev pub is_well : Requires → Option (List BankRange) → Answer → Bool
+is_well requires None (answers.Report report) = is_match requires (verdict_of report)
+is_well requires (Some ranges) (answers.Report report) = required_matches ranges (verdict_of report)
+is_well requires None (answers.Prefix prefix) = matches (verdict_of prefix.report)
+is_well requires (Some ranges) (answers.Prefix prefix) = required_matches ranges (verdict_of prefix.report)
+is_well requires None (answers.Positions positions) = all_found positions.items
+is_well requires (Some ranges) (answers.Positions positions) = required_found ranges positions.items
+is_well requires None (answers.ListReport report) = list_matches (list_verdict_of report)
+is_well requires (Some ranges) (answers.ListReport report) = required_list_matches ranges (list_verdict_of report)
+is_well requires ranges answer = true
 
--- The log is valid, and leaves other registers than those before the checkpoint.
-abbrev pub IsOfOtherBoot : List ℕ → Option Checkpoint → Type 0
-IsOfOtherBoot log None = ⊥
-IsOfOtherBoot log (Some known) = IsSomeLog log × (IsOfBoot log known → ⊥)
+-- This is what comes of what is compared, and what it is worth. Nobody goes on from it, unless all is well.
+pub record IsComparison (inputs : Inputs) (request : Compared) (given : Answered) : Type 0 where
+  pub evidence : Evidence
+  pub next : Option Checkpoint
+  pub evidence_is : IsEvidence inputs request evidence
+  pub requirement_is : given.requirement ≡ evidence.required
+  pub judged : IsJudged inputs request.judgement request.list evidence given.answer next
+  pub well_is : given.is_well ≡ is_well request.required given.requirement given.answer
+  pub next_is : given.next ≡ (if given.is_well then next else None)
 
--- Why the input is not taken as what goes on after this list, of which no more than `most` bytes may follow.
-abbrev pub IsRefusedAfter : Inputs → Where → ℕ → List ℕ → VerifyFault → Type 0
-IsRefusedAfter inputs place most taken (verdicts.Log first) = ⊥
-IsRefusedAfter inputs place most taken (verdicts.List first) = OfInput inputs place (λ more. IsReading (taken ++ more) (Err first))
-IsRefusedAfter inputs place most taken (verdicts.Replay first) = OfInput inputs place (λ more. IsForged (taken ++ more) first)
-IsRefusedAfter inputs place most taken verdicts.Source = MayFail inputs place
-IsRefusedAfter inputs place most taken verdicts.TooLong = OfInput inputs place (λ more.
-    (front : List ℕ) × (over : List ℕ) × (more ≡ front ++ over) × (length front ≡ most) × (0 < length over) × IsSound (taken ++ front))
-IsRefusedAfter inputs place most taken verdicts.Memory = Unit {0}
-
--- A front is sought, and none is confirmed before what is refused.
-abbrev pub IsUnconfirmedWhere : Inputs → Judgement → Where → Option (List BankRange) → List ℕ → List Expected → Option Checkpoint → VerifyFault
-    → Type 0
-IsUnconfirmedWhere inputs (VerdictOf place extent resume) list required log expected known first =
-    seeks_front extent required expected ≡ true
-    → OfList inputs list known (λ all. IsUnconfirmedIn log all expected (entries_taken known) first)
-IsUnconfirmedWhere inputs judgement list required log expected known first = Unit {0}
-
--- The log is valid, and the list is refused: the first cause, or memory ran out.
-pub record IsNotTaken (inputs : Inputs) (judgement : Judgement) (list : Where) (required : Option (List BankRange)) (log : List ℕ)
-    (expected : List Expected) (known : Option Checkpoint) (fault : RunFault) : Type 0 where
-  pub first : VerifyFault
-  pub log_is : IsLogValid judgement log
-  pub boot : IfSome known (IsOfBoot log)
-  pub first_is : (taken : List ℕ) → IsTaken known taken → IsRefusedAfter inputs list (most_more known list) taken first
-  pub unconfirmed : IsUnconfirmedWhere inputs judgement list required log expected known first
-  pub says : IsFaultAt list first fault
-
--- Why there is no answer on these grounds: the log is refused, or of another boot than the checkpoint; or the list is refused; or memory
--- ran out.
-abbrev pub IsNotFound : Inputs → Judgement → Where → Option (List BankRange) → List ℕ → List Expected → Option Checkpoint → RunFault → Type 0
-IsNotFound inputs judgement list required log expected known fault =
-    IsLogRefused judgement log fault
-    ⊎ ((fault ≡ runs.Checkpoint OtherBoot) × IsOfOtherBoot log known)
-    ⊎ IsNotTaken inputs judgement list required log expected known fault
-    ⊎ (fault ≡ runs.Memory)
-
--- There are grounds, and nothing comes of them.
-pub record HasNoAnswer (inputs : Inputs) (asked : Compared) (required : Option (List BankRange)) (fault : RunFault) : Type 0 where
-  pub log : List ℕ
-  pub expected : List Expected
-  pub known : Option Checkpoint
-  pub grounds : AreGrounds inputs asked log expected known
-  pub cause : IsNotFound inputs asked.judgement asked.list required log expected known fault
-
--- Why nothing comes of what is compared: the text spells no registers; or it spells some or is not given, and there are no grounds, or no
--- answer on them.
+-- Why nothing comes of what is compared: the text spells no registers; it spells some or is not given, and there is no evidence; or there
+-- is, and no answer.
 abbrev pub IsNoComparison : Inputs → Compared → RunFault → Type 0
-IsNoComparison inputs asked fault =
-    IsNotRequired (text_of asked.required) fault
-    ⊎ ((required : Option (List BankRange)) × IsRequired (text_of asked.required) required
-    × (HasNoGrounds inputs asked fault ⊎ HasNoAnswer inputs asked required fault))
+IsNoComparison inputs request fault =
+    IsNotRequired request.required fault
+    ⊎ (((required : Option (List BankRange)) × IsRequired request.required required) × HasNoEvidence inputs request fault)
+    ⊎ ((evidence : Evidence) × IsEvidence inputs request evidence × IsNotFound inputs request.judgement request.list evidence fault)
+
+-- ---- registers
+
+-- The bytes are a firmware event log, and these are the registers before its events, at their reset values, and after them.
+abbrev pub AreRegistersAfter : List ℕ → Banks → Banks → Type 0
+AreRegistersAfter log start now =
+    (table : List Row) × (events : List LogEvent) × IsLog log table events × IsReset (algs_in table) (startup_locality events) start
+    × IsFirmware (algs_in table) events now
+
+-- The bytes are a list of genuine entries, and these are the registers before it, at their reset values, and after it.
+abbrev pub AreListRegisters : List ℕ → Banks → Banks → Type 0
+AreListRegisters list start now =
+    (entries : List ListEntry) × IsReading list (Ok entries) × AreGenuine entries × IsListStart start × IsReplayed start entries now
+
+-- The range of registers that is requested: the one that the text spells; all registers without a text.
+abbrev pub IsRequested : Option (List ℕ) → RegisterRange → Type 0
+IsRequested None range = (register : ℕ) → is_within range register ≡ nat_lt register register_count
+IsRequested (Some text) range = IsRangeText text range
+
+-- A text is given, and spells no range.
+abbrev pub IsRangeFault : Option (List ℕ) → RunFault → Type 0
+IsRangeFault text fault = (fault ≡ runs.Usage) × IsSomeAnd text (λ text. (range : RegisterRange) → IsRangeText text range → ⊥)
+
+-- The text was printed by tpm2-tools, and states these registers, of which at least one is within the range.
+abbrev pub IsPrintedWithin : RegisterRange → List ℕ → List Expected → Type 0
+IsPrintedWithin range text expected = IsPrintedText text expected × (0 < length (those_within range expected))
+
+-- Why a text gives no registers within the range: it was not printed by tpm2-tools, or states no register; it states none within the range;
+-- or memory ran out.
+abbrev pub IsNotPrintedWithin : RegisterRange → List ℕ → RunFault → Type 0
+IsNotPrintedWithin range text fault =
+    ((first : ExpectFault) × HasPrintedFault text first × (fault ≡ fault_of_expected first))
+    ⊎ ((expected : List Expected) × IsPrintedText text expected × (those_within range expected ≡ []) × (fault ≡ runs.Expect NoRegister))
+    ⊎ (fault ≡ runs.Memory)
 
 -- ---- what is asked for
 
+-- All is well with an answer that compares nothing, and nobody goes on from it.
+abbrev pub alone : Answer → Answered
+alone answer = record { answer = answer; requirement = None; is_well = true; next = None }
+
 -- This is what is asked for, where nothing is compared.
-abbrev pub IsAlone : Inputs → Asked → Answer → Type 0
+abbrev pub IsAlone : Inputs → Requested → Answer → Type 0
 IsAlone inputs (LogRegistersOf log) (answers.Registers registers) =
     OfInput inputs log (λ content. AreRegistersAfter content registers.start registers.now)
 IsAlone inputs (ListRegistersOf list) (answers.Registers registers) =
     OfInput inputs list (λ content. AreListRegisters content registers.start registers.now)
 IsAlone inputs (ExpectedOf printed text) (answers.Expected expected range) =
     IsRequested text range × OfInput inputs printed (λ content. IsPrintedWithin range content expected.items)
-IsAlone inputs asked answer = ⊥
+IsAlone inputs request answer = ⊥
 
 -- This is the answer to what is asked for. Where nothing is compared, all is well with any.
-abbrev pub IsAnswer : Inputs → Asked → Answered → Type 0
-IsAnswer inputs (Compares compared) given = IsComparison inputs compared given
-IsAnswer inputs asked given = (answer : Answer) × IsAlone inputs asked answer × (given ≡ alone answer)
-
--- The list of this input is refused: the first cause, or memory ran out.
-abbrev pub IsRefusedList : Inputs → Where → RunFault → Type 0
-IsRefusedList inputs list fault =
-    (first : VerifyFault) × IsRefusedAfter inputs list (limit_of list) [] first × IsFaultAt list first fault
+abbrev pub IsAnswer : Inputs → Requested → Answered → Type 0
+IsAnswer inputs (Compares compare) given = IsComparison inputs compare given
+IsAnswer inputs request given = (answer : Answer) × IsAlone inputs request answer × (given ≡ alone answer)
 
 -- Why there is no answer: an input was not loaded or read; the bytes are no log; the list is refused; the text spells no range, or the
 -- other states no register within it, as tpm2-tools prints them; or memory ran out.
-abbrev pub IsRefusal : Inputs → Asked → RunFault → Type 0
-IsRefusal inputs (Compares compared) fault = IsNoComparison inputs compared fault
+abbrev pub IsRefusal : Inputs → Requested → RunFault → Type 0
+IsRefusal inputs (Compares compare) fault = IsNoComparison inputs compare fault
 IsRefusal inputs (LogRegistersOf log) fault =
     IsInputFault inputs log fault ⊎ OfInput inputs log (λ content. HasLogFault content fault) ⊎ (fault ≡ runs.Memory)
 IsRefusal inputs (ListRegistersOf list) fault = IsReadFailure inputs list fault ⊎ IsRefusedList inputs list fault ⊎ (fault ≡ runs.Memory)

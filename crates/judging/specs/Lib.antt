@@ -1,8 +1,3 @@
 pub mod Inputs
-pub mod Asking
-pub mod Growing
-pub mod Registers
-pub mod Expecting
-pub mod Judging
+pub mod Requests
 pub mod Answering
-pub mod parts

@@ -2,15 +2,15 @@
 
 ghost use Rattle.std.specs.Prelude.{◌≡◌, option_map};
 ghost use Rattle.boot_verdict.specs.Verdicts.{verdict_of};
-ghost use Rattle.judging.specs.Asking.{requires_of};
-ghost use Rattle.judging.specs.Judging.{alone, is_match, is_well, next_if};
+ghost use Rattle.judging.specs.Answering.{alone, is_match, is_well};
+ghost use Rattle.judging.specs.Requests.{requires_of};
 
 use crate::request::Required;
+use agent_inputs::RunFault;
 use boot_verdict::{
-    Checkpoint, Expected, ListReport, Located, RegisterRange, Report, Requirement, all_found,
-    required_found,
+    Checkpoint, Expected, ListReport, Located, PrefixReport, RegisterRange, Report, Requirement,
+    all_found, required_found,
 };
-use growing_lists::FrontReport;
 use pcr_banks::Banks;
 
 /// What is answered.
@@ -18,10 +18,10 @@ use pcr_banks::Banks;
 pub enum Answer {
     /// A report on all of a list.
     Report(Report),
-    /// A report on its confirmed front.
-    Front(FrontReport),
+    /// A report on its confirmed prefix.
+    Prefix(PrefixReport),
     /// Where registers have their values.
-    Places(Vec<Located>),
+    Positions(Vec<Located>),
     /// A report on a list alone.
     ListReport(ListReport),
     /// Registers, of a log or of a list alone.
@@ -57,6 +57,9 @@ pub struct Answered {
     pub next: Option<Checkpoint>,
 }
 
+/// An answer, or why there is none.
+pub(crate) type Answering = Result<Answered, RunFault>;
+
 impl Answered {
     /// An answer that compares nothing: all is well with it.
     pub fn alone(answer: Answer) -> Self
@@ -73,20 +76,16 @@ impl Answered {
 
 /// Whether all is well where this has to be among the expected registers, of which the text spells these; so it is with an answer that
 /// compares nothing.
-pub(crate) fn is_well(
-    required: Required<'_>,
-    requirement: Option<&Requirement>,
-    answer: &Answer,
-) -> bool
-    ensures { result ≡ is_well (requires_of required.entry) (option_map (λ ranges. ranges.now) requirement.entry) answer.now }
+pub(crate) fn is_well(required: Required<'_>, ranges: Option<&Requirement>, answer: &Answer) -> bool
+    ensures { result ≡ is_well (requires_of required.entry) (option_map (λ ranges. ranges.now) ranges.entry) answer.now }
 {
-    match (answer, requirement) {
+    match (answer, ranges) {
         (Answer::Report(report), None) => is_match(required, report),
         (Answer::Report(report), Some(requirement)) => report.meets(requirement),
-        (Answer::Front(front), None) => front.report.matches(),
-        (Answer::Front(front), Some(requirement)) => front.report.meets(requirement),
-        (Answer::Places(places), None) => all_found(places),
-        (Answer::Places(places), Some(requirement)) => required_found(places, requirement),
+        (Answer::Prefix(prefix), None) => prefix.report.matches(),
+        (Answer::Prefix(prefix), Some(requirement)) => prefix.report.meets(requirement),
+        (Answer::Positions(positions), None) => all_found(positions),
+        (Answer::Positions(positions), Some(requirement)) => required_found(positions, requirement),
         (Answer::ListReport(report), None) => report.matches(),
         (Answer::ListReport(report), Some(requirement)) => report.meets(requirement),
         (Answer::Registers(_) | Answer::Expected { .. }, _) => true,
@@ -101,11 +100,4 @@ fn is_match(required: Required<'_>, report: &Report) -> bool
         Required::Nothing => report.matches(),
         Required::Any | Required::These(_) => report.matches() && !report.rows.is_empty(),
     }
-}
-
-/// Where to go on: nowhere, unless all is well.
-pub(crate) fn next_if(is_well: bool, next: Option<Checkpoint>) -> Option<Checkpoint>
-    ensures { result ≡ next_if is_well next }
-{
-    if is_well { next } else { None }
 }

@@ -2,14 +2,14 @@
 #![tactic(auto)]
 
 mod answer;
-mod answering;
-mod expecting;
+mod answers;
 mod inputs;
+mod printed_registers;
 mod registers;
 mod request;
 mod sessions;
 
 pub use answer::{Answer, Answered, Registers};
-pub use answering::answered;
+pub use answers::answer_request;
 pub use inputs::Input;
 pub use request::{Comparison, Request, Required, Wanted};

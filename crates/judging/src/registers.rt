@@ -1,16 +1,12 @@
 //! The registers after a log, and after a list alone.
 
-ghost use Rattle.std.specs.Prelude.{◌≡◌, ◌⊎◌, IfOk, IfErr};
-ghost use Rattle.agent_inputs.specs.Faults.{HasLogFault};
+ghost use Rattle.std.specs.Prelude.{◌≡◌, IfOk, IfErr};
 ghost use Rattle.agent_inputs.specs.Loading.{Inputs as InputsOf};
-ghost use Rattle.agent_inputs.specs.declared.fault.RunFault.TheVariants as runs;
-ghost use Rattle.judging.specs.Answering.{IsAnswer, IsRefusal};
-ghost use Rattle.judging.specs.Asking.{ListRegistersOf, LogRegistersOf, place_of};
-ghost use Rattle.judging.specs.Registers.{AreRegistersAfter};
-ghost use Rattle.judging.specs.parts.Growing.{GivesInput};
+ghost use Rattle.judging.specs.Answering.{IsAnswer, IsRefusal, GivesInput};
+ghost use Rattle.judging.specs.Requests.{ListRegistersOf, LogRegistersOf, place_of};
 
-use crate::answer::{Answer, Answered, Registers};
-use crate::inputs::{Input, limit_of, loaded_at, refused};
+use crate::answer::{Answer, Answered, Answering, Registers};
+use crate::inputs::{Input, limit_of, load_at, refusal};
 use agent_inputs::{AgentFiles, RunFault, not_read};
 use boot_log::LogView;
 use boot_verdict::{list_start, replay_from};
@@ -18,40 +14,23 @@ use byte_streams::{Failed, SliceSource, Source};
 use std::alloc::Global;
 
 /// The registers after the log in this input, which is loaded.
-pub(crate) fn after_log<F: AgentFiles>(
-    alloc: Global,
-    files: &mut F,
-    log: Input<'_>,
-) -> Result<Answered, RunFault>
-    ensures answer { IfOk result (IsAnswer (F.told files.old) (LogRegistersOf (place_of log.entry))) }
-    ensures fault { IfErr result (IsRefusal (F.told files.old) (LogRegistersOf (place_of log.entry))) }
+pub(crate) fn after_log<F: AgentFiles>(alloc: Global, files: &mut F, log: Input<'_>) -> Answering
+    ensures answer { IfOk result (IsAnswer (F.known files.old) (LogRegistersOf (place_of log.entry))) }
+    ensures fault { IfErr result (IsRefusal (F.known files.old) (LogRegistersOf (place_of log.entry))) }
     ensures saved { F.saved files.new ≡ F.saved files.old }
 {
-    let log = loaded_at(alloc, files, log)?;
-    let registers = registers_after(log.bytes())?;
-    Ok(Answered::alone(Answer::Registers(registers)))
-}
-
-// The registers after this log.
-fn registers_after(log: &[u8]) -> Result<Registers, RunFault>
-    ensures registers { IfOk result (λ registers. AreRegistersAfter log.now registers.start registers.now) }
-    ensures fault { IfErr result (λ fault. HasLogFault log.now fault ⊎ (fault ≡ runs.Memory)) }
-{
-    let log = LogView::new(log)?;
-    Ok(Registers {
-        start: log.reset_registers(),
-        now: log.registers(),
-    })
+    let log = load_at(alloc, files, log)?;
+    let view = LogView::new(log.bytes())?;
+    Ok(Answered::alone(Answer::Registers(Registers {
+        start: view.reset_registers(),
+        now: view.registers(),
+    })))
 }
 
 /// The registers after the list in this input, which is replayed as it is read, without loading it.
-pub(crate) fn after_list<F: AgentFiles>(
-    alloc: Global,
-    files: &mut F,
-    list: Input<'_>,
-) -> Result<Answered, RunFault>
-    ensures answer { IfOk result (IsAnswer (F.told files.old) (ListRegistersOf (place_of list.entry))) }
-    ensures fault { IfErr result (IsRefusal (F.told files.old) (ListRegistersOf (place_of list.entry))) }
+pub(crate) fn after_list<F: AgentFiles>(alloc: Global, files: &mut F, list: Input<'_>) -> Answering
+    ensures answer { IfOk result (IsAnswer (F.known files.old) (ListRegistersOf (place_of list.entry))) }
+    ensures fault { IfErr result (IsRefusal (F.known files.old) (ListRegistersOf (place_of list.entry))) }
     ensures saved { F.saved files.new ≡ F.saved files.old }
 {
     match list {
@@ -64,11 +43,7 @@ pub(crate) fn after_list<F: AgentFiles>(
 }
 
 // The registers after the list of this source.
-fn after_list_from<R: Source>(
-    alloc: Global,
-    source: &mut R,
-    list: Input<'_>,
-) -> Result<Answered, RunFault>
+fn after_list_from<R: Source>(alloc: Global, source: &mut R, list: Input<'_>) -> Answering
     ensures answer { (inputs : InputsOf) → GivesInput inputs (place_of list.entry) (R.state source.old) (R.state source.new)
         → IfOk result (IsAnswer inputs (ListRegistersOf (place_of list.entry))) }
     ensures fault { (inputs : InputsOf) → GivesInput inputs (place_of list.entry) (R.state source.old) (R.state source.new)
@@ -79,6 +54,6 @@ fn after_list_from<R: Source>(
             start: list_start(),
             now,
         }))),
-        Err(fault) => Err(refused(alloc, list, fault)),
+        Err(fault) => Err(refusal(alloc, list, fault)),
     }
 }

@@ -1,10 +1,7 @@
 //! What is asked of a log and a list.
 
-ghost use Rattle.std.specs.Prelude.{◌≡◌, option_map};
-ghost use Rattle.judging.specs.Asking.{requires_of, text_of};
-
 use crate::inputs::Input;
-use command_line::Extent;
+use command_line::Scope;
 
 /// What the answer is, with what only it is of.
 #[derive(Clone, Copy)]
@@ -14,12 +11,12 @@ pub enum Wanted<'a> {
         /// The firmware event log.
         log: Input<'a>,
         /// Which part of the list the verdict is on.
-        extent: Extent,
+        scope: Scope,
         /// The checkpoint to go on from, if there is one.
         resume: Option<Input<'a>>,
     },
     /// Where the expected registers first have their values.
-    Places {
+    Positions {
         /// The firmware event log.
         log: Input<'a>,
     },
@@ -36,18 +33,6 @@ pub enum Required<'a> {
     Any,
     /// The registers that this text spells, as `sha256:0-10`.
     These(&'a [u8]),
-}
-
-impl<'a> Required<'a> {
-    /// The text that spells registers, if there is one.
-    pub(crate) fn text(self) -> Option<&'a [u8]>
-        ensures { option_map (λ text. text.now) result ≡ text_of (requires_of self.entry) }
-    {
-        match self {
-            Required::These(text) => Some(text),
-            Required::Nothing | Required::Any => None,
-        }
-    }
 }
 
 /// What a list is compared with, and what of it is wanted.

@@ -3,7 +3,7 @@
 //! the start, it gives the book's registers.
 #![tactic(auto)]
 
-mod answering;
+mod answers;
 mod book;
 mod export;
 mod fault;
@@ -12,7 +12,7 @@ pub mod laws;
 mod op;
 mod origin;
 mod payload_key;
-mod refusing;
+mod refusals;
 
 pub use book::Book;
 pub use export::ExportFault;

@@ -1,5 +1,6 @@
--- Files, measured into the registers of a log. All of this is this project's choice.
-use Rattle.std.specs.Prelude.{◌≡◌, ℕ, ◌<◌, ◌≤◌, ◌^◌, ◌⊎◌, List, [], ◌++◌, length, map, slice_get, Option, Some, IfSome, IsTrue, MatchOption, string_bytes}
+-- Files, measured into the registers of a log.
+use Rattle.std.specs.Prelude.{◌≡◌, ℕ, ◌<◌, ◌≤◌, ◌^◌, ◌⊎◌, ◌==◌, not, List, [], ◌++◌, filter, length, map, slice_get, Option, None, Some, IfSome, IsTrue, MatchOption, string_bytes}
+use Rattle.std.specs.List.{slice_split}
 use Rattle.std.specs.Str.{IsUtf8}
 use Rattle.pcr_banks.specs.declared.alg.Alg.{Alg}
 use Rattle.pcr_banks.specs.Hashing.{hash_of}
@@ -16,19 +17,30 @@ use Rattle.hash_workers.specs.declared.fault.AgentFault.{AgentFault}
 use Rattle.hash_workers.specs.declared.fault.AgentFault.TheVariants as agents
 use Rattle.hash_workers.specs.Batches.{IsBatchOf}
 use Rattle.hash_workers.specs.Faults.{IsAgentFaultOf}
-use Rattle.hash_workers.specs.Causes.{IsCauseOf}
+use Rattle.hash_workers.specs.Reasons.{IsReasonOf}
 use Rattle.command_line.specs.declared.plan.Measurement.{Measurement}
-use Rattle.command_line.specs.declared.plan.Names.{Names}
+use Rattle.command_line.specs.declared.plan.NameEnd.{NameEnd}
+use Rattle.command_line.specs.declared.plan.NameEnd.TheVariants.{LineFeed, Nul}
 use Rattle.agent_inputs.specs.declared.fault.RunFault.{RunFault}
 use Rattle.agent_inputs.specs.declared.fault.RunFault.TheVariants as runs
 use Rattle.agent_inputs.specs.Faults.{HasLogFault, fault_of_agent, fault_of_job}
-use Rattle.agent_inputs.specs.Loading.{Holds, Inputs, IsInputFault, IsNotRead, IsNotUtf8, IsTooLong, OfInput, input_limit}
-use Rattle.measuring.specs.declared.recording.Measured.{Measured}
-use Rattle.measuring.specs.Names.{names_of}
+use Rattle.agent_inputs.specs.Loading.{Inputs, IsInputFault, IsNotRead, IsNotUtf8, IsTooLong, OfInput, input_limit}
+use Rattle.measuring.specs.declared.file_book.Measured.{Measured}
+
+-- ---- the names in a text
+
+-- The byte that ends each name; the last name may lack it.
+abbrev pub byte_of : NameEnd → ℕ
+byte_of LineFeed = 10
+byte_of Nul = 0
+
+-- The names in a text, in order: its parts between the bytes that end names, except empty ones.
+abbrev pub names_of : NameEnd → List ℕ → List (List ℕ)
+names_of ends text = filter (λ name. not (length name == 0)) (slice_split (λ byte. byte == byte_of ends) text)
 
 -- ---- what is measured
 
--- What files hold: all bytes of the file of a name; none if they are not told.
+-- What files hold: all bytes of the file of a name; none if they are not known.
 abbrev pub Contents : Type 0
 Contents = List ℕ → Option (List ℕ)
 
@@ -57,24 +69,39 @@ pub record IsFileMeasure (held : Contents) (names : List (List ℕ)) (alg : Alg)
   pub file : HasFile held names number
   pub op_is : op ≡ measure (record { alg = alg; digest = hash_of alg file.content; path = file.name; sig = [] })
 
--- No job was refused.
-abbrev pub AreAllDone : List BookOutcome → Type 0
-AreAllDone outcomes = (job : ℕ) (fault : BookFault) → slice_get outcomes job ≡ Some (refused fault) → ⊥
+-- None of the jobs before this one was refused.
+abbrev pub AreDone : List BookOutcome → ℕ → Type 0
+AreDone outcomes count = (job : ℕ) (fault : BookFault) → job < count → slice_get outcomes job ≡ Some (refused fault) → ⊥
 
--- The workers recorded `count` jobs in this book, each as an operation that it `Makes`, and none was refused.
-pub record HasMeasured (origin : Origin) (count : ℕ) (Makes : ℕ → BookOp → Type 0) (workers : ℕ) (book : BookState) : Type 0 where
+-- The fault is that of the first refused job.
+pub record IsFirstRefusal (outcomes : List BookOutcome) (fault : RunFault) : Type 0 where
+  pub job : ℕ
+  pub reason : BookFault
+  pub is_refused : slice_get outcomes job ≡ Some (refused reason)
+  pub before : AreDone outcomes job
+  pub says : fault ≡ fault_of_job job reason
+
+-- The workers recorded the files of these names in this book, whose records are a legal history, each as its measurement. The fault is that of
+-- the first file that the book refused; there is none if it refused none.
+pub record HasRecorded (held : Contents) (names : List (List ℕ)) (origin : Origin) (workers : ℕ) (refusal : Option RunFault)
+    (book : BookState) : Type 0 where
   pub outcomes : List BookOutcome
   pub by : List ℕ
-  pub batch : IsBatchOf origin count Makes workers book outcomes by
-  pub done : AreAllDone outcomes
+  pub book_is : IsBook book
+  pub batch : IsBatchOf origin (length names) (IsFileMeasure held names origin.alg) workers book outcomes by
+  pub refusal_is : MatchOption refusal (AreDone outcomes (length outcomes)) (IsFirstRefusal outcomes)
+
+-- The bytes are a log.
+abbrev pub AreLog : List ℕ → Type 0
+AreLog bytes = (table : List Row) × (events : List LogEvent) × IsLog bytes table events
 
 -- Files are to be measured as asked, into a book of this origin: it starts with the registers after the events of this log.
-pub record IsSetOut (log : List ℕ) (asked : Measurement) (table : List Row) (events : List LogEvent) (origin : Origin) : Type 0 where
+pub record IsSetOut (log : List ℕ) (request : Measurement) (origin : Origin) : Type 0 where
+  pub table : List Row
+  pub events : List LogEvent
   pub log_is : IsLog log table events
   pub starts : IsFirmware (algs_in table) events origin.start
-  pub alg_is : origin.alg ≡ asked.alg
-  pub template_is : origin.template ≡ asked.template
-  pub limit_is : origin.limit ≡ asked.limit
+  pub origin_is : origin ≡ record { start = origin.start; template = request.template; alg = request.alg; limit = request.limit }
 
 -- A text of further names: UTF-8, and no more bytes than an input may have.
 abbrev pub IsTextOfNames : List ℕ → Type 0
@@ -83,26 +110,24 @@ IsTextOfNames text = IsUtf8 text × (length text ≤ input_limit)
 -- These are the names of the files to be measured, fewer than 2^32: those in the arguments, and then, if there is a text of further names, those
 -- in it.
 abbrev pub AreNames : Inputs → Measurement → List (List ℕ) → Type 0
-AreNames inputs asked names =
+AreNames inputs request names =
     (length names < 2 ^ 32)
-    × MatchOption asked.names (names ≡ map string_bytes asked.files.items) (λ more. OfInput inputs (Some (string_bytes more.text)) (λ text.
-    IsTextOfNames text × (names ≡ map string_bytes asked.files.items ++ names_of more.ends text)))
+    × MatchOption request.names (names ≡ map string_bytes request.files.items) (λ more. OfInput inputs (Some (string_bytes more.text)) (λ text.
+    IsTextOfNames text × (names ≡ map string_bytes request.files.items ++ names_of more.ends text)))
 
--- This is what a measurement of these inputs gives: a book that starts with the registers after the log, and in which the files of all
--- names are measured, each under its name with all that it holds; its list is what the records add, and its registers are the list's
--- replay. Beside it, the registers at their reset values.
-pub record IsMeasured (inputs : Inputs) (asked : Measurement) (given : Measured) : Type 0 where
-  pub log : List ℕ
-  pub names : List (List ℕ)
-  pub table : List Row
-  pub events : List LogEvent
+-- This is what a measurement of the files of these names over this log gives: a book that starts with the registers after the log, and in
+-- which the files are measured, each under its name with all that it holds; its list is what the records add, and its registers are the
+-- list's replay. Beside it, the registers at their reset values.
+pub record IsMeasuredOver (held : Contents) (log : List ℕ) (request : Measurement) (names : List (List ℕ)) (given : Measured) : Type 0 where
   pub origin : Origin
-  pub log_held : Holds inputs (Some (string_bytes asked.log)) log
-  pub names_are : AreNames inputs asked names
-  pub set_out : IsSetOut log asked table events origin
-  pub reset_is : IsReset (algs_in table) (startup_locality events) given.reset
-  pub measured : HasMeasured origin (length names) (IsFileMeasure (files_in inputs) names asked.alg) asked.workers given.book
-  pub book_is : IsBook given.book
+  pub set_out : IsSetOut log request origin
+  pub reset_is : IsReset (algs_in set_out.table) (startup_locality set_out.events) given.reset
+  pub measured : HasRecorded held names origin request.workers None given.book
+
+-- This is what a measurement of these inputs gives: that of the files of all names over the log.
+abbrev pub IsMeasured : Inputs → Measurement → Measured → Type 0
+IsMeasured inputs request given = OfInput inputs (Some (string_bytes request.log)) (λ log.
+    (names : List (List ℕ)) × AreNames inputs request names × IsMeasuredOver (files_in inputs) log request names given)
 
 -- ---- why nothing is measured
 
@@ -117,87 +142,49 @@ pub record IsFileFault (held : Contents) (Fails : List ℕ → Type 0) (names : 
   pub index : ℕ
   pub name : List ℕ
   pub has : slice_get names index ≡ Some name
-  pub cause : IsUnhashed held Fails name fault
+  pub reason : IsUnhashed held Fails name fault
   pub before : HasFiles held names index
 
--- The first refused job has this number and this cause.
-pub record IsFirstRefused (outcomes : List BookOutcome) (job : ℕ) (fault : BookFault) : Type 0 where
-  pub is_refused : slice_get outcomes job ≡ Some (refused fault)
-  pub first : (earlier : ℕ) (cause : BookFault) → earlier < job → slice_get outcomes earlier ≡ Some (refused cause) → ⊥
+-- If the fault is that no book could be opened, each of these files could be read: it comes after the faults of files.
+abbrev pub IsAfterFiles : Contents → List (List ℕ) → RunFault → Type 0
+IsAfterFiles held names fault = (reason : BookFault) → fault ≡ runs.Book reason → HasFiles held names (length names)
 
--- The fault is that of the first refused job.
-pub record IsFirstRefusal (outcomes : List BookOutcome) (fault : RunFault) : Type 0 where
-  pub job : ℕ
-  pub cause : BookFault
-  pub first : IsFirstRefused outcomes job cause
-  pub says : fault ≡ fault_of_job job cause
-
--- The workers recorded the jobs in a book, whose records are a legal history, and this is the fault of the first that it refused.
-pub record IsRefusedJob (origin : Origin) (count : ℕ) (Makes : ℕ → BookOp → Type 0) (workers : ℕ) (fault : RunFault) : Type 0 where
-  pub book : BookState
-  pub outcomes : List BookOutcome
-  pub by : List ℕ
-  pub book_is : IsBook book
-  pub batch : IsBatchOf origin count Makes workers book outcomes by
-  pub first : IsFirstRefusal outcomes fault
-
--- Why the workers returned no batch. If their outcomes do not account for the book, this is the first cause against them.
-pub record IsNoBatch (origin : Origin) (count : ℕ) (Makes : ℕ → BookOp → Type 0) (workers : ℕ) (fault : RunFault) : Type 0 where
+-- Why the workers returned no batch. If their outcomes do not account for the book, this is the first reason against them.
+pub record IsNoBatch (held : Contents) (names : List (List ℕ)) (origin : Origin) (workers : ℕ) (fault : RunFault) : Type 0 where
   pub first : AgentFault
   pub first_is : IsAgentFaultOf workers origin first
-  pub among : (cause : GatherFault) → first ≡ agents.Gather cause → IsCauseOf workers origin count Makes cause
+  pub among : (reason : GatherFault) → first ≡ agents.Gather reason
+      → IsReasonOf workers origin (length names) (IsFileMeasure held names origin.alg) reason
   pub says : fault ≡ fault_of_agent first
-
--- Why the jobs are not all recorded.
-abbrev pub IsRecordingFault : Origin → ℕ → (ℕ → BookOp → Type 0) → ℕ → RunFault → Type 0
-IsRecordingFault origin count Makes workers fault =
-    IsNoBatch origin count Makes workers fault ⊎ IsRefusedJob origin count Makes workers fault
-
--- If the fault is that no book could be opened, each of these files could be read.
-abbrev pub IsAfterFiles : Contents → List (List ℕ) → RunFault → Type 0
-IsAfterFiles held names fault = (cause : BookFault) → fault ≡ runs.Book cause → HasFiles held names (length names)
-
--- The files of these names were to be measured as asked over this log, and were not all recorded. That no book could be opened comes after the
--- faults of files.
-pub record IsNotRecorded (held : Contents) (log : List ℕ) (asked : Measurement) (names : List (List ℕ)) (fault : RunFault) : Type 0 where
-  pub table : List Row
-  pub events : List LogEvent
-  pub origin : Origin
-  pub set_out : IsSetOut log asked table events origin
-  pub cause : IsRecordingFault origin (length names) (IsFileMeasure held names asked.alg) asked.workers fault
   pub after_files : IsAfterFiles held names fault
 
--- Why the text of further names is refused, if it holds these bytes: they are not UTF-8, or, with the names before, there are 2^32 names or
--- more.
-abbrev pub IsTextRefused : List (List ℕ) → Names → List ℕ → RunFault → Type 0
-IsTextRefused before more text fault =
-    (IsNotUtf8 (string_bytes more.text) fault × (IsUtf8 text → ⊥))
-    ⊎ ((fault ≡ runs.Usage) × (2 ^ 32 ≤ length (before ++ names_of more.ends text)))
+-- Why the files of these names are not all recorded: there is no batch, or a book refused some, and this is the fault of the first of these.
+abbrev pub IsRecordingFault : Contents → List (List ℕ) → Origin → ℕ → RunFault → Type 0
+IsRecordingFault held names origin workers fault =
+    IsNoBatch held names origin workers fault ⊎ ((book : BookState) × HasRecorded held names origin workers (Some fault) book)
+
+-- The files of these names were to be measured as asked over this log, and were not all recorded.
+abbrev pub IsNotRecorded : Contents → List ℕ → Measurement → List (List ℕ) → RunFault → Type 0
+IsNotRecorded held log request names fault = (origin : Origin) × IsSetOut log request origin × IsRecordingFault held names origin request.workers fault
 
 -- The bytes are a log, and no more than an input may have.
-pub record IsInputLog (bytes : List ℕ) : Type 0 where
-  pub within : length bytes ≤ input_limit
-  pub table : List Row
-  pub events : List LogEvent
-  pub log_is : IsLog bytes table events
+abbrev pub IsInputLog : List ℕ → Type 0
+IsInputLog bytes = (length bytes ≤ input_limit) × AreLog bytes
 
--- Why there are no names: there is a text of further names, and it was not loaded, or is refused.
+-- Why there are no names: there is a text of further names, and it was not loaded, is not UTF-8, or names, with the names before, 2^32 files
+-- or more.
 abbrev pub IsNamesFault : Inputs → Measurement → RunFault → Type 0
-IsNamesFault inputs asked fault = MatchOption asked.names ⊥ (λ more.
-    IsInputFault inputs (Some (string_bytes more.text)) fault
-    ⊎ OfInput inputs (Some (string_bytes more.text)) (λ text. IsTextRefused (map string_bytes asked.files.items) more text fault))
-
--- Why the files of all names are not measured over this log: one could not be read, or they were not all recorded.
-abbrev pub IsFilesFault : Inputs → List ℕ → Measurement → RunFault → Type 0
-IsFilesFault inputs log asked fault =
-    (names : List (List ℕ)) × AreNames inputs asked names
-    × (IsFileFault (files_in inputs) (failing_in inputs) names fault ⊎ IsNotRecorded (files_in inputs) log asked names fault)
+IsNamesFault inputs request fault = MatchOption request.names ⊥ (λ more.
+    IsInputFault inputs (Some (string_bytes more.text)) fault ⊎ OfInput inputs (Some (string_bytes more.text)) (λ text.
+    (IsNotUtf8 (string_bytes more.text) fault × (IsUtf8 text → ⊥))
+    ⊎ ((fault ≡ runs.Usage) × (2 ^ 32 ≤ length (map string_bytes request.files.items ++ names_of more.ends text)))))
 
 -- Why nothing is measured of these inputs: the log was not loaded, or is no log; it is one, and there are no names, or the files are not
 -- measured; or memory ran out.
 abbrev pub IsMeasuringFault : Inputs → Measurement → RunFault → Type 0
-IsMeasuringFault inputs asked fault =
-    IsInputFault inputs (Some (string_bytes asked.log)) fault
-    ⊎ OfInput inputs (Some (string_bytes asked.log)) (λ log.
-    HasLogFault log fault ⊎ (IsInputLog log × (IsNamesFault inputs asked fault ⊎ IsFilesFault inputs log asked fault))
+IsMeasuringFault inputs request fault =
+    IsInputFault inputs (Some (string_bytes request.log)) fault
+    ⊎ OfInput inputs (Some (string_bytes request.log)) (λ log.
+    HasLogFault log fault ⊎ (IsInputLog log × (IsNamesFault inputs request fault ⊎ ((names : List (List ℕ)) × AreNames inputs request names
+    × (IsFileFault (files_in inputs) (failing_in inputs) names fault ⊎ IsNotRecorded (files_in inputs) log request names fault))))
     ⊎ (fault ≡ runs.Memory))

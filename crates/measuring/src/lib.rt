@@ -1,13 +1,12 @@
 //! Measures files into the registers of a log, into a book that several workers share.
 #![tactic(auto)]
 
-mod listing;
-mod measuring;
+mod file_book;
+mod measurement;
+mod name_list;
 mod named_files;
-mod names;
 mod progress;
-mod recording;
 
-pub use measuring::measured;
+pub use file_book::Measured;
+pub use measurement::measure;
 pub use progress::FileProgress;
-pub use recording::Measured;

@@ -1,9 +1,8 @@
 //! Named files as the workers' jobs.
 
-ghost use Rattle.std.specs.Prelude.{◌≡◌, ◌<◌, ◌^◌, length, IfErr, OnOk};
-ghost use Rattle.measuring.specs.Measuring.{HasFiles, IsFileFault, IsFileMeasure};
-ghost use Rattle.measuring.specs.parts.Names.{names_lent};
-ghost use Rattle.measuring.specs.parts.NamedFiles.{IsFileFaultOf, IsFileFailure, job_fault_of};
+ghost use Rattle.std.specs.Prelude.{◌<◌, ◌^◌, length, slice_get, IfErr, IfSome, OnOk};
+ghost use Rattle.measuring.specs.Measuring.{HasFiles, IsFileFault, IsFileMeasure, IsUnhashed};
+ghost use Rattle.measuring.specs.parts.{IsFileFailure, names_borrowed};
 
 use crate::progress::FileProgress;
 use agent_inputs::{INPUT_LIMIT, LoadFault, RunFault, SharedFiles, not_read, too_long};
@@ -23,11 +22,11 @@ pub(crate) struct NamedFiles<'a, S> {
 }
 
 impl<S: SharedFiles> Jobs for NamedFiles<'_, S> {
-    ghost total = { λ jobs. length jobs.names.now };
+    ghost total = { λ jobs. length (names_borrowed jobs.names.now) };
 
-    ghost makes = { λ jobs. IsFileMeasure (S.held jobs.files.now) (names_lent jobs.names.now) };
+    ghost makes = { λ jobs. IsFileMeasure (S.held jobs.files.now) (names_borrowed jobs.names.now) };
 
-    ghost fails = { λ jobs. IsFileFailure (S.held jobs.files.now) (S.fails jobs.files.now) (names_lent jobs.names.now) };
+    ghost fails = { λ jobs. IsFileFailure (S.held jobs.files.now) (S.fails jobs.files.now) (names_borrowed jobs.names.now) };
 
     fn count(&self) -> usize {
         self.names.len()
@@ -37,7 +36,9 @@ impl<S: SharedFiles> Jobs for NamedFiles<'_, S> {
         let name = self.names[job as usize];
         let digest = match self.files.hash(alloc, name, alg, INPUT_LIMIT) {
             Ok(digest) => digest,
-            Err(fault) => return Err(job_fault(fault)),
+            Err(LoadFault::TooLong) => return Err(JobFault::TooLong),
+            Err(LoadFault::Source) => return Err(JobFault::Source),
+            Err(LoadFault::Memory) => return Err(JobFault::Memory),
         };
         Ok(Op::Measure {
             path: Vec::from_slice(alloc, name.as_bytes())?,
@@ -48,10 +49,12 @@ impl<S: SharedFiles> Jobs for NamedFiles<'_, S> {
 }
 
 impl<S: SharedFiles> NamedFiles<'_, S> {
-    /// The fault of the file of this number.
+    /// The fault of the file of this number, which has no operation for this reason.
     pub fn fault_of(&self, alloc: Global, job: u32, fault: JobFault) -> RunFault
-        requires { job < length self.now.names.now }
-        ensures { IsFileFaultOf (names_lent self.now.names.now) job fault result }
+        requires number { job < length self.now.names.now }
+        requires reason { IsFileFailure (S.held self.now.files.now) (S.fails self.now.files.now) (names_borrowed self.now.names.now) job fault }
+        ensures { IfSome (slice_get (names_borrowed self.now.names.now) job) (λ name.
+            IsUnhashed (S.held self.now.files.now) (S.fails self.now.files.now) name result) }
     {
         let name = self.names[job as usize];
         match fault {
@@ -65,26 +68,15 @@ impl<S: SharedFiles> NamedFiles<'_, S> {
     /// and so no worker read them.
     pub fn check(&self, alloc: Global, alg: Alg) -> Result<(), RunFault>
         requires { length self.now.names.now < 2 ^ 32 }
-        ensures read { OnOk result (HasFiles (S.held self.now.files.now) (names_lent self.now.names.now) (length self.now.names.now)) }
-        ensures fault { IfErr result (IsFileFault (S.held self.now.files.now) (S.fails self.now.files.now) (names_lent self.now.names.now)) }
+        ensures read { OnOk result (HasFiles (S.held self.now.files.now) (names_borrowed self.now.names.now) (length (names_borrowed self.now.names.now))) }
+        ensures fault { IfErr result (IsFileFault (S.held self.now.files.now) (S.fails self.now.files.now) (names_borrowed self.now.names.now)) }
     {
         for index in 0..self.names.len() {
-            if let Err(fault) = self.files.hash(alloc, self.names[index], alg, INPUT_LIMIT) {
-                return Err(self.fault_of(alloc, index as u32, job_fault(fault)));
+            if let Err(fault) = self.operation(alloc, index as u32, alg) {
+                return Err(self.fault_of(alloc, index as u32, fault));
             }
         }
         Ok(())
-    }
-}
-
-// The job's fault for a file that could not be hashed.
-fn job_fault(fault: LoadFault) -> JobFault
-    ensures { result ≡ job_fault_of fault }
-{
-    match fault {
-        LoadFault::TooLong => JobFault::TooLong,
-        LoadFault::Source => JobFault::Source,
-        LoadFault::Memory => JobFault::Memory,
     }
 }
 

@@ -112,7 +112,7 @@ earlier_break alg value other digests others digest last breaks =
       ]
     ]
 
--- Equal byte strings whose fronts have the same length have the same front and the same rest.
+-- Equal byte strings whose prefixes have the same length have the same prefix and the same rest.
 parts_of_joined : (first second rest other : List ℕ) → length first ≡ length second → first ++ rest ≡ second ++ other
     → (first ≡ second) × (rest ≡ other)
 parts_of_joined [] [] rest other sized same = (refl, same)

@@ -4,9 +4,9 @@ use Rattle.sha1.specs.Sha1.{Holds}
 use Rattle.sha2.specs.Hashers.{Holds256, Holds384, Holds512}
 use Rattle.pcr_banks.specs.declared.alg.Alg.{Alg}
 use Rattle.pcr_banks.specs.declared.alg.Alg.TheVariants as algs
-use Rattle.pcr_banks.specs.declared.hashing.Hasher.{Hasher}
-use Rattle.pcr_banks.specs.declared.hashing.State.{State}
-use Rattle.pcr_banks.specs.declared.hashing.State.TheVariants as states
+use Rattle.pcr_banks.specs.declared.hasher.Hasher.{Hasher}
+use Rattle.pcr_banks.specs.declared.hasher.State.{State}
+use Rattle.pcr_banks.specs.declared.hasher.State.TheVariants as states
 
 -- The state of this algorithm's hasher after these bytes.
 abbrev pub StateAfter : State → Alg → List ℕ → Type 0

@@ -100,7 +100,7 @@ impl Digest {
         }
     }
 
-    /// Writes the lowercase hexadecimal digits to the front of `out` and returns their number. The rest of `out` is unchanged.
+    /// Writes the lowercase hexadecimal digits to the start of `out` and returns their number. The rest of `out` is unchanged.
     pub fn hex_into(&self, out: &mut [u8; MOST_DIGITS]) -> usize
         ensures count { result ≡ 2 * size_of (alg_of self.now) }
         ensures written { out.new ≡ encode_lower (bytes_of self.now) ++ drop result out.old }

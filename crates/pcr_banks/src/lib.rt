@@ -6,12 +6,12 @@
 mod alg;
 mod banks;
 mod digest;
-mod hashing;
+mod hasher;
 pub mod laws;
 mod sets;
 
 pub use alg::Alg;
 pub use banks::{Banks, REGISTERS};
 pub use digest::{Digest, MOST_DIGITS};
-pub use hashing::{Hasher, hash};
+pub use hasher::{Hasher, hash};
 pub use sets::{AlgSet, PerBank};

@@ -1,11 +1,9 @@
 //! A piece of lines, and how it is filled.
 
 ghost use Rattle.std.specs.Prelude.{◌≡◌, ℕ, ◌<◌, ◌≤◌, ◌⊎◌, ◌==◌, if◌then◌else◌, List, [], length, take, IfOk, IfErr};
-ghost use Rattle.agent_inputs.specs.declared.fault.RunFault.{RunFault};
 ghost use Rattle.agent_inputs.specs.declared.fault.RunFault.TheVariants.{Memory};
 ghost use Rattle.pieces.specs.declared.piece.End.TheVariants.{Longer, More};
-ghost use Rattle.pieces.specs.Pieces.{IsPiece, IsWithin, is_within};
-ghost use Rattle.pieces.specs.parts.Appending.{Appends};
+ghost use Rattle.pieces.specs.Pieces.{Appends, IsPiece, IsWithin, is_within};
 
 use agent_inputs::RunFault;
 use std::alloc::Global;
@@ -50,50 +48,38 @@ pub struct Piece {
     pub end: End,
 }
 
+/// The position after a line that was appended; or `None`, if there are no more lines.
+pub(crate) type Appended = Result<Option<Position>, RunFault>;
+
 /// Lines, each at a position.
 pub(crate) trait Lines {
-    ghost use Rattle.pieces.specs.declared.piece.Position.{Position};
+    ghost use Rattle.pieces.specs.Pieces.{Series};
 
-    // The lines before this position have this text.
-    ghost are_before: { Self → Position → List ℕ → Type 0 };
-
-    // After lines with this text comes this line.
-    ghost has_line: { Self → List ℕ → List ℕ → Type 0 };
-
-    // All lines have this text.
-    ghost are_all: { Self → List ℕ → Type 0 };
-
-    // After lines with this text comes this fault.
-    ghost fails_after: { Self → List ℕ → RunFault → Type 0 };
+    // The lines one after another.
+    ghost series: { Self → Series };
 
     // How many bytes the lines are of.
     ghost size: { Self → ℕ };
 
-    /// Appends the line at this position, and returns the position of the next; or `None`, if there are no more lines.
-    fn append(
-        &self,
-        alloc: Global,
-        position: Position,
-        text: &mut Vec<u8>,
-    ) -> Result<Option<Position>, RunFault>
+    /// Appends the line at this position.
+    fn append(&self, alloc: Global, position: Position, text: &mut Vec<u8>) -> Appended
         requires { IsWithin position (size self.now) }
-        ensures { Appends (are_before self.now) (has_line self.now) (are_all self.now) (fails_after self.now) (size self.now) position
-            text.old.items text.new.items result };
+        ensures { Appends (series self.now) (size self.now) position text.old.items text.new.items result };
 }
 
 /// As many lines from this position on as there is room for.
-pub(crate) fn filled<L: Lines>(
+pub(crate) fn fill<L: Lines>(
     alloc: Global,
     lines: &L,
     start: Position,
     room: usize,
 ) -> Result<Piece, RunFault>
     requires { IsWithin start (L.size lines.now) }
-    ensures piece { IfOk result (λ piece. (before : List ℕ) → L.are_before lines.now start before
-        → IsPiece (L.are_before lines.now) (L.has_line lines.now) (L.are_all lines.now) (L.fails_after lines.now) room before piece) }
+    ensures piece { IfOk result (λ piece. (before : List ℕ) → (L.series lines.now).AreBefore start before
+        → IsPiece (L.series lines.now) room before piece) }
     ensures fits { IfOk result (λ piece. length piece.text.items ≤ room) }
     ensures fault { IfErr result (λ fault. (fault ≡ Memory)
-        ⊎ ((before : List ℕ) → L.are_before lines.now start before → L.fails_after lines.now before fault)) }
+        ⊎ ((before : List ℕ) → (L.series lines.now).AreBefore start before → (L.series lines.now).FailsAfter before fault)) }
 {
     let mut text = Vec::new(alloc);
     let mut next = start;
@@ -108,7 +94,7 @@ pub(crate) fn filled<L: Lines>(
                     end: End::Last,
                 });
             }
-            Err(fault) => return stopped(fault, text, next),
+            Err(fault) => return stop(fault, text, next),
         };
         if text.len() > room {
             return Ok(cut(text, kept, next));
@@ -118,10 +104,10 @@ pub(crate) fn filled<L: Lines>(
 }
 
 // The piece with the lines before this fault, if there are some. If memory ran out there is none.
-fn stopped(fault: RunFault, text: Vec<u8>, next: Position) -> Result<Piece, RunFault>
+fn stop(fault: RunFault, text: Vec<u8>, next: Position) -> Result<Piece, RunFault>
     ensures ok { IfOk result (λ piece. (piece ≡ record { text = text; next = next; end = More }) × (0 < length text.items)
         × (fault ≡ Memory → ⊥)) }
-    ensures err { IfErr result (λ cause. (cause ≡ fault) × ((text.items ≡ []) ⊎ (fault ≡ Memory))) }
+    ensures err { IfErr result (λ reason. (reason ≡ fault) × ((text.items ≡ []) ⊎ (fault ≡ Memory))) }
 {
     if text.is_empty() || matches!(&fault, RunFault::Memory) {
         return Err(fault);

@@ -3,7 +3,7 @@ use Rattle.std.proofs.Common.{◌≡◌, ℕ, ◌+◌, ◌<◌, List, [], ◌∷
 use Rattle.std.proofs.lemmas.List.{append-nil, length-take-le, take_more}
 use Rattle.json_texts.specs.ItemLines.{numbered_lines}
 
-pub numbered_last : {A : Type 0} (line : ℕ → A → List ℕ) (number : ℕ) (items : List A) (item : A)
+numbered_last : {A : Type 0} (line : ℕ → A → List ℕ) (number : ℕ) (items : List A) (item : A)
     → numbered_lines line number (items ++ item ∷ []) ≡ numbered_lines line number items ++ line (number + length items) item
 numbered_last {A} line number [] item =
     let same : number ≡ number + length {A = A} [] = omega arith in
@@ -14,15 +14,10 @@ numbered_last {A} line number (first ∷ items) item =
     (numbered_last line (number + 1) items item ∙ ap (λ (n : ℕ). numbered_lines line (number + 1) items ++ line n item) same)
     ∙ sym (append_assoc (line number first) (numbered_lines line (number + 1) items) (line (number + length (first ∷ items)) item))
 
--- One line more, whose number is `at`.
-pub numbered_more : {A : Type 0} (line : ℕ → A → List ℕ) (start now next : List ℕ) (number at : ℕ) (items : List A) (i : ℕ) (d : A)
-    → at ≡ number + i → i < length items → now ≡ start ++ numbered_lines line number (take i items)
-    → next ≡ now ++ line at (get_or items i d) → next ≡ start ++ numbered_lines line number (take (i + 1) items)
-numbered_more {A} line start now next number at items i d is lt before more =
-    let size : number + length (take i items) ≡ at = omega (arith, is, length-take-le i items (omega (arith, lt))) in
-    more ∙ ap (λ (t : List ℕ). t ++ line at (get_or items i d)) before
-    ∙ append_assoc start (numbered_lines line number (take i items)) (line at (get_or items i d))
-    ∙ ap (λ (t : List ℕ). start ++ t)
-    (ap (λ (n : ℕ). numbered_lines line number (take i items) ++ line n (get_or items i d)) (sym size)
-    ∙ sym (numbered_last line number (take i items) (get_or items i d))
-    ∙ ap (numbered_lines line number) (sym (take_more items i d lt)))
+-- One line more.
+pub numbered_more : {A : Type 0} (line : ℕ → A → List ℕ) (items : List A) (i : ℕ) (d : A) → i < length items
+    → numbered_lines line 0 (take i items) ++ line i (get_or items i d) ≡ numbered_lines line 0 (take (i + 1) items)
+numbered_more {A} line items i d lt =
+    let size : i ≡ 0 + length (take i items) = omega (arith, length-take-le i items (omega (arith, lt))) in
+    ap (λ (n : ℕ). numbered_lines line 0 (take i items) ++ line n (get_or items i d)) size
+    ∙ sym (numbered_last line 0 (take i items) (get_or items i d)) ∙ ap (numbered_lines line 0) (sym (take_more items i d lt))

@@ -1,21 +1,19 @@
--- Answers as text or JSON, and their exit statuses. All of this is this project's choice.
-use Rattle.std.specs.Prelude.{ℕ, Bool, if◌then◌else◌, List, ◌++◌, Option, Some, None, flat_map}
+-- Answers as text or JSON, and their exit statuses.
+use Rattle.std.specs.Prelude.{ℕ, Bool, List, ◌++◌, Option, Some, None, flat_map, ◌≡◌, ◌⊎◌, if◌then◌else◌, []}
 use Rattle.boot_verdict.specs.declared.requirement.BankRange.{BankRange}
 use Rattle.boot_verdict.specs.ListVerdicts.{list_report_text, list_verdict_of, required_list_report_text}
-use Rattle.boot_verdict.specs.PlaceTexts.{places_text}
+use Rattle.boot_verdict.specs.PositionTexts.{positions_text}
 use Rattle.boot_verdict.specs.RegisterTexts.{registers_text}
 use Rattle.boot_verdict.specs.ReportTexts.{counts_text, outcome_text}
-use Rattle.boot_verdict.specs.RequiredTexts.{required_places_text, required_report_text}
-use Rattle.boot_verdict.specs.Verdicts.{Verdict, verdict_of}
+use Rattle.boot_verdict.specs.RequiredTexts.{required_positions_text, required_report_text}
+use Rattle.boot_verdict.specs.Verdicts.{verdict_of}
 use Rattle.boot_verdict.specs.WrittenTexts.{expected_text}
-use Rattle.growing_lists.specs.FrontTexts.{front_report_text, required_front_report_text}
+use Rattle.boot_verdict.specs.PrefixTexts.{prefix_report_text, required_prefix_report_text}
 use Rattle.json.specs.Json.{Json}
 use Rattle.json_texts.specs.JsonValues.{line_of}
-use Rattle.json_texts.specs.PlaceJson.{places_json}
-use Rattle.json_texts.specs.RegisterJson.{expected_json, registers_json}
-use Rattle.json_texts.specs.ReportJson.{front_report_json, list_report_json, report_json}
+use Rattle.json_texts.specs.ReportJson.{positions_json, expected_json, registers_json, prefix_report_json, list_report_json, report_json}
 use Rattle.judging.specs.declared.answer.Answer.{Answer}
-use Rattle.judging.specs.declared.answer.Answer.TheVariants.{Report, Front, Places, ListReport, Registers, Expected}
+use Rattle.judging.specs.declared.answer.Answer.TheVariants.{Report, Prefix, Positions, ListReport, Registers, Expected}
 use Rattle.judging.specs.declared.answer.Answered.{Answered}
 use Rattle.command_line.specs.declared.plan.Form.{Form}
 use Rattle.command_line.specs.declared.plan.Form.TheVariants as forms
@@ -24,20 +22,24 @@ use Rattle.command_line.specs.declared.plan.Print.TheVariants as prints
 use Rattle.ima_list.specs.Lines.{line_of as entry_text}
 use Rattle.json_texts.specs.ItemLines.{entry_lines}
 use Rattle.measure_book.specs.Books.{exported}
-use Rattle.measuring.specs.declared.recording.Measured.{Measured}
-
--- A report where no registers are required, and its verdict.
-abbrev pub report_lines : Verdict → Bool → List ℕ
-report_lines verdict is_match = counts_text verdict.events verdict.locality verdict.entries ++ outcome_text verdict is_match
+use Rattle.measuring.specs.declared.file_book.Measured.{Measured}
+use Rattle.boot_verdict.specs.declared.checkpoint.Checkpoint.{Checkpoint}
+use Rattle.growing_lists.specs.CheckpointTexts.{checkpoint_text}
+use Rattle.agent_inputs.specs.declared.fault.RunFault.{RunFault}
+use Rattle.agent_inputs.specs.declared.fault.RunFault.TheVariants as runs
+use Rattle.agent_inputs.specs.Loading.{HasReplaced, Inputs, IsNotWritten, Saved}
+use Rattle.judging.specs.Answering.{IsAnswer, IsRefusal}
+use Rattle.judging.specs.Requests.{Requested}
 
 -- The lines of an answer, where these registers are required, and whether all is well.
 abbrev pub lines_of : Bool → Option (List BankRange) → Answer → List ℕ
-lines_of well None (Report report) = report_lines (verdict_of report) well
+lines_of well None (Report report) =
+    counts_text (verdict_of report).events (verdict_of report).locality (verdict_of report).entries ++ outcome_text (verdict_of report) well
 lines_of well (Some ranges) (Report report) = required_report_text ranges (verdict_of report)
-lines_of well None (Front front) = front_report_text (verdict_of front.report) front.entries front.unconfirmed
-lines_of well (Some ranges) (Front front) = required_front_report_text ranges (verdict_of front.report) front.entries front.unconfirmed
-lines_of well None (Places places) = places_text places.items
-lines_of well (Some ranges) (Places places) = required_places_text ranges places.items
+lines_of well None (Prefix prefix) = prefix_report_text (verdict_of prefix.report) prefix.entries prefix.unconfirmed
+lines_of well (Some ranges) (Prefix prefix) = required_prefix_report_text ranges (verdict_of prefix.report) prefix.entries prefix.unconfirmed
+lines_of well None (Positions positions) = positions_text positions.items
+lines_of well (Some ranges) (Positions positions) = required_positions_text ranges positions.items
 lines_of well None (ListReport report) = list_report_text (list_verdict_of report)
 lines_of well (Some ranges) (ListReport report) = required_list_report_text ranges (list_verdict_of report)
 lines_of well required (Registers registers) = registers_text registers.now registers.start
@@ -46,28 +48,68 @@ lines_of well required (Expected expected range) = expected_text range expected.
 -- An answer as JSON.
 abbrev pub json_of : Bool → Option (List BankRange) → Answer → Json
 json_of well required (Report report) = report_json required well (verdict_of report)
-json_of well required (Front front) = front_report_json required (verdict_of front.report) front.entries front.unconfirmed
-json_of well required (Places places) = places_json required places.items
+json_of well required (Prefix prefix) = prefix_report_json required (verdict_of prefix.report) prefix.entries prefix.unconfirmed
+json_of well required (Positions positions) = positions_json required positions.items
 json_of well required (ListReport report) = list_report_json required (list_verdict_of report)
 json_of well required (Registers registers) = registers_json registers.now registers.start
 json_of well required (Expected expected range) = expected_json range expected.items
 
 -- The answer in this form.
-abbrev pub rendered : Form → Answered → List ℕ
-rendered forms.Text given = lines_of given.is_well given.requirement given.answer
-rendered forms.Json given = line_of (json_of given.is_well given.requirement given.answer)
-
--- The exit status: 0 if all is well, else 1.
-abbrev pub status_of : Answered → ℕ
-status_of given = if given.is_well then 0 else 1
+abbrev pub render : Form → Answered → List ℕ
+render forms.Text given = lines_of given.is_well given.requirement given.answer
+render forms.Json given = line_of (json_of given.is_well given.requirement given.answer)
 
 -- ---- a measurement
 
 -- What is printed of a measurement in this form: the list as text or binary, or its registers that differ from their reset values. As JSON
 -- the list is the lines of its entries.
-abbrev pub printed : Form → Print → Measured → List ℕ
-printed forms.Text prints.Ascii given = flat_map entry_text given.book.entries
-printed forms.Text prints.Binary given = exported given.book
-printed forms.Text prints.Registers given = registers_text given.book.banks given.reset
-printed forms.Json prints.Registers given = line_of (registers_json given.book.banks given.reset)
-printed forms.Json print given = entry_lines given.book.entries
+abbrev pub print_measured : Form → Print → Measured → List ℕ
+print_measured forms.Text prints.Ascii given = flat_map entry_text given.book.entries
+print_measured forms.Text prints.Binary given = exported given.book
+print_measured forms.Text prints.Registers given = registers_text given.book.banks given.reset
+print_measured forms.Json prints.Registers given = line_of (registers_json given.book.banks given.reset)
+print_measured forms.Json print given = entry_lines given.book.entries
+
+-- ---- outputs
+
+-- What is shown is the answer to what is asked for, in this form; its exit status is 0 if all is well, else 1; and this is where to go on.
+pub record IsShown (inputs : Inputs) (request : Requested) (form : Form) (shown : List ℕ) (status : ℕ) (next : Option Checkpoint) : Type 0 where
+  pub given : Answered
+  pub answer : IsAnswer inputs request given
+  pub text_is : shown ≡ render form given
+  pub status_is : status ≡ (if given.is_well then 0 else 1)
+  pub next_is : next ≡ given.next
+
+-- The file of this name, if one is given, was replaced by the text of this checkpoint, if there is one, and no other was.
+abbrev pub HasSaved : Saved → Saved → Option (List ℕ) → Option Checkpoint → Type 0
+HasSaved old new (Some name) (Some next) = HasReplaced old new (record { name = name; bytes = checkpoint_text next })
+HasSaved old new name next = new ≡ old
+
+-- The answer is shown. If all is well, the checkpoint of what it is on is saved, if a name is given for it; nothing else is.
+abbrev pub ShowsAnswer : Inputs → Requested → Option (List ℕ) → Form → Saved → Saved → List ℕ → ℕ → Type 0
+ShowsAnswer inputs request save form old new shown status =
+    (next : Option Checkpoint) × IsShown inputs request form shown status next × HasSaved old new save next
+
+-- The text of a checkpoint, if there is one.
+abbrev pub state_of : Option Checkpoint → List ℕ
+state_of None = []
+state_of (Some next) = checkpoint_text next
+
+-- The answer is given; and, if all is well, the text of the checkpoint of what it is on.
+abbrev pub GivesAnswer : Inputs → Requested → Form → List ℕ → ℕ → List ℕ → Type 0
+GivesAnswer inputs request form shown status state =
+    (next : Option Checkpoint) × IsShown inputs request form shown status next × (state ≡ state_of next)
+
+-- There is a checkpoint to be written under a name that is given, and it could not be; or memory ran out.
+abbrev pub IsNotSaved : Option (List ℕ) → Option Checkpoint → RunFault → Type 0
+IsNotSaved (Some name) (Some next) fault = IsNotWritten name fault ⊎ (fault ≡ runs.Memory)
+IsNotSaved name next fault = ⊥
+
+-- Why nothing is given: there is no answer; or there is one, and memory ran out.
+abbrev pub IsRefusalOn : Inputs → Requested → RunFault → Type 0
+IsRefusalOn inputs request fault = IsRefusal inputs request fault ⊎ ((fault ≡ runs.Memory) × ((given : Answered) × IsAnswer inputs request given))
+
+-- Why nothing is shown: there is no answer; or there is one, and memory ran out, or the checkpoint could not be saved.
+abbrev pub IsOutputFault : Inputs → Requested → Option (List ℕ) → RunFault → Type 0
+IsOutputFault inputs request save fault =
+    IsRefusalOn inputs request fault ⊎ ((given : Answered) × IsAnswer inputs request given × IsNotSaved save given.next fault)

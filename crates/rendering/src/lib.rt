@@ -1,14 +1,14 @@
 //! The outputs of answers, as text or JSON, of files or of bytes in memory.
 #![tactic(auto)]
 
+mod checkpoints;
 mod no_files;
 mod output;
 mod outputs;
-mod printing;
-mod rendering;
-mod saving;
+mod printed_lists;
+mod renderer;
 
 pub use output::Output;
 pub use outputs::{Given, output_for, output_on};
-pub use printing::printed;
-pub use rendering::rendered;
+pub use printed_lists::print_measured;
+pub use renderer::render;

@@ -21,7 +21,7 @@ impl Output {
     }
 
     /// The output of a command that judges: its status says whether all is well.
-    pub fn told(text: Vec<u8>, is_well: bool) -> Self
+    pub fn verdict(text: Vec<u8>, is_well: bool) -> Self
         ensures text { result.text ≡ text }
         ensures status { result.status ≡ (if is_well then 0 else 1) }
     {

@@ -1,19 +1,19 @@
 //! Outputs of what is asked for.
 
 ghost use Rattle.std.specs.Prelude.{◌≡◌, option_map, IfOk, IfErr, OnErr};
-ghost use Rattle.agent_inputs.specs.Loading.{untold};
-ghost use Rattle.judging.specs.Asking.{asked_of};
-ghost use Rattle.rendering.specs.Outputs.{GivesAnswer, IsOutputFault, IsRefusalOn, ShowsAnswer, state_of};
+ghost use Rattle.agent_inputs.specs.Loading.{unknown};
+ghost use Rattle.judging.specs.Requests.{requested_of};
+ghost use Rattle.rendering.specs.Rendering.{GivesAnswer, IsOutputFault, IsRefusalOn, ShowsAnswer, state_of};
 
+use crate::checkpoints::save;
 use crate::no_files::NoFiles;
 use crate::output::Output;
-use crate::rendering::rendered;
-use crate::saving::save;
+use crate::renderer::render;
 use agent_inputs::{AgentFiles, RunFault};
 use boot_verdict::Checkpoint;
 use command_line::Form;
 use growing_lists::write_checkpoint;
-use judging::{Request, answered};
+use judging::{Request, answer_request};
 use std::alloc::{AllocError, Global};
 
 /// The output of what is asked for, in this form. If all is well, the checkpoint of what a verdict is on is saved last, if a name is given
@@ -21,17 +21,17 @@ use std::alloc::{AllocError, Global};
 pub fn output_for<F: AgentFiles>(
     alloc: Global,
     files: &mut F,
-    asked: Request<'_>,
+    request: Request<'_>,
     name: Option<&str>,
     form: Form,
 ) -> Result<Output, RunFault>
-    ensures shown { IfOk result (λ output. ShowsAnswer (F.told files.old) (asked_of asked.entry) (option_map (λ name. name.now) name.entry) form
+    ensures shown { IfOk result (λ output. ShowsAnswer (F.known files.old) (requested_of request.entry) (option_map (λ name. name.now) name.entry) form
         (F.saved files.old) (F.saved files.new) output.text.items output.status) }
     ensures kept { OnErr result (F.saved files.new ≡ F.saved files.old) }
-    ensures fault { IfErr result (IsOutputFault (F.told files.old) (asked_of asked.entry) (option_map (λ name. name.now) name.entry)) }
+    ensures fault { IfErr result (IsOutputFault (F.known files.old) (requested_of request.entry) (option_map (λ name. name.now) name.entry)) }
 {
-    let given = answered(alloc, files, asked)?;
-    let output = rendered(alloc, &given, form)?;
+    let given = answer_request(alloc, files, request)?;
+    let output = render(alloc, &given, form)?;
     save(alloc, files, name, given.next)?;
     Ok(output)
 }
@@ -46,13 +46,13 @@ pub struct Given {
 }
 
 /// The output of what is asked for of bytes in memory, in this form. There are no files: one that is asked for cannot be read.
-pub fn output_on(alloc: Global, asked: Request<'_>, form: Form) -> Result<Given, RunFault>
-    ensures shown { IfOk result (λ given. GivesAnswer untold (asked_of asked.entry) form given.output.text.items given.output.status
+pub fn output_on(alloc: Global, request: Request<'_>, form: Form) -> Result<Given, RunFault>
+    ensures shown { IfOk result (λ given. GivesAnswer unknown (requested_of request.entry) form given.output.text.items given.output.status
         given.checkpoint.items) }
-    ensures fault { IfErr result (IsRefusalOn untold (asked_of asked.entry)) }
+    ensures fault { IfErr result (IsRefusalOn unknown (requested_of request.entry)) }
 {
-    let given = answered(alloc, &mut NoFiles, asked)?;
-    let output = rendered(alloc, &given, form)?;
+    let given = answer_request(alloc, &mut NoFiles, request)?;
+    let output = render(alloc, &given, form)?;
     let checkpoint = text_of(alloc, given.next)?;
     Ok(Given { output, checkpoint })
 }

@@ -96,8 +96,8 @@ impl Source for PieceSource<'_> {
         }
         self.reads -= 1;
         let count = self.rest.len().min(self.most).min(buffer.len());
-        let (front, rest) = self.rest.split_at(count);
-        buffer[..count].copy_from_slice(front);
+        let (prefix, rest) = self.rest.split_at(count);
+        buffer[..count].copy_from_slice(prefix);
         self.rest = rest;
         Ok(count)
     }

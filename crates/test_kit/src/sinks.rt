@@ -5,7 +5,7 @@ ghost use Rattle.std.specs.Prelude.{None};
 use byte_streams::{Failed, Sink};
 
 /// Takes so many bytes at a time at most, one at least, fails after some writes, and tells no bytes. It looks whether what it
-/// takes is the front of a text.
+/// takes is the prefix of a text.
 #[derive(Drop)]
 pub struct PieceSink<'a> {
     rest: &'a [u8],
@@ -32,7 +32,7 @@ impl<'a> PieceSink<'a> {
         self.is_text && self.rest.is_empty() && self.failures == 0
     }
 
-    /// Whether a front of the text came, and not all of it, and then one write failed.
+    /// Whether a prefix of the text came, and not all of it, and then one write failed.
     pub fn is_cut(&self) -> bool {
         self.is_text && !self.rest.is_empty() && self.failures == 1
     }

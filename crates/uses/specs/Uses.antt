@@ -1,4 +1,4 @@
--- What the uses of the libraries answer, in the definitions of those libraries. All of this is this project's choice.
+-- What the uses of the libraries answer, in the definitions of those libraries.
 use Rattle.std.specs.Prelude.{◌≡◌, ℕ, Bool, List, [], ◌∷◌, Option, option_map}
 use Rattle.pcr_banks.specs.declared.alg.Alg.{Alg}
 use Rattle.pcr_banks.specs.declared.alg.Alg.TheVariants.{Sha256}

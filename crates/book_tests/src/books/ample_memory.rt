@@ -1,5 +1,5 @@
 //! Calls that want all their memory, each made once: on books of thousands of records, of the least and the greatest limit, and of
-//! each template and algorithm. A body that gives up without cause fails here.
+//! each template and algorithm. A body that gives up without reason fails here.
 
 use crate::books::deeds::{Deed, Row, is_book, measured, play, violated};
 use ima_list::Template;

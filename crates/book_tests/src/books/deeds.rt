@@ -130,7 +130,7 @@ pub fn is_recorded(book: &Book, place: u32, op: &Op, answer: Answer) -> bool {
     }
 }
 
-/// Whether the operation was refused for this cause, or its receipt and the book's record have this place, operation and answer.
+/// Whether the operation was refused for this reason, or its receipt and the book's record have this place, operation and answer.
 pub fn is_end(book: &Book, op: &Op, outcome: &Outcome, end: &End) -> bool {
     match (outcome, end) {
         (Outcome::Done(done), Ok((place, answer))) => {

@@ -9,10 +9,10 @@ abbrev pub lines_left : Option (List ℕ) → List (List ℕ)
 lines_left None = []
 lines_left (Some text) = lines_of text
 
--- At a place, a line says one thing.
-pub record SaysOnce {Place : Type 0} (Says : Saying Place) : Type 0 where
-  pub once : (place next other : Place) (line : List ℕ) (first second : Option Expected) → Says place line next first
-      → Says place line other second → (next ≡ other) × (first ≡ second)
+-- At a position, a line says one thing.
+pub record SaysOnce {Position : Type 0} (Says : Saying Position) : Type 0 where
+  pub once : (position next other : Position) (line : List ℕ) (first second : Option Expected) → Says position line next first
+      → Says position line other second → (next ≡ other) × (first ≡ second)
 
 -- `after` is `before` with this register, which is not among them, if there is one.
 abbrev pub IsAdded : List Expected → Option Expected → List Expected → Type 0
@@ -20,10 +20,10 @@ IsAdded before None after = after ≡ before
 IsAdded before (Some e) after = (list_any (λ x. same_register x e) before ≡ false) × (after ≡ before ++ e ∷ [])
 
 -- `after` is `before` with the register that the line states, if it states one; it is not among them.
-abbrev pub AddsStated : {Place : Type 0} → Saying Place → Place → List ℕ → Place → List Expected → List Expected → Type 0
-AddsStated {Place} Says place line next before after = (stated : Option Expected) × Says place line next stated × IsAdded before stated after
+abbrev pub AddsStated : {Position : Type 0} → Saying Position → Position → List ℕ → Position → List Expected → List Expected → Type 0
+AddsStated {Position} Says position line next before after = (stated : Option Expected) × Says position line next stated × IsAdded before stated after
 
 -- The line states a register that is not among `earlier`.
-abbrev pub StatesAnother : {Place : Type 0} → Saying Place → Place → List ℕ → List Expected → Type 0
-StatesAnother {Place} Says place line earlier =
-    (next : Place) × (e : Expected) × Says place line next (Some e) × (list_any (λ x. same_register x e) earlier ≡ false)
+abbrev pub StatesAnother : {Position : Type 0} → Saying Position → Position → List ℕ → List Expected → Type 0
+StatesAnother {Position} Says position line earlier =
+    (next : Position) × (e : Expected) × Says position line next (Some e) × (list_any (λ x. same_register x e) earlier ≡ false)

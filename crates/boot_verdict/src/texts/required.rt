@@ -1,14 +1,14 @@
-//! The lines of reports and places where registers are required.
+//! The lines of reports and positions where registers are required.
 
 ghost use Rattle.std.specs.Prelude.{map};
 ghost use Rattle.byte_streams.specs.Streams.{Sends};
-ghost use Rattle.boot_verdict.specs.RequiredTexts.{compared_text, line_if_missing, missing_line, missing_text, required_outcome_text, required_places_text, required_report_text};
+ghost use Rattle.boot_verdict.specs.RequiredTexts.{compared_text, line_if_missing, missing_line, missing_text, required_outcome_text, required_positions_text, required_report_text};
 ghost use Rattle.boot_verdict.specs.Verdicts.{verdict_of};
 
-use super::places::{found_line, write_all};
+use super::positions::{found_line, write_all};
 use super::report::{verdict_line, write_aggregate, write_counts, write_rows};
 use crate::all_registers::{ALL_REGISTERS, register_numbered};
-use crate::places::{Located, required_found};
+use crate::positions::{Located, required_found};
 use crate::report::Report;
 use crate::requirement::{HasExpected, Requirement};
 use byte_streams::{Failed, Sink, send, send_pieces};
@@ -57,14 +57,14 @@ fn write_compared<S: Sink>(compared: usize, sink: &mut S) -> Result<(), Failed>
     )
 }
 
-/// Writes places as [`crate::write_places`] does, and after the lines of expected registers one for each required register that
+/// Writes positions as [`crate::write_positions`] does, and after the lines of expected registers one for each required register that
 /// is not among them, as [`write_required_report`] does; the last line then is `not located`.
-pub fn write_required_places<S: Sink>(
+pub fn write_required_positions<S: Sink>(
     located: &[Located],
     requirement: &Requirement,
     sink: &mut S,
 ) -> Result<(), Failed>
-    ensures { Sends (S.state sink.old) (S.state sink.new) result (required_places_text requirement.now located.now) }
+    ensures { Sends (S.state sink.old) (S.state sink.new) result (required_positions_text requirement.now located.now) }
 {
     write_all(located, sink)?;
     write_missing(requirement, located, sink)?;

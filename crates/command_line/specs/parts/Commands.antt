@@ -1,12 +1,12 @@
 -- What `clap` is given of one argument, and of one command; and what it is given of a row of the table in the code.
 use Rattle.std.specs.Prelude.{◌≡◌, false}
 use Rattle.std.specs.List.{fold}
-use Rattle.clap.specs.Words.{App, Rule, Text, app_of, new_app, rule_of, with_rule, with_subcommand}
+use Rattle.clap.specs.Words.{App, Rule, Text, app_of, new_app, new_rule, rule_of, with_rule, with_subcommand}
 use Rattle.clap.specs.declared.builder.Arg.{Arg}
 use Rattle.clap.specs.declared.builder.Command.{Command}
 use Rattle.clap.specs.declared.builder.ValueParser.{ValueParser}
 use Rattle.clap.specs.declared.builder.ValueParser.TheVariants.{Names}
-use Rattle.command_line.specs.Commands.{flag, flag_beside, omittable, optional, repeated, required, without_default, without_default_beside}
+use Rattle.command_line.specs.Plans.{beside, flag, optional, repeated, required, without_default}
 use Rattle.command_line.specs.declared.command_table.ArgumentRow.{ArgumentRow}
 use Rattle.command_line.specs.declared.command_table.CommandRow.{CommandRow}
 use Rattle.command_line.specs.declared.command_table.Form.{Form}
@@ -33,21 +33,17 @@ parser_of_values known (Parsed parser) = parser
 -- The rule of an argument with this name, given in this form.
 abbrev pub rule_of_form : KnownNames → Text → Form → Rule
 rule_of_form known id Required = required id
-rule_of_form known id Omittable = omittable id
+rule_of_form known id Omittable = new_rule id
 rule_of_form known id Repeated = repeated id
 rule_of_form known id Flag = flag id
-rule_of_form known id (FlagBeside option) = flag_beside id
+rule_of_form known id (FlagBeside option) = beside (flag id)
 rule_of_form known id (Optional value) = without_default id
-rule_of_form known id (OptionalBeside value argument) = without_default_beside id
+rule_of_form known id (OptionalBeside value argument) = beside (without_default id)
 rule_of_form known id (Defaulted value default values) = optional id default.now (parser_of_values known values)
-
--- The rule of a row's argument.
-abbrev pub rule_of_row : KnownNames → ArgumentRow → Rule
-rule_of_row known row = rule_of_form known row.id.now row.form
 
 -- A command with the argument of this row too.
 abbrev pub with_argument_row : KnownNames → App → ArgumentRow → App
-with_argument_row known app row = with_rule app (rule_of_row known row)
+with_argument_row known app row = with_rule app (rule_of_form known row.id.now row.form)
 
 -- The definition of a row's command.
 abbrev pub app_of_row : KnownNames → CommandRow → App

@@ -1,4 +1,4 @@
--- The search for the confirmed front, step by step.
+-- The search for the confirmed prefix, step by step.
 use Rattle.std.specs.Prelude.{◌≡◌, ℕ, ◌+◌, ◌-◌, ◌^◌, min, nat_le, ◌==◌, ◌&&◌, Bool, false, if◌then◌else◌, List, length, fold, Option, Some, None}
 use Rattle.std.specs.Borrow.{Bor}
 use Rattle.std.specs.List.{list_all}
@@ -7,19 +7,19 @@ use Rattle.pcr_banks.specs.Registers.{value_at}
 use Rattle.ima_list.specs.Spelling.{spelling}
 use Rattle.boot_verdict.specs.declared.checkpoint.Checkpoint.{Checkpoint}
 use Rattle.boot_verdict.specs.declared.expected.Expected.{Expected}
-use Rattle.growing_lists.specs.declared.fronts.Confirming.{Confirming}
-use Rattle.growing_lists.specs.declared.fronts.Front.{Front}
-use Rattle.boot_verdict.specs.declared.places.Place.{Place}
-use Rattle.boot_verdict.specs.declared.places.Place.TheVariants.{Reset, Event, Entry, Nowhere, Absent}
-use Rattle.boot_verdict.specs.Places.{is_reached, place_after}
-use Rattle.boot_verdict.specs.Steps.{Step, OfEvent, OfEntry, least_front, value_after}
-use Rattle.boot_verdict.specs.Following.{AreAfter}
+use Rattle.growing_lists.specs.declared.prefixes.Confirming.{Confirming}
+use Rattle.growing_lists.specs.declared.prefixes.Prefix.{Prefix}
+use Rattle.boot_verdict.specs.declared.positions.Position.{Position}
+use Rattle.boot_verdict.specs.declared.positions.Position.TheVariants.{Reset, Event, Entry, Nowhere, Absent}
+use Rattle.boot_verdict.specs.Positions.{is_reached, position_after}
+use Rattle.boot_verdict.specs.Steps.{Step, OfEvent, OfEntry, least_prefix, value_after}
+use Rattle.boot_verdict.specs.Tracking.{AreAfter}
 
 -- Whether each expected register has its value in these banks.
 abbrev pub are_reached : Banks → List Expected → Bool
 are_reached banks expected = list_all (λ e. is_reached e (value_at banks e.alg e.register)) expected
 
--- The same after these steps.
+-- All of them have their values after these steps.
 abbrev pub reached_after_steps : Banks → List Expected → List Step → Bool
 reached_after_steps start expected steps =
     list_all (λ e. is_reached e (value_after e.alg e.register (value_at start e.alg e.register) steps)) expected
@@ -36,40 +36,40 @@ size_more size step = min (size + size_of_step step) (2 ^ 64 - 1)
 abbrev pub size_after : ℕ → List Step → ℕ
 size_after size steps = fold size_more size steps
 
--- Whether this is the place of an entry that may be the last of a front; `first` is the number of the first such.
-abbrev pub is_late : ℕ → Place → Bool
+-- Whether this is the position of an entry that may be the last of a prefix; `first` is the number of the first such.
+abbrev pub is_late : ℕ → Position → Bool
 is_late first (Entry last) = nat_le first last
 is_late first Reset = false
 is_late first (Event number) = false
 is_late first Nowhere = false
 is_late first Absent = false
 
--- The front that ends at this place, if it may, and each expected register has its value now.
-abbrev pub front_at : Confirming → Place → Option Front
-front_at confirming (Entry last) =
+-- The prefix that ends at this position, if it may, and each expected register has its value now.
+abbrev pub prefix_at : Confirming → Position → Option Prefix
+prefix_at confirming (Entry last) =
     if nat_le confirming.first last && are_reached confirming.banks confirming.expected.now
     then Some (record { registers = confirming.banks; last = last; bytes = confirming.bytes }) else None
-front_at confirming Reset = None
-front_at confirming (Event number) = None
-front_at confirming Nowhere = None
-front_at confirming Absent = None
+prefix_at confirming Reset = None
+prefix_at confirming (Event number) = None
+prefix_at confirming Nowhere = None
+prefix_at confirming Absent = None
 
--- Whether a front of the steps is one that is searched for.
+-- Whether a prefix of the steps is one that is searched for.
 abbrev pub confirms : Confirming → ℕ → List Step → Bool
-confirms start events front = is_late start.first (place_after events (length front)) && reached_after_steps start.banks start.expected.now front
+confirms start events prefix = is_late start.first (position_after events (length prefix)) && reached_after_steps start.banks start.expected.now prefix
 
--- The front is that of these steps.
-pub record IsFrontAt (start : Confirming) (events : ℕ) (steps : List Step) (front : Front) : Type 0 where
-  pub place : place_after events (length steps) ≡ Entry front.last
-  pub registers : AreAfter start.banks steps front.registers
-  pub size : front.bytes ≡ size_after start.bytes steps
+-- The prefix is that of these steps.
+pub record IsPrefixAt (start : Confirming) (events : ℕ) (steps : List Step) (prefix : Prefix) : Type 0 where
+  pub position : position_after events (length steps) ≡ Entry prefix.last
+  pub registers : AreAfter start.banks steps prefix.registers
+  pub size : prefix.bytes ≡ size_after start.bytes steps
 
--- The front is that of the least steps that were searched for, if there are some.
-abbrev pub FrontIs : Confirming → ℕ → Option (List Step) → Option Front → Type 0
-FrontIs start events None None = Unit {0}
-FrontIs start events None (Some front) = ⊥
-FrontIs start events (Some steps) None = ⊥
-FrontIs start events (Some steps) (Some front) = IsFrontAt start events steps front
+-- The prefix is that of the least steps that were searched for, if there are some.
+abbrev pub PrefixIs : Confirming → ℕ → Option (List Step) → Option Prefix → Type 0
+PrefixIs start events None None = Unit {0}
+PrefixIs start events None (Some prefix) = ⊥
+PrefixIs start events (Some steps) None = ⊥
+PrefixIs start events (Some steps) (Some prefix) = IsPrefixAt start events steps prefix
 
 -- The search is after these steps, where the log has so many events.
 pub record IsConfirmingAfter (start : Confirming) (events : ℕ) (steps : List Step) (now : Confirming) : Type 0 where
@@ -77,21 +77,21 @@ pub record IsConfirmingAfter (start : Confirming) (events : ℕ) (steps : List S
   pub bytes : now.bytes ≡ size_after start.bytes steps
   pub first : now.first ≡ start.first
   pub expected : now.expected ≡ start.expected
-  pub front : FrontIs start events (least_front (confirms start events) steps) now.front
+  pub prefix : PrefixIs start events (least_prefix (confirms start events) steps) now.prefix
 
--- The search after the list of this checkpoint, whose end may be the front.
+-- The search after the list of this checkpoint, whose end may be the prefix.
 abbrev pub search_after : Checkpoint → Bor (List Expected) → Confirming
 search_after known expected = record {
   banks = known.after;
   bytes = known.bytes;
   first = known.entries - 1;
   expected = expected;
-  front = if known.entries == 0 then None
-      else front_at (record { banks = known.after; bytes = known.bytes; first = known.entries - 1; expected = expected; front = None })
+  prefix = if known.entries == 0 then None
+      else prefix_at (record { banks = known.after; bytes = known.bytes; first = known.entries - 1; expected = expected; prefix = None })
       (Entry (known.entries - 1));
 }
 
 -- The search before that list's first entry.
 abbrev pub search_before : Checkpoint → Bor (List Expected) → Confirming
 search_before known expected =
-    record { banks = known.before; bytes = 0; first = known.entries - 1; expected = expected; front = None }
+    record { banks = known.before; bytes = 0; first = known.entries - 1; expected = expected; prefix = None }

@@ -1,4 +1,4 @@
--- What a search for the confirmed front found.
+-- What a search for the confirmed prefix found.
 use Rattle.std.specs.Prelude.{◌≡◌, ℕ, ◌+◌, ◌-◌, ◌^◌, min, Bool, if◌then◌else◌, List, ◌++◌, length, Option, Some, None, Result, Ok, Err}
 use Rattle.pcr_banks.specs.declared.sets.AlgSet.{AlgSet}
 use Rattle.boot_log.specs.Replaying.{IsFirmware}
@@ -6,33 +6,33 @@ use Rattle.boot_log.specs.Spelling.{LogEvent}
 use Rattle.ima_list.specs.ListEntry.{ListEntry}
 use Rattle.ima_list.specs.Spelling.{BeginsWith, IsReading, list_spelling}
 use Rattle.boot_verdict.specs.declared.checkpoint.Checkpoint.{Checkpoint}
-use Rattle.growing_lists.specs.declared.confirming.Search.{Search}
+use Rattle.growing_lists.specs.declared.confirmation.Search.{Search}
 use Rattle.boot_verdict.specs.declared.expected.Expected.{Expected}
-use Rattle.growing_lists.specs.declared.front_report.Unconfirmed.{Unconfirmed}
-use Rattle.growing_lists.specs.declared.front_report.Unconfirmed.TheVariants as unconfirmed
-use Rattle.growing_lists.specs.declared.fronts.Confirming.{Confirming}
-use Rattle.growing_lists.specs.declared.fronts.Front.{Front}
+use Rattle.boot_verdict.specs.declared.prefix_report.Unconfirmed.{Unconfirmed}
+use Rattle.boot_verdict.specs.declared.prefix_report.Unconfirmed.TheVariants as unconfirmed
+use Rattle.growing_lists.specs.declared.prefixes.Confirming.{Confirming}
+use Rattle.growing_lists.specs.declared.prefixes.Prefix.{Prefix}
 use Rattle.boot_verdict.specs.declared.list_replay.ListReplay.{ListReplay}
 use Rattle.boot_verdict.specs.declared.verifier.VerifyFault.{VerifyFault}
 use Rattle.boot_verdict.specs.declared.verifier.VerifyFault.TheVariants as faults
 use Rattle.boot_verdict.specs.Checkpoints.{IsCheckpoint}
-use Rattle.growing_lists.specs.Fronts.{AreUnconfirmed, IsConfirmed, IsUnconfirmedFault, IsWrongWith}
+use Rattle.growing_lists.specs.Prefixes.{AreUnconfirmed, IsConfirmed, IsUnconfirmedFault, IsWrongWith}
 use Rattle.boot_verdict.specs.ListSources.{CameFrom, CameWhole}
 
--- The checkpoint of a confirmed front of these bytes.
+-- The checkpoint of a confirmed prefix of these bytes.
 pub record IsConfirmedAt (algs : AlgSet) (events : List LogEvent) (expected : List Expected) (known : Checkpoint) (bytes : List ℕ) (at : Checkpoint) : Type 0 where
-  pub front : List ListEntry
+  pub prefix : List ListEntry
   pub rest : List ℕ
-  pub begins : BeginsWith bytes front rest
-  pub confirmed : IsConfirmed algs events expected known.entries front
-  pub checkpoint : IsCheckpoint (list_spelling front) at
-  pub same : checkpoint.entries ≡ front
+  pub begins : BeginsWith bytes prefix rest
+  pub confirmed : IsConfirmed algs events expected known.entries prefix
+  pub checkpoint : IsCheckpoint (list_spelling prefix) at
+  pub same : checkpoint.entries ≡ prefix
   pub before : at.before ≡ known.before
 
--- The confirmed front of these entries, with which the bytes begin, or none.
-abbrev pub FindsFront : AlgSet → List LogEvent → List Expected → Checkpoint → List ℕ → List ListEntry → Option Checkpoint → Type 0
-FindsFront algs events expected known bytes entries None = AreUnconfirmed algs events expected known.entries entries
-FindsFront algs events expected known bytes entries (Some at) = IsConfirmedAt algs events expected known bytes at
+-- The confirmed prefix of these entries, with which the bytes begin, or none.
+abbrev pub FindsPrefix : AlgSet → List LogEvent → List Expected → Checkpoint → List ℕ → List ListEntry → Option Checkpoint → Type 0
+FindsPrefix algs events expected known bytes entries None = AreUnconfirmed algs events expected known.entries entries
+FindsPrefix algs events expected known bytes entries (Some at) = IsConfirmedAt algs events expected known bytes at
 
 abbrev pub wrong_with : Result Checkpoint Unconfirmed → Option Unconfirmed
 wrong_with (Ok whole) = None
@@ -54,8 +54,8 @@ pub record Searches (known : Checkpoint) (list : List ℕ) (old new : Option (Li
   pub rest : List ℕ
   pub came_is : CameFrom old new limit came over
   pub begins : BeginsWith (list ++ came) entries rest
-  pub front : (algs : AlgSet) (events : List LogEvent) → IsFirmware algs events known.before
-      → FindsFront algs events expected known (list ++ came) entries search.front
+  pub prefix : (algs : AlgSet) (events : List LogEvent) → IsFirmware algs events known.before
+      → FindsPrefix algs events expected known (list ++ came) entries search.prefix
   pub count : length entries ≡ search.entries
   pub wrong : IsWrongWith list old new limit search.entries (wrong_with search.whole)
   pub whole : IsWhole known list old new limit entries search.whole
@@ -65,35 +65,35 @@ pub record Searches (known : Checkpoint) (list : List ℕ) (old new : Option (Li
 abbrev pub whole_after : Checkpoint → ListReplay Confirming → Checkpoint
 whole_after known replay = record {
   before = known.before;
-  after = replay.follower.banks;
+  after = replay.tracker.banks;
   entries = replay.entries;
-  bytes = replay.follower.bytes;
-  stated = replay.stated;
+  bytes = replay.tracker.bytes;
+  recorded = replay.recorded;
 }
 
-abbrev pub checkpoint_at : Checkpoint → ListReplay Confirming → Front → Checkpoint
-checkpoint_at known replay front = record {
+abbrev pub checkpoint_at : Checkpoint → ListReplay Confirming → Prefix → Checkpoint
+checkpoint_at known replay prefix = record {
   before = known.before;
-  after = front.registers;
-  entries = min (front.last + 1) (2 ^ 64 - 1);
-  bytes = front.bytes;
-  stated = replay.stated;
+  after = prefix.registers;
+  entries = min (prefix.last + 1) (2 ^ 64 - 1);
+  bytes = prefix.bytes;
+  recorded = replay.recorded;
 }
 
--- The front of the search, if the boot aggregate is good.
-abbrev pub front_with : Bool → Checkpoint → ListReplay Confirming → Option Front → Option Checkpoint
-front_with good known replay None = None
-front_with good known replay (Some front) = if good then Some (checkpoint_at known replay front) else None
+-- The prefix of the search, if the boot aggregate is good.
+abbrev pub prefix_with : Bool → Checkpoint → ListReplay Confirming → Option Prefix → Option Checkpoint
+prefix_with good known replay None = None
+prefix_with good known replay (Some prefix) = if good then Some (checkpoint_at known replay prefix) else None
 
-abbrev pub front_after : Bool → Checkpoint → ListReplay Confirming → Option Checkpoint
-front_after good known replay = front_with good known replay replay.follower.front
+abbrev pub prefix_after : Bool → Checkpoint → ListReplay Confirming → Option Checkpoint
+prefix_after good known replay = prefix_with good known replay replay.tracker.prefix
 
 -- The fault of a list with which this is wrong.
 abbrev pub fault_in : Unconfirmed → VerifyFault
 fault_in (unconfirmed.List fault) = faults.List fault
 fault_in (unconfirmed.Replay fault) = faults.Replay fault
 
--- It is no fault of a list, so it does not tell of a front.
+-- It is no fault of a list, so it does not tell of a prefix.
 abbrev pub IsNoListFault : VerifyFault → Type 0
 IsNoListFault fault = (log list : List ℕ) (old new : Option (List ℕ)) (limit : ℕ) (expected : List Expected) (least : ℕ)
     → IsUnconfirmedFault log list old new limit expected least fault

@@ -6,7 +6,7 @@ ghost use Rattle.hex.specs.Hex.{encode_lower};
 ghost use Rattle.byte_streams.specs.Streams.{Sends};
 ghost use Rattle.std.specs.Prelude.{codes, decimal, flat_map};
 ghost use Rattle.boot_verdict.specs.RegisterTexts.{all_registers};
-ghost use Rattle.growing_lists.specs.CheckpointTexts.{bank_lines, banks_lines, checkpoint_body, checkpoint_text, number_line, seal_line, stated_line, value_line};
+ghost use Rattle.growing_lists.specs.CheckpointTexts.{bank_lines, banks_lines, checkpoint_body, checkpoint_text, number_line, seal_line, recorded_line, value_line};
 
 use boot_verdict::{Checkpoint, digits_of, write_change};
 use byte_streams::{Failed, Sink, VecSink, send, send_pieces};
@@ -47,7 +47,7 @@ fn write_body<S: Sink>(checkpoint: &Checkpoint, sink: &mut S) -> Result<(), Fail
     ensures { Sends (S.state sink.old) (S.state sink.new) result (checkpoint_body checkpoint.now) }
 {
     write_counts(checkpoint.entries, checkpoint.bytes, sink)?;
-    write_stated(&checkpoint.stated, sink)?;
+    write_recorded(&checkpoint.recorded, sink)?;
     write_section(b"before\n", &checkpoint.before, sink)?;
     write_section(b"after\n", &checkpoint.after, sink)
 }
@@ -68,10 +68,10 @@ fn write_counts<S: Sink>(entries: usize, bytes: u64, sink: &mut S) -> Result<(),
     send_pieces(&pieces, sink)
 }
 
-fn write_stated<S: Sink>(stated: &Option<Digest>, sink: &mut S) -> Result<(), Failed>
-    ensures { Sends (S.state sink.old) (S.state sink.new) result (stated_line stated.now) }
+fn write_recorded<S: Sink>(recorded: &Option<Digest>, sink: &mut S) -> Result<(), Failed>
+    ensures { Sends (S.state sink.old) (S.state sink.new) result (recorded_line recorded.now) }
 {
-    match stated {
+    match recorded {
         None => send(b"boot_aggregate none\n", sink),
         Some(digest) => {
             let mut room = [0; MOST_DIGITS];

@@ -9,10 +9,10 @@ use Rattle.hash_workers.specs.declared.work.End.{End}
 use Rattle.hash_workers.specs.declared.work.End.TheVariants.{NoneLeft, OutOfMemory, ForeignBook, NoOperation}
 use Rattle.hash_workers.specs.declared.work.Unmade.{Unmade}
 use Rattle.hash_workers.specs.declared.fault.JobFault.{JobFault}
-use Rattle.hash_workers.specs.declared.fault.JobFault.TheVariants as causes
+use Rattle.hash_workers.specs.declared.fault.JobFault.TheVariants as reasons
 use Rattle.hash_workers.specs.declared.work.Turn.{Turn}
 use Rattle.hash_workers.specs.declared.work.Turn.TheVariants.{Next, Last}
-use Rattle.hash_workers.specs.Causes.{IsMadeUnlessMemory}
+use Rattle.hash_workers.specs.Reasons.{IsMadeUnlessMemory}
 use Rattle.hash_workers.specs.Claims.{SeatState}
 use Rattle.hash_workers.specs.Outcomes.{MayBecome, IsOutcomeOf}
 use Rattle.hash_workers.specs.parts.Working.{IsEntered, IsForeign, IsDoneAfter, AreDoneInOrder}
@@ -86,14 +86,14 @@ IsHad Makes unmade job = ((op : BookOp) × Makes job op) ⊎ IsFrom unmade job
 pub record AreHad (Makes : ℕ → BookOp → Type 0) (taken : List ℕ) (unmade : Option Unmade) : Type 0 where
   pub each : (index job : ℕ) → slice_get taken index ≡ Some job → IsHad Makes unmade job
 
--- One of these jobs, of `count` in all, has no operation, and this is the cause.
+-- One of these jobs, of `count` in all, has no operation, and this is the reason.
 pub record IsTakenUnmade (count : ℕ) (Fails : ℕ → JobFault → Type 0) (taken : List ℕ) (unmade : Unmade) : Type 0 where
   pub index : ℕ
   pub stands : slice_get taken index ≡ Some unmade.job
   pub within : unmade.job < count
-  pub cause : Fails unmade.job unmade.fault
+  pub reason : Fails unmade.job unmade.fault
 
--- This job has no operation, for this cause; that is noted as the unmade one, unless one was noted before.
+-- This job has no operation, for this reason; that is noted as the unmade one, unless one was noted before.
 abbrev pub IsNoted : ℕ → JobFault → Option Unmade → Option Unmade → Type 0
 IsNoted job fault None new = new ≡ Some (record { job = job; fault = fault })
 IsNoted job fault (Some unmade) new = new ≡ Some unmade
@@ -102,20 +102,20 @@ IsNoted job fault (Some unmade) new = new ≡ Some unmade
 pub record AreMadeUnlessMemory (Makes : ℕ → BookOp → Type 0) (Fails : ℕ → JobFault → Type 0) (taken : List ℕ) : Type 0 where
   pub each : (index job : ℕ) → slice_get taken index ≡ Some job → IsMadeUnlessMemory Makes Fails job
 
--- The job's operation could not be made, for a cause other than memory.
+-- The job's operation could not be made, for a reason other than memory.
 pub record IsStopped (Fails : ℕ → JobFault → Type 0) (job : ℕ) : Type 0 where
   pub fault : JobFault
-  pub cause : Fails job fault
-  pub other : fault ≢ causes.Memory
+  pub reason : Fails job fault
+  pub other : fault ≢ reasons.Memory
 
 -- Whether a worker takes another job after this one: exactly if its operation was made, unless memory ran out for it.
 abbrev pub IsTurnAfter : (ℕ → BookOp → Type 0) → (ℕ → JobFault → Type 0) → ℕ → Turn → Type 0
 IsTurnAfter Makes Fails job Next = IsMadeUnlessMemory Makes Fails job
 IsTurnAfter Makes Fails job Last = IsStopped Fails job
 
--- Any cause.
-abbrev pub AnyCause : ℕ → JobFault → Type 0
-AnyCause job fault = Unit {0}
+-- Any reason.
+abbrev pub AnyReason : ℕ → JobFault → Type 0
+AnyReason job fault = Unit {0}
 
 -- The first unmade job before and after this job was taken: what is known of it, and of earlier jobs, stays known.
 pub record IsUnmadeAfter (count : ℕ) (Makes : ℕ → BookOp → Type 0) (Fails : ℕ → JobFault → Type 0) (job : ℕ) (taken now_taken : List ℕ)

@@ -12,7 +12,7 @@ use Rattle.hash_workers.specs.declared.work.Work.{Work}
 use Rattle.hash_workers.specs.Claims.{ClaimsState, SeatState, IsSeat}
 use Rattle.hash_workers.specs.parts.Taking.{NumbersRise}
 use Rattle.hash_workers.specs.parts.Working.{IsWorked}
-use Rattle.hash_workers.specs.parts.Ending.{AnyCause, AreHad, AreMadeUnlessMemory, DrewBeyond, IsEnd, IsFrom, IsTakenUnmade}
+use Rattle.hash_workers.specs.parts.Ending.{AnyReason, AreHad, AreMadeUnlessMemory, DrewBeyond, IsEnd, IsFrom, IsTakenUnmade}
 
 -- ---- seats
 
@@ -87,7 +87,7 @@ pub record HandBack (claims : ClaimsState) (works : List Work) : Type 0 where
   pub seat : (worker : ℕ) (work : Work) → slice_get works worker ≡ Some work → IsSinglePlace claims work.seat
   pub ended : (worker : ℕ) (work : Work) → slice_get works worker ≡ Some work → IsSeatEnd work work.end
   pub unmade : (worker : ℕ) (work : Work) (unmade : Unmade) → slice_get works worker ≡ Some work → work.unmade ≡ Some unmade
-      → IsTakenUnmade claims.jobs AnyCause work.taken.items unmade
+      → IsTakenUnmade claims.jobs AnyReason work.taken.items unmade
 
 -- Some worker has this first unmade job.
 pub record HasUnmade (works : List Work) (unmade : Unmade) : Type 0 where

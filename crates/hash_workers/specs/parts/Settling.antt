@@ -21,7 +21,7 @@ use Rattle.hash_workers.specs.Outcomes.{IsOutcomeOf}
 use Rattle.hash_workers.specs.parts.Ending.{IsFound}
 use Rattle.hash_workers.specs.parts.Scattering.{ArePairs, items_of}
 use Rattle.hash_workers.specs.parts.Seats.{HasEnd, HasNoEnd, IsLeastUnmade, outcomes_of, taken_of}
-use Rattle.hash_workers.specs.Causes.{AllMadeUnlessMemory, IsFirstUnmade}
+use Rattle.hash_workers.specs.Reasons.{AllMadeUnlessMemory, IsFirstUnmade}
 
 -- ---- what all workers did
 
@@ -71,19 +71,19 @@ pub record IsAllWork (origin : Origin) (count : ℕ) (Makes : ℕ → BookOp →
 
 -- ---- why there is no batch
 
--- The first cause against a book and the workers' outcomes: a worker found a book of another origin; else what `gather` says.
-abbrev pub IsFirstCause : Bool → BookState → Origin → List (List BookOutcome) → GatherFault → Type 0
-IsFirstCause true book origin groups cause = cause ≡ gathers.ForeignBook
-IsFirstCause false book origin groups cause = IsBook book × IsFirstFault book origin groups cause
+-- The first reason against a book and the workers' outcomes: a worker found a book of another origin; else what `gather` says.
+abbrev pub IsFirstReason : Bool → BookState → Origin → List (List BookOutcome) → GatherFault → Type 0
+IsFirstReason true book origin groups reason = reason ≡ gathers.ForeignBook
+IsFirstReason false book origin groups reason = IsBook book × IsFirstFault book origin groups reason
 
--- The fault is that of the first cause against the book and the workers' outcomes. It comes after that of an unmade job, unless a
+-- The fault is that of the first reason against the book and the workers' outcomes. It comes after that of an unmade job, unless a
 -- worker found a book of another origin.
 pub record IsUnaccounted (foreign : Bool) (first_unmade : Option Unmade) (book : BookState) (origin : Origin) (groups : List (List BookOutcome))
     (fault : JobsFault) : Type 0 where
   pub made : foreign ≡ false → first_unmade ≡ None
-  pub cause : GatherFault
-  pub first : IsFirstCause foreign book origin groups cause
-  pub fault_is : fault ≡ jobs_fault_of_gather cause
+  pub reason : GatherFault
+  pub first : IsFirstReason foreign book origin groups reason
+  pub fault_is : fault ≡ jobs_fault_of_gather reason
 
 -- The fault is that of the first unmade job, and no worker found a book of another origin.
 pub record IsUnmade (foreign : Bool) (first : Option Unmade) (fault : JobsFault) : Type 0 where

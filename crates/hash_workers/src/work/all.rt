@@ -34,7 +34,7 @@ impl AllWork {
     /// each job was taken once if no worker stopped; if one stopped for a job's operation, each job before the first such one.
     ///
     /// Fails where a worker ran out of memory, or where there is none for the lists and places. Nothing else tells how a worker
-    /// ended, so any other cause comes after memory.
+    /// ended, so any other reason comes after memory.
     pub(crate) fn of(
         alloc: Global,
         claims: Claims,
@@ -158,13 +158,13 @@ fn close(claims: Claims, seats: Vec<ClaimSeat>)
     requires all { vec_len seats ≡ claims.seats }
     ensures { All (λ seat. seat.ended ≡ true) seats.items → HandsOutEach claims.jobs (concat (map draws_of seats.items)) }
 {
-    if let Some(seat) = joined(&claims, seats) {
+    if let Some(seat) = join_seats(&claims, seats) {
         claims.close(seat);
     }
 }
 
 // Joins the seats into one.
-fn joined(claims: &Claims, seats: Vec<ClaimSeat>) -> Option<ClaimSeat>
+fn join_seats(claims: &Claims, seats: Vec<ClaimSeat>) -> Option<ClaimSeat>
     requires { All (IsSinglePlace claims.now) seats.items }
     ensures { AreJoined claims.now seats.items result }
 {

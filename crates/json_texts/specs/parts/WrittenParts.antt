@@ -1,4 +1,4 @@
--- The tokens of members and of items, which are written one after another.
+-- What was written: members, items, or a value. After a refusal only what stands before all tokens is known.
 use Rattle.std.specs.Prelude.{◌≡◌, ◌∷◌, ◌++◌, List, flat_map, Result, OnOk}
 use Rattle.json.specs.Token.{Token, key}
 use Rattle.json.specs.Json.{Json}
@@ -18,12 +18,14 @@ members_written members = flat_map member_tokens members
 abbrev pub items_written : List Json → List Token
 items_written values = flat_map json_tokens values
 
--- The members were written, unless memory ran out.
-abbrev pub WritesMembers : {E : Type 0} → Result (Unit {0}) E → Written → Written → List Member → Type 0
-WritesMembers result old new members = OnOk result (new.tokens ≡ old.tokens ++ members_written members)
+pub record WritesMembers {E : Type 0} (result : Result (Unit {0}) E) (old new : Written) (members : List Member) : Type 0 where
+  pub before : new.before ≡ old.before
+  pub tokens : OnOk result (new.tokens ≡ old.tokens ++ members_written members)
 
-abbrev pub WritesItems : {E : Type 0} → Result (Unit {0}) E → Written → Written → List Json → Type 0
-WritesItems result old new values = OnOk result (new.tokens ≡ old.tokens ++ items_written values)
+pub record WritesItems {E : Type 0} (result : Result (Unit {0}) E) (old new : Written) (values : List Json) : Type 0 where
+  pub before : new.before ≡ old.before
+  pub tokens : OnOk result (new.tokens ≡ old.tokens ++ items_written values)
 
-abbrev pub WritesValue : {E : Type 0} → Result (Unit {0}) E → Written → Written → Json → Type 0
-WritesValue result old new value = OnOk result (new.tokens ≡ old.tokens ++ json_tokens value)
+pub record WritesValue {E : Type 0} (result : Result (Unit {0}) E) (old new : Written) (value : Json) : Type 0 where
+  pub before : new.before ≡ old.before
+  pub tokens : OnOk result (new.tokens ≡ old.tokens ++ json_tokens value)

@@ -43,7 +43,7 @@ fn book_over(alloc: Global, start: Banks) -> Result<Book, BookFault> {
 fn assert_made(
     rt: &(impl AllocGlobal + Abort),
     book: &mut Book,
-    place: usize,
+    position: usize,
     entry: &Entry,
 ) -> Result<(), Fail> {
     let fields = entry.fields().ok_or("no fields")?;
@@ -52,12 +52,12 @@ fn assert_made(
         assert_eq!(rt; book.apply(&op).err(), Some(BookFault::WrongHash));
         return Ok(());
     }
-    if place > 0 {
+    if position > 0 {
         let answer = applied(book, &op)?.answer;
-        assert!(rt; matches!(answer, Answer::Added(_)), "entry {place}");
+        assert!(rt; matches!(answer, Answer::Added(_)), "entry {position}");
     }
     let made = book.entries().last().ok_or("no entry")?;
-    assert!(rt; made == entry, "entry {place}");
+    assert!(rt; made == entry, "entry {position}");
     Ok(())
 }
 
@@ -74,9 +74,9 @@ fn real_boot_book(rt: HostRuntime) -> Result<(), Fail> {
     let mut book = book_over(alloc, start)?;
     let mut whole = start;
     let list = list_of(alloc, IMA_LIST)?;
-    for (place, entry) in list.iter().enumerate() {
+    for (position, entry) in list.iter().enumerate() {
         entry.replay_into(&mut whole);
-        assert_made(&rt, &mut book, place, entry)?;
+        assert_made(&rt, &mut book, position, entry)?;
     }
     assert_eq!(rt; (list.len(), book.entries().len()), (99, 98));
     let tenth = Some(sha256_of(REGISTER)?);

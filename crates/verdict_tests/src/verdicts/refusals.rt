@@ -1,7 +1,7 @@
 //! Calls in which an allocation is refused: each answers that memory ran out, or what it answers with ample memory; and then the
 //! same call answers the latter. `tests/faults/sweep.py` refuses the allocations, one in each run.
 
-use super::texts::{Text, expected, places, report};
+use super::texts::{Text, expected, positions, report};
 use boot_verdict::{
     ExpectFault, VerifyFault, list_start, read_expected, read_printed, replay_from, verify_from,
 };
@@ -51,7 +51,7 @@ fn each_allocation_refused_in_verify(rt: HostRuntime) -> Result<(), Fail> {
     Ok(())
 }
 
-/// The same report, of a list that comes in pieces of seven bytes; and of ten bytes of it at most.
+/// The report is the same of a list that comes in pieces of seven bytes; and of ten bytes of it at most.
 #[test]
 fn each_allocation_refused_in_verify_from(rt: HostRuntime) -> Result<(), Fail> {
     let alloc = rt.alloc();
@@ -74,11 +74,11 @@ fn each_allocation_refused_in_verify_from(rt: HostRuntime) -> Result<(), Fail> {
     Ok(())
 }
 
-/// A place after an entry, one that is nowhere, and one of no bank.
+/// A position after an entry, one that is nowhere, and one of no bank.
 #[test]
 fn each_allocation_refused_in_locate(rt: HostRuntime) -> Result<(), Fail> {
-    let places = places(rt.alloc(), &expected(rt.alloc())?)?;
-    let text = Text::Places(&places).written(rt.alloc())?;
+    let positions = positions(rt.alloc(), &expected(rt.alloc())?)?;
+    let text = Text::Positions(&positions).written(rt.alloc())?;
     assert_eq!(rt; text.as_slice(), PLACES);
     Ok(())
 }

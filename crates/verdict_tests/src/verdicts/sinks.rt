@@ -1,6 +1,6 @@
 //! Texts that are sent to sinks that fail at each write.
 
-use super::texts::{Text, book, expected, places, report};
+use super::texts::{Text, book, expected, positions, report};
 use pcr_banks::{Alg, AlgSet, Banks, Digest, PerBank};
 use std::process::Abort;
 use std::test::Fail;
@@ -42,8 +42,8 @@ fn verdicts_to_failing_sinks(rt: HostRuntime) -> Result<(), Fail> {
     assert_sent(&rt, &Text::Expected(&expected), EXPECTED);
     let report = report(rt.alloc(), &expected)?;
     assert_sent(&rt, &Text::Report(&report), REPORT);
-    let places = places(rt.alloc(), &expected)?;
-    assert_sent(&rt, &Text::Places(&places), PLACES);
+    let positions = positions(rt.alloc(), &expected)?;
+    assert_sent(&rt, &Text::Positions(&positions), PLACES);
     Ok(())
 }
 

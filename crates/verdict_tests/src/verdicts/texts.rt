@@ -2,7 +2,7 @@
 
 use boot_verdict::{
     ExpectFault, Expected, Located, RegisterRange, Report, VerifyFault, locate, read_expected,
-    verify, write_expected, write_places, write_registers, write_report,
+    verify, write_expected, write_positions, write_registers, write_report,
 };
 use byte_streams::{Failed, Sink, VecSink};
 use measure_book::{Book, ExportFault};
@@ -20,7 +20,7 @@ use test_kit::samples::{EXPECTED, LIST, LOG};
 pub enum Text<'a> {
     Expected(&'a Vec<Expected>),
     List(&'a Book),
-    Places(&'a Vec<Located>),
+    Positions(&'a Vec<Located>),
     Registers(&'a Banks, &'a Banks),
     Report(&'a Report),
 }
@@ -34,7 +34,7 @@ impl Text<'_> {
                 Ok(()) => Ok(()),
                 Err(ExportFault::Sink) => Err(Failed),
             },
-            Text::Places(located) => write_places(located, sink),
+            Text::Positions(located) => write_positions(located, sink),
             Text::Registers(now, start) => write_registers(now, start, sink),
             Text::Report(report) => write_report(report, sink),
         }
@@ -60,8 +60,8 @@ pub fn report(alloc: Global, expected: &[Expected]) -> Result<Report, VerifyFaul
     once_more(VerifyFault::Memory, || verify(alloc, LOG, LIST, expected))
 }
 
-/// The places in the samples; once more where an allocation was refused.
-pub fn places(alloc: Global, expected: &[Expected]) -> Result<Vec<Located>, VerifyFault> {
+/// The positions in the samples; once more where an allocation was refused.
+pub fn positions(alloc: Global, expected: &[Expected]) -> Result<Vec<Located>, VerifyFault> {
     once_more(VerifyFault::Memory, || locate(alloc, LOG, LIST, expected))
 }
 

@@ -95,7 +95,7 @@ const FIRST_IS_TOLD: [Row; 6] = [
     ),
 ];
 
-/// The first eight jobs fail, the first for another cause than the others.
+/// The first eight jobs fail, the first for another reason than the others.
 const EIGHT: [Failing; 8] = [
     Failing {
         job: 0,

@@ -190,7 +190,7 @@ pub(super) fn has_run_out(batch: &Result<Batch, JobsFault>) -> bool {
     }
 }
 
-/// The same; once more where an allocation may have been refused.
+/// The answer to the trial; once more where an allocation may have been refused.
 pub(super) fn answer_of<R: Threads + Wait + Sync>(rt: &R, alloc: Global, trial: &Trial) -> Answer {
     let answer = tried(rt, alloc, trial);
     if has_run_out(&answer.batch) || answer.all_held {

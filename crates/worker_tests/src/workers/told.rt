@@ -98,7 +98,7 @@ const SOURCE: Failing = Failing {
 };
 
 /// The gate is told of a job whose operation cannot be had as of any other, but without an operation. After one that fails
-/// for another cause than want of memory it is told of none.
+/// for another reason than want of memory it is told of none.
 const ROWS: [Row; 5] = [
     Row {
         count: 60,

@@ -1,5 +1,6 @@
-use Rattle.std.proofs.Common.{refl, inl}
+use Rattle.agent_inputs.proofs.LoadingLemmas.{named}
 use Rattle.agent_inputs.proofs.inputs.not_written.Goals as goal
 
-pub returns-in-Ok : goal.returns-in-Ok
-returns-in-Ok c = inl (record { file = c.in-Ok.name; names = c.in-Ok.ensures.ok; says = refl })
+pub returns : goal.returns
+returns c =
+    named c.from_str.result _ _ _ _ (λ copy names says. record { file = copy; names = names; says = says }) c.from_str.ensures.ok c.map_or.ensures

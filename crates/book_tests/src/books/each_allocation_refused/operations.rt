@@ -85,7 +85,7 @@ const ON_A_FULL_BOOK: [Row; 8] = [
 ];
 
 #[test]
-fn full_book_and_order_of_causes(rt: HostRuntime) -> Result<(), Fail> {
+fn full_book_and_order_of_reasons(rt: HostRuntime) -> Result<(), Fail> {
     let alloc = rt.alloc();
     let list = &[OPENING, MEASUREMENT];
     assert_example(&rt, alloc, origin(2), &ON_A_FULL_BOOK, 2, list, AFTER_TWO)?;
@@ -95,7 +95,7 @@ fn full_book_and_order_of_causes(rt: HostRuntime) -> Result<(), Fail> {
     Ok(())
 }
 
-/// Whether opening a book is refused for this cause.
+/// Whether opening a book is refused for this reason.
 fn refuses(alloc: Global, origin: Origin, fault: BookFault) -> bool {
     match Book::open(alloc, origin) {
         Ok(_) => false,
@@ -194,7 +194,7 @@ const WITH_SIGNATURES: [Row; 4] = [
     (Deed::Violation(b"/etc/x"), Ok((4, Answer::Added(3)))),
 ];
 
-/// The same in a book whose template has no signature.
+/// Operations on a book whose template has no signature.
 const WITHOUT_SIGNATURES: [Row; 3] = [
     (Deed::Measure(b"/bin/sh", b"abc"), Ok((1, Answer::Added(1)))),
     (

@@ -1,6 +1,6 @@
 use Rattle.std.proofs.Common.{ℕ, List, Bor, ap, ◌∙◌}
 use Rattle.boot_verdict.proofs.LineLaws.{if_none}
-use Rattle.boot_verdict.proofs.PcrReadLaws.{columns_front, columns_stripped}
+use Rattle.boot_verdict.proofs.PcrReadLaws.{columns_prefix, columns_stripped}
 use Rattle.boot_verdict.proofs.pcr_read.columns_at.Goals as goal
 
 pub returns-in_err-number-clause-found : goal.returns-in_err-number-clause-found
@@ -16,7 +16,7 @@ pub returns-in_err-register-clause-none : goal.returns-in_err-register-clause-no
 returns-in_err-register-clause-none c =
     if_none c.from_residual-in_err-register.result _
     (λ register rest lt is.
-    let columns = c.in_ok-number.ensures.cases.1 ∙ columns_front c.args.text.now rest register lt is in
+    let columns = c.in_ok-number.ensures.cases.1 ∙ columns_prefix c.args.text.now rest register lt is in
     let stripped = columns_stripped c.in_ok-number.number c.before_suffix.result register lt columns
     c.before_suffix.ensures.found c.before_suffix.ensures.none in
     c.in_err-register.ensures.none register lt (ap (λ (b : Bor (List ℕ)). b.now) c.unwrap_or.ensures ∙ stripped))

@@ -9,7 +9,7 @@ pub returns-in-Some : goal.returns-in-Some
 returns-in-Some c =
     λ algs events firmware.
     c.aggregate_state.ensures
-    ∙ aggregate_same algs events c.args.start.now c.in-Some.stated c.boot_aggregate.result c.alg.result firmware c.alg.ensures
+    ∙ aggregate_same algs events c.args.start.now c.in-Some.recorded c.boot_aggregate.result c.alg.result firmware c.alg.ensures
     c.boot_aggregate.ensures.value
-    ∙ ap (λ (stated : Option Digest). aggregate_of algs events (option_map (λ digest. (alg_of digest, bytes_of digest)) stated))
+    ∙ ap (λ (recorded : Option Digest). aggregate_of algs events (option_map (λ digest. (alg_of digest, bytes_of digest)) recorded))
     (sym c.in-Some.is)

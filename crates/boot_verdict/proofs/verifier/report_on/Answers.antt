@@ -11,6 +11,6 @@ returns c =
     let count = c.count.ensures table events is in
     let locality = c.locality.ensures table events is in
     let entries = checkpoint.count in
-    let aggregate = c.aggregate_of.ensures algs events firmware ∙ ap (aggregate_of algs events) checkpoint.stated in
+    let aggregate = c.aggregate_of.ensures algs events firmware ∙ ap (aggregate_of algs events) checkpoint.recorded in
     let rows = c.in_ok-rows_on.ensures ∙ rows_same algs events checkpoint.entries c.args.known.now.before c.args.known.now.after c.args.expected.now firmware checkpoint.replayed in
     λ i. record { events = count i; locality = locality i; entries = entries i; aggregate = aggregate i; rows = rows i }

@@ -1,14 +1,14 @@
-use Rattle.std.proofs.Common.{codes, ap, sym, ◌∙◌, refl, []}
+use Rattle.std.proofs.Common.{codes, ap, map, sym, ◌∙◌, refl, []}
 use Rattle.std.specs.Prelude.{unwrap_or}
-use Rattle.std.proofs.lemmas.Result.{IfOk-weaker}
+use Rattle.std.proofs.lemmas.List.{take_all}
 use Rattle.clap.specs.Words.{found_of}
 use Rattle.clap.proofs.WalkLemmas.{raw_values-rows}
-use Rattle.command_line.proofs.ReadLemmas.{words_or_none}
+use Rattle.command_line.proofs.ReadLemmas.{arguments_or_none}
 use Rattle.command_line.proofs.values.files_of.Goals as goal
 
-pub returns : goal.returns
-returns c =
-    let given = words_or_none c.get_strs.result _ c.unwrap_or.result refl c.unwrap_or.ensures in
+pub returns-clause-names : goal.returns-clause-names
+returns-clause-names c =
+    let given = arguments_or_none c.get_strs.result _ c.unwrap_or-arguments.result refl c.unwrap_or-arguments.ensures in
     let rows = raw_values-rows (found_of c.args.matches.now) (codes "FILE") in
-    IfOk-weaker c.names_of.result _ _
-    (λ names are. sym (are ∙ given ∙ ap (λ o. unwrap_or o []) (c.get_strs.ensures ∙ rows))) c.names_of.ensures
+    let all = ap (map _) (take_all _ _ c.loop-word-test.false) in
+    sym (c.loop-word.invariant ∙ all ∙ given ∙ ap (λ o. unwrap_or o []) (c.get_strs.ensures ∙ rows))

@@ -7,7 +7,7 @@ returns-in-Some-clause-possible c =
       counted = counted;
       before = c.banks_have_values.ensures;
       after = c.banks_have_values-2.ensures;
-      stated = rw c.in-Some.is (c.digest_is_a_hash.ensures.size, c.digest_is_a_hash.ensures.bytes);
+      recorded = rw c.in-Some.is (c.digest_is_a_hash.ensures.size, c.digest_is_a_hash.ensures.bytes);
     }
 
 pub returns-in_default-clause-possible : goal.returns-in_default-clause-possible
@@ -16,7 +16,7 @@ returns-in_default-clause-possible c =
       counted = counted;
       before = c.banks_have_values.ensures;
       after = c.banks_have_values-2.ensures;
-      stated = rw c.in_default.is tt;
+      recorded = rw c.in_default.is tt;
     }
 
 pub returns-in-Some-clause-counted : goal.returns-in-Some-clause-counted

@@ -1,5 +1,5 @@
 use Rattle.std.proofs.Common.{arith, ◌∙◌}
-use Rattle.growing_lists.proofs.CheckpointLaws.{after_before, after_bytes, after_entries, after_stated, data_apart}
+use Rattle.growing_lists.proofs.CheckpointLaws.{after_before, after_bytes, after_entries, after_recorded, data_apart}
 use Rattle.growing_lists.proofs.checkpoint_reader.data_at.Goals as goal
 
 pub returns-in_err-entries : goal.returns-in_err-entries
@@ -15,13 +15,13 @@ returns-in_err-bytes c =
     (is ∙ data_apart known rest) in
     absurd (c.in_err-bytes.ensures known.bytes (after_bytes known rest) (omega (arith, possible.counted.room)) first.1)
 
-pub returns-in_err-stated : goal.returns-in_err-stated
-returns-in_err-stated c =
+pub returns-in_err-recorded : goal.returns-in_err-recorded
+returns-in_err-recorded c =
     λ known rest possible is.
     let first = c.in_ok-entries.ensures known.entries (after_entries known rest) (omega (arith, possible.counted.size, possible.counted.room))
     (is ∙ data_apart known rest) in
     let second = c.in_ok-bytes.ensures known.bytes (after_bytes known rest) (omega (arith, possible.counted.room)) first.1 in
-    absurd (c.in_err-stated.ensures known.stated (after_stated known rest) possible.stated second.1)
+    absurd (c.in_err-recorded.ensures known.recorded (after_recorded known rest) possible.recorded second.1)
 
 pub returns-in_err-before : goal.returns-in_err-before
 returns-in_err-before c =
@@ -29,7 +29,7 @@ returns-in_err-before c =
     let first = c.in_ok-entries.ensures known.entries (after_entries known rest) (omega (arith, possible.counted.size, possible.counted.room))
     (is ∙ data_apart known rest) in
     let second = c.in_ok-bytes.ensures known.bytes (after_bytes known rest) (omega (arith, possible.counted.room)) first.1 in
-    let third = c.in_ok-stated.ensures known.stated (after_stated known rest) possible.stated second.1 in
+    let third = c.in_ok-recorded.ensures known.recorded (after_recorded known rest) possible.recorded second.1 in
     absurd (c.in_err-before.ensures known.before (after_before known rest) possible.before third.1)
 
 pub returns-in_err-after : goal.returns-in_err-after
@@ -38,7 +38,7 @@ returns-in_err-after c =
     let first = c.in_ok-entries.ensures known.entries (after_entries known rest) (omega (arith, possible.counted.size, possible.counted.room))
     (is ∙ data_apart known rest) in
     let second = c.in_ok-bytes.ensures known.bytes (after_bytes known rest) (omega (arith, possible.counted.room)) first.1 in
-    let third = c.in_ok-stated.ensures known.stated (after_stated known rest) possible.stated second.1 in
+    let third = c.in_ok-recorded.ensures known.recorded (after_recorded known rest) possible.recorded second.1 in
     let fourth = c.in_ok-before.ensures known.before (after_before known rest) possible.before third.1 in
     absurd (c.in_err-after.ensures known.after rest possible.after fourth.1)
 
@@ -48,7 +48,7 @@ returns c =
     let first = c.in_ok-entries.ensures known.entries (after_entries known rest) (omega (arith, possible.counted.size, possible.counted.room))
     (is ∙ data_apart known rest) in
     let second = c.in_ok-bytes.ensures known.bytes (after_bytes known rest) (omega (arith, possible.counted.room)) first.1 in
-    let third = c.in_ok-stated.ensures known.stated (after_stated known rest) possible.stated second.1 in
+    let third = c.in_ok-recorded.ensures known.recorded (after_recorded known rest) possible.recorded second.1 in
     let fourth = c.in_ok-before.ensures known.before (after_before known rest) possible.before third.1 in
     let fifth = c.in_ok-after.ensures known.after rest possible.after fourth.1 in
-    record { entries = first.0; bytes = second.0; stated = third.0; before = fourth.0; after = fifth.0 }
+    record { entries = first.0; bytes = second.0; recorded = third.0; before = fourth.0; after = fifth.0 }

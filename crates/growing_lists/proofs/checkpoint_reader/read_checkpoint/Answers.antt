@@ -34,13 +34,13 @@ returns-clause-only c =
     let same : SameData found known = c.in-Some-data_at.ensures known (seal_line (checkpoint_body known)) possible
     (lines_are known c.args.text.now c.in-Some.version.now c.in-Some-after_prefix.lines.now c.in-Some.ensures.found
     c.in-Some-after_prefix.ensures.found is) in (
-      ok_then c.checked.result c.checked.ensures.same (λ x e. subst (λ (y : Checkpoint). SameData y known) (sym e) same),
-      c.checked.ensures.only known possible same (is ∙ sym (text_same found known same)),
+      ok_then c.check_text.result c.check_text.ensures.same (λ x e. subst (λ (y : Checkpoint). SameData y known) (sym e) same),
+      c.check_text.ensures.only known possible same (is ∙ sym (text_same found known same)),
     )
 
 pub returns-clause-version : goal.returns-clause-version
 returns-clause-version c = (
-  λ version. absurd (c.checked.ensures.version version),
+  λ version. absurd (c.check_text.ensures.version version),
   λ other. absurd (this_version c.args.text.now c.in-Some.version.now c.in-Some-after_prefix.lines.now c.in-Some.ensures.found
       c.in-Some-after_prefix.ensures.found other),
 )

@@ -1,7 +1,7 @@
 use Rattle.std.proofs.Common.{arith}
 use Rattle.hash_workers.specs.Faults.{IsNumberOfWorkers}
 use Rattle.hash_workers.proofs.FaultLaws.{opening_fault}
-use Rattle.hash_workers.proofs.SettlingLaws.{settled_cause, settled_fault, settled_job, settled_number}
+use Rattle.hash_workers.proofs.SettlingLaws.{settled_reason, settled_fault, settled_job, settled_number}
 use Rattle.hash_workers.proofs.batch.record_jobs.Goals as goal
 
 pub returns-in_err-book-clause-fault : goal.returns-in_err-book-clause-fault
@@ -30,7 +30,7 @@ returns-clause-job g c = λ job fault is.
     c.settle.ensures.fault is
 
 pub returns-clause-gather : goal.returns-clause-gather
-returns-clause-gather g c = λ cause is.
-    settled_cause c.args.workers c.args.origin (g.J.Jobs.total c.args.jobs.now) (g.J.Jobs.makes c.args.jobs.now c.args.origin.alg)
-    (g.J.Jobs.fails c.args.jobs.now) c.in_ok-book-2.all c.in_ok-book-2.ensures c.in_ok-book-2.book cause c.settle.result
+returns-clause-gather g c = λ reason is.
+    settled_reason c.args.workers c.args.origin (g.J.Jobs.total c.args.jobs.now) (g.J.Jobs.makes c.args.jobs.now c.args.origin.alg)
+    (g.J.Jobs.fails c.args.jobs.now) c.in_ok-book-2.all c.in_ok-book-2.ensures c.in_ok-book-2.book reason c.settle.result
     c.settle.ensures.fault is

@@ -11,7 +11,7 @@ use Rattle.hash_workers.proofs.batch.settle.Goals as goal
 pub returns-then-all-clause-fault : goal.returns-then-all-clause-fault
 returns-then-all-clause-fault g c = inl (record {
   made = λ same. absurd (true≢false (sym c.if-all.true ∙ same));
-  cause = ForeignBook;
+  reason = ForeignBook;
   first = rw c.if-all.true;
   fault_is = refl;
 })

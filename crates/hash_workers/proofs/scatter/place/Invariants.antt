@@ -7,7 +7,7 @@ use Rattle.hash_workers.proofs.scatter.place.Given as goal
 abbrev pub invariant-loop-outcome : goal.invariant-loop-outcome
 invariant-loop-outcome l = record {
   within : vec_len l.group ≤ length l.taken;
-  front : (index : ℕ) (outcome : Outcome) → slice_get l.group.items index ≡ Some outcome
+  prefix : (index : ℕ) (outcome : Outcome) → slice_get l.group.items index ≡ Some outcome
       → slice_get l.fn.group.items index ≡ Some outcome;
   placed : ArePlaced l.taken l.fn.group.items l.worker (vec_len l.group) l.outcomes.items l.by.items;
   kept : AreKept l.taken (vec_len l.group) l.fn.outcomes.items l.outcomes.items l.fn.by.items l.by.items;

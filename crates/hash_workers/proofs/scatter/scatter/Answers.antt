@@ -2,7 +2,7 @@ use Rattle.std.proofs.Common.{◌≡◌, ◌+◌, length, map, vec_len, Some, �
 use Rattle.std.specs.Prelude.{slice_get}
 use Rattle.hash_workers.specs.parts.Scattering.{items_of}
 use Rattle.hash_workers.proofs.ListLaws.{at_map}
-use Rattle.hash_workers.proofs.ScatterLaws.{items_here, below_of, rise_of, front_less, front_last, scattered_more}
+use Rattle.hash_workers.proofs.ScatterLaws.{items_here, below_of, rise_of, prefix_less, prefix_last, scattered_more}
 use Rattle.hash_workers.proofs.TakingLaws.{take_each}
 use Rattle.hash_workers.proofs.scatter.scatter.Goals as goal
 
@@ -34,8 +34,8 @@ place-requires-clause-pairs c =
     let last : c.len-worker.result ≡ vec_len c.pop.new.self = c.len-worker.ensures in
     let here = items_here c.args.takings.now c.len-worker.result c.index-takings-worker.result (omega arith) c.index-takings-worker.is in
     let group = at_map items_of c.args.groups.items c.len-worker.result c.in-Some.group
-    (front_last c.args.groups.items c.loop-group.groups.items c.pop.new.self.items c.in-Some.group c.len-worker.result
-    c.in-Some.ensures.items (omega arith) kept.front) in
+    (prefix_last c.args.groups.items c.loop-group.groups.items c.pop.new.self.items c.in-Some.group c.len-worker.result
+    c.in-Some.ensures.items (omega arith) kept.prefix) in
     let pairs : length c.in-Some.group.items ≡ length c.index-takings-worker.result.items = c.requires.pairs.each _ _ _ here group in
     let same : c.deref.result.now ≡ c.index-takings-worker.result.items = c.deref.ensures.value in
     let lengths : length c.deref.result.now ≡ length c.index-takings-worker.result.items = ap length same in
@@ -49,12 +49,12 @@ loop-group-preserved c =
     let here : slice_get (map items_of c.args.takings.now) (vec_len c.pop.new.self) ≡ Some c.deref.result.now = rw (← last, c.deref.ensures.value)
     (items_here c.args.takings.now c.len-worker.result c.index-takings-worker.result (omega arith) c.index-takings-worker.is) in
     let group = at_map items_of c.args.groups.items (vec_len c.pop.new.self) c.in-Some.group
-    (front_last c.args.groups.items c.loop-group.groups.items c.pop.new.self.items c.in-Some.group (vec_len c.pop.new.self)
-    c.in-Some.ensures.items (omega arith) kept.front) in
+    (prefix_last c.args.groups.items c.loop-group.groups.items c.pop.new.self.items c.in-Some.group (vec_len c.pop.new.self)
+    c.in-Some.ensures.items (omega arith) kept.prefix) in
     record {
       within = omega arith;
-      front = front_less c.args.groups.items c.loop-group.groups.items c.pop.new.self.items c.in-Some.group c.in-Some.ensures.items
-          kept.front;
+      prefix = prefix_less c.args.groups.items c.loop-group.groups.items c.pop.new.self.items c.in-Some.group c.in-Some.ensures.items
+          kept.prefix;
       scattered = scattered_more (vec_len c.args.outcomes.now) (map items_of c.args.takings.now) (map items_of c.args.groups.items)
           (vec_len c.pop.new.self)
           (vec_len c.loop-group.groups) c.deref.result.now c.in-Some.group.items c.loop-group.outcomes.items c.place.new.outcomes.items

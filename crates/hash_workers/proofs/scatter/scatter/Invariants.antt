@@ -8,7 +8,7 @@ use Rattle.hash_workers.proofs.scatter.scatter.Given as goal
 abbrev pub invariant-loop-group : goal.invariant-loop-group
 invariant-loop-group l = record {
   within : vec_len l.groups ≤ length l.takings;
-  front : (worker : ℕ) (group : Vec Outcome Global) → slice_get l.groups.items worker ≡ Some group
+  prefix : (worker : ℕ) (group : Vec Outcome Global) → slice_get l.groups.items worker ≡ Some group
       → slice_get l.fn.groups.items worker ≡ Some group;
   scattered : AreScattered (map items_of l.takings) (map items_of l.fn.groups.items) (vec_len l.groups) l.outcomes.items l.by.items;
   outcomes_len : vec_len l.outcomes ≡ vec_len l.fn.outcomes;

@@ -1,26 +1,27 @@
 use Rattle.std.proofs.Common.{refl, inl, string_bytes}
-use Rattle.std.proofs.lemmas.Result.{IfOk-weaker}
 use Rattle.command_line.specs.declared.plan.Task.TheVariants as tasks
-use Rattle.ima_agent.proofs.OutcomeLaws.{kept_so, outcome_sent, text_sent}
+use Rattle.ima_agent.specs.Showing.{version_text}
+use Rattle.ima_agent.proofs.OutcomeLaws.{outcome_sent, text_sent}
 use Rattle.ima_agent.proofs.program.perform.Goals as goal
 
 pub returns-in-Registers : goal.returns-in-Registers
 returns-in-Registers g c =
     rw c.in-Registers.is
-    (outcome_sent (g.F.Files.told c.args.files.now) tasks.Registers c.args.form _ _ c.shown_registers.result _ _ _ c.shown_registers.ensures.shown
-    c.shown_registers.ensures.kept c.shown_registers.ensures.fault c.sent_output.ensures)
+    (outcome_sent (g.F.Files.known c.args.files.now) tasks.Registers c.args.form _ _ c.shown_registers.result _ _ _ c.shown_registers.ensures.shown
+    c.shown_registers.ensures.kept c.shown_registers.ensures.fault c.send_output.ensures)
 
 pub returns-in-Answer : goal.returns-in-Answer
 returns-in-Answer g c =
+    let said = rw (c.request_of-request.ensures, c.save_of-save.ensures) at c.output_for.ensures in
     rw c.in-Answer.is
-    (outcome_sent (g.F.Files.told c.args.files.now) (tasks.Answer c.in-Answer.question) c.args.form _ _ c.answer_to.result _ _ _
-    c.answer_to.ensures.shown c.answer_to.ensures.kept c.answer_to.ensures.fault c.sent_output-in-Answer.ensures)
+    (outcome_sent (g.F.Files.known c.args.files.now) (tasks.Answer c.in-Answer.question) c.args.form _ _ c.output_for.result _ _ _
+    said.shown said.kept said.fault c.send_output-in-Answer.ensures)
 
 pub returns-in-Measure : goal.returns-in-Measure
 returns-in-Measure g c =
     rw c.in-Measure.is
-    (outcome_sent (g.F.Files.told c.args.files.now) (tasks.Measure c.in-Measure.asked) c.args.form _ _ c.measured_for.result _ _ _
-    c.measured_for.ensures.shown c.measured_for.ensures.kept c.measured_for.ensures.fault c.sent_output-in-Measure.ensures)
+    (outcome_sent (g.F.Files.known c.args.files.now) (tasks.Measure c.in-Measure.request) c.args.form _ _ c.measure_for.result _ _ _
+    c.measure_for.ensures.shown c.measure_for.ensures.kept c.measure_for.ensures.fault c.send_output-in-Measure.ensures)
 
 pub returns-in-Events : goal.returns-in-Events
 returns-in-Events g c = rw c.in-Events.is c.events_for.ensures
@@ -30,11 +31,8 @@ returns-in-Entries g c = rw c.in-Entries.is c.entries_for.ensures
 
 pub returns-in-Help : goal.returns-in-Help
 returns-in-Help g c =
-    rw c.in-Help.is (text_sent _ (string_bytes c.in-Help.text) 0 _ _ _ (inl ((refl, refl), refl)) (rw c.as_bytes.ensures.value at c.sent_text.ensures))
+    rw c.in-Help.is (text_sent _ (string_bytes c.in-Help.text) 0 _ _ _ (inl ((refl, refl), refl)) (rw c.as_bytes.ensures.value at c.send_text.ensures))
 
 pub returns-in-Version : goal.returns-in-Version
 returns-in-Version g c =
-    rw c.in-Version.is
-    (outcome_sent (g.F.Files.told c.args.files.now) tasks.Version c.args.form _ _ c.shown_version.result _ _ _
-    (IfOk-weaker c.shown_version.result _ _ (λ output is. (is, refl)) c.shown_version.ensures.text) (kept_so c.shown_version.result refl) c.shown_version.ensures.fault
-    c.sent_output-in-Version.ensures)
+    rw c.in-Version.is (text_sent _ version_text 0 _ _ _ (inl ((refl, refl), refl)) (rw c.version_text.ensures at c.send_text-in-Version.ensures))

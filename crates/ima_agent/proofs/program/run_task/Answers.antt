@@ -9,5 +9,5 @@ returns-in-Err-Sink g c = answers_cut _ _ _ _ (rw c.in-Err-Sink.field-0-is at c.
 
 pub returns-in-Err-Run : goal.returns-in-Err-Run
 returns-in-Err-Run g c =
-    answers_failed _ _ _ _ c.in-Err-Run.fault c.failed_as-status.result (rw c.in-Err-Run.field-0-is at c.in-Err-Run.ensures)
-    c.failed_as-status.ensures
+    answers_failed _ _ _ _ c.in-Err-Run.fault c.report_fault-status.result (rw c.in-Err-Run.field-0-is at c.in-Err-Run.ensures)
+    c.report_fault-status.ensures

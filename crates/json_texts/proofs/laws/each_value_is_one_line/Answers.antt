@@ -1,17 +1,56 @@
+use Rattle.std.proofs.Common.{codes, refl}
+use Rattle.std.specs.Prelude.{option_map}
+use Rattle.json.specs.Json.{string}
+use Rattle.pcr_banks.specs.Hashing.{all_algs}
+use Rattle.pcr_banks.specs.Registers.{value_at}
+use Rattle.boot_log.specs.EventTypes.{event_type_name}
+use Rattle.boot_log.specs.Spelling.{IsRow}
+use Rattle.json_texts.specs.EventJson.{algorithm_json}
+use Rattle.json_texts.specs.JsonValues.{IsCount, optional}
+use Rattle.json_texts.specs.ReportJson.{IsCountedPosition, position_members, changed_register, value_within, unconfirmed_members}
 use Rattle.json_texts.proofs.EntryLaws.{entry_line}
-use Rattle.json_texts.proofs.ValueLaws.{algorithms_line, event_line, expected_line, fault_line, front_report_line, list_report_line, places_line, registers_line, report_line}
+use Rattle.json_texts.proofs.LineLaws.{members_joined, one_line}
+use Rattle.json_texts.proofs.ValueLaws.{algorithm_plain, change_plain, digests_plain, each_plain, mapped_plain, of_each_register, position_plain, report_plain, rows_plain, text_plain, told_plain, unconfirmed_plain, within_plain}
 use Rattle.json_texts.proofs.laws.each_value_is_one_line.Goals as goal
 
 pub returns : goal.returns
 returns c = record {
   entry = entry_line;
-  event = event_line;
-  algorithms = algorithms_line;
-  registers = registers_line;
-  expected = expected_line;
-  report = report_line;
-  front_report = front_report_line;
-  list_report = list_report_line;
-  places = places_line;
-  fault = fault_line;
+  event = λ number event count register kind.
+      let type = text_plain 2 (codes "type") (λ name. name) (event_type_name event.kind) in
+      one_line _ (
+        (number, count, refl),
+        (
+          (event.register, register, refl),
+          members_joined 2 (optional (codes "type") (option_map string (event_type_name event.kind))) _ type
+              ((event.kind, kind, refl), (digests_plain event.digests all_algs, (tt, tt))),
+        ),
+      );
+  algorithms = λ rows are. one_line _ (mapped_plain IsRow algorithm_json algorithm_plain rows are, tt);
+  registers = λ now start.
+      one_line _ (of_each_register (changed_register now start) (λ alg r. change_plain alg r (value_at start alg r) (value_at now alg r)), tt);
+  expected = λ range expected fit.
+      one_line _ (each_plain (λ e. IsCount e.register) (value_within range) (within_plain range) expected fit, tt);
+  report = λ required is_match verdict events locality entries rows.
+      one_line _ (
+        (verdict.events, events, refl),
+        (
+          (verdict.locality, locality, refl),
+          ((verdict.entries, entries, refl), (tt, (report_plain required verdict.rows rows, (tt, tt)))),
+        ),
+      );
+  prefix_report = λ required prefix entries unconfirmed events locality confirmed all after rows.
+      let told = members_joined 2 (unconfirmed_members unconfirmed) _ (unconfirmed_plain unconfirmed after)
+      (tt, (report_plain required prefix.rows rows, (tt, tt))) in
+      one_line _ (
+        (prefix.events, events, refl),
+        ((prefix.locality, locality, refl), ((entries, all, refl), ((prefix.entries, confirmed, refl), told))),
+      );
+  list_report = λ required verdict entries rows.
+      one_line _ ((verdict.entries, entries, refl), (report_plain required verdict.rows rows, (tt, tt)));
+  positions = λ required located fit.
+      let rows = rows_plain (λ row. IsCount row.expected.register × IsCountedPosition row.position) (codes "place") (λ row. row.expected)
+      (λ row. position_members row.position) (λ row is. (is.0, position_plain row.position is.1)) required located fit in
+      one_line _ (rows, (tt, tt));
+  fault = λ kind number place message fits placed. one_line _ (told_plain kind number place message fits placed, tt);
 }

@@ -1,16 +1,17 @@
 use Rattle.std.proofs.Common.{inl, inr}
-use Rattle.judging.specs.Asking.{place_of}
 use Rattle.judging.specs.declared.answer.Answer.TheVariants as answers
 use Rattle.agent_inputs.proofs.LoadingLemmas.{source_failed}
-use Rattle.judging.proofs.RegisterLaws.{list_refused, registers_found}
+use Rattle.judging.proofs.InputLaws.{held, list_refused}
+use Rattle.judging.proofs.RegisterLaws.{starts_alike}
 use Rattle.judging.proofs.registers.after_list_from.Goals as goal
 
 pub returns-in-Ok-clause-answer : goal.returns-in-Ok-clause-answer
 returns-in-Ok-clause-answer g c =
-    λ inputs gives. (
+    λ inputs gives.
+    let from = c.in-Ok.ensures.registers in
+    let replayed = starts_alike _ _ _ from.entries from.replay.reset c.list_start.ensures from.replay.replayed in (
       answers.Registers (record { start = c.list_start.result; now = c.in-Ok.now }),
-      registers_found inputs (place_of c.args.list) _ _ gives c.list_start.result c.in-Ok.now c.list_start.ensures
-          (rw c.limit_of.ensures at c.in-Ok.ensures.registers),
+      (from.list, held gives from.came, (from.entries, from.list_is, from.genuine, c.list_start.ensures, replayed)),
       c.alone.ensures,
     )
 
@@ -18,7 +19,7 @@ pub returns-in-Err-clause-fault : goal.returns-in-Err-clause-fault
 returns-in-Err-clause-fault g c =
     λ inputs gives.
     inr (inl (
-    list_refused inputs (place_of c.args.list) _ _ gives c.in-Err.fault _
+    list_refused gives c.in-Err.fault _
     (source_failed c.replay_from.result c.in-Err.fault _ _ c.in-Err.is c.replay_from.ensures.counts c.replay_from.ensures.telling)
-    (rw c.limit_of.ensures at c.in-Err.ensures.fault) c.refused.ensures
+    (rw c.limit_of.ensures at c.in-Err.ensures.fault) c.refusal.ensures
     ))

@@ -8,8 +8,8 @@ returns-clause-known c =
       entries = all.entries;
       list_is = all.reading;
       genuine = all.genuine;
-      replayed = replayed_after c.args.before c.args.replay.follower all.entries (all.followed c.args.before 0 [] refl (none_taken c.args.before));
+      replayed = replayed_after c.args.before c.args.replay.tracker all.entries (all.tracked c.args.before 0 [] refl (none_taken c.args.before));
       count = all.replays.count;
       size = size;
-      stated = all.replays.stated;
+      recorded = all.replays.recorded;
     }

@@ -4,11 +4,11 @@ use Rattle.boot_verdict.proofs.checkpoint.Checkpoint.replay.Goals as goal
 pub returns-clause-replays : goal.returns-clause-replays
 returns-clause-replays c =
     λ list is.
-    let followed = followed_by c.args.self.now.before c.args.self.now.after is.entries is.replayed in
+    let tracked = followed_by c.args.self.now.before c.args.self.now.after is.entries is.replayed in
     record {
       entries = is.entries;
       reading = is.list_is;
-      replays = record { count = is.count; stated = is.stated; replayed = (is.genuine, followed) };
+      replays = record { count = is.count; recorded = is.recorded; replayed = (is.genuine, tracked) };
       genuine = is.genuine;
-      followed = followed;
+      tracked = tracked;
     }

@@ -1,5 +1,5 @@
 use Rattle.std.proofs.lemmas.Result.{err_from_is_err_and}
-use Rattle.growing_lists.proofs.ConfirmLaws.{front_reported, refused_by, takes_unconfirmed}
+use Rattle.growing_lists.proofs.ConfirmLaws.{prefix_reported, refused_by, takes_unconfirmed}
 use Rattle.growing_lists.proofs.session.Session.confirm.Goals as goal
 
 pub returns-in_err-search-clause-fault : goal.returns-in_err-search-clause-fault
@@ -44,8 +44,8 @@ returns-in_err-report-clause-unconfirmed g c =
     let p = err_from_is_err_and c.from_residual-in_err-report.result c.from_residual-in_err-report.ensures.1 in
     rw (p.1, p.2) (λ log list has. tt)
 
-pub returns-clause-front : goal.returns-clause-front
-returns-clause-front g c =
+pub returns-clause-prefix : goal.returns-clause-prefix
+returns-clause-prefix g c =
     rw c.wrong_with.ensures (λ log list has.
-    front_reported c.args.self.now log list has _ _ _ c.args.expected.now c.in_ok-search.search (c.in_ok-search.ensures.found list has.checkpoint)
-    c.in-Some.front c.in-Some.is c.in_ok-report.report c.in_ok-report.ensures)
+    prefix_reported c.args.self.now log list has _ _ _ c.args.expected.now c.in_ok-search.search (c.in_ok-search.ensures.found list has.checkpoint)
+    c.in-Some.prefix c.in-Some.is c.in_ok-report.report c.in_ok-report.ensures)

@@ -7,22 +7,22 @@ returns-in_err-write_counts g c =
     Sends-same _ _ _ _ _ (body_parts c.args.checkpoint.now)
     (Sends-stops _ _ _ _ _ _ _ c.from_residual.ensures.1 c.in_err-write_counts.ensures)
 
-pub returns-in_err-write_stated : goal.returns-in_err-write_stated
-returns-in_err-write_stated g c =
+pub returns-in_err-write_recorded : goal.returns-in_err-write_recorded
+returns-in_err-write_recorded g c =
     Sends-same _ _ _ _ _ (body_parts c.args.checkpoint.now)
     (Sends-then _ _ _ tt _ _ _ c.in_ok-write_counts.ensures
-    (Sends-stops _ _ _ _ _ _ _ c.from_residual-in_err-write_stated.ensures.1 c.in_err-write_stated.ensures))
+    (Sends-stops _ _ _ _ _ _ _ c.from_residual-in_err-write_recorded.ensures.1 c.in_err-write_recorded.ensures))
 
 pub returns-in_err-write_section : goal.returns-in_err-write_section
 returns-in_err-write_section g c =
     Sends-same _ _ _ _ _ (body_parts c.args.checkpoint.now)
     (Sends-then _ _ _ tt _ _ _ c.in_ok-write_counts.ensures
-    (Sends-then _ _ _ tt _ _ _ c.in_ok-write_stated.ensures
+    (Sends-then _ _ _ tt _ _ _ c.in_ok-write_recorded.ensures
     (Sends-stops _ _ _ _ _ _ _ c.from_residual-in_err-write_section.ensures.1 c.in_err-write_section.ensures)))
 
 pub returns : goal.returns
 returns g c =
     Sends-same _ _ _ _ _ (body_parts c.args.checkpoint.now)
     (Sends-then _ _ _ tt _ _ _ c.in_ok-write_counts.ensures
-    (Sends-then _ _ _ tt _ _ _ c.in_ok-write_stated.ensures
+    (Sends-then _ _ _ tt _ _ _ c.in_ok-write_recorded.ensures
     (Sends-then _ _ _ tt _ _ _ c.in_ok-write_section.ensures c.write_section-2.ensures)))

@@ -40,15 +40,15 @@ returns-in_err-raw-clause-memory c =
     let same = fault_is c.from_residual.result p.0 c.in_err-raw.field-0.0 Memory p.1 p.2 memory in
     never_memory c.args.number c.args.bytes.now fits (rw same at c.in_err-raw.ensures)
 
-pub lent_entry-requires : goal.lent_entry-requires
-lent_entry-requires c =
+pub borrowed_entry-requires : goal.borrowed_entry-requires
+borrowed_entry-requires c =
     let fits : IsBytes c.args.bytes.now = λ i. omega (arith, c.type_inv.bytes i) in
     (entry_takes c.args.number c.args.bytes.now (list_entry_in c.in_ok-raw.raw, c.in_ok-raw.rest.now) fits c.in_ok-raw.ensures).2.0
 
 pub returns-clause-entry : goal.returns-clause-entry
 returns-clause-entry c =
     let fits : IsBytes c.args.bytes.now = λ i. omega (arith, c.type_inv.bytes i) in
-    rw c.lent_entry.ensures
+    rw c.borrowed_entry.ensures
     (read_goes_on c.args.number c.args.bytes.now (list_entry_in c.in_ok-raw.raw) c.in_ok-raw.rest.now fits c.in_ok-raw.ensures)
 
 pub returns-clause-shorter : goal.returns-clause-shorter

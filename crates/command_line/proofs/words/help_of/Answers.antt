@@ -1,7 +1,0 @@
-use Rattle.std.proofs.Common.{refl, rules}
-use Rattle.command_line.specs.Plans.{HasHelpWord}
-use Rattle.command_line.proofs.words.help_of.Goals as goal
-
-pub returns-in_ok-format-in-DisplayHelp : goal.returns-in_ok-format-in-DisplayHelp
-returns-in_ok-format-in-DisplayHelp c =
-    let asked : HasHelpWord c.args.words.now = search rules in (asked, (c.in_ok-format-in-DisplayHelp.field-0, refl), search rules)

@@ -1,0 +1,238 @@
+//! Reads the command line.
+
+ghost use Rattle.std.specs.Prelude.{◌≡◌, [], None, Ok, codes, drop, string_bytes, IfOk};
+ghost use Rattle.clap.specs.Values.{kind_of};
+ghost use Rattle.clap.specs.Words.{Text as Words, found_of, rows_of, subcommand_rows_of};
+ghost use Rattle.std.specs.Vec.Iter.{into_iter_items};
+ghost use Rattle.command_line.specs.Plans.{BeginsWithVersion, HasHelpWord, HasJudged, HasQuestion, HasValues, HasValuesIn, IsRequestedBy, IsHelp, IsPlanOrHelp, IsWithinRanges, asks_help, IsWithin};
+ghost use Rattle.std.specs.List.{list_any};
+ghost use Rattle.command_line.specs.declared.plan.Form.TheVariants.{Text};
+ghost use Rattle.command_line.specs.declared.plan.Plan.TheVariants as plans;
+ghost use Rattle.command_line.specs.declared.plan.Question.TheVariants as questions;
+ghost use Rattle.command_line.specs.declared.plan.Task.TheVariants.{Version};
+
+use crate::commands::{KnownNames, VERSION, all_commands};
+use crate::fault::ArgumentsFault;
+use crate::plan::{DataShown, Form, Judge, Judged, Plan, Question, Scope, Task};
+use crate::values::{flag_of, measurement_of, name_of, text_if_given};
+use clap::error::ErrorKind;
+use clap::{ArgMatches, Error};
+use ima_list::Template;
+use pcr_banks::Alg;
+use std::alloc::{AllocError, Global};
+use std::env::Args;
+
+// What is wrong with `--print binary` beside `--json`.
+const NO_JSON_OF_BYTES: &str = "error: invalid value 'binary' for '--print <P>' with '--json'\n";
+
+/// Reads the program's arguments, without its name. Without arguments the plan is `Registers`: the log on standard input. After
+/// `--version` nothing is looked at. Otherwise the first argument is the command, and the rest are its options and names, by `clap`'s
+/// own definition.
+///
+/// Fails with `Usage` if the arguments are not those of a command, and with `Memory` if memory runs out.
+#[tactic(auto, using(crate::proofs::ReadLemmas::requested_by))]
+pub fn read_words(alloc: Global, arguments: &[String]) -> Result<Plan, ArgumentsFault>
+    // The first argument is the command, the arguments match its options and names, and these are within their ranges; or they are not
+    // taken, and one of them requests help; or the first is `--version`.
+    ensures request { IfOk result (λ plan. IsRequestedBy arguments.now plan × IsWithinRanges plan) }
+    // Without arguments the plan is `Registers`, whatever memory there is.
+    ensures none { arguments.now ≡ [] → result ≡ Ok plans.Registers }
+    // After `--version` the plan is to show the version, whatever follows it.
+    ensures version { BeginsWithVersion arguments.now → result ≡ Ok (plans.Task Version Text) }
+{
+    match arguments.first() {
+        None => Ok(Plan::Registers),
+        Some(word) if word.as_str() == VERSION => Ok(Plan::Task(Task::Version, Form::Text)),
+        Some(command) => plan_in(alloc, arguments, command),
+    }
+}
+
+/// What `clap` says of arguments that it refuses, or what is wrong with `--print binary` beside `--json`: lines for a person, which may
+/// have any bytes of the arguments. `None` if `clap` takes them, and they are no such; of `--help` and `--version` it
+/// is what `clap` shows.
+pub fn refusal_of(alloc: Global, arguments: &[String]) -> Result<Option<String>, AllocError>
+    // Without arguments nothing is refused.
+    ensures none { arguments.now ≡ [] → result ≡ Ok None }
+{
+    if arguments.is_empty() {
+        return Ok(None);
+    }
+    let known = KnownNames {
+        algs: &Alg::ALL.map(Alg::name),
+        templates: &Template::ALL.map(Template::name),
+    };
+    match all_commands(alloc, known)?.try_get_matches_from(arguments) {
+        Ok(matches) if is_json_of_bytes(&matches) => {
+            Ok(Some(String::from_str(alloc, NO_JSON_OF_BYTES)?))
+        }
+        Ok(_) => Ok(None),
+        Err(error) => refusal_text(alloc, &error),
+    }
+}
+
+// Whether a measurement is to print the binary list as JSON, which `clap` takes.
+fn is_json_of_bytes(matches: &ArgMatches) -> bool {
+    let Some(matches) = matches.subcommand_matches("measure") else {
+        return false;
+    };
+    matches.get_str("print") == Some("binary") && matches.get_str("json") == Some("true")
+}
+
+// The text of an error of clap's, unless memory ran out.
+fn refusal_text(alloc: Global, error: &Error) -> Result<Option<String>, AllocError> {
+    match error.kind() {
+        ErrorKind::OutOfMemory => Err(AllocError),
+        _ => Ok(Some(format!(in alloc; "{error}")?)),
+    }
+}
+
+/// The arguments after the first, which is the program's name.
+pub fn arguments_after_name(alloc: Global, arguments: Args) -> Result<Vec<String>, AllocError>
+    ensures { IfOk result (λ rest. rest.items ≡ drop 1 (into_iter_items arguments)) }
+{
+    arguments.skip(1).collect(alloc)
+}
+
+// The plan of the command of this name, or the help that the arguments request.
+fn plan_in(alloc: Global, arguments: &[String], command: &str) -> Result<Plan, ArgumentsFault>
+    ensures { IfOk result (λ plan. IsPlanOrHelp arguments.now command.now plan × IsWithinRanges plan) }
+{
+    let known = KnownNames {
+        algs: &Alg::ALL.map(Alg::name),
+        templates: &Template::ALL.map(Template::name),
+    };
+    match all_commands(alloc, known)?.try_get_matches_from(arguments) {
+        Ok(matches) => Ok(Plan::of(requested_of(alloc, command, &matches)?)),
+        Err(error) => help_of(alloc, arguments, &error),
+    }
+}
+
+// The task of the command, and its form, from clap's matches.
+fn requested_of(
+    alloc: Global,
+    command: &str,
+    matches: &ArgMatches,
+) -> Result<(Task, Form), ArgumentsFault>
+    ensures { IfOk result (λ request. HasValuesIn command.now (subcommand_rows_of matches.now) request × IsWithin request.1 request.0) }
+{
+    let Some(matches) = matches.subcommand_matches(command) else {
+        return Err(ArgumentsFault::Usage);
+    };
+    let form = flag_of(matches, "json", Form::Text, Form::Json)?;
+    Ok((task_of(alloc, command, matches, form)?, form))
+}
+
+// The task of the command of this name, whose result is shown in this form.
+fn task_of(
+    alloc: Global,
+    command: &str,
+    matches: &ArgMatches,
+    form: Form,
+) -> Result<Task, ArgumentsFault>
+    ensures { IfOk result (λ task. HasValues command.now (rows_of (found_of matches.now)) task × IsWithin form task) }
+{
+    match command {
+        "measure" => Ok(Task::Measure(measurement_of(alloc, matches, form)?)),
+        "events" => Ok(Task::Events {
+            log: name_of(alloc, matches, "LOG")?,
+            data: flag_of(matches, "data", DataShown::Size, DataShown::Bytes)?,
+        }),
+        "show" => Ok(Task::Entries {
+            list: name_of(alloc, matches, "LIST")?,
+        }),
+        _ => Ok(Task::Answer(question_of(alloc, command, matches)?)),
+    }
+}
+
+// What the command of this name asks.
+fn question_of(
+    alloc: Global,
+    command: &str,
+    matches: &ArgMatches,
+) -> Result<Question, ArgumentsFault>
+    ensures { IfOk result (HasQuestion command.now (rows_of (found_of matches.now))) }
+{
+    match command {
+        "verify" => {
+            let judged = Judged::Verdict {
+                log: name_of(alloc, matches, "LOG")?,
+                scope: flag_of(matches, "prefix", Scope::Whole, Scope::Prefix)?,
+                resume: text_if_given(alloc, matches, "resume")?,
+                save: text_if_given(alloc, matches, "save")?,
+            };
+            Ok(Question::Judge(judge_of(alloc, matches, judged)?))
+        }
+        "locate" => {
+            let log = name_of(alloc, matches, "LOG")?;
+            Ok(Question::Judge(judge_of(alloc, matches, Judged::Positions { log })?))
+        }
+        "expected" => Ok(Question::Expected {
+            printed: name_of(alloc, matches, "PCRREAD")?,
+            registers: text_if_given(alloc, matches, "registers")?,
+        }),
+        "registers" => Ok(Question::LogRegisters {
+            log: name_of(alloc, matches, "LOG")?,
+        }),
+        "replay" => replay_of(alloc, matches),
+        _ => Err(ArgumentsFault::Usage),
+    }
+}
+
+// What is asked of a list and expected registers, if this is judged.
+fn judge_of(alloc: Global, matches: &ArgMatches, judged: Judged) -> Result<Judge, ArgumentsFault>
+    ensures { IfOk result (λ judge. (command : Words) → HasJudged command (rows_of (found_of matches.now)) judged
+        → HasQuestion command (rows_of (found_of matches.now)) (questions.Judge judge)) }
+{
+    Ok(Judge {
+        judged,
+        list: name_of(alloc, matches, "LIST")?,
+        expected: name_of(alloc, matches, "EXPECTED")?,
+        required: text_if_given(alloc, matches, "require")?,
+    })
+}
+
+// What `replay` asks. Refuses `--require` without EXPECTED.
+fn replay_of(alloc: Global, matches: &ArgMatches) -> Result<Question, ArgumentsFault>
+    ensures { IfOk result (HasQuestion (codes "replay") (rows_of (found_of matches.now))) }
+{
+    let list = name_of(alloc, matches, "LIST")?;
+    let expected = text_if_given(alloc, matches, "EXPECTED")?;
+    let required = text_if_given(alloc, matches, "require")?;
+    match (expected, required) {
+        (Some(expected), required) => Ok(Question::Judge(Judge {
+            judged: Judged::ListVerdict,
+            list,
+            expected,
+            required,
+        })),
+        (None, None) => Ok(Question::ListRegisters { list }),
+        (None, Some(_)) => Err(ArgumentsFault::Usage),
+    }
+}
+
+// Whether some argument requests help.
+fn has_help_word(arguments: &[String]) -> bool
+    ensures { result ≡ list_any (λ word. asks_help (string_bytes word)) arguments.now }
+{
+    arguments.iter().any(asks_help)
+}
+
+// Whether this argument requests help: it is `--help`, or short options that begin with `-h`.
+fn asks_help(word: &String) -> bool
+    ensures { result ≡ asks_help (string_bytes word.now) }
+{
+    word.as_str() == "--help" || word.as_bytes().starts_with(b"-h")
+}
+
+// The help, if it was requested; else `Usage`, or `Memory` if memory ran out.
+fn help_of(alloc: Global, arguments: &[String], error: &Error) -> Result<Plan, ArgumentsFault>
+    ensures { IfOk result (λ plan. HasHelpWord arguments.now × IsHelp plan × (kind_of error.now ≡ ErrorKind.DisplayHelp)) }
+{
+    match error.kind() {
+        ErrorKind::DisplayHelp if has_help_word(arguments) => {
+            Ok(Plan::Help(format!(in alloc; "{error}")?))
+        }
+        ErrorKind::OutOfMemory => Err(ArgumentsFault::Memory),
+        _ => Err(ArgumentsFault::Usage),
+    }
+}

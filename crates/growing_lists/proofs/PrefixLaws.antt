@@ -1,0 +1,497 @@
+-- The search for the confirmed prefix: one more step, and what is found at the end.
+use Rattle.std.proofs.Common.{◌≡◌, ℕ, zero, suc, ◌+◌, ◌-◌, ◌^◌, ◌<◌, ◌≤◌, min, Bool, true, false, cond, leb, List, [], ◌∷◌, ◌++◌, length, take, drop, Option, Some, None, option_map, Ok, Err, refl, sym, ap, subst, ◌∙◌, append_assoc, append-nil, arith, inl, inr}
+use Rattle.std.specs.Prelude.{◌&&◌}
+use Rattle.std.specs.Borrow.{Bor}
+use Rattle.std.specs.List.{AllByRecursion, list_all}
+use Rattle.std.specs.Option.{option_or}
+use Rattle.std.proofs.Math.Bool.{and-false}
+use Rattle.std.proofs.lemmas.Bool.Decides.{eqb_tells, leb_tells}
+use Rattle.std.proofs.lemmas.Grind.{flat_map-append}
+use Rattle.std.proofs.lemmas.List.{length-append, length-map, length-take, length-take-le, take-append-drop, take-append-le, take-map, take-take, take_all}
+use Rattle.std.proofs.lemmas.List.Folds.{list_all-map}
+use Rattle.std.proofs.lemmas.List.Sums.{fold-append}
+use Rattle.pcr_banks.specs.declared.alg.Alg.{Alg}
+use Rattle.pcr_banks.specs.declared.banks.Banks.{Banks}
+use Rattle.pcr_banks.specs.declared.sets.AlgSet.{AlgSet}
+use Rattle.pcr_banks.specs.Digests.{alg_of, bytes_of}
+use Rattle.pcr_banks.specs.Registers.{extended_by_all, value_at}
+use Rattle.boot_log.specs.Replaying.{IsFirmware}
+use Rattle.boot_log.specs.Spelling.{LogEvent}
+use Rattle.ima_list.specs.ListEntry.{IsEntry, ListEntry}
+use Rattle.ima_list.specs.Spelling.{BeginsWith, list_spelling, spelling}
+use Rattle.ima_list.specs.Digesting.{IsGenuine}
+use Rattle.ima_list.specs.Replaying.{AreGenuine, digests_of}
+use Rattle.ima_list.proofs.PieceLaws.{reading_to_the_end}
+use Rattle.boot_verdict.specs.declared.checkpoint.Checkpoint.{Checkpoint}
+use Rattle.boot_verdict.specs.declared.expected.Expected.{Expected}
+use Rattle.boot_verdict.specs.declared.prefix_report.Unconfirmed.{Unconfirmed}
+use Rattle.boot_verdict.specs.declared.prefix_report.Unconfirmed.TheVariants as unconfirmed
+use Rattle.growing_lists.specs.declared.prefixes.Confirming.{Confirming}
+use Rattle.growing_lists.specs.declared.prefixes.Prefix.{Prefix}
+use Rattle.boot_verdict.specs.declared.list_replay.ListReplay.{ListReplay}
+use Rattle.boot_verdict.specs.declared.positions.Position.{Position}
+use Rattle.boot_verdict.specs.declared.positions.Position.TheVariants.{Reset, Event, Entry, Nowhere, Absent}
+use Rattle.boot_verdict.specs.Checkpoints.{IsCheckpoint, IsMoreFault}
+use Rattle.boot_verdict.specs.ListSources.{CameFrom}
+use Rattle.boot_verdict.specs.Positions.{is_reached, position_after}
+use Rattle.boot_verdict.specs.Steps.{Step, OfEntry, entries_as_steps, least_prefix, value_after}
+use Rattle.boot_verdict.specs.Verdicts.{aggregate_of, is_good, is_match, matches, pcr_after_log_and_list, row_on, recorded_aggregate, verdict_on}
+use Rattle.growing_lists.specs.parts.Confirming.{PrefixIs, IsConfirmingAfter, IsPrefixAt, are_reached, confirms, prefix_at, is_late, reached_after_steps, search_after, search_before, size_after, size_more}
+use Rattle.boot_verdict.specs.Tracking.{AreAfter}
+use Rattle.boot_verdict.specs.ListReplays.{IsReplayedOrForged, Replays, ReplaysAll, ReplaysMore, StopsAt}
+use Rattle.growing_lists.specs.parts.Searches.{FindsPrefix, IsConfirmedAt, Searches, checkpoint_at, fault_in, prefix_after, prefix_with, whole_after}
+use Rattle.boot_verdict.proofs.PositionLaws.{row_matches, steps_back, steps_to, two_ways}
+use Rattle.boot_verdict.proofs.StepLaws.{TellsLeast, banks_joined, entries_value, followed_by, fun_same, least_more, least_tells, none_taken, or_all, position_of_entry, replayed_after}
+
+-- ---- positions
+
+-- Whether an entry may be the last of a prefix, by the steps up to it.
+early : (first events n : ℕ) → n ≤ events + first → is_late first (position_after events n) ≡ false
+early first events n few = elim (eqb_tells n 0) [
+  | inl same ↦ rw same.0 refl
+  | inr some ↦ elim (leb_tells n events) [
+    | inl within ↦ rw (some.0, within.0) refl
+    | inr after ↦ elim (leb_tells first (n - events - 1)) [
+      | inl late ↦ let more = after.1 in let far = late.1 in absurd (omega (arith, few, more, far))
+      | inr before ↦ rw (some.0, after.0, before.0) refl
+    ]
+  ]
+]
+
+late : (first events n : ℕ) → events + first < n → is_late first (position_after events n) ≡ true
+late first events n many =
+    let position = position_of_entry events n (n - events - 1) (omega (arith, many)) in
+    elim (leb_tells first (n - events - 1)) [
+      | inl le ↦ rw (position, le.0) refl
+      | inr gt ↦ let less = gt.1 in absurd (omega (arith, many, less))
+    ]
+
+-- ---- one more step
+
+reached_same : (start now : Banks) (expected : List Expected) (steps : List Step) → AreAfter start steps now
+    → are_reached now expected ≡ reached_after_steps start expected steps
+reached_same start now expected steps after =
+    ap (λ (p : Expected → Bool). list_all p expected) (fun_same _ _ (λ e. ap (is_reached e) (after.values e.alg e.register)))
+
+prefix_by : {start : Confirming} {events : ℕ} {steps : List Step} {prefix : Prefix} (passes : Bool) → IsPrefixAt start events steps prefix
+    → PrefixIs start events (cond passes (Some steps) None) (cond passes (Some prefix) None)
+prefix_by true is = is
+prefix_by false is = tt
+
+-- After an entry the registers are looked at.
+prefix_here : (start now : Confirming) (events : ℕ) (steps : List Step) (last : ℕ) → position_after events (length steps) ≡ Entry last
+    → AreAfter start.banks steps now.banks → now.bytes ≡ size_after start.bytes steps → now.first ≡ start.first → now.expected ≡ start.expected
+    → PrefixIs start events (cond (confirms start events steps) (Some steps) None) (prefix_at now (Entry last))
+prefix_here start now events steps last position banks bytes first expected =
+    let from = sym first in
+    let those = sym expected in
+    let passes : confirms start events steps ≡ (leb now.first last && are_reached now.banks now.expected.now) =
+    ap (λ (p : Position). is_late start.first p && reached_after_steps start.banks start.expected.now steps) position
+    ∙ (λ i. leb (from i) last && reached_after_steps start.banks (those i).now steps)
+    ∙ ap (λ (b : Bool). leb now.first last && b) (sym (reached_same start.banks now.banks now.expected.now steps banks)) in
+    rw passes (prefix_by (leb now.first last && are_reached now.banks now.expected.now) (record { position = position; registers = banks; size = bytes }))
+
+module _ (start : Confirming) (events : ℕ) (before : List Step) (step : Step) where
+  abbrev all : List Step
+  all = before ++ step ∷ []
+
+  prefix_next : (now : Confirming) (position : Position) → position_after events (length all) ≡ position → AreAfter start.banks all now.banks
+      → now.bytes ≡ size_after start.bytes all → now.first ≡ start.first → now.expected ≡ start.expected
+      → (found : Option (List Step)) (old : Option Prefix) → PrefixIs start events found old
+      → PrefixIs start events (or_all found all (confirms start events all)) (option_or old (prefix_at now position))
+  prefix_next now position at banks bytes first expected (Some steps) (Some prefix) is = is
+  prefix_next now position at banks bytes first expected (Some steps) None is = absurd is
+  prefix_next now position at banks bytes first expected None (Some prefix) is = absurd is
+  prefix_next now (Entry last) at banks bytes first expected None None is = prefix_here start now events all last at banks bytes first expected
+  prefix_next now Reset at banks bytes first expected None None is = rw at tt
+  prefix_next now (Event number) at banks bytes first expected None None is = rw at tt
+  prefix_next now Nowhere at banks bytes first expected None None is = rw at tt
+  prefix_next now Absent at banks bytes first expected None None is = rw at tt
+
+  -- After any step.
+  pub search_more : (old now : Confirming) (position : Position) → IsConfirmingAfter start events before old → AreAfter old.banks (step ∷ []) now.banks
+      → now.bytes ≡ size_more old.bytes step → now.first ≡ old.first → now.expected ≡ old.expected → position ≡ position_after events (length before + 1)
+      → now.prefix ≡ option_or old.prefix (prefix_at now position) → IsConfirmingAfter start events all now
+  search_more old now position earlier one bytes first expected at prefix =
+      let banks = banks_joined start.banks old.banks now.banks before (step ∷ []) earlier.banks one in
+      let size : now.bytes ≡ size_after start.bytes all =
+      bytes ∙ ap (λ (n : ℕ). size_more n step) earlier.bytes ∙ sym (fold-append size_more start.bytes before (step ∷ [])) in
+      let at_all : position_after events (length all) ≡ position = ap (position_after events) (length-append before (step ∷ [])) ∙ sym at in
+      record {
+        banks = banks;
+        bytes = size;
+        first = first ∙ earlier.first;
+        expected = expected ∙ earlier.expected;
+        prefix = rw (prefix, least_more (confirms start events) before step)
+            (prefix_next now position at_all banks size (first ∙ earlier.first) (expected ∙ earlier.expected) (least_prefix (confirms start events) before)
+            old.prefix earlier.prefix);
+      }
+
+-- ---- bytes
+
+-- The bytes of entries, as far as 64 bits count them.
+pub sized : (entries : List ListEntry) (n : ℕ) → n + length (list_spelling entries) < 2 ^ 64
+    → size_after n (entries_as_steps entries) ≡ n + length (list_spelling entries)
+sized [] n few = omega arith
+sized (entry ∷ entries) n few =
+    let size : length (list_spelling (entry ∷ entries)) ≡ length (spelling entry) + length (list_spelling entries) =
+    length-append (spelling entry) (list_spelling entries) in
+    let one : min (n + length (spelling entry)) (2 ^ 64 - 1) ≡ n + length (spelling entry) = omega (arith, few, size) in
+    ap (λ (m : ℕ). size_after m (entries_as_steps entries)) one ∙ sized entries (n + length (spelling entry)) (omega (arith, few, size))
+    ∙ omega (arith, size)
+
+-- ---- a checkpoint is searched
+
+-- The least prefix is all of the steps, if no other passes.
+only_whole : (test : List Step → Bool) (steps : List Step) → ((n : ℕ) → n < length steps → test (take n steps) ≡ false)
+    → least_prefix test steps ≡ cond (test steps) (Some steps) None
+only_whole test steps fails = by (least_prefix test steps) (least_tells test steps)
+  where
+    by : (found : Option (List Step)) → TellsLeast test steps found → found ≡ cond (test steps) (Some steps) None
+    by None tells = rw (ap test (sym (take_all (length steps) steps (omega arith))) ∙ tells (length steps)) refl
+    by (Some prefix) tells = elim (leb_tells (length steps) (length prefix)) [
+      | inl le ↦
+          let long = le.1 in
+          let same : prefix ≡ steps = tells.0 ∙ take_all (length prefix) steps (omega (arith, long)) in
+          rw (ap test (sym same) ∙ tells.1, same) refl
+      | inr gt ↦ let short = gt.1 in absurd (two_ways (test prefix) tells.1 (ap test tells.0 ∙ fails (length prefix) short))
+    ]
+
+-- After the list of a checkpoint, whose end is looked at.
+module _ (list : List ℕ) (known : Checkpoint) (expected : Bor (List Expected)) (is : IsCheckpoint list known) (few : known.bytes < 2 ^ 64)
+    (origin : Confirming) (events : ℕ) (log : List Step) (size : events ≡ length log)
+    (after : IsConfirmingAfter origin events log (search_before known expected)) where
+  abbrev steps : List Step
+  steps = log ++ entries_as_steps is.entries
+
+  known_banks : AreAfter origin.banks steps known.after
+  known_banks = followed_by known.before known.after is.entries is.replayed origin.banks events log size after.banks
+
+  known_bytes : known.bytes ≡ size_after origin.bytes steps
+  known_bytes =
+      let listed : length list ≡ length (list_spelling is.entries) =
+      ap (λ (l : List ℕ). length l) (is.list_is.begins.parts ∙ append-nil (list_spelling is.entries)) in
+      let counted : size_after 0 (entries_as_steps is.entries) ≡ length (list_spelling is.entries) =
+      sized is.entries 0 (omega (arith, few, is.size, listed)) ∙ omega arith in
+      is.size ∙ listed ∙ sym counted
+      ∙ ap (λ (n : ℕ). size_after n (entries_as_steps is.entries)) after.bytes
+      ∙ sym (fold-append size_more origin.bytes log (entries_as_steps is.entries))
+
+  known_count : length steps ≡ events + known.entries
+  known_count =
+      let listed = length-map is.entries (λ (entry : ListEntry). OfEntry entry) in
+      omega (arith, size, is.count, listed, length-append log (entries_as_steps is.entries))
+
+  known_prefix : PrefixIs origin events (least_prefix (confirms origin events) steps) (search_after known expected).prefix
+  known_prefix =
+      let first = after.first in
+      let only : least_prefix (confirms origin events) steps ≡ cond (confirms origin events steps) (Some steps) None =
+      only_whole (confirms origin events) steps (λ n lt.
+      rw (early origin.first events (length (take n steps)) (omega (arith, length-take-le n steps (omega (arith, lt)), lt, first, known_count))) refl) in
+      elim (eqb_tells known.entries 0) [
+        | inl same ↦
+            let nothing = same.1 in
+            let none : confirms origin events steps ≡ false = rw (early origin.first events (length steps) (omega (arith, known_count, nothing))) refl in
+            rw (same.0, only, none) tt
+        | inr other ↦
+            let some = other.1 in
+            let position : position_after events (length steps) ≡ Entry (known.entries - 1) =
+            position_of_entry events (length steps) (known.entries - 1) (omega (arith, known_count, some)) in
+            rw (other.0, only) (prefix_here origin
+            (record { banks = known.after; bytes = known.bytes; first = known.entries - 1; expected = expected; prefix = None })
+            events steps (known.entries - 1) position known_banks known_bytes first after.expected)
+      ]
+
+  known_after : IsConfirmingAfter origin events steps (search_after known expected)
+  known_after = record { banks = known_banks; bytes = known_bytes; first = after.first; expected = after.expected; prefix = known_prefix }
+
+pub known_search : (list : List ℕ) (known : Checkpoint) (expected : Bor (List Expected)) → IsCheckpoint list known → known.bytes < 2 ^ 64
+    → ReplaysAll IsConfirmingAfter (search_before known expected) list
+    (record { tracker = search_after known expected; entries = known.entries; recorded = known.recorded; forged = None })
+known_search list known expected is few =
+    let tracked = known_after list known expected is few in
+    record {
+      entries = is.entries;
+      reading = is.list_is;
+      replays = record { count = is.count; recorded = is.recorded; replayed = (is.genuine, tracked) };
+      genuine = is.genuine;
+      tracked = tracked;
+    }
+
+-- ---- at the end
+
+all_take : {A : Type 0} (P : A → Type 0) (n : ℕ) (xs : List A) → AllByRecursion P xs → AllByRecursion P (take n xs)
+all_take P zero xs each = tt
+all_take P (suc n) [] each = tt
+all_take P (suc n) (x ∷ xs) each = (each.0, all_take P n xs each.1)
+
+recorded_take : (n : ℕ) (entries : List ListEntry) → 0 < n → recorded_aggregate (take n entries) ≡ recorded_aggregate entries
+recorded_take zero entries some = absurd (omega (arith, some))
+recorded_take (suc n) [] some = refl
+recorded_take (suc n) (entry ∷ entries) some = refl
+
+module _ (algs : AlgSet) (events : List LogEvent) (start : Banks) (expected : List Expected) (firmware : IsFirmware algs events start) where
+  value_reached : (entries : List ListEntry) (e : Expected)
+      → value_after e.alg e.register (value_at start e.alg e.register) (entries_as_steps entries)
+      ≡ pcr_after_log_and_list algs events entries e.alg e.register
+  value_reached entries e =
+      ap (λ (f : List ℕ → List ℕ). option_map f (value_at start e.alg e.register)) (fun_same _ _ (λ v. entries_value e.alg e.register v entries))
+      ∙ ap (option_map (λ value. extended_by_all e.alg value (digests_of entries e.alg e.register))) (firmware.values e.alg e.register)
+
+  -- The verdict on entries is 'match' if the boot aggregate is good, and each value is reached.
+  matched_by : (entries : List ListEntry) → matches (verdict_on algs events entries expected)
+      ≡ (is_good (aggregate_of algs events (recorded_aggregate entries)) && reached_after_steps start expected (entries_as_steps entries))
+  matched_by entries =
+      ap (λ (b : Bool). is_good (aggregate_of algs events (recorded_aggregate entries)) && b)
+      (list_all-map is_match (row_on algs events entries) expected
+      ∙ ap (λ (p : Expected → Bool). list_all p expected) (fun_same _ _ (λ e.
+      sym (ap (is_reached e) (value_reached entries e) ∙ row_matches e (pcr_after_log_and_list algs events entries e.alg e.register)))))
+
+-- The genuine entries at the start of those that were searched.
+pub record IsSearched (known : Checkpoint) (expected : Bor (List Expected)) (entries : List ListEntry) (now : Confirming) : Type 0 where
+  pub genuine : List ListEntry
+  pub others : List ListEntry
+  pub parts : entries ≡ genuine ++ others
+  pub are : AreGenuine genuine
+  pub most : (n : ℕ) → n ≤ length entries → AreGenuine (take n entries) → n ≤ length genuine
+  pub after : IsConfirmingAfter (search_before known expected) 0 (entries_as_steps genuine) now
+
+search_none : (known : Checkpoint) (expected : Bor (List Expected)) → IsConfirmingAfter (search_before known expected) 0 [] (search_before known expected)
+search_none known expected = record { banks = none_taken known.before; bytes = refl; first = refl; expected = refl; prefix = tt }
+
+-- No genuine prefix goes on beyond an entry that is not.
+within_genuine : (before after : List ListEntry) (forged : ListEntry) (n : ℕ) → (IsGenuine forged → ⊥) → AreGenuine (take n (before ++ forged ∷ after))
+    → n ≤ length before
+within_genuine before after forged zero no_is are = omega arith
+within_genuine [] after forged (suc n) no_is are = absurd (no_is are.0)
+within_genuine (first ∷ before) after forged (suc n) no_is are =
+    let within = within_genuine before after forged n no_is are.1 in omega (arith, within)
+
+search_list : (known : Checkpoint) (expected : Bor (List Expected)) (entries : List ListEntry) (now : Confirming) (forged : Option ℕ)
+    → IsReplayedOrForged IsConfirmingAfter (search_before known expected) entries now forged → IsSearched known expected entries now
+search_list known expected entries now None is = record {
+  genuine = entries;
+  others = [];
+  parts = sym (append-nil entries);
+  are = is.0;
+  most = λ n le are. le;
+  after = is.1 (search_before known expected) 0 [] refl (search_none known expected);
+}
+search_list known expected entries now (Some position) (first, tracked) = record {
+  genuine = first.before;
+  others = first.forged ∷ first.after;
+  parts = first.parts;
+  are = first.genuine_before;
+  most = λ n le are. within_genuine first.before first.after first.forged n first.is_forged
+      (subst (λ (l : List ListEntry). AreGenuine (take n l)) first.parts are);
+  after = tracked (search_before known expected) 0 [] refl (search_none known expected);
+}
+
+-- ---- the prefix
+
+module _ (known : Checkpoint) (expected : Bor (List Expected)) (bytes : List ℕ) (entries : List ListEntry) (rest : List ℕ) (replay : ListReplay Confirming)
+    (begins : BeginsWith bytes entries rest) (replays : Replays IsConfirmingAfter (search_before known expected) entries replay)
+    (few : length bytes < 2 ^ 64) (counted : replay.entries < 2 ^ 64) where
+  abbrev found : IsSearched known expected entries replay.tracker
+  found = search_list known expected entries replay.tracker replay.forged replays.replayed
+
+  abbrev steps_found : List Step
+  steps_found = entries_as_steps found.genuine
+
+  abbrev test : List Step → Bool
+  test = confirms (search_before known expected) 0
+
+  -- A prefix of the genuine entries is one of all.
+  same_prefix : (n : ℕ) → n ≤ length found.genuine → take n entries ≡ take n found.genuine
+  same_prefix n le = ap (take n) found.parts ∙ take-append-le n found.genuine found.others le
+
+  prefix_steps : (n : ℕ) → n ≤ length found.genuine → take n steps_found ≡ entries_as_steps (take n entries)
+  prefix_steps n le =
+      take-map (λ (entry : ListEntry). OfEntry entry) n found.genuine
+      ∙ ap (λ (l : List ListEntry). entries_as_steps l) (sym (same_prefix n le))
+
+  prefix_size : (n : ℕ) → n ≤ length found.genuine → length (take n entries) ≡ n
+  prefix_size n le =
+      length-take-le n entries (omega (arith, le, ap (λ (l : List ListEntry). length l) found.parts, length-append found.genuine found.others))
+
+  step_count : (n : ℕ) → n ≤ length found.genuine → length (entries_as_steps (take n entries)) ≡ n
+  step_count n le = length-map (take n entries) (λ (entry : ListEntry). OfEntry entry) ∙ prefix_size n le
+
+  prefix_genuine : (n : ℕ) → n ≤ length found.genuine → AreGenuine (take n entries)
+  prefix_genuine n le = subst AreGenuine (sym (same_prefix n le)) (all_take IsGenuine n found.genuine found.are)
+
+  prefix_parts : (n : ℕ) → BeginsWith bytes (take n entries) (list_spelling (drop n entries) ++ rest)
+  prefix_parts n = record {
+    are = all_take IsEntry n entries begins.are;
+    parts = begins.parts
+        ∙ ap (λ (l : List ListEntry). list_spelling l ++ rest) (sym (take-append-drop n entries))
+        ∙ ap (λ (l : List ℕ). l ++ rest) (flat_map-append spelling (take n entries) (drop n entries))
+        ∙ append_assoc (list_spelling (take n entries)) (list_spelling (drop n entries)) rest;
+  }
+
+  prefix_few : (n : ℕ) → length (list_spelling (take n entries)) < 2 ^ 64
+  prefix_few n =
+      let size = ap (λ (l : List ℕ). length l) (prefix_parts n).parts in
+      omega (arith, few, size, length-append (list_spelling (take n entries)) (list_spelling (drop n entries) ++ rest))
+
+  -- The checkpoint of a prefix that is found.
+  abbrev prefix_checkpoint : (n : ℕ) (prefix : Prefix) → n ≤ length found.genuine → n ≡ 0 + 1 + prefix.last
+      → IsPrefixAt (search_before known expected) 0 (entries_as_steps (take n entries)) prefix
+      → IsCheckpoint (list_spelling (take n entries)) (checkpoint_at known replay prefix)
+  prefix_checkpoint n prefix within last at =
+      let listed = prefix_size n within in
+      let all = ap (λ (l : List ListEntry). length l) found.parts in
+      record {
+        entries = take n entries;
+        list_is = reading_to_the_end (list_spelling (take n entries)) (take n entries)
+            (record { are = all_take IsEntry n entries begins.are; parts = sym (append-nil (list_spelling (take n entries))) });
+        genuine = prefix_genuine n within;
+        replayed = replayed_after known.before prefix.registers (take n entries) at.registers;
+        count = omega (arith, last, listed, within, all, length-append found.genuine found.others, replays.count, counted);
+        size = at.size ∙ sized (take n entries) 0 (omega (arith, prefix_few n)) ∙ omega arith;
+        recorded = replays.recorded ∙ sym (recorded_take n entries (omega (arith, last)));
+      }
+
+  module _ (algs : AlgSet) (events : List LogEvent) (firmware : IsFirmware algs events known.before) (good : Bool)
+      (tells : good ≡ is_good (aggregate_of algs events (recorded_aggregate entries))) where
+    -- Whether the verdict on a prefix is 'match'.
+    confirms_is : (n : ℕ) → known.entries ≤ n → n ≤ length found.genuine
+        → matches (verdict_on algs events (take n entries) expected.now) ≡ (good && test (take n steps_found))
+    confirms_is zero enough le = sym (and-false good)
+    confirms_is (suc k) enough le =
+        let steps = entries_as_steps (take (suc k) entries) in
+        let tested : test (take (suc k) steps_found) ≡ reached_after_steps known.before expected.now steps =
+        ap test (prefix_steps (suc k) le) ∙ rw (late (known.entries - 1) 0 (length steps) (omega (arith, step_count (suc k) le, enough))) refl in
+        matched_by algs events known.before expected.now firmware (take (suc k) entries)
+        ∙ ap (λ (recorded : Option (Alg × List ℕ)). is_good (aggregate_of algs events recorded) && reached_after_steps known.before expected.now steps)
+        (recorded_take (suc k) entries (omega arith))
+        ∙ ap (λ (b : Bool). b && reached_after_steps known.before expected.now steps) (sym tells) ∙ ap (λ (b : Bool). good && b) (sym tested)
+
+    prefix_confirmed : (steps : List Step) (prefix : Prefix) → TellsLeast test steps_found (Some steps)
+        → IsPrefixAt (search_before known expected) 0 steps prefix → good ≡ true → IsConfirmedAt algs events expected.now known bytes (checkpoint_at known replay prefix)
+    prefix_confirmed steps prefix least at yes_is =
+        let n = length steps in
+        let size = ap (λ (l : List Step). length l) least.0 in
+        let within : n ≤ length found.genuine =
+        omega (arith, size, length-take n steps_found, length-map found.genuine (λ (entry : ListEntry). OfEntry entry)) in
+        let listed = prefix_size n within in
+        let enough : known.entries ≤ n = elim (leb_tells known.entries n) [
+          | inl le ↦ le.1
+          | inr gt ↦ let less = gt.1 in absurd (two_ways (test steps) least.1 (rw (early (known.entries - 1) 0 n (omega (arith, less))) refl))
+        ] in
+        record {
+          prefix = take n entries;
+          rest = list_spelling (drop n entries) ++ rest;
+          begins = prefix_parts n;
+          confirmed = record {
+            genuine = prefix_genuine n within;
+            enough = omega (arith, enough, listed);
+            is_match = confirms_is n enough within ∙ ap (λ (l : List Step). good && test l) (sym least.0) ∙ (λ i. yes_is i && least.1 i);
+            shortest = λ m more lt.
+                ap (λ (l : List ListEntry). matches (verdict_on algs events l expected.now)) (take-take m n entries (omega (arith, lt, listed)))
+                ∙ confirms_is m more (omega (arith, lt, listed, within)) ∙ ap (λ (b : Bool). good && b) (least.2 m (omega (arith, lt, listed))) ∙ and-false good;
+          };
+          checkpoint = prefix_checkpoint n prefix within (sym (steps_back 0 n) ∙ ap (steps_to 0) at.position)
+              (subst (λ (l : List Step). IsPrefixAt (search_before known expected) 0 l prefix) (least.0 ∙ prefix_steps n within) at);
+          same = refl;
+          before = refl;
+        }
+
+    pub prefix_is : FindsPrefix algs events expected.now known bytes entries (prefix_after good known replay)
+    prefix_is = by (least_prefix test steps_found) replay.tracker.prefix (least_tells test steps_found) found.after.prefix
+      where
+        by_good : (b : Bool) (steps : List Step) (prefix : Prefix) → TellsLeast test steps_found (Some steps) → IsPrefixAt (search_before known expected) 0 steps prefix
+            → good ≡ b → FindsPrefix algs events expected.now known bytes entries (cond b (Some (checkpoint_at known replay prefix)) None)
+        by_good true steps prefix least at is = prefix_confirmed steps prefix least at is
+        by_good false _ prefix least at is = λ n enough le are.
+            confirms_is n enough (found.most n le are) ∙ ap (λ (b : Bool). b && test (take n steps_found)) is
+
+        by : (least : Option (List Step)) (prefix : Option Prefix) → TellsLeast test steps_found least → PrefixIs (search_before known expected) 0 least prefix
+            → FindsPrefix algs events expected.now known bytes entries (prefix_with good known replay prefix)
+        by (Some steps) (Some prefix) least at = by_good good steps prefix least at refl
+        by (Some _) None least at = absurd at
+        by None (Some prefix) none at = absurd at
+        by None None none at = λ n enough le are.
+            confirms_is n enough (found.most n le are) ∙ ap (λ (b : Bool). good && b) (none n) ∙ and-false good
+
+-- ---- what a search found
+
+abbrev GoodOf : Checkpoint → ListReplay Confirming → Option Checkpoint → Type 0
+GoodOf known replay prefix =
+    (algs : AlgSet) (events : List LogEvent) → IsFirmware algs events known.before
+    → prefix ≡ prefix_after (is_good (aggregate_of algs events (option_map (λ digest. (alg_of digest, bytes_of digest)) replay.recorded))) known replay
+
+module _ (known : Checkpoint) (expected : Bor (List Expected)) (list : List ℕ) (old new : Option (List ℕ)) (limit : ℕ) (replay : ListReplay Confirming)
+    (prefix : Option Checkpoint) (is : IsCheckpoint list known) (room : known.bytes + limit < 2 ^ 64) (counted : replay.entries < 2 ^ 64)
+    (good : GoodOf known replay prefix) where
+  few_bytes : (came over : List ℕ) → CameFrom old new limit came over → length (list ++ came) < 2 ^ 64
+  few_bytes came over from = let within = from.within in omega (arith, room, is.size, within, length-append list came)
+
+  finds : (bytes : List ℕ) (entries : List ListEntry) (rest : List ℕ) → BeginsWith bytes entries rest
+      → Replays IsConfirmingAfter (search_before known expected) entries replay → length bytes < 2 ^ 64
+      → (algs : AlgSet) (events : List LogEvent) → IsFirmware algs events known.before
+      → FindsPrefix algs events expected.now known bytes entries prefix
+  finds bytes entries rest begins replays few algs events firmware =
+      rw (good algs events firmware) (prefix_is known expected bytes entries rest replay begins replays few counted algs events firmware _
+      (ap (λ (recorded : Option (Alg × List ℕ)). is_good (aggregate_of algs events recorded)) replays.recorded))
+
+  -- All that came is a list of genuine entries.
+  pub searches_whole : ReplaysMore IsConfirmingAfter (search_before known expected) list old new limit replay
+      → Searches known list old new limit expected.now (record { prefix = prefix; entries = replay.entries; whole = Ok (whole_after known replay) })
+  searches_whole more =
+      let all = more.all in
+      let entries = all.entries in
+      let after = all.tracked (search_before known expected) 0 [] refl (search_none known expected) in
+      let few = few_bytes more.more [] more.came.came in
+      let listed : length (list ++ more.more) ≡ length (list_spelling entries) =
+      ap (λ (l : List ℕ). length l) (all.reading.begins.parts ∙ append-nil (list_spelling entries)) in
+      let checkpoint : IsCheckpoint (list ++ more.more) (whole_after known replay) = record {
+        entries = entries;
+        list_is = all.reading;
+        genuine = all.genuine;
+        replayed = replayed_after known.before replay.tracker.banks entries after.banks;
+        count = all.replays.count;
+        size = after.bytes ∙ sized entries 0 (omega (arith, few, listed)) ∙ omega arith ∙ sym listed;
+        recorded = all.replays.recorded;
+      } in
+      record {
+        came = more.more;
+        over = [];
+        entries = entries;
+        rest = [];
+        came_is = more.came.came;
+        begins = all.reading.begins;
+        prefix = finds (list ++ more.more) entries [] all.reading.begins all.replays few;
+        count = sym all.replays.count;
+        wrong = (more.more, entries, more.came, all.reading, all.genuine, all.replays.count);
+        whole = (more.more, more.came, all.reading, checkpoint, refl);
+      }
+
+  -- Something is wrong with what came.
+  pub searches_part : (wrong : Unconfirmed) → IsMoreFault list old new limit (fault_in wrong)
+      → StopsAt IsConfirmingAfter (search_before known expected) list old new limit replay (fault_in wrong)
+      → Searches known list old new limit expected.now (record { prefix = prefix; entries = replay.entries; whole = Err wrong })
+  searches_part (unconfirmed.List fault) why (came, over, from, number, (rest, stops)) = record {
+    came = came;
+    over = over;
+    entries = stops.entries;
+    rest = rest;
+    came_is = from;
+    begins = stops.begins;
+    prefix = finds (list ++ came) stops.entries rest stops.begins stops.replays (few_bytes came over from);
+    count = sym stops.replays.count;
+    wrong = (why, number);
+    whole = tt;
+  }
+  searches_part (unconfirmed.Replay fault) why (came, whole, forged) = record {
+    came = came;
+    over = [];
+    entries = forged.entries;
+    rest = [];
+    came_is = whole.came;
+    begins = forged.reading.begins;
+    prefix = finds (list ++ came) forged.entries [] forged.reading.begins forged.replays (few_bytes came [] whole.came);
+    count = sym forged.replays.count;
+    wrong = (came, forged.entries, whole, forged.reading, forged.first, forged.replays.count);
+    whole = (came, whole, forged.reading);
+  }

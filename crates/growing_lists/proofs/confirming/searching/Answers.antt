@@ -1,6 +1,0 @@
-use Rattle.growing_lists.proofs.FrontLaws.{known_search}
-use Rattle.growing_lists.proofs.confirming.searching.Goals as goal
-
-pub returns-clause-replays : goal.returns-clause-replays
-returns-clause-replays c =
-    λ list is few. rw c.after.ensures (known_search list c.args.known.now c.args.expected is few)

@@ -1,0 +1,204 @@
+//! The confirmed prefix of a list that grows: the shortest with which the verdict is `match`.
+
+ghost use Rattle.std.specs.Prelude.{◌≡◌, ◌<◌, ◌^◌, List, ℕ, Ok, Err, is_some, option_map, IfOk, IfErr, IfSome, IfNone, OnErr};
+ghost use Rattle.byte_streams.specs.Streams.{LosesPrefix};
+ghost use Rattle.pcr_banks.specs.declared.sets.AlgSet.{AlgSet};
+ghost use Rattle.pcr_banks.specs.Digests.{alg_of, bytes_of};
+ghost use Rattle.boot_log.specs.Replaying.{IsFirmware};
+ghost use Rattle.boot_log.specs.Spelling.{LogEvent};
+ghost use Rattle.boot_verdict.specs.declared.prefix_report.Unconfirmed.{Unconfirmed};
+ghost use Rattle.boot_verdict.specs.Checkpoints.{IsCheckpoint, IsMoreFault, most_after};
+ghost use Rattle.boot_verdict.specs.ListSources.{failures_after_list};
+ghost use Rattle.boot_verdict.specs.Verdicts.{aggregate_of, is_good};
+ghost use Rattle.growing_lists.specs.parts.Confirming.{IsConfirmingAfter, search_before};
+ghost use Rattle.boot_verdict.specs.ListReplays.{ReplaysAll};
+ghost use Rattle.growing_lists.specs.parts.Searches.{IsNoListFault, Searches, fault_in, prefix_after, whole_after, wrong_with};
+
+use crate::prefixes::Confirming;
+use crate::session::Session;
+use boot_verdict::{
+    Aggregate, Checkpoint, Expected, ListReplay, PrefixReport, Unconfirmed, VerifyFault,
+    aggregate_of, report_on,
+};
+use byte_streams::Source;
+use std::alloc::Global;
+
+impl Session<'_> {
+    ghost use Rattle.growing_lists.specs.Prefixes.{IsPrefixReport, IsUnconfirmedFault, TakesUnconfirmed};
+    ghost use Rattle.growing_lists.specs.Sessions.{HasTaken};
+
+    /// Takes what the source has left, as [`Session::more`] does, up to the confirmed prefix: the shortest prefix of the list, no shorter
+    /// than what was taken so far, whose entries are genuine and on which the verdict is `match`. Returns the report on it. The source is
+    /// read to its end all the same, or to a fault of the list, of which the report tells.
+    ///
+    /// Without such a prefix all is taken, as by [`Session::more`], with its faults; the result is `None`, and the verdict is `differ`.
+    /// A source that fails, or has too many bytes, is a fault in any case. After `Err` the session is as before. What came after the prefix
+    /// is not taken: the next call wants it again, from the byte of the list at which [`Session::checkpoint`] stands.
+    pub fn confirm<R: Source>(
+        &mut self,
+        alloc: Global,
+        source: &mut R,
+        limit: u64,
+        expected: &[Expected],
+    ) -> Result<Option<PrefixReport>, VerifyFault>
+        // The report is on the confirmed prefix, and that is what the session has taken.
+        ensures prefix { IfOk result (λ found. IfSome found (λ report. (log list : List ℕ) → HasTaken log list self.old
+            → IsPrefixReport log list (R.state source.old).remaining (R.state source.new).remaining (most_after self.old.known limit) expected.now
+            self.old.known.entries self.new report)) }
+        // Without a report no prefix is confirmed.
+        ensures none { IfOk result (λ found. IfNone found ((log list : List ℕ) → HasTaken log list self.old
+            → TakesUnconfirmed log list (R.state source.old).remaining (R.state source.new).remaining (most_after self.old.known limit) expected.now
+            self.old.known.entries self.new)) }
+        ensures kept { OnErr result (self.new ≡ self.old) }
+        // Any fault is the first reason, and the list is refused only if no prefix is confirmed.
+        ensures fault { IfErr result (λ fault. (log list : List ℕ) → HasTaken log list self.old
+            → IsMoreFault list (R.state source.old).remaining (R.state source.new).remaining (most_after self.old.known limit) fault) }
+        ensures unconfirmed { IfErr result (λ fault. (log list : List ℕ) → HasTaken log list self.old
+            → IsUnconfirmedFault log list (R.state source.old).remaining (R.state source.new).remaining (most_after self.old.known limit)
+            expected.now self.old.known.entries fault) }
+        // In any case the source loses bytes from its start, and nothing else.
+        ensures source { LosesPrefix (R.state source.old).remaining (R.state source.new).remaining }
+        ensures telling { is_some (R.state source.new).remaining ≡ is_some (R.state source.old).remaining }
+        ensures counts { (R.state source.new).failures ≡ failures_after_list result (R.state source.old).failures }
+    {
+        let search = search_list(alloc, &self.known, source, limit, expected)?;
+        let Some(prefix) = search.prefix else {
+            self.known = whole_of(search.whole)?;
+            return Ok(None);
+        };
+        let report = report_on(alloc, &self.log, &prefix, expected)?;
+        self.known = prefix;
+        Ok(Some(PrefixReport {
+            report,
+            entries: search.entries,
+            unconfirmed: wrong_with(search.whole),
+        }))
+    }
+}
+
+// What a search found.
+#[derive(Drop)]
+struct Search {
+    // The checkpoint of the confirmed prefix, if there is one.
+    prefix: Option<Checkpoint>,
+    // How many entries the list has, up to its fault.
+    entries: usize,
+    // The checkpoint of the whole list, or what is wrong with it.
+    whole: Result<Checkpoint, Unconfirmed>,
+}
+
+// Searches the list that goes on with all that the source has left.
+fn search_list<R: Source>(
+    alloc: Global,
+    known: &Checkpoint,
+    source: &mut R,
+    limit: u64,
+    expected: &[Expected],
+) -> Result<Search, VerifyFault>
+    ensures found { IfOk result (λ search. (list : List ℕ) → IsCheckpoint list known.now
+        → Searches known.now list (R.state source.old).remaining (R.state source.new).remaining (most_after known.now limit) expected.now search) }
+    ensures fault { IfErr result (λ fault. (list : List ℕ) → IsCheckpoint list known.now
+        → IsMoreFault list (R.state source.old).remaining (R.state source.new).remaining (most_after known.now limit) fault) }
+    ensures other { IfErr result IsNoListFault }
+    ensures source { LosesPrefix (R.state source.old).remaining (R.state source.new).remaining }
+    ensures telling { is_some (R.state source.new).remaining ≡ is_some (R.state source.old).remaining }
+    ensures counts { (R.state source.new).failures ≡ failures_after_list result (R.state source.old).failures }
+{
+    let mut replay = searching(known, expected);
+    let whole = match replay.replay_more(alloc, source, known.room(limit)) {
+        Ok(_count) => Ok(whole_after(known, &replay)),
+        Err(fault) => Err(unconfirmed_of(fault)?),
+    };
+    Ok(Search {
+        prefix: prefix_in(known, &replay),
+        entries: replay.entries,
+        whole,
+    })
+}
+
+// The replay of the list, searched for a prefix: its end may be one.
+fn searching<'a>(known: &Checkpoint, expected: &'a [Expected]) -> ListReplay<Confirming<'a>>
+    ensures replays { (list : List ℕ) → IsCheckpoint list known.now → known.now.bytes < 2 ^ 64
+        → ReplaysAll IsConfirmingAfter (search_before known.now expected.entry) list result }
+    ensures entries { result.entries ≡ known.now.entries }
+{
+    ListReplay {
+        tracker: Confirming::after(known, expected),
+        entries: known.entries,
+        recorded: known.recorded,
+        forged: None,
+    }
+}
+
+// The checkpoint of the whole list.
+fn whole_after(known: &Checkpoint, replay: &ListReplay<Confirming<'_>>) -> Checkpoint
+    ensures { result ≡ whole_after known.now replay.now }
+{
+    Checkpoint {
+        before: known.before,
+        after: replay.tracker.banks,
+        entries: replay.entries,
+        bytes: replay.tracker.bytes,
+        recorded: replay.recorded,
+    }
+}
+
+// The checkpoint of the prefix at which the registers are as expected, if the boot aggregate is good.
+fn prefix_in(known: &Checkpoint, replay: &ListReplay<Confirming<'_>>) -> Option<Checkpoint>
+    ensures prefix { (algs : AlgSet) (events : List LogEvent) → IsFirmware algs events known.now.before
+        → result ≡ prefix_after (is_good (aggregate_of algs events (option_map (λ digest. (alg_of digest, bytes_of digest)) replay.now.recorded)))
+        known.now replay.now }
+    ensures counted { replay.now.entries < 2 ^ 64 }
+{
+    let _entries = replay.entries;
+    let prefix = replay.tracker.prefix?;
+    if !is_good(aggregate_of(&known.before, replay.recorded)) {
+        return None;
+    }
+    Some(Checkpoint {
+        before: known.before,
+        after: prefix.registers,
+        entries: prefix.last.saturating_add(1),
+        bytes: prefix.bytes,
+        recorded: replay.recorded,
+    })
+}
+
+// Whether the boot aggregate is good.
+fn is_good(aggregate: Aggregate) -> bool
+    ensures { result ≡ is_good aggregate }
+{
+    matches!(aggregate, Aggregate::Good)
+}
+
+// What is wrong with a list that has this fault; any other fault is returned as it is.
+fn unconfirmed_of(fault: VerifyFault) -> Result<Unconfirmed, VerifyFault>
+    ensures wrong { IfOk result (λ wrong. fault ≡ fault_in wrong) }
+    ensures same { IfErr result (λ other. fault ≡ other) }
+    ensures other { IfErr result IsNoListFault }
+{
+    match fault {
+        VerifyFault::List(fault) => Ok(Unconfirmed::List(fault)),
+        VerifyFault::Replay(fault) => Ok(Unconfirmed::Replay(fault)),
+        other => Err(other),
+    }
+}
+
+// What is wrong with the list, if anything.
+fn wrong_with(whole: Result<Checkpoint, Unconfirmed>) -> Option<Unconfirmed>
+    ensures { result ≡ wrong_with whole }
+{
+    whole.err()
+}
+
+// The checkpoint of the whole list, or the fault with which it is refused.
+fn whole_of(whole: Result<Checkpoint, Unconfirmed>) -> Result<Checkpoint, VerifyFault>
+    ensures whole { IfOk result (λ known. whole ≡ Ok known) }
+    ensures fault { IfErr result (λ fault. (wrong : Unconfirmed) × (whole ≡ Err wrong) × (fault ≡ fault_in wrong)) }
+{
+    match whole {
+        Ok(whole) => Ok(whole),
+        Err(Unconfirmed::List(fault)) => Err(VerifyFault::List(fault)),
+        Err(Unconfirmed::Replay(fault)) => Err(VerifyFault::Replay(fault)),
+    }
+}

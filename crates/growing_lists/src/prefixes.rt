@@ -1,0 +1,104 @@
+//! The search for the shortest prefix of a list after which each expected register has its value.
+
+ghost use Rattle.std.specs.Prelude.{◌≡◌};
+ghost use Rattle.growing_lists.specs.parts.Confirming.{IsConfirmingAfter, are_reached, prefix_at, search_after, size_of_step};
+ghost use Rattle.boot_verdict.specs.Tracking.{step_of};
+
+use boot_verdict::{Checkpoint, Expected, Position, Step, Tracker, is_reached};
+use pcr_banks::Banks;
+
+/// A point after an entry of the list.
+#[derive(Clone, Copy)]
+pub(crate) struct Prefix {
+    /// The registers there.
+    pub registers: Banks,
+    /// The number of the last entry before it.
+    pub last: usize,
+    /// How many bytes the list has up to it.
+    pub bytes: u64,
+}
+
+/// Registers, and the first prefix at which each expected one had its value.
+#[derive(Drop)]
+pub(crate) struct Confirming<'a> {
+    /// The registers.
+    pub banks: Banks,
+    /// How many bytes the entries so far have.
+    pub bytes: u64,
+    /// The number of the first entry that may be the last of a prefix.
+    pub first: usize,
+    /// The expected registers.
+    pub expected: &'a [Expected],
+    /// The prefix, if there is one so far.
+    pub prefix: Option<Prefix>,
+}
+
+impl<'a> Confirming<'a> {
+    /// After the list of this checkpoint: its end may be the prefix.
+    pub fn after(known: &Checkpoint, expected: &'a [Expected]) -> Self
+        ensures { result ≡ search_after known.now expected.entry }
+    {
+        let search = Confirming {
+            banks: known.after,
+            bytes: known.bytes,
+            first: known.entries.saturating_sub(1),
+            expected,
+            prefix: None,
+        };
+        if known.entries == 0 {
+            return search;
+        }
+        Confirming {
+            prefix: search.prefix_at(Position::Entry(search.first)),
+            ..search
+        }
+    }
+
+    // The prefix that ends at this position, if it is that of an entry that may be the last, and each expected register has its value now.
+    fn prefix_at(&self, position: Position) -> Option<Prefix>
+        ensures { result ≡ prefix_at self.now position }
+    {
+        let Position::Entry(last) = position else {
+            return None;
+        };
+        if last >= self.first && are_reached(self.expected, &self.banks) {
+            Some(Prefix {
+                registers: self.banks,
+                last,
+                bytes: self.bytes,
+            })
+        } else {
+            None
+        }
+    }
+}
+
+impl Tracker for Confirming<'_> {
+    ghost is_after = { IsConfirmingAfter };
+
+    // Replays the step, and looks at the registers, if there is no prefix yet.
+    fn step(&mut self, step: &Step<'_>, position: Position) {
+        step.replay_into(&mut self.banks);
+        self.bytes = self.bytes.saturating_add(size_of(step));
+        if self.prefix.is_none() {
+            self.prefix = self.prefix_at(position);
+        }
+    }
+}
+
+// How many bytes the step has in the list.
+fn size_of(step: &Step<'_>) -> u64
+    ensures { result ≡ size_of_step (step_of step.now) }
+{
+    match step {
+        Step::Event(_) => 0,
+        Step::Entry(entry) => entry.size() as u64,
+    }
+}
+
+// Whether each expected register has its value in these banks.
+fn are_reached(expected: &[Expected], banks: &Banks) -> bool
+    ensures { result ≡ are_reached banks.now expected.now }
+{
+    expected.iter().all(|expected| is_reached(expected, banks))
+}

@@ -1,5 +1,0 @@
-use Rattle.hash_workers.specs.parts.Seats.{AreJoined}
-use Rattle.hash_workers.proofs.work.all.joined.Given as goal
-
-abbrev pub invariant-loop-seat : goal.invariant-loop-seat
-invariant-loop-seat l = AreJoined l.claims l.yielded l.all

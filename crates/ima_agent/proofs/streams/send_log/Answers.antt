@@ -1,0 +1,15 @@
+use Rattle.ima_agent.proofs.StreamingLaws.{events_cut, events_run_out, events_shown, events_to_fault}
+use Rattle.ima_agent.proofs.streams.send_log.Goals as goal
+
+pub returns-in-Ok : goal.returns-in-Ok
+returns-in-Ok g c = events_shown _ _ _ c.in-Ok.ensures
+
+pub returns-in-Err-Sink : goal.returns-in-Err-Sink
+returns-in-Err-Sink g c = events_cut _ _ _ _ (rw c.in-Err-Sink.field-0-is at c.in-Err-Sink.ensures)
+
+pub returns-in-Err-Log : goal.returns-in-Err-Log
+returns-in-Err-Log g c =
+    events_to_fault _ _ _ c.in-Err-Log.fault c.into.result c.into.ensures (rw c.in-Err-Log.field-0-is at c.in-Err-Log.ensures)
+
+pub returns-in-Err-Memory : goal.returns-in-Err-Memory
+returns-in-Err-Memory g c = events_run_out _ _ _ (rw c.in-Err-Memory.field-0-is at c.in-Err-Memory.ensures)

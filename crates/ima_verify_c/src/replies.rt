@@ -1,0 +1,188 @@
+//! Gives an answer to the caller: a text in the caller's room, what is told of it, and a number.
+
+ghost use Rattle.std.specs.Prelude.{◌≡◌, ◌≤◌, ◌⊎◌, None, length, option_map, IfOk, IfSome};
+ghost use Rattle.agent_inputs.specs.declared.fault.RunFault.TheVariants.{Memory};
+ghost use Rattle.ima_agent.specs.FaultTexts.{fault_status};
+ghost use Rattle.judging.specs.Requests.{requested_of};
+ghost use Rattle.ima_verify_c.specs.Answers.{Answers, AnswersMore, AreGiven, GivesFound, GivesPiece, IsAnswerAndNext, IsAnswerTo, IsGiven, IsLineOf, IsRefusal};
+
+use crate::told::Told;
+use byte_streams::{Failed, VecSink};
+use ima_agent::{Form, RunFault, json_fault_line, json_memory_line, status_of, write_fault};
+use judging::Request;
+use pieces::{End, Piece, Position};
+use rendering::{Given, output_on};
+use std::alloc::{AllocError, Global};
+
+/// What a call returns if memory ran out.
+const OUT_OF_MEMORY: u8 = 3;
+
+/// What a call returns if there is too little room.
+const TOO_SHORT: i32 = 4;
+
+/// What a call returns if there are more lines.
+const MORE: u8 = 5;
+
+/// What a call returns if a position is none.
+const MISUSED: i32 = 6;
+
+/// The line of a fault, if even that cannot be kept in memory.
+const MEMORY_LINE: &[u8] = b"failed: memory\n";
+
+/// Gives the answer to what is asked of bytes in memory, or the line of a fault, in this form.
+pub(crate) fn give(
+    alloc: Global,
+    request: Request<'_>,
+    form: Form,
+    out: &mut [u8],
+    told: &mut Told,
+) -> i32
+    ensures { Answers (IsAnswerTo (requested_of request.entry) form) result told.new out.old out.new }
+{
+    match output_on(alloc, request, form) {
+        Ok(given) => put(&given.output.text, given.output.status, None, out, told),
+        Err(fault) => give_fault(alloc, form, &fault, out, told),
+    }
+}
+
+/// Gives the answer and the text of the checkpoint of what it is on; or the line of a fault, and no checkpoint.
+pub(crate) fn give_both(
+    alloc: Global,
+    request: Request<'_>,
+    form: Form,
+    next: &mut [u8],
+    next_size: &mut usize,
+    out: &mut [u8],
+    told: &mut Told,
+) -> i32
+    ensures { AnswersMore (IsAnswerAndNext (requested_of request.entry) form) result told.new out.old out.new next_size.new next.old next.new }
+{
+    match output_on(alloc, request, form) {
+        Ok(given) => put_both(&given, next, next_size, out, told),
+        Err(fault) => {
+            *next_size = 0;
+            give_fault(alloc, form, &fault, out, told)
+        }
+    }
+}
+
+/// Gives a piece of lines, and sets the position to where the next begin; nothing, if there is no piece since the position is none; or the
+/// line of a fault.
+pub(crate) fn give_lines(
+    alloc: Global,
+    form: Form,
+    found: Result<Option<Piece>, RunFault>,
+    offset: &mut usize,
+    number: &mut usize,
+    out: &mut [u8],
+    told: &mut Told,
+) -> i32
+    requires { IfOk found (λ piece. IfSome piece (λ piece. length piece.text.items ≤ length out.old)) }
+    ensures { GivesFound form found (record { offset = offset.old; number = number.old }) (record { offset = offset.new; number = number.new })
+        result told.new out.old out.new }
+{
+    match found {
+        Ok(Some(piece)) => give_piece(&piece, offset, number, out, told),
+        Ok(None) => {
+            *told = Told::of(0, None);
+            MISUSED
+        }
+        Err(fault) => give_fault(alloc, form, &fault, out, told),
+    }
+}
+
+fn give_piece(
+    piece: &Piece,
+    offset: &mut usize,
+    number: &mut usize,
+    out: &mut [u8],
+    told: &mut Told,
+) -> i32
+    requires { length piece.now.text.items ≤ length out.now }
+    ensures { GivesPiece piece.now (record { offset = offset.old; number = number.old }) (record { offset = offset.new; number = number.new })
+        result told.new out.old out.new }
+{
+    let status = match piece.end {
+        End::Last => 0,
+        End::More => MORE,
+        End::Longer(size) => {
+            *told = Told::of(size, None);
+            return TOO_SHORT;
+        }
+    };
+    *offset = piece.next.offset;
+    *number = piece.next.number;
+    put(&piece.text, status, None, out, told)
+}
+
+// Gives the line of a fault in this form; that of `Memory`, if there is no memory for it.
+fn give_fault(alloc: Global, form: Form, fault: &RunFault, out: &mut [u8], told: &mut Told) -> i32
+    ensures { Answers (IsRefusal (λ reason. (reason ≡ fault.now) ⊎ (reason ≡ Memory)) form) result told.new out.old out.new }
+{
+    match line_in(alloc, form, fault) {
+        Ok(line) => put(&line, status_of(fault), Some(fault), out, told),
+        Err(AllocError) => {
+            let fault = RunFault::Memory;
+            put(memory_line(form), OUT_OF_MEMORY, Some(&fault), out, told)
+        }
+    }
+}
+
+// The line of a fault, in this form.
+fn line_in(alloc: Global, form: Form, fault: &RunFault) -> Result<Vec<u8>, AllocError>
+    ensures { IfOk result (λ line. IsLineOf form fault.now line.items (fault_status fault.now)) }
+{
+    if let Form::Json = form {
+        return json_fault_line(alloc, fault);
+    }
+    let mut line = VecSink::new(Vec::new(alloc));
+    match write_fault(fault, &mut line) {
+        Ok(()) => Ok(line.into_bytes()),
+        Err(Failed) => Err(AllocError),
+    }
+}
+
+// That of `Memory`, which takes no memory.
+fn memory_line(form: Form) -> &'static [u8]
+    ensures { IsLineOf form Memory result.now 3 }
+{
+    match form {
+        Form::Text => MEMORY_LINE,
+        Form::Json => json_memory_line(),
+    }
+}
+
+// Writes a text at the start of the caller's room, if it fits, and tells its size and the fault that it is the line of.
+fn put(text: &[u8], status: u8, fault: Option<&RunFault>, out: &mut [u8], told: &mut Told) -> i32
+    ensures { IsGiven text.now status (option_map (λ fault. fault.now) fault.entry) result told.new out.old out.new }
+{
+    if out.len() < text.len() {
+        *told = Told::of(text.len(), None);
+        return TOO_SHORT;
+    }
+    out[..text.len()].copy_from_slice(text);
+    *told = Told::of(text.len(), fault);
+    i32::from(status)
+}
+
+// Writes an answer and the text of a checkpoint each at the start of its room, if both fit.
+fn put_both(
+    given: &Given,
+    next: &mut [u8],
+    next_size: &mut usize,
+    out: &mut [u8],
+    told: &mut Told,
+) -> i32
+    ensures { AreGiven given.now.output.text.items given.now.output.status None given.now.checkpoint.items result told.new out.old out.new
+        next_size.new next.old next.new }
+{
+    let text = &given.output.text;
+    let state = &given.checkpoint;
+    *next_size = state.len();
+    if state.len() <= next.len() && text.len() <= out.len() {
+        next[..state.len()].copy_from_slice(state);
+        return put(text, given.output.status, None, out, told);
+    }
+    *told = Told::of(text.len(), None);
+    TOO_SHORT
+}

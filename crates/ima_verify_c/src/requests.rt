@@ -1,0 +1,81 @@
+//! What a call with these bytes asks for.
+
+ghost use Rattle.std.specs.Prelude.{◌≡◌, option_map};
+ghost use Rattle.judging.specs.Requests.{requested_of, judgement_of, requires_of};
+ghost use Rattle.ima_verify_c.specs.Answers.{requested_by, requested_of_registers, form_of, given_bytes, required_by, verdict_of};
+
+use ima_agent::{Form, Scope};
+use judging::{Comparison, Input, Request, Required, Wanted};
+
+/// JSON, or lines of text.
+pub(crate) fn form_of(json: bool) -> Form
+    ensures { result ≡ form_of json }
+{
+    if json { Form::Json } else { Form::Text }
+}
+
+/// These bytes, if there are any.
+pub(crate) fn given_bytes(bytes: &[u8]) -> Option<&[u8]>
+    ensures { option_map (λ bytes. bytes.now) result ≡ given_bytes bytes.now }
+{
+    if bytes.is_empty() { None } else { Some(bytes) }
+}
+
+/// The verdict on a log and a list, or on its confirmed prefix, from a checkpoint on, if there is one.
+pub(crate) fn verdict_of<'a>(log: &'a [u8], state: &'a [u8], prefix: bool) -> Wanted<'a>
+    ensures { judgement_of result ≡ verdict_of log.now state.now prefix }
+{
+    let resume = match given_bytes(state) {
+        Some(state) => Some(Input::Bytes(state)),
+        None => None,
+    };
+    Wanted::Verdict {
+        log: Input::Bytes(log),
+        scope: if prefix { Scope::Prefix } else { Scope::Whole },
+        resume,
+    }
+}
+
+/// What a list is worth against expected registers; the word `none` requires this.
+pub(crate) fn requested_by<'a>(
+    none: Required<'a>,
+    wanted: Wanted<'a>,
+    list: &'a [u8],
+    expected: &'a [u8],
+    require: &'a [u8],
+) -> Request<'a>
+    ensures { requested_of result ≡ requested_by (requires_of none.entry) (judgement_of wanted.entry) list.now expected.now require.now }
+{
+    Request::Comparison(Comparison {
+        wanted,
+        list: Input::Bytes(list),
+        expected: Input::Bytes(expected),
+        required: required_by(none, require),
+    })
+}
+
+// What has to be among the expected registers: those that the text spells, unless it is the word `none`.
+fn required_by<'a>(none: Required<'a>, require: &'a [u8]) -> Required<'a>
+    ensures { requires_of result ≡ required_by (requires_of none.entry) require.now }
+{
+    if require == b"none".as_slice() {
+        none
+    } else {
+        Required::These(require)
+    }
+}
+
+/// The registers after a list alone, or after a log.
+pub(crate) fn registers_on(of_list: bool, bytes: &[u8]) -> Request<'_>
+    ensures { requested_of result ≡ requested_of_registers of_list bytes.now }
+{
+    if of_list {
+        Request::ListRegisters {
+            list: Input::Bytes(bytes),
+        }
+    } else {
+        Request::LogRegisters {
+            log: Input::Bytes(bytes),
+        }
+    }
+}

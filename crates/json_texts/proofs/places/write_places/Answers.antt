@@ -1,8 +1,0 @@
-use Rattle.std.proofs.Common.{append_assoc, refl}
-use Rattle.json_texts.proofs.WrittenLaws.{members_and_end}
-use Rattle.json_texts.proofs.places.write_places.Goals as goal
-
-pub returns-clause-tokens : goal.returns-clause-tokens
-returns-clause-tokens c =
-    rw (c.in_ok-end_object.ensures.ok, (rw c.finds.ensures at c.in_ok-write_flag.ensures.tokens), c.in_ok-write_rows.ensures.tokens, c.in_ok-begin_object.ensures.ok, members_and_end)
-    (simp append_assoc refl)

@@ -1,0 +1,21 @@
+use Rattle.std.proofs.Common.{inr}
+use Rattle.std.proofs.lemmas.Result.{err_from_is_err_and}
+use Rattle.judging.proofs.answers.Evidence.verdict_from.Goals as goal
+
+pub returns-in_err-answer : goal.returns-in_err-answer
+returns-in_err-answer g c =
+    λ log resume inputs gives.
+    let p = err_from_is_err_and c.from_residual-in_err-answer.result c.from_residual-in_err-answer.ensures.1 in
+    rw (p.1, p.2) (c.in_err-answer.ensures inputs log resume gives (rw c.bytes.ensures at c.in_ok-session.ensures.started))
+
+pub returns-in_err-next_of : goal.returns-in_err-next_of
+returns-in_err-next_of g c =
+    λ log resume inputs gives.
+    let p = err_from_is_err_and c.from_residual-in_err-next_of.result c.from_residual-in_err-next_of.ensures.1 in
+    rw (p.1, p.2) (inr (inr c.in_err-next_of.ensures.fault))
+
+pub returns : goal.returns
+returns g c =
+    λ log resume inputs gives.
+    let next = c.in_ok-next_of.ensures.next in
+    rw next.0 (c.in_ok-answer.ensures inputs log resume gives (rw c.bytes.ensures at c.in_ok-session.ensures.started) next.1)

@@ -1,0 +1,90 @@
+-- What is asked for: what is judged, and what the answer says of it.
+use Rattle.std.specs.Prelude.{ℕ, List, Option, None, Some, option_map}
+use Rattle.command_line.specs.declared.plan.Scope.{Scope}
+use Rattle.judging.specs.Inputs.{Where, FileOf, BytesOf}
+use Rattle.judging.specs.declared.inputs.Input.{Input}
+use Rattle.judging.specs.declared.inputs.Input.TheVariants as inputs
+use Rattle.judging.specs.declared.inputs.Held.{Held}
+use Rattle.judging.specs.declared.inputs.Held.TheVariants as helds
+use Rattle.judging.specs.declared.request.Comparison.{Comparison}
+use Rattle.judging.specs.declared.request.Request.{Request}
+use Rattle.judging.specs.declared.request.Request.TheVariants as requests
+use Rattle.judging.specs.declared.request.Required.{Required}
+use Rattle.judging.specs.declared.request.Required.TheVariants as required
+use Rattle.judging.specs.declared.request.Wanted.{Wanted}
+use Rattle.judging.specs.declared.request.Wanted.TheVariants as wanted
+
+-- What the answer is: the verdict on a log and a list, or on a prefix of it, which may go on from a checkpoint; where the registers have
+-- their values in a log and a list; or the verdict on a list alone.
+pub data Judgement : Type 0 where
+  VerdictOf : Where → Scope → Option Where → Judgement
+  PositionsOf : Where → Judgement
+  ListVerdictOf : Judgement
+
+-- What has to be among the expected registers: nothing; some register; or those that a text spells.
+pub data Requires : Type 0 where
+  Nothing : Requires
+  Any : Requires
+  These : List ℕ → Requires
+
+-- What is compared: the result, with what only it is of; where the list is, or what follows the checkpoint, and the text of expected
+-- registers; and what has to be among these.
+pub record Compared : Type 0 where
+  pub judgement : Judgement
+  pub list : Where
+  pub expected : Where
+  pub required : Requires
+
+-- What is asked for: what a list is worth against expected registers; the registers after a log, or after a list alone; or the expected
+-- registers that a text has, as tpm2-tools printed it, of those within the range that another text spells, if there is one.
+pub data Requested : Type 0 where
+  Compares : Compared → Requested
+  LogRegistersOf : Where → Requested
+  ListRegistersOf : Where → Requested
+  ExpectedOf : Where → Option (List ℕ) → Requested
+
+-- Where the log is, if there is one.
+abbrev pub log_of : Judgement → Option Where
+log_of (VerdictOf log scope resume) = Some log
+log_of (PositionsOf log) = Some log
+log_of ListVerdictOf = None
+
+-- Where the checkpoint is that is gone on from, if there is one.
+abbrev pub resume_of : Judgement → Option Where
+resume_of (VerdictOf log scope resume) = resume
+resume_of (PositionsOf log) = None
+resume_of ListVerdictOf = None
+
+-- ---- what contracts see of a request
+
+abbrev pub place_of : Input → Where
+place_of (inputs.File name) = FileOf name.now
+place_of (inputs.Bytes content) = BytesOf content.now
+
+abbrev pub held_bytes : Held → List ℕ
+held_bytes (helds.File content) = content.items
+held_bytes (helds.Bytes content) = content.now
+
+abbrev pub judgement_of : Wanted → Judgement
+judgement_of (wanted.Verdict log scope resume) = VerdictOf (place_of log) scope (option_map place_of resume)
+judgement_of (wanted.Positions log) = PositionsOf (place_of log)
+judgement_of wanted.ListVerdict = ListVerdictOf
+
+abbrev pub requires_of : Required → Requires
+requires_of required.Nothing = Nothing
+requires_of required.Any = Any
+requires_of (required.These text) = These text.now
+
+abbrev pub compared_of : Comparison → Compared
+compared_of comparison = record {
+  judgement = judgement_of comparison.wanted;
+  list = place_of comparison.list;
+  expected = place_of comparison.expected;
+  required = requires_of comparison.required;
+}
+
+abbrev pub requested_of : Request → Requested
+requested_of (requests.Comparison comparison) = Compares (compared_of comparison)
+requested_of (requests.LogRegisters log) = LogRegistersOf (place_of log)
+requested_of (requests.ListRegisters list) = ListRegistersOf (place_of list)
+requested_of (requests.Expected printed range) = ExpectedOf (place_of printed) (option_map (λ text. text.now) range)

@@ -1,0 +1,201 @@
+//! The answer to what is asked for, by one path.
+
+ghost use Rattle.std.specs.Prelude.{◌≡◌, ◌⊎◌, [], IfOk, IfErr, IsSomeAnd, MatchOption};
+ghost use Rattle.judging.specs.Answering.{HasNoEvidence, IsAnswer, IsComparison, IsEvidence, IsKnown, IsNoCheckpoint, IsNoComparison, IsNotRequired, IsRefusal, IsRequired, evidence_of, Finds, FindsFrom};
+ghost use Rattle.judging.specs.Requests.{requested_of, compared_of, held_bytes, judgement_of, log_of, place_of, requires_of, resume_of};
+ghost use Rattle.judging.specs.Inputs.{Holds, IsInputFault, OfInput};
+
+use crate::answer::{Answer, Answered, Answering, is_well};
+use crate::inputs::{Held, Input, limit_of, load_at, refusal};
+use crate::printed_registers::printed_within;
+use crate::registers::{after_list, after_log};
+use crate::request::{Comparison, Request, Required, Wanted};
+use crate::sessions::checkpoint_in;
+use agent_inputs::{AgentFiles, RunFault, not_read};
+use boot_verdict::{
+    Checkpoint, Expected, Requirement, RequirementFault, locate_from, read_expected,
+    verify_list_from,
+};
+use byte_streams::{Failed, SliceSource, Source};
+use std::alloc::Global;
+
+/// The answer to what is asked for. What is compared is read in this order (only in part by the clauses): what is required; the log, which
+/// is loaded; the expected registers; the checkpoint; and then the list is opened, and replayed as it is read, without loading it.
+pub fn answer_request<F: AgentFiles>(
+    alloc: Global,
+    files: &mut F,
+    request: Request<'_>,
+) -> Result<Answered, RunFault>
+    ensures answer { IfOk result (IsAnswer (F.known files.old) (requested_of request.entry)) }
+    ensures fault { IfErr result (IsRefusal (F.known files.old) (requested_of request.entry)) }
+    ensures saved { F.saved files.new ≡ F.saved files.old }
+{
+    match request {
+        Request::Comparison(request) => compare(alloc, files, request),
+        Request::LogRegisters { log } => after_log(alloc, files, log),
+        Request::ListRegisters { list } => after_list(alloc, files, list),
+        Request::Expected { printed, range } => printed_within(alloc, files, printed, range),
+    }
+}
+
+// What comes of what is compared.
+fn compare<F: AgentFiles>(alloc: Global, files: &mut F, request: Comparison<'_>) -> Answering
+    ensures answer { IfOk result (IsComparison (F.known files.old) (compared_of request.entry)) }
+    ensures fault { IfErr result (IsNoComparison (F.known files.old) (compared_of request.entry)) }
+    ensures saved { F.saved files.new ≡ F.saved files.old }
+{
+    let requirement = required_in(alloc, request.required)?;
+    let evidence = evidence_of(alloc, files, request, requirement)?;
+    let (answer, next) = evidence.find(alloc, files, request)?;
+    let is_well = is_well(request.required, evidence.requirement.as_ref(), &answer);
+    Ok(Answered {
+        answer,
+        requirement: evidence.requirement,
+        is_well,
+        next: if is_well { next } else { None },
+    })
+}
+
+// What has to be among the expected registers, if a text spells it.
+fn required_in(alloc: Global, required: Required<'_>) -> Result<Option<Requirement>, RunFault>
+    ensures required { IfOk result (IsRequired (requires_of required.entry)) }
+    ensures fault { IfErr result (IsNotRequired (requires_of required.entry)) }
+{
+    match required {
+        Required::Nothing | Required::Any => Ok(None),
+        Required::These(text) => match Requirement::from_text(alloc, text) {
+            Ok(requirement) => Ok(Some(requirement)),
+            Err(RequirementFault::Malformed) => Err(RunFault::Usage),
+            Err(RequirementFault::Memory) => Err(RunFault::Memory),
+        },
+    }
+}
+
+/// What a list is judged with.
+#[derive(Drop)]
+pub(crate) struct Evidence<'a> {
+    /// The registers that are required, if a text spells some.
+    pub requirement: Option<Requirement>,
+    /// The log; no bytes without one.
+    pub log: Held<'a>,
+    /// The expected registers.
+    pub expected: Vec<Expected>,
+    /// The checkpoint to go on from, if there is one.
+    pub known: Option<Checkpoint>,
+}
+
+// Loads the log, then loads and reads the expected registers, and then the checkpoint.
+fn evidence_of<'a, F: AgentFiles>(
+    alloc: Global,
+    files: &mut F,
+    request: Comparison<'a>,
+    requirement: Option<Requirement>,
+) -> Result<Evidence<'a>, RunFault>
+    requires { IsRequired (requires_of request.required) requirement }
+    ensures evidence { IfOk result (λ evidence. IsEvidence (F.known files.old) (compared_of request.entry) (evidence_of evidence)) }
+    ensures fault { IfErr result (HasNoEvidence (F.known files.old) (compared_of request.entry)) }
+    ensures known { F.known files.new ≡ F.known files.old }
+    ensures saved { F.saved files.new ≡ F.saved files.old }
+{
+    let log = log_in(alloc, files, request.wanted)?;
+    let text = load_at(alloc, files, request.expected)?;
+    let expected = read_expected(alloc, text.bytes())?;
+    let known = known_in(alloc, files, request.wanted)?;
+    Ok(Evidence {
+        requirement,
+        log,
+        expected,
+        known,
+    })
+}
+
+// The bytes of the log, if there is one.
+fn log_in<'a, F: AgentFiles>(
+    alloc: Global,
+    files: &mut F,
+    wanted: Wanted<'a>,
+) -> Result<Held<'a>, RunFault>
+    ensures log { IfOk result (λ log. MatchOption (log_of (judgement_of wanted.entry)) (held_bytes log ≡ [])
+        (λ place. Holds (F.known files.old) place (held_bytes log))) }
+    ensures fault { IfErr result (λ fault. IsSomeAnd (log_of (judgement_of wanted.entry)) (λ place. IsInputFault (F.known files.old) place fault)) }
+    ensures known { F.known files.new ≡ F.known files.old }
+    ensures saved { F.saved files.new ≡ F.saved files.old }
+{
+    match wanted {
+        Wanted::Verdict { log, .. } => load_at(alloc, files, log),
+        Wanted::Positions { log } => load_at(alloc, files, log),
+        Wanted::ListVerdict => Ok(Held::Bytes(&[])),
+    }
+}
+
+// The checkpoint to go on from, if there is one.
+fn known_in<F: AgentFiles>(
+    alloc: Global,
+    files: &mut F,
+    wanted: Wanted<'_>,
+) -> Result<Option<Checkpoint>, RunFault>
+    ensures checkpoint { IfOk result (IsKnown (F.known files.old) (resume_of (judgement_of wanted.entry))) }
+    ensures fault { IfErr result (λ fault. IsSomeAnd (resume_of (judgement_of wanted.entry))
+        (λ place. IsInputFault (F.known files.old) place fault ⊎ OfInput (F.known files.old) place (λ text. IsNoCheckpoint text fault))) }
+    ensures known { F.known files.new ≡ F.known files.old }
+    ensures saved { F.saved files.new ≡ F.saved files.old }
+{
+    match wanted {
+        Wanted::Verdict {
+            resume: Some(resume),
+            ..
+        } => {
+            let text = load_at(alloc, files, resume)?;
+            Ok(Some(checkpoint_in(alloc, text.bytes())?))
+        }
+        _ => Ok(None),
+    }
+}
+
+/// What was found in a list: the answer, and where to go on.
+pub(crate) type Finding = Result<(Answer, Option<Checkpoint>), RunFault>;
+
+impl Evidence<'_> {
+    // Opens the list, and finds what is asked for in it.
+    fn find<F: AgentFiles>(&self, alloc: Global, files: &mut F, request: Comparison<'_>) -> Finding
+        ensures found { Finds (F.known files.old) (judgement_of request.entry.wanted) (place_of request.entry.list) (evidence_of self.now) result }
+        ensures saved { F.saved files.new ≡ F.saved files.old }
+    {
+        match request.list {
+            Input::Bytes(list) => self.find_from(alloc, &mut SliceSource::new(list), request),
+            Input::File(name) => match files.source(Some(name)) {
+                Ok(mut source) => self.find_from(alloc, &mut source, request),
+                Err(Failed) => Err(not_read(alloc, name)),
+            },
+        }
+    }
+
+    // Finds what is asked for in the list of this source.
+    fn find_from<R: Source>(
+        &self,
+        alloc: Global,
+        source: &mut R,
+        request: Comparison<'_>,
+    ) -> Finding
+        ensures { FindsFrom (judgement_of request.entry.wanted) (place_of request.entry.list) (evidence_of self.now)
+            (R.state source.old) (R.state source.new) result }
+    {
+        let list = request.list;
+        match request.wanted {
+            Wanted::Verdict { scope, .. } => self.verdict_from(alloc, source, list, scope),
+            Wanted::Positions { .. } => {
+                let log = self.log.bytes();
+                match locate_from(alloc, log, source, limit_of(list), &self.expected) {
+                    Ok(positions) => Ok((Answer::Positions(positions), None)),
+                    Err(fault) => Err(refusal(alloc, list, fault)),
+                }
+            }
+            Wanted::ListVerdict => {
+                match verify_list_from(alloc, source, limit_of(list), &self.expected) {
+                    Ok(report) => Ok((Answer::ListReport(report), None)),
+                    Err(fault) => Err(refusal(alloc, list, fault)),
+                }
+            }
+        }
+    }
+}

@@ -1,8 +1,0 @@
-use Rattle.std.proofs.Common.{◌≡◌, ◌++◌, ◌==◌, not, filter, length}
-use Rattle.measuring.specs.parts.Names.{names_lent}
-use Rattle.measuring.proofs.names.names_in.Given as goal
-
--- The names so far are the parts of the text so far, except empty ones.
-abbrev pub invariant-loop-name : goal.invariant-loop-name
-invariant-loop-name l =
-    names_lent l.names.items ≡ names_lent l.fn.names.items ++ filter (λ name. not (length name == 0)) (names_lent l.yielded)

@@ -1,0 +1,16 @@
+use Rattle.std.proofs.Common.{ℕ, List, ◌++◌, get_or, ap, ◌∙◌}
+use Rattle.ima_list.specs.ListEntry.{ListEntry}
+use Rattle.json_texts.specs.EntryJson.{entry_json}
+use Rattle.json_texts.specs.JsonValues.{line_of}
+use Rattle.rendering.proofs.EntryLineLaws.{numbered_more}
+use Rattle.rendering.proofs.printed_lists.lines.Goals as goal
+
+pub loop-number-preserved : goal.loop-number-preserved
+loop-number-preserved c =
+    c.in_ok-append_entry.ensures.ok
+    ∙ ap (λ (entry : ListEntry). c.loop-number.text.items ++ line_of (entry_json c.loop-number.number entry))
+    (c.borrowed.ensures ∙ c.index-entries-number.is)
+    ∙ ap (λ (text : List ℕ). text ++ line_of (entry_json c.loop-number.number
+    (get_or c.args.entries.now c.loop-number.number c.index-entries-number.result))) c.loop-number.invariant
+    ∙ numbered_more (λ number entry. line_of (entry_json number entry)) c.args.entries.now c.loop-number.number c.index-entries-number.result
+    c.loop-number-test.true

@@ -1,0 +1,6 @@
+use Rattle.std.proofs.Common.{◌≡◌, take}
+use Rattle.json_texts.specs.ItemLines.{entry_lines}
+use Rattle.rendering.proofs.printed_lists.lines.Given as goal
+
+abbrev pub invariant-loop-number : goal.invariant-loop-number
+invariant-loop-number l = l.text.items ≡ entry_lines (take l.number l.entries)

@@ -1,0 +1,98 @@
+//! Answers as text or JSON.
+
+ghost use Rattle.std.specs.Prelude.{◌≡◌, ◌++◌, if◌then◌else◌, None, IfOk, OnOk};
+ghost use Rattle.byte_streams.specs.Streams.{Sends};
+ghost use Rattle.json_texts.specs.JsonValues.{line_of};
+ghost use Rattle.judging.specs.declared.answer.Answer.TheVariants as answers;
+ghost use Rattle.rendering.specs.Rendering.{json_of, lines_of, render};
+
+use crate::output::Output;
+use boot_verdict::{
+    Report, write_counts, write_expected, write_list_report, write_outcome, write_positions,
+    write_prefix_report, write_registers, write_required_list_report, write_required_positions,
+    write_required_prefix_report, write_required_report,
+};
+use byte_streams::{Failed, Sink, VecSink};
+use command_line::Form;
+use json_texts::{
+    append_expected, append_list_report, append_positions, append_prefix_report, append_registers,
+    append_report,
+};
+use judging::{Answer, Answered};
+use std::alloc::{AllocError, Global};
+
+/// The output of an answer in this form: its status says whether all is well.
+pub fn render(alloc: Global, given: &Answered, form: Form) -> Result<Output, AllocError>
+    ensures text { IfOk result (λ output. output.text.items ≡ render form given.now) }
+    ensures status { IfOk result (λ output. output.status ≡ (if given.now.is_well then 0 else 1)) }
+{
+    let text = match form {
+        Form::Text => lines(alloc, given)?,
+        Form::Json => line(alloc, given)?,
+    };
+    Ok(Output::verdict(text, given.is_well))
+}
+
+// The lines of an answer.
+fn lines(alloc: Global, given: &Answered) -> Result<Vec<u8>, AllocError>
+    ensures { IfOk result (λ text. text.items ≡ lines_of given.now.is_well given.now.requirement given.now.answer) }
+{
+    let mut text = VecSink::new(Vec::new(alloc));
+    write_lines(given, &mut text).map_err(|_| AllocError)?;
+    Ok(text.into_bytes())
+}
+
+// Writes the lines of an answer.
+fn write_lines<S: Sink>(given: &Answered, sink: &mut S) -> Result<(), Failed>
+    ensures { Sends (S.state sink.old) (S.state sink.new) result (lines_of given.now.is_well given.now.requirement given.now.answer) }
+{
+    match (&given.answer, given.requirement.as_ref()) {
+        (Answer::Report(report), None) => write_report(report, given.is_well, sink),
+        (Answer::Report(report), Some(ranges)) => write_required_report(report, ranges, sink),
+        (Answer::Prefix(prefix), None) => write_prefix_report(prefix, sink),
+        (Answer::Prefix(prefix), Some(ranges)) => write_required_prefix_report(
+            prefix, ranges, sink,
+        ),
+        (Answer::Positions(positions), None) => write_positions(positions, sink),
+        (Answer::Positions(positions), Some(ranges)) => write_required_positions(
+            positions, ranges, sink,
+        ),
+        (Answer::ListReport(list), None) => write_list_report(list, sink),
+        (Answer::ListReport(list), Some(ranges)) => write_required_list_report(list, ranges, sink),
+        (Answer::Registers(banks), _) => write_registers(&banks.now, &banks.start, sink),
+        (Answer::Expected { expected, range }, _) => write_expected(expected, *range, sink),
+    }
+}
+
+// Writes a report where no registers are required.
+fn write_report<S: Sink>(report: &Report, is_match: bool, sink: &mut S) -> Result<(), Failed>
+    ensures { Sends (S.state sink.old) (S.state sink.new) result (lines_of is_match None (answers.Report report.now)) }
+{
+    write_counts(report.events, report.locality, report.entries, sink)?;
+    write_outcome(report, is_match, sink)
+}
+
+// The line of JSON of an answer.
+fn line(alloc: Global, given: &Answered) -> Result<Vec<u8>, AllocError>
+    ensures { IfOk result (λ line. line.items ≡ line_of (json_of given.now.is_well given.now.requirement given.now.answer)) }
+{
+    let mut line = Vec::new(alloc);
+    append_line(alloc, given, &mut line)?;
+    Ok(line)
+}
+
+// Appends it.
+fn append_line(alloc: Global, given: &Answered, line: &mut Vec<u8>) -> Result<(), AllocError>
+    ensures { OnOk result (line.new.items ≡ line.old.items
+        ++ line_of (json_of given.now.is_well given.now.requirement given.now.answer)) }
+{
+    let requirement = given.requirement.as_ref();
+    match &given.answer {
+        Answer::Report(report) => append_report(alloc, report, requirement, given.is_well, line),
+        Answer::Prefix(prefix) => append_prefix_report(alloc, prefix, requirement, line),
+        Answer::Positions(positions) => append_positions(alloc, positions, requirement, line),
+        Answer::ListReport(report) => append_list_report(alloc, report, requirement, line),
+        Answer::Registers(banks) => append_registers(alloc, &banks.now, &banks.start, line),
+        Answer::Expected { expected, range } => append_expected(alloc, expected, *range, line),
+    }
+}
