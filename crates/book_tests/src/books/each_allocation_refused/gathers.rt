@@ -173,14 +173,14 @@ fn assert_gathers(
 }
 
 #[test]
-fn gather_each_reason(rt: HostRuntime) -> Result<(), Fail> {
+fn gather_each_cause(rt: HostRuntime) -> Result<(), Fail> {
     assert_gathers(&rt, rt.alloc(), 100, &[], &ON_A_FRESH_BOOK)?;
     assert_gathers(&rt, rt.alloc(), 100, &THREE, &EACH_CAUSE)?;
     Ok(())
 }
 
 #[test]
-fn gather_order_of_reasons(rt: HostRuntime) -> Result<(), Fail> {
+fn gather_order_of_causes(rt: HostRuntime) -> Result<(), Fail> {
     assert_gathers(&rt, rt.alloc(), 100, &THREE, &CAUSES_IN_ORDER)?;
     assert_gathers(&rt, rt.alloc(), 2, &THREE[..1], &ON_A_FULL_BOOK)?;
     Ok(())

@@ -85,7 +85,7 @@ const ON_A_FULL_BOOK: [Row; 8] = [
 ];
 
 #[test]
-fn full_book_and_order_of_reasons(rt: HostRuntime) -> Result<(), Fail> {
+fn full_book_and_order_of_causes(rt: HostRuntime) -> Result<(), Fail> {
     let alloc = rt.alloc();
     let list = &[OPENING, MEASUREMENT];
     assert_example(&rt, alloc, origin(2), &ON_A_FULL_BOOK, 2, list, AFTER_TWO)?;
