@@ -187,7 +187,7 @@ fn recorded_at(text: &[u8]) -> Option<(Option<Digest>, &[u8])>
     Some((recorded_by(words)?, rest))
 }
 
-// The boot aggregate that these words state.
+// The boot aggregate that these words spell.
 fn recorded_by(words: &[u8]) -> Option<Option<Digest>>
     ensures { (recorded : Option Digest) → IfSome recorded (λ digest. IsHash (alg_of digest) (bytes_of digest))
         → words.now ≡ recorded_words recorded → IsSomeAnd result (λ x. x ≡ recorded) }
