@@ -1,17 +1,15 @@
 //! The agent as a library: the program, and what some of its commands show, of bytes in memory. Re-exports inputs and faults from
-//! `agent_inputs`, what `command_line` reads from arguments, and the verdict and its texts from `boot_verdict`.
+//! `agent_inputs`, what is said of faults from `fault_texts`, what `command_line` reads from arguments, and the verdict and its texts from
+//! `boot_verdict`.
 #![tactic(auto)]
 
 mod arguments;
-mod escapes;
-mod explanations;
 mod hexadecimal;
 mod program;
 mod progress;
 mod requests;
 mod shown;
 mod streams;
-mod texts;
 mod version;
 
 pub use agent_inputs::{
@@ -30,10 +28,10 @@ pub use command_line::{
     DataShown, Form, Judge, Judged, Measurement, NameEnd, Names, Plan, Print, Question, Scope,
     Task, arguments_after_name,
 };
-pub use escapes::escape;
-pub use explanations::{Failure, explanation};
+pub use fault_texts::{
+    Failure, escape, explanation, json_fault_line, json_memory_line, status_of, write_fault,
+};
 pub use measuring::FileProgress;
 pub use program::{exit_code, run, run_with_progress};
 pub use progress::{NoProgress, Progress, SystemProgress};
 pub use rendering::Output;
-pub use texts::{json_fault_line, json_memory_line, status_of, write_fault};

@@ -1,10 +1,10 @@
 //! The line of a fault with `--json`.
 
 ghost use Rattle.std.specs.Prelude.{◌≡◌, IfOk};
-ghost use Rattle.ima_agent.specs.FaultTexts.{IsFaultAsJson, json_place};
+ghost use Rattle.fault_texts.specs.FaultTexts.{IsFaultAsJson, json_place};
 ghost use Rattle.agent_inputs.specs.declared.fault.RunFault.TheVariants.{Memory};
 
-use super::faults::{message_of, said_of};
+use crate::fault_lines::{message_of, said_of};
 use agent_inputs::{FaultHead, FaultKind, RunFault};
 use json_texts::{FaultPlace, FaultText, append_fault};
 use std::alloc::{AllocError, Global};
