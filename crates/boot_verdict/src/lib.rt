@@ -1,5 +1,5 @@
 //! The verdict on a firmware log, a measurement list and expected registers; how a verification goes on from where it stopped; where
-//! registers first have their expected values; and the texts of events, registers, reports and positions.
+//! registers first have their expected values; and the texts of registers. Those of the results are in `verdict_texts`.
 #![tactic(auto)]
 
 mod all_registers;
@@ -23,6 +23,7 @@ mod stated;
 mod steps;
 mod texts;
 mod verifier;
+mod words;
 
 pub use all_registers::{ALL_REGISTERS, register_numbered};
 pub use checkpoint::Checkpoint;
@@ -40,10 +41,6 @@ pub use register_range::RegisterRange;
 pub use report::{Aggregate, Report, Row, State};
 pub use requirement::{BankRange, HasExpected, Requirement, RequirementFault};
 pub use steps::{Step, Tracker};
-pub use texts::{
-    EventData, aggregate_word, algorithm_with, digits_of, write_change, write_counts, write_events,
-    write_expected, write_list_report, write_outcome, write_positions, write_prefix_report,
-    write_registers, write_report, write_required_list_report, write_required_outcome,
-    write_required_positions, write_required_prefix_report, write_required_report,
-};
+pub use texts::{digits_of, write_change, write_expected, write_registers};
 pub use verifier::{VerifyFault, aggregate_of, report_on, verify, verify_from};
+pub use words::{aggregate_word, algorithm_with};

@@ -4,7 +4,7 @@ use Rattle.std.specs.Global.{Global, Vec}
 use Rattle.byte_streams.specs.declared.streams.Failed.{Failed}
 use Rattle.byte_streams.specs.Streams.{SinkState, Sends}
 use Rattle.ima_list.specs.Lines.{line_of}
-use Rattle.boot_verdict.specs.EventTexts.{events_text}
+use Rattle.verdict_texts.specs.EventTexts.{events_text}
 use Rattle.agent_inputs.specs.declared.fault.RunFault.{RunFault}
 use Rattle.agent_inputs.specs.declared.fault.RunFault.TheVariants as runs
 use Rattle.agent_inputs.specs.Faults.{IsArgumentsFault}

@@ -8,9 +8,9 @@ use Rattle.ima_list.specs.declared.fault.ListFault.{ListFault}
 use Rattle.ima_list.specs.ListEntry.{ListEntry}
 use Rattle.ima_list.specs.Spelling.{BeginsWith, IsReading}
 use Rattle.boot_verdict.specs.declared.checkpoint.Checkpoint.{Checkpoint}
-use Rattle.boot_verdict.specs.declared.texts.events.EventData.{EventData}
-use Rattle.boot_verdict.specs.declared.texts.events.EventData.TheVariants as texts
-use Rattle.boot_verdict.specs.EventTexts.{events_text}
+use Rattle.verdict_texts.specs.declared.events.EventData.{EventData}
+use Rattle.verdict_texts.specs.declared.events.EventData.TheVariants as texts
+use Rattle.verdict_texts.specs.EventTexts.{events_text}
 pub use Rattle.json_texts.specs.ItemLines.{entry_lines, event_lines, numbered_lines, AreAllEntries, AreAllEvents, EndsWithFault, FailsAfterEntries, FailsAfterEvents, ShowsToFault}
 use Rattle.json_texts.specs.SentEntries.{AreAllIn}
 pub use Rattle.json_texts.specs.SentEvents.{log_lines}

@@ -7,11 +7,7 @@ ghost use Rattle.judging.specs.declared.answer.Answer.TheVariants as answers;
 ghost use Rattle.rendering.specs.Rendering.{json_of, lines_of, render};
 
 use crate::output::Output;
-use boot_verdict::{
-    Report, write_counts, write_expected, write_list_report, write_outcome, write_positions,
-    write_prefix_report, write_registers, write_required_list_report, write_required_positions,
-    write_required_prefix_report, write_required_report,
-};
+use boot_verdict::{Report, write_expected, write_registers};
 use byte_streams::{Failed, Sink, VecSink};
 use command_line::Form;
 use json_texts::{
@@ -20,6 +16,11 @@ use json_texts::{
 };
 use judging::{Answer, Answered};
 use std::alloc::{AllocError, Global};
+use verdict_texts::{
+    write_counts, write_list_report, write_outcome, write_positions, write_prefix_report,
+    write_required_list_report, write_required_positions, write_required_prefix_report,
+    write_required_report,
+};
 
 /// The output of an answer in this form: its status says whether all is well.
 pub fn render(alloc: Global, given: &Answered, form: Form) -> Result<Output, AllocError>
