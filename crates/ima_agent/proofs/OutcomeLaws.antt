@@ -12,7 +12,7 @@ use Rattle.command_line.specs.declared.plan.Form.{Form}
 use Rattle.command_line.specs.declared.plan.Form.TheVariants.{Json, Text}
 use Rattle.command_line.specs.declared.plan.Task.{Task}
 use Rattle.command_line.specs.declared.plan.Task.TheVariants as tasks
-use Rattle.rendering.specs.declared.output.Output.{Output}
+use Rattle.rendering.specs.declared.renderer.Output.{Output}
 use Rattle.ima_agent.specs.declared.streams.StreamFault.{StreamFault}
 use Rattle.ima_agent.specs.declared.streams.StreamFault.TheVariants as streams
 use Rattle.fault_texts.specs.FaultTexts.{IsFailure}

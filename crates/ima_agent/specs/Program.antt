@@ -25,7 +25,7 @@ use Rattle.judging.specs.Requests.{Any, Requested, Compared, Compares, ExpectedO
 use Rattle.judging.specs.Inputs.{FileOf, Where}
 use Rattle.measuring.specs.declared.file_book.Measured.{Measured}
 use Rattle.measuring.specs.Measuring.{IsMeasured, IsMeasuringFault}
-use Rattle.rendering.specs.declared.output.Output.{Output}
+use Rattle.rendering.specs.declared.renderer.Output.{Output}
 use Rattle.rendering.specs.Rendering.{IsOutputFault, ShowsAnswer, print_measured}
 use Rattle.ima_agent.specs.declared.streams.StreamFault.{StreamFault}
 use Rattle.ima_agent.specs.declared.streams.StreamFault.TheVariants as streams

@@ -3,7 +3,6 @@
 //! and its texts from `verdict_texts`.
 #![tactic(auto)]
 
-mod arguments;
 mod hexadecimal;
 mod program;
 mod progress;
@@ -16,7 +15,6 @@ pub use agent_inputs::{
     AgentFiles, Files, Input, LoadFault, NotResumed, ReadSource, RunFault, SharedFiles,
     SystemFiles, WriteSink, hash_from, load,
 };
-pub use arguments::read_words;
 pub use boot_verdict::{
     Aggregate, BankRange, ExpectFault, Expected, Located, Position, RegisterRange,
     Report, Requirement, RequirementFault, Row, State, VerifyFault, all_found, list_start, locate,
@@ -31,7 +29,7 @@ pub use fault_texts::{
     Failure, escape, explanation, json_fault_line, json_memory_line, status_of, write_fault,
 };
 pub use measuring::FileProgress;
-pub use program::{exit_code, run, run_with_progress};
+pub use program::{exit_code, read_words, run, run_with_progress};
 pub use progress::{NoProgress, Progress, SystemProgress};
 pub use rendering::Output;
 pub use verdict_texts::{

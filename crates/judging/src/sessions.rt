@@ -8,9 +8,9 @@ ghost use Rattle.judging.specs.Answering.{IsCheckpointText, IsNoCheckpoint, evid
 ghost use Rattle.judging.specs.Requests.{VerdictOf, place_of};
 ghost use Rattle.judging.specs.Inputs.{Where};
 
-use crate::answer::Answer;
 use crate::answers::{Evidence, Finding};
 use crate::inputs::{Input, limit_of, refusal};
+use crate::request::Answer;
 use agent_inputs::{NotResumed, RunFault};
 use boot_verdict::{Checkpoint, CheckpointFault, Expected, Report, Requirement, ResumeFault};
 use byte_streams::Source;

@@ -13,9 +13,9 @@ use Rattle.verdict_texts.specs.PrefixTexts.{prefix_report_text, required_prefix_
 use Rattle.json.specs.Json.{Json}
 use Rattle.json_texts.specs.JsonValues.{line_of}
 use Rattle.json_texts.specs.ReportJson.{positions_json, expected_json, registers_json, prefix_report_json, list_report_json, report_json}
-use Rattle.judging.specs.declared.answer.Answer.{Answer}
-use Rattle.judging.specs.declared.answer.Answer.TheVariants.{Report, Prefix, Positions, ListReport, Registers, Expected}
-use Rattle.judging.specs.declared.answer.Answered.{Answered}
+use Rattle.judging.specs.declared.request.Answer.{Answer}
+use Rattle.judging.specs.declared.request.Answer.TheVariants.{Report, Prefix, Positions, ListReport, Registers, Expected}
+use Rattle.judging.specs.declared.request.Answered.{Answered}
 use Rattle.command_line.specs.declared.plan.Form.{Form}
 use Rattle.command_line.specs.declared.plan.Form.TheVariants as forms
 use Rattle.command_line.specs.declared.plan.Print.{Print}

@@ -3,12 +3,10 @@
 
 mod checkpoints;
 mod no_files;
-mod output;
 mod outputs;
 mod printed_lists;
 mod renderer;
 
-pub use output::Output;
 pub use outputs::{Given, output_for, output_on};
 pub use printed_lists::print_measured;
-pub use renderer::render;
+pub use renderer::{Output, render};

@@ -1,5 +1,5 @@
 use Rattle.agent_inputs.proofs.LoadingLemmas.{named}
-use Rattle.agent_inputs.proofs.inputs.too_long.Goals as goal
+use Rattle.agent_inputs.proofs.loader.not_read.Goals as goal
 
 pub returns : goal.returns
 returns c =

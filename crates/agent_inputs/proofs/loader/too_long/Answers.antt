@@ -1,5 +1,5 @@
 use Rattle.agent_inputs.proofs.LoadingLemmas.{named}
-use Rattle.agent_inputs.proofs.inputs.not_utf8.Goals as goal
+use Rattle.agent_inputs.proofs.loader.too_long.Goals as goal
 
 pub returns : goal.returns
 returns c =
