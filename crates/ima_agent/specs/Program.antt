@@ -29,7 +29,7 @@ use Rattle.rendering.specs.declared.renderer.Output.{Output}
 use Rattle.rendering.specs.Rendering.{IsOutputFault, ShowsAnswer, print_measured}
 use Rattle.ima_agent.specs.declared.streams.StreamFault.{StreamFault}
 use Rattle.ima_agent.specs.declared.streams.StreamFault.TheVariants as streams
-use Rattle.fault_texts.specs.FaultTexts.{fault_line, fault_status, IsFailure, IsReportedAsJson}
+use Rattle.rendering.specs.FaultTexts.{fault_line, fault_status, IsFailure, IsReportedAsJson}
 use Rattle.ima_agent.specs.Showing.{AreAllEntries, AreAllEvents, BreaksOffAfterEntries, EndsWithFault, IsNoListFor, IsNoLogFor, IsRefusedFor, RunsOutAfterEvents, ShowsEntries, ShowsHexadecimal, ShowsJsonEvents, data_of, version_text}
 
 -- ---- a question

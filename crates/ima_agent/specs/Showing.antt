@@ -25,7 +25,7 @@ use Rattle.agent_inputs.specs.Loading.{Holds, HoldsTooMuch, Inputs, IsReadFailur
 use Rattle.judging.specs.Requests.{LogRegistersOf}
 use Rattle.judging.specs.Inputs.{BytesOf}
 use Rattle.rendering.specs.Rendering.{IsRefusalOn, IsShown}
-use Rattle.fault_texts.specs.FaultTexts.{IsFailure, IsReportedAsJson}
+use Rattle.rendering.specs.FaultTexts.{IsFailure, IsReportedAsJson}
 
 -- The program and its version; and the logic that the proofs rest on, as the kit's `rt version` names it.
 abbrev pub version_text : List ℕ

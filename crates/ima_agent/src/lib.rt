@@ -1,5 +1,5 @@
 //! The agent as a library: the program, and what some of its commands show, of bytes in memory. Re-exports inputs and faults from
-//! `agent_inputs`, what is said of faults from `fault_texts`, what `command_line` reads from arguments, the verdict from `boot_verdict`,
+//! `agent_inputs`, what is said of faults from `rendering`, what `command_line` reads from arguments, the verdict from `boot_verdict`,
 //! and its texts from `verdict_texts`.
 #![tactic(auto)]
 
@@ -25,13 +25,12 @@ pub use command_line::{
     DataShown, Form, Judge, Judged, Measurement, NameEnd, Names, Plan, Print, Question, Scope,
     Task, arguments_after_name,
 };
-pub use fault_texts::{
-    Failure, escape, explanation, json_fault_line, json_memory_line, status_of, write_fault,
-};
 pub use measuring::FileProgress;
 pub use program::{exit_code, read_words, run, run_with_progress};
 pub use progress::{NoProgress, Progress, SystemProgress};
-pub use rendering::Output;
+pub use rendering::{
+    Failure, Output, escape, explanation, json_fault_line, json_memory_line, status_of, write_fault,
+};
 pub use verdict_texts::{
     EventData, write_events, write_positions, write_report, write_required_positions,
     write_required_report,

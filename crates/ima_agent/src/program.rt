@@ -7,7 +7,7 @@ ghost use Rattle.command_line.specs.Plans.{BeginsWithVersion, IsRequestedBy, IsW
 ghost use Rattle.command_line.specs.declared.plan.Form.TheVariants.{Text};
 ghost use Rattle.command_line.specs.declared.plan.Plan.TheVariants as plans;
 ghost use Rattle.command_line.specs.declared.plan.Task.TheVariants as tasks;
-ghost use Rattle.fault_texts.specs.FaultTexts.{fault_status, IsFailure};
+ghost use Rattle.rendering.specs.FaultTexts.{fault_status, IsFailure};
 ghost use Rattle.ima_agent.specs.Program.{Answers, IsFaultOf, IsOutcome, IsOutput, IsOutputFor, IsOutputOf, Streams, status_after};
 
 use crate::progress::{NoProgress, Progress};
@@ -18,9 +18,10 @@ use crate::version::version_text;
 use agent_inputs::{AgentFiles, RunFault};
 use byte_streams::{Failed, Sink, send};
 use command_line::{Form, Measurement, Plan, Task};
-use fault_texts::{Failure, json_fault_line, json_memory_line, status_of, write_fault};
 use measuring::measure;
-use rendering::{output_for, print_measured};
+use rendering::{
+    Failure, json_fault_line, json_memory_line, output_for, print_measured, status_of, write_fault,
+};
 use std::alloc::{AllocError, Global};
 use std::io;
 use std::process::ExitCode;

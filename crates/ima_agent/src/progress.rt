@@ -1,6 +1,6 @@
 //! What is told beside the output: the progress of a measurement, and why a run failed.
 
-use fault_texts::{Failure, explanation};
+use rendering::{Failure, explanation};
 use measuring::FileProgress;
 use std::alloc::Global;
 use std::io;

@@ -2,7 +2,7 @@
 
 ghost use Rattle.std.specs.Prelude.{◌≡◌, ◌≤◌, ◌⊎◌, None, length, option_map, IfOk, IfSome};
 ghost use Rattle.agent_inputs.specs.declared.fault.RunFault.TheVariants.{Memory};
-ghost use Rattle.fault_texts.specs.FaultTexts.{fault_status};
+ghost use Rattle.rendering.specs.FaultTexts.{fault_status};
 ghost use Rattle.judging.specs.Requests.{requested_of};
 ghost use Rattle.ima_verify_c.specs.Answers.{Answers, AnswersMore, AreGiven, GivesFound, GivesPiece, IsAnswerAndNext, IsAnswerTo, IsGiven, IsLineOf, IsRefusal};
 
@@ -10,10 +10,11 @@ use crate::told::Told;
 use agent_inputs::RunFault;
 use byte_streams::{Failed, VecSink};
 use command_line::Form;
-use fault_texts::{json_fault_line, json_memory_line, status_of, write_fault};
 use judging::Request;
 use pieces::{End, Piece, Position};
-use rendering::{Given, output_on};
+use rendering::{
+    Given, json_fault_line, json_memory_line, output_on, status_of, write_fault,
+};
 use std::alloc::{AllocError, Global};
 
 /// What a call returns if memory ran out.

@@ -1,7 +1,7 @@
 //! The line of a fault with `--json`.
 
 ghost use Rattle.std.specs.Prelude.{◌≡◌, IfOk};
-ghost use Rattle.fault_texts.specs.FaultTexts.{IsFaultAsJson, json_place};
+ghost use Rattle.rendering.specs.FaultTexts.{IsFaultAsJson, json_place};
 ghost use Rattle.agent_inputs.specs.declared.fault.RunFault.TheVariants.{Memory};
 
 use crate::fault_lines::{message_of, said_of};

@@ -1,6 +1,6 @@
 use Rattle.std.proofs.Common.{codes, refl}
 use Rattle.json.specs.Print.{escape_byte, print_from}
-use Rattle.fault_texts.proofs.json_faults.json_memory_line.Goals as goal
+use Rattle.rendering.proofs.json_faults.json_memory_line.Goals as goal
 
 pub returns : goal.returns
 unfolding print_from escape_byte

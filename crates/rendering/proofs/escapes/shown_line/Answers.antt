@@ -1,7 +1,7 @@
 use Rattle.std.proofs.Common.{[], ◌∷◌, arith, refl, string_bytes}
-use Rattle.fault_texts.specs.Escaping.{is_shown}
-use Rattle.fault_texts.proofs.EscapingLaws.{all_joined, printable_is_shown}
-use Rattle.fault_texts.proofs.escapes.shown_line.Goals as goal
+use Rattle.rendering.specs.Escaping.{is_shown}
+use Rattle.rendering.proofs.EscapingLaws.{all_joined, printable_is_shown}
+use Rattle.rendering.proofs.escapes.shown_line.Goals as goal
 
 pub returns : goal.returns
 returns c =

@@ -2,7 +2,7 @@
 
 ghost use Rattle.std.specs.Prelude.{◌≡◌, true, string_bytes, IfOk};
 ghost use Rattle.std.specs.List.{list_all};
-ghost use Rattle.fault_texts.specs.Escaping.{is_shown};
+ghost use Rattle.rendering.specs.Escaping.{is_shown};
 
 use crate::escapes::{escape_each, shown_line, shown_lines};
 use agent_inputs::RunFault;

@@ -1,2 +1,0 @@
-pub mod Escaping
-pub mod FaultTexts
