@@ -1,5 +1,5 @@
 use Rattle.growing_lists.proofs.DataLaws.{same_boots, same_lists}
-use Rattle.growing_lists.proofs.checkpoint_reader.same_data_is_of_the_same_lists.Goals as goal
+use Rattle.growing_lists.proofs.laws.same_data_is_of_the_same_lists.Goals as goal
 
 pub returns-clause-lists : goal.returns-clause-lists
 returns-clause-lists c = same_lists

@@ -1,5 +1,5 @@
 use Rattle.growing_lists.proofs.DataLaws.{counted_list}
-use Rattle.growing_lists.proofs.checkpoint_reader.counted_checkpoint_is_possible.Goals as goal
+use Rattle.growing_lists.proofs.laws.counted_checkpoint_is_possible.Goals as goal
 
 pub returns-in-Some-clause-possible : goal.returns-in-Some-clause-possible
 returns-in-Some-clause-possible c =
