@@ -2,6 +2,7 @@
 //! registers first have their expected values; and the texts of registers. Those of the results are in `verdict_texts`.
 #![tactic(auto)]
 
+mod algorithms;
 mod all_registers;
 mod checkpoint;
 mod checkpoint_fault;
@@ -23,8 +24,8 @@ mod stated;
 mod steps;
 mod texts;
 mod verifier;
-mod words;
 
+pub use algorithms::algorithm_with;
 pub use all_registers::{ALL_REGISTERS, register_numbered};
 pub use checkpoint::Checkpoint;
 pub use checkpoint_fault::{CheckpointFault, ResumeFault};
@@ -38,9 +39,8 @@ pub use positions::{Located, Position, all_found, is_reached, required_found};
 pub use prefix_report::{PrefixReport, Unconfirmed};
 pub use printed::read_printed;
 pub use register_range::RegisterRange;
-pub use report::{Aggregate, Report, Row, State};
+pub use report::{Aggregate, Report, Row, State, aggregate_word};
 pub use requirement::{BankRange, HasExpected, Requirement, RequirementFault};
 pub use steps::{Step, Tracker};
 pub use texts::{digits_of, write_change, write_expected, write_registers};
 pub use verifier::{VerifyFault, aggregate_of, report_on, verify, verify_from};
-pub use words::{aggregate_word, algorithm_with};

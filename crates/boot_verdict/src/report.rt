@@ -4,6 +4,7 @@ ghost use Rattle.std.specs.Prelude.{◌≡◌};
 ghost use Rattle.std.specs.List.{list_all};
 ghost use Rattle.boot_verdict.specs.Requirements.{required_matches};
 ghost use Rattle.boot_verdict.specs.Verdicts.{is_match, matches, verdict_of};
+ghost use Rattle.boot_verdict.specs.Words.{aggregate_word};
 
 use crate::expected::Expected;
 use crate::requirement::Requirement;
@@ -41,6 +42,18 @@ pub enum Aggregate {
     NoBank,
     /// The list is empty, or its first entry records no boot aggregate.
     Missing,
+}
+
+/// The state of a boot aggregate in one word.
+pub fn aggregate_word(aggregate: Aggregate) -> &'static str
+    ensures { result.now ≡ aggregate_word aggregate }
+{
+    match aggregate {
+        Aggregate::Good => "good",
+        Aggregate::Wrong => "wrong",
+        Aggregate::NoBank => "nobank",
+        Aggregate::Missing => "missing",
+    }
 }
 
 /// The report on a firmware event log, a measurement list and expected registers.
