@@ -16,8 +16,8 @@ pub use agent_inputs::{
     SystemFiles, WriteSink, hash_from, load,
 };
 pub use boot_verdict::{
-    Aggregate, BankRange, ExpectFault, Expected, Located, Position, RegisterRange,
-    Report, Requirement, RequirementFault, Row, State, VerifyFault, all_found, list_start, locate,
+    Aggregate, BankRange, ExpectFault, Expected, Located, Position, RegisterRange, Report,
+    Requirement, RequirementFault, Row, State, VerifyFault, all_found, list_start, locate,
     locate_from, read_expected, read_printed, replay_from, required_found, verify, verify_from,
     write_expected, write_registers,
 };

@@ -12,9 +12,7 @@ use byte_streams::{Failed, VecSink};
 use command_line::Form;
 use judging::Request;
 use pieces::{End, Piece, Position};
-use rendering::{
-    Given, json_fault_line, json_memory_line, output_on, status_of, write_fault,
-};
+use rendering::{Given, json_fault_line, json_memory_line, output_on, status_of, write_fault};
 use std::alloc::{AllocError, Global};
 
 /// What a call returns if memory ran out.

@@ -8,9 +8,7 @@ ghost use Rattle.judging.specs.Inputs.{Holds, IsInputFault, OfInput};
 use crate::inputs::{Held, Input, limit_of, load_at, refusal};
 use crate::printed_registers::printed_within;
 use crate::registers::{after_list, after_log};
-use crate::request::{
-    Answer, Answered, Answering, Comparison, Request, Required, Wanted, is_well,
-};
+use crate::request::{Answer, Answered, Answering, Comparison, Request, Required, Wanted, is_well};
 use crate::sessions::checkpoint_in;
 use agent_inputs::{AgentFiles, RunFault, not_read};
 use boot_verdict::{
