@@ -3,14 +3,14 @@
 
 mod fault;
 mod files;
-mod inputs;
 mod loader;
 mod source_hash;
 mod system;
 
 pub use fault::{FaultHead, FaultKind, NotResumed, RunFault};
 pub use files::{AgentFiles, Files, SharedFiles};
-pub use inputs::{INPUT_LIMIT, load_input, not_read, not_utf8, not_written, too_long};
-pub use loader::{LoadFault, load};
+pub use loader::{
+    INPUT_LIMIT, LoadFault, load, load_input, not_read, not_utf8, not_written, too_long,
+};
 pub use source_hash::hash_from;
 pub use system::{Input, ReadSource, SystemFiles, WriteSink};

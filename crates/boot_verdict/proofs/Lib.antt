@@ -6,7 +6,7 @@ pub mod StepLaws
 pub mod PositionLaws
 pub mod ReplayLaws
 pub mod ListVerdictLaws
-pub mod EventTextLaws
+pub mod AlgorithmLaws
 pub mod PcrReadLaws
 pub mod PrintedLaws
 pub mod RangeLaws

@@ -33,17 +33,21 @@ pub every_count : length every_register ≡ 96
 unfolding every_register
 every_count = banks_size all_algs
 
+-- The place of a register of a bank is counted in whole banks.
+at_place : (algs : List Alg) (bank register : ℕ) → bank < length algs → register < 24
+    → get_or (flat_map of_bank algs) (24 * bank + register) (Sha1, 0) ≡ (get_or algs bank Sha1, register)
+at_place algs bank register within lt =
+    let before : 24 * bank ≡ length (flat_map of_bank (take bank algs)) =
+    omega (arith, banks_size (take bank algs), length-take bank algs, within) in
+    rw (
+      before,
+      get_or-flat_map of_bank algs bank register Sha1 (Sha1, 0) within (omega (arith, bank_size (get_or algs bank Sha1), lt)),
+      get_or-map {Y = Alg × ℕ} (λ number. (get_or algs bank Sha1, number)) all_registers register 0 (Sha1, 0) (omega (arith, register_count, lt)),
+      register_at register lt,
+    )
+
 pub every_at : (i : ℕ) → i < 96 → get_or every_register i (Sha1, 0) ≡ (get_or all_algs (i / 24) Sha1, i % 24)
 unfolding every_register
 every_at i lt =
-    let bank = i / 24 in
-    let alg = get_or all_algs bank Sha1 in
-    let within : bank < length all_algs = omega (arith, lt) in
-    let before : length (flat_map of_bank (take bank all_algs)) ≡ 24 * bank =
-    omega (arith, banks_size (take bank all_algs), length-take bank all_algs, within) in
-    let position : i ≡ length (flat_map of_bank (take bank all_algs)) + i % 24 = omega (arith, before) in
-    let register : i % 24 < length all_registers = omega (arith, register_count) in
-    ap (λ (k : ℕ). get_or (flat_map of_bank all_algs) k (Sha1, 0)) position
-    ∙ get_or-flat_map of_bank all_algs bank (i % 24) Sha1 (Sha1, 0) within (omega (arith, bank_size alg))
-    ∙ get_or-map (λ register. (alg, register)) all_registers (i % 24) 0 (Sha1, 0) register
-    ∙ ap (λ (r : ℕ). (alg, r)) (register_at (i % 24) (omega arith))
+    let place : i ≡ 24 * (i / 24) + i % 24 = omega arith in
+    ap (λ (k : ℕ). get_or every_register k (Sha1, 0)) place ∙ at_place all_algs (i / 24) (i % 24) (omega (arith, lt)) (omega arith)

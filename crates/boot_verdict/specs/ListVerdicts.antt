@@ -1,6 +1,5 @@
--- The verdict on a measurement list alone and expected registers, and its text. How entries
--- change the registers is defined in ima_list.
-use Rattle.std.specs.Prelude.{◌≡◌, ℕ, ◌&&◌, ◌==◌, nat_lt, not, Bool, if◌then◌else◌, List, ◌++◌, length, map, codes, decimal, flat_map, Option, Some, None, Ok}
+-- The verdict on a measurement list alone and expected registers. How entries change the registers is defined in ima_list.
+use Rattle.std.specs.Prelude.{◌≡◌, ℕ, ◌&&◌, ◌==◌, nat_lt, not, Bool, if◌then◌else◌, List, length, map, Option, Some, None, Ok}
 use Rattle.std.specs.List.{list_all}
 use Rattle.pcr_banks.specs.declared.alg.Alg.{Alg}
 use Rattle.pcr_banks.specs.Registers.{register_count, extended_by_all, reset_value}
@@ -12,8 +11,6 @@ use Rattle.boot_verdict.specs.declared.list_verifier.ListReport.{ListReport}
 use Rattle.boot_verdict.specs.declared.report.Row.{Row}
 use Rattle.boot_verdict.specs.declared.requirement.BankRange.{BankRange}
 use Rattle.boot_verdict.specs.ListSources.{CameWhole}
-use Rattle.boot_verdict.specs.ReportTexts.{row_text, verdict_text}
-use Rattle.boot_verdict.specs.RequiredTexts.{missing_text}
 use Rattle.boot_verdict.specs.Requirements.{expected_of_rows, is_complete}
 use Rattle.boot_verdict.specs.Verdicts.{is_match, row_state}
 
@@ -60,27 +57,6 @@ pub record IsListVerdictFrom (old new : Option (List ℕ)) (limit : ℕ) (expect
   pub list : List ℕ
   pub came : CameWhole old new limit list
   pub verdict_is : IsListVerdict list expected verdict
-
--- ---- its text
-
--- The report: a line with the number of entries, one for each expected register, and the verdict.
-abbrev pub list_report_text : ListVerdict → List ℕ
-list_report_text verdict =
-    (codes "entries " ++ (decimal verdict.entries ++ codes "\n"))
-    ++ (flat_map row_text verdict.rows ++ verdict_text (list_matches verdict))
-
--- Two lines: entries, and how many registers were compared.
-abbrev pub list_counts_text : ℕ → ℕ → List ℕ
-list_counts_text entries compared =
-    codes "entries " ++ (decimal entries ++ (codes "\ncompared " ++ (decimal compared ++ codes "\n")))
-
--- The report where registers are required: its counts, a line for each expected register, one for each that is missing, and the
--- verdict.
-abbrev pub required_list_report_text : List BankRange → ListVerdict → List ℕ
-required_list_report_text ranges verdict =
-    list_counts_text verdict.entries (length verdict.rows)
-    ++ (flat_map row_text verdict.rows
-    ++ (missing_text ranges (expected_of_rows verdict.rows) ++ verdict_text (required_list_matches ranges verdict)))
 
 -- ---- what contracts see of a report
 

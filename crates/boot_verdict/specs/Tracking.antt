@@ -1,4 +1,4 @@
--- What follows a boot step by step.
+-- What tracks a boot step by step.
 use Rattle.std.specs.Prelude.{◌≡◌, ℕ, List}
 use Rattle.pcr_banks.specs.declared.alg.Alg.{Alg}
 use Rattle.pcr_banks.specs.declared.banks.Banks.{Banks}
@@ -32,10 +32,10 @@ pub record AreAfter (start : Banks) (steps : List Step) (now : Banks) : Type 0 w
   pub active : (a : Alg) → is_active now a ≡ is_active start a
   pub values : (a : Alg) (r : ℕ) → value_at now a r ≡ value_after a r (value_at start a r) steps
 
--- What follows a boot, before and after some steps of it, where the log has so many events.
+-- What tracks a boot, before and after some steps of it, where the log has so many events.
 abbrev pub After : Type 0 → Type 1
 After Tracking = Tracking → ℕ → List Step → Tracking → Type 0
 
--- The banks that follow a boot.
+-- The banks as a tracker.
 abbrev pub BanksAfter : After Banks
 BanksAfter start events steps now = AreAfter start steps now

@@ -70,7 +70,7 @@ abbrev pub aggregate_in : Option FileFields → Option (Alg × List ℕ)
 aggregate_in None = None
 aggregate_in (Some fields) = if bytes_eq fields.path boot_aggregate_path then Some (fields.alg, fields.digest) else None
 
--- The boot aggregate that this entry states as the first of a list; a violation states none.
+-- The boot aggregate that this entry records as the first of a list; a violation records none.
 abbrev pub recorded_in : ListEntry → Option (Alg × List ℕ)
 recorded_in first = if is_violation first then None else aggregate_in (fields_of first)
 

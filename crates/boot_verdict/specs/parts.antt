@@ -5,4 +5,3 @@ pub mod WrittenLines
 pub mod RangeEnds
 pub mod RequirementParts
 pub mod RowTrackers
-pub mod Gathering

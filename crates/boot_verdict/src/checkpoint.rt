@@ -32,7 +32,7 @@ pub struct Checkpoint {
     pub entries: usize,
     /// How many bytes it had.
     pub bytes: u64,
-    /// The boot aggregate that its first entry states, if any.
+    /// The boot aggregate that its first entry records, if any.
     pub recorded: Option<Digest>,
 }
 

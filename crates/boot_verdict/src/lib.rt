@@ -1,7 +1,8 @@
 //! The verdict on a firmware log, a measurement list and expected registers; how a verification goes on from where it stopped; where
-//! registers first have their expected values; and the texts of events, registers, reports and positions.
+//! registers first have their expected values; and the texts of registers. Those of the results are in `verdict_texts`.
 #![tactic(auto)]
 
+mod algorithms;
 mod all_registers;
 mod checkpoint;
 mod checkpoint_fault;
@@ -24,6 +25,7 @@ mod steps;
 mod texts;
 mod verifier;
 
+pub use algorithms::algorithm_with;
 pub use all_registers::{ALL_REGISTERS, register_numbered};
 pub use checkpoint::Checkpoint;
 pub use checkpoint_fault::{CheckpointFault, ResumeFault};
@@ -37,13 +39,8 @@ pub use positions::{Located, Position, all_found, is_reached, required_found};
 pub use prefix_report::{PrefixReport, Unconfirmed};
 pub use printed::read_printed;
 pub use register_range::RegisterRange;
-pub use report::{Aggregate, Report, Row, State};
+pub use report::{Aggregate, Report, Row, State, aggregate_word};
 pub use requirement::{BankRange, HasExpected, Requirement, RequirementFault};
 pub use steps::{Step, Tracker};
-pub use texts::{
-    EventData, aggregate_word, algorithm_with, digits_of, write_change, write_counts, write_events,
-    write_expected, write_list_report, write_outcome, write_positions, write_prefix_report,
-    write_registers, write_report, write_required_list_report, write_required_outcome,
-    write_required_positions, write_required_prefix_report, write_required_report,
-};
+pub use texts::{digits_of, write_change, write_expected, write_registers};
 pub use verifier::{VerifyFault, aggregate_of, report_on, verify, verify_from};

@@ -69,7 +69,7 @@ pub fn required_found(located: &[Located], requirement: &Requirement) -> bool
     all_found(located) && requirement.is_met_by(located)
 }
 
-/// Registers, and the rows whose values are watched for in them.
+/// Registers, and the rows whose values are sought in them.
 #[derive(Drop)]
 pub(crate) struct RowTracker {
     /// The registers.

@@ -1,7 +1,7 @@
 //! The report on the prefix of a list that the expected registers confirm.
 
 ghost use Rattle.std.specs.Prelude.{◌≡◌, ◌++◌, IfOk, string_bytes};
-ghost use Rattle.boot_verdict.specs.PrefixTexts.{entry_words, unconfirmed_entry, unconfirmed_kind, unconfirmed_message, unconfirmed_number};
+ghost use Rattle.boot_verdict.specs.Words.{entry_words, unconfirmed_entry, unconfirmed_kind, unconfirmed_message, unconfirmed_number};
 
 use crate::report::Report;
 use ima_list::{ListFault, ReplayFault};
@@ -48,7 +48,7 @@ impl Unconfirmed {
         }
     }
 
-    /// The fault in words, as [`crate::write_prefix_report`] writes them, without a line feed: `unconfirmed: replay fault 1 at entry 98`.
+    /// The fault in words, as the report on the prefix has them, without a line feed: `unconfirmed: replay fault 1 at entry 98`.
     ///
     /// Fails only if memory runs out.
     pub fn message(self, alloc: Global) -> Result<String, AllocError>

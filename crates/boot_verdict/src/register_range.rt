@@ -50,7 +50,7 @@ impl RegisterRange {
     }
 }
 
-// What the text has before its first hyphen and after it, or the whole text in both positions.
+// What the text has before its first hyphen and after it, or the whole text for both.
 fn ends_of(text: &[u8]) -> (&[u8], &[u8])
     ensures { AreEnds text.now result.0.now result.1.now }
 {

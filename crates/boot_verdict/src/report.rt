@@ -4,6 +4,7 @@ ghost use Rattle.std.specs.Prelude.{◌≡◌};
 ghost use Rattle.std.specs.List.{list_all};
 ghost use Rattle.boot_verdict.specs.Requirements.{required_matches};
 ghost use Rattle.boot_verdict.specs.Verdicts.{is_match, matches, verdict_of};
+ghost use Rattle.boot_verdict.specs.Words.{aggregate_word};
 
 use crate::expected::Expected;
 use crate::requirement::Requirement;
@@ -29,18 +30,30 @@ pub struct Row {
     pub state: State,
 }
 
-/// Whether the list states the boot aggregate of the log: its first entry should be a measurement of the path `boot_aggregate`,
+/// Whether the list records the boot aggregate of the log: its first entry should be a measurement of the path `boot_aggregate`,
 /// with the hash of the first registers that the firmware left.
 #[derive(Clone, Copy, PartialEq, Eq)]
 pub enum Aggregate {
-    /// The first entry states the boot aggregate of the log's registers.
+    /// The first entry records the boot aggregate of the log's registers.
     Good,
-    /// It states another digest, and the log has a bank of its algorithm.
+    /// It records another digest, and the log has a bank of its algorithm.
     Wrong,
-    /// It states a digest of an algorithm for which the log has no bank.
+    /// It records a digest of an algorithm for which the log has no bank.
     NoBank,
-    /// The list is empty, or its first entry states no boot aggregate.
+    /// The list is empty, or its first entry records no boot aggregate.
     Missing,
+}
+
+/// The state of a boot aggregate in one word.
+pub fn aggregate_word(aggregate: Aggregate) -> &'static str
+    ensures { result.now ≡ aggregate_word aggregate }
+{
+    match aggregate {
+        Aggregate::Good => "good",
+        Aggregate::Wrong => "wrong",
+        Aggregate::NoBank => "nobank",
+        Aggregate::Missing => "missing",
+    }
 }
 
 /// The report on a firmware event log, a measurement list and expected registers.
@@ -52,7 +65,7 @@ pub struct Report {
     pub locality: u8,
     /// How many entries the list has.
     pub entries: usize,
-    /// Whether the list states the log's boot aggregate.
+    /// Whether the list records the log's boot aggregate.
     pub aggregate: Aggregate,
     /// The expected registers and how they compare, in their order.
     pub rows: Vec<Row>,

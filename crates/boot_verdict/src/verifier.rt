@@ -219,7 +219,7 @@ fn state_of(expected: &Expected, value: Option<Digest>) -> State
     }
 }
 
-/// The state of the boot aggregate that the list states, if any. `start` has the log's registers.
+/// The state of the boot aggregate that the list records, if any. `start` has the log's registers.
 pub fn aggregate_of(start: &Banks, recorded: Option<Digest>) -> Aggregate
     ensures { (algs : AlgSet) (events : List LogEvent) → IsFirmware algs events start.now
         → result ≡ aggregate_of algs events (option_map (λ digest. (alg_of digest, bytes_of digest)) recorded) }

@@ -8,7 +8,7 @@ ghost use Rattle.command_line.specs.declared.commands.KnownNames.{KnownNames};
 ghost use Rattle.command_line.specs.Plans.{Parsers, commands, program_app};
 
 use crate::command_table::{ArgumentRow, COMMANDS, CommandRow, Form, Values};
-use crate::help_texts::{PROGRAM_ABOUT, PROGRAM_END, help_end_of};
+use crate::help_texts::{PROGRAM_ABOUT, help_end_of};
 use clap::builder::ValueParser;
 use clap::{Arg, ArgAction, Command};
 use std::alloc::{AllocError, Global};
@@ -48,7 +48,6 @@ fn rows<'a>() -> &'a [CommandRow<'a>]
 }
 
 // The program, without its commands. `read_words` looks for `--version` itself: it is here for the help.
-#[tactic(auto, using(crate::proofs::CommandLemmas::one_rule_more))]
 fn program<'a>(alloc: Global) -> Built<'a>
     ensures { IfOk result (IsCommand program_app) }
 {
@@ -56,7 +55,7 @@ fn program<'a>(alloc: Global) -> Built<'a>
         .help("Print version")
         .long("version")
         .action(ArgAction::Version);
-    describe(alloc, "ima-agent", PROGRAM_ABOUT, PROGRAM_END)
+    describe(alloc, "ima-agent", PROGRAM_ABOUT)
         .no_binary_name(true)
         .disable_help_subcommand(true)
         .subcommand_required(true)
@@ -69,18 +68,20 @@ fn program<'a>(alloc: Global) -> Built<'a>
 fn command<'a>(alloc: Global, row: &'a CommandRow<'a>, known: KnownNames<'a>) -> Built<'a>
     ensures { IfOk result (IsCommand (app_of_row known.entry row.now)) }
 {
-    let mut command = describe(alloc, row.name, row.about, help_end_of(row.name));
+    let mut command = describe(alloc, row.name, row.about);
     for argument_row in row.arguments {
         command = command.arg(argument(alloc, argument_row, known)?)?;
     }
     Ok(command)
 }
 
-// A command of this name, without arguments. `end` is the end of its help.
-fn describe<'a>(alloc: Global, name: &'a str, about: &'a str, end: &'a str) -> Command<'a>
+// A command of this name, without arguments.
+fn describe<'a>(alloc: Global, name: &'a str, about: &'a str) -> Command<'a>
     ensures { IsCommand (new_app name.now) result }
 {
-    Command::new(alloc, name).about(about).after_help(end)
+    Command::new(alloc, name)
+        .about(about)
+        .after_help(help_end_of(name))
 }
 
 // The argument of this row.

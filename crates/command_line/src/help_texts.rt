@@ -67,7 +67,7 @@ and prints the registers that differ from their reset values.
 `--help` after a command shows its arguments and an example.";
 
 /// The end of the program's help.
-pub(crate) const PROGRAM_END: &str = help_end!(log);
+const PROGRAM_END: &str = help_end!(log);
 
 /// The end of the help of the command of this name: that of the program, for a command without one of its own.
 pub(crate) fn help_end_of<'a>(command: &str) -> &'a str {

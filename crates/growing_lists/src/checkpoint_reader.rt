@@ -9,50 +9,20 @@ ghost use Rattle.pcr_banks.specs.Hashing.{name_of};
 ghost use Rattle.pcr_banks.specs.Digests.{alg_of, bytes_of};
 ghost use Rattle.pcr_banks.specs.Registers.{is_active, register_count};
 ghost use Rattle.boot_verdict.specs.declared.checkpoint.Checkpoint.{Checkpoint};
-ghost use Rattle.boot_verdict.specs.Checkpoints.{IsCheckpoint};
 ghost use Rattle.boot_verdict.specs.RegisterTexts.{all_registers, register_line};
-ghost use Rattle.growing_lists.specs.CheckpointData.{HasTakenNothing, HaveValues, IsCounted, IsHash, IsPossible, LeavesRoom, SameData, SameValues};
+ghost use Rattle.growing_lists.specs.CheckpointData.{HasTakenNothing, HaveValues, IsCounted, IsHash, IsPossible, SameData, SameValues};
 ghost use Rattle.growing_lists.specs.CheckpointTexts.{IsOfOtherVersion, bank_lines, banks_lines, checkpoint_text, data_lines, number_line, recorded_line, recorded_words, value_line};
-ghost use Rattle.growing_lists.specs.Sessions.{IsOfBoot};
 ghost use Rattle.growing_lists.specs.parts.CheckpointParts.{HasBank, Sets, TakesBank};
 
+use crate::laws::{banks_have_values, counted_checkpoint_is_possible};
 use crate::same_banks::{are_same_active, are_same_banks};
+use crate::session::leaves_room;
 use crate::texts::write_checkpoint;
 use boot_verdict::{
     Checkpoint, CheckpointFault, after_prefix, list_start, register_on, split_once,
 };
-use pcr_banks::laws::{digest_is_a_hash, registers_have_hashes};
 use pcr_banks::{Alg, Banks, Digest, REGISTERS};
 use std::alloc::{AllocError, Global};
-
-/// Law: a checkpoint whose data fit together is one that [`read_checkpoint`] reads from its text; and so do those of a list, if it
-/// [`leaves_room`].
-pub fn counted_checkpoint_is_possible(checkpoint: &Checkpoint)
-    ensures possible { IsCounted checkpoint.now → IsPossible checkpoint.now }
-    ensures counted { (list : List ℕ) → IsCheckpoint list checkpoint.now → LeavesRoom checkpoint.now → IsCounted checkpoint.now }
-{
-    banks_have_values(&checkpoint.before);
-    banks_have_values(&checkpoint.after);
-    if let Some(digest) = &checkpoint.recorded {
-        digest_is_a_hash(digest);
-    }
-}
-
-// Law: each register of an active bank has a value, which is as long as a hash of the bank's algorithm.
-fn banks_have_values(banks: &Banks)
-    ensures { HaveValues banks.now }
-{
-    registers_have_hashes(banks);
-}
-
-/// Law: possible checkpoints with the same data are those of the same lists, and of the same boots. By [`read_checkpoint`] all of one text
-/// have the same data: so the text of a list's checkpoint tells on which list, and in which boot, a verification goes on.
-pub fn same_data_is_of_the_same_lists()
-    ensures lists { (first second : Checkpoint) → IsPossible first → IsPossible second → SameData first second
-        → (list : List ℕ) → IsCheckpoint list first → IsCheckpoint list second }
-    ensures boots { (first second : Checkpoint) → IsPossible first → IsPossible second → SameData first second
-        → (log : List ℕ) → IsOfBoot log first → IsOfBoot log second }
-{}
 
 /// Reads the text that [`crate::write_checkpoint`] makes of a checkpoint, and no other.
 ///
@@ -114,13 +84,6 @@ fn is_counted(checkpoint: &Checkpoint) -> bool
         && (checkpoint.entries as u64).saturating_mul(32) <= checkpoint.bytes
         && are_same_active(&checkpoint.before, &checkpoint.after)
         && (checkpoint.entries > 0 || has_taken_nothing(checkpoint))
-}
-
-/// Whether a whole input fits after the checkpoint's list: where it does not, no checkpoint is read back from its text.
-pub fn leaves_room(checkpoint: &Checkpoint) -> bool
-    ensures { IsTrue result ↔ LeavesRoom checkpoint.now }
-{
-    checkpoint.bytes < (1 << 63) - (1 << 26)
 }
 
 // Whether there is no byte and no boot aggregate, and all registers are as before the list.
@@ -187,7 +150,7 @@ fn recorded_at(text: &[u8]) -> Option<(Option<Digest>, &[u8])>
     Some((recorded_by(words)?, rest))
 }
 
-// The boot aggregate that these words state.
+// The boot aggregate that these words spell.
 fn recorded_by(words: &[u8]) -> Option<Option<Digest>>
     ensures { (recorded : Option Digest) → IfSome recorded (λ digest. IsHash (alg_of digest) (bytes_of digest))
         → words.now ≡ recorded_words recorded → IsSomeAnd result (λ x. x ≡ recorded) }

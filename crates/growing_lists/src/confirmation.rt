@@ -143,7 +143,7 @@ fn whole_after(known: &Checkpoint, replay: &ListReplay<Confirming<'_>>) -> Check
     }
 }
 
-// The checkpoint of the prefix at which the registers are as expected, if the boot aggregate is good.
+// The checkpoint of the prefix after which the registers are as expected, if the boot aggregate is good.
 fn prefix_in(known: &Checkpoint, replay: &ListReplay<Confirming<'_>>) -> Option<Checkpoint>
     ensures prefix { (algs : AlgSet) (events : List LogEvent) → IsFirmware algs events known.now.before
         → result ≡ prefix_after (is_good (aggregate_of algs events (option_map (λ digest. (alg_of digest, bytes_of digest)) replay.now.recorded)))

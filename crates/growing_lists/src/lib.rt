@@ -4,13 +4,12 @@
 
 mod checkpoint_reader;
 mod confirmation;
+pub mod laws;
 mod prefixes;
 mod same_banks;
 mod session;
 mod texts;
 
-pub use checkpoint_reader::{
-    counted_checkpoint_is_possible, leaves_room, read_checkpoint, same_data_is_of_the_same_lists,
-};
-pub use session::Session;
+pub use checkpoint_reader::read_checkpoint;
+pub use session::{Session, leaves_room};
 pub use texts::write_checkpoint;

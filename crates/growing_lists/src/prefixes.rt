@@ -7,18 +7,18 @@ ghost use Rattle.boot_verdict.specs.Tracking.{step_of};
 use boot_verdict::{Checkpoint, Expected, Position, Step, Tracker, is_reached};
 use pcr_banks::Banks;
 
-/// A point after an entry of the list.
+/// A prefix of the list that ends with an entry.
 #[derive(Clone, Copy)]
 pub(crate) struct Prefix {
-    /// The registers there.
+    /// The registers after it.
     pub registers: Banks,
-    /// The number of the last entry before it.
+    /// The number of its last entry.
     pub last: usize,
-    /// How many bytes the list has up to it.
+    /// How many bytes it has.
     pub bytes: u64,
 }
 
-/// Registers, and the first prefix at which each expected one had its value.
+/// Registers, and the first prefix after which each expected one had its value.
 #[derive(Drop)]
 pub(crate) struct Confirming<'a> {
     /// The registers.

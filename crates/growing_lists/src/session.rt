@@ -1,6 +1,6 @@
 //! A verification of a list that grows: of a log, it takes the list's bytes as they come, and reports on what it has taken.
 
-ghost use Rattle.std.specs.Prelude.{◌≡◌, List, [], Some, is_some, IsOk, IfOk, IfErr, IsErrOf, OnOk, OnErr, ℕ};
+ghost use Rattle.std.specs.Prelude.{◌≡◌, ◌↔◌, IsTrue, List, [], Some, is_some, IsOk, IfOk, IfErr, IsErrOf, OnOk, OnErr, ℕ};
 ghost use Rattle.byte_streams.specs.Streams.{LosesPrefix};
 ghost use Rattle.boot_log.specs.Reading.{log_fault};
 ghost use Rattle.boot_log.specs.declared.header.Row.{Row as TableRow};
@@ -9,6 +9,7 @@ ghost use Rattle.boot_log.specs.Spelling.{LogEvent, IsLog};
 ghost use Rattle.boot_verdict.specs.Checkpoints.{IsCheckpoint, IsMoreFault, most_after};
 ghost use Rattle.boot_verdict.specs.ListSources.{failures_after_list};
 ghost use Rattle.boot_verdict.specs.Verdicts.{IsSomeLog, IsVerdict, verdict_of};
+ghost use Rattle.growing_lists.specs.CheckpointData.{LeavesRoom};
 
 use crate::same_banks::are_same_banks;
 use boot_log::{LogFault, LogView};
@@ -105,4 +106,11 @@ impl<'a> Session<'a> {
     {
         Ok(report_on(alloc, &self.log, &self.known, expected)?)
     }
+}
+
+/// Whether a whole input fits after the checkpoint's list: where it does not, no checkpoint is read back from its text.
+pub fn leaves_room(checkpoint: &Checkpoint) -> bool
+    ensures { IsTrue result ↔ LeavesRoom checkpoint.now }
+{
+    checkpoint.bytes < (1 << 63) - (1 << 26)
 }

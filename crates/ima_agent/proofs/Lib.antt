@@ -1,4 +1,3 @@
 pub mod ShowingLaws
-pub mod EscapingLaws
 pub mod StreamingLaws
 pub mod OutcomeLaws

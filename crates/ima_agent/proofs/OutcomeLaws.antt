@@ -12,10 +12,10 @@ use Rattle.command_line.specs.declared.plan.Form.{Form}
 use Rattle.command_line.specs.declared.plan.Form.TheVariants.{Json, Text}
 use Rattle.command_line.specs.declared.plan.Task.{Task}
 use Rattle.command_line.specs.declared.plan.Task.TheVariants as tasks
-use Rattle.rendering.specs.declared.output.Output.{Output}
+use Rattle.rendering.specs.declared.renderer.Output.{Output}
 use Rattle.ima_agent.specs.declared.streams.StreamFault.{StreamFault}
 use Rattle.ima_agent.specs.declared.streams.StreamFault.TheVariants as streams
-use Rattle.ima_agent.specs.FaultTexts.{IsFailure}
+use Rattle.rendering.specs.FaultTexts.{IsFailure}
 use Rattle.ima_agent.specs.Program.{Answers, IsFaultOf, IsOutcome, IsOutputFor, SendsOutput, SendsText, Streams, status_after}
 use Rattle.ima_agent.specs.Showing.{ShowsEntriesOf, ShowsEventsIn, ShowsPlainEventsIn}
 

@@ -29,7 +29,7 @@ use Rattle.agent_inputs.specs.Faults.{fault_of_list, fault_of_log}
 use Rattle.agent_inputs.specs.Loading.{Holds, Inputs, IsNotRead, IsTooLong, input_limit}
 use Rattle.ima_agent.specs.declared.streams.StreamFault.{StreamFault}
 use Rattle.ima_agent.specs.declared.streams.StreamFault.TheVariants as streams
-use Rattle.ima_agent.specs.FaultTexts.{IsFailure, IsReportedAsJson}
+use Rattle.rendering.specs.FaultTexts.{IsFailure, IsReportedAsJson}
 use Rattle.ima_agent.specs.Showing.{AreAllEvents, AreAllInFile, EndsAfterEntries, ShowsEntriesOf, ShowsEventsIn, ShowsToFault, StopsInFile, StopsInLog, entry_lines, log_lines}
 use Rattle.ima_agent.specs.Program.{Streams}
 use Rattle.judging.proofs.InputLaws.{HasAll, held_more, held_whole}

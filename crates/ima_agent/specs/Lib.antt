@@ -1,6 +1,4 @@
-pub mod Escaping
 pub mod Showing
-pub mod FaultTexts
 pub mod Program
 pub use Rattle.agent_inputs.specs.Loading
 pub use Rattle.agent_inputs.specs.Loading

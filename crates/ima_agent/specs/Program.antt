@@ -4,7 +4,7 @@ use Rattle.std.specs.Global.{Global, Vec}
 use Rattle.byte_streams.specs.declared.streams.Failed.{Failed}
 use Rattle.byte_streams.specs.Streams.{SinkState, Sends}
 use Rattle.ima_list.specs.Lines.{line_of}
-use Rattle.boot_verdict.specs.EventTexts.{events_text}
+use Rattle.verdict_texts.specs.EventTexts.{events_text}
 use Rattle.agent_inputs.specs.declared.fault.RunFault.{RunFault}
 use Rattle.agent_inputs.specs.declared.fault.RunFault.TheVariants as runs
 use Rattle.agent_inputs.specs.Faults.{IsArgumentsFault}
@@ -25,11 +25,11 @@ use Rattle.judging.specs.Requests.{Any, Requested, Compared, Compares, ExpectedO
 use Rattle.judging.specs.Inputs.{FileOf, Where}
 use Rattle.measuring.specs.declared.file_book.Measured.{Measured}
 use Rattle.measuring.specs.Measuring.{IsMeasured, IsMeasuringFault}
-use Rattle.rendering.specs.declared.output.Output.{Output}
+use Rattle.rendering.specs.declared.renderer.Output.{Output}
 use Rattle.rendering.specs.Rendering.{IsOutputFault, ShowsAnswer, print_measured}
 use Rattle.ima_agent.specs.declared.streams.StreamFault.{StreamFault}
 use Rattle.ima_agent.specs.declared.streams.StreamFault.TheVariants as streams
-use Rattle.ima_agent.specs.FaultTexts.{fault_line, fault_status, IsFailure, IsReportedAsJson}
+use Rattle.rendering.specs.FaultTexts.{fault_line, fault_status, IsFailure, IsReportedAsJson}
 use Rattle.ima_agent.specs.Showing.{AreAllEntries, AreAllEvents, BreaksOffAfterEntries, EndsWithFault, IsNoListFor, IsNoLogFor, IsRefusedFor, RunsOutAfterEvents, ShowsEntries, ShowsHexadecimal, ShowsJsonEvents, data_of, version_text}
 
 -- ---- a question

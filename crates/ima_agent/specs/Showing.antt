@@ -8,9 +8,9 @@ use Rattle.ima_list.specs.declared.fault.ListFault.{ListFault}
 use Rattle.ima_list.specs.ListEntry.{ListEntry}
 use Rattle.ima_list.specs.Spelling.{BeginsWith, IsReading}
 use Rattle.boot_verdict.specs.declared.checkpoint.Checkpoint.{Checkpoint}
-use Rattle.boot_verdict.specs.declared.texts.events.EventData.{EventData}
-use Rattle.boot_verdict.specs.declared.texts.events.EventData.TheVariants as texts
-use Rattle.boot_verdict.specs.EventTexts.{events_text}
+use Rattle.verdict_texts.specs.declared.events.EventData.{EventData}
+use Rattle.verdict_texts.specs.declared.events.EventData.TheVariants as texts
+use Rattle.verdict_texts.specs.EventTexts.{events_text}
 pub use Rattle.json_texts.specs.ItemLines.{entry_lines, event_lines, numbered_lines, AreAllEntries, AreAllEvents, EndsWithFault, FailsAfterEntries, FailsAfterEvents, ShowsToFault}
 use Rattle.json_texts.specs.SentEntries.{AreAllIn}
 pub use Rattle.json_texts.specs.SentEvents.{log_lines}
@@ -25,7 +25,7 @@ use Rattle.agent_inputs.specs.Loading.{Holds, HoldsTooMuch, Inputs, IsReadFailur
 use Rattle.judging.specs.Requests.{LogRegistersOf}
 use Rattle.judging.specs.Inputs.{BytesOf}
 use Rattle.rendering.specs.Rendering.{IsRefusalOn, IsShown}
-use Rattle.ima_agent.specs.FaultTexts.{IsFailure, IsReportedAsJson}
+use Rattle.rendering.specs.FaultTexts.{IsFailure, IsReportedAsJson}
 
 -- The program and its version; and the logic that the proofs rest on, as the kit's `rt version` names it.
 abbrev pub version_text : List ℕ

@@ -1,25 +1,27 @@
 //! Runs the program.
 
-ghost use Rattle.std.specs.Prelude.{◌≡◌, IfOk, IfErr, OnErr};
+ghost use Rattle.std.specs.Prelude.{◌≡◌, [], Ok, IfOk, IfErr, OnErr};
 ghost use Rattle.std.specs.Process.{exit_status};
-ghost use Rattle.command_line.specs.Plans.{IsWithin, IsWithinLimits};
+ghost use Rattle.agent_inputs.specs.Faults.{IsArgumentsFault};
+ghost use Rattle.command_line.specs.Plans.{BeginsWithVersion, IsRequestedBy, IsWithin, IsWithinLimits, IsWithinRanges};
+ghost use Rattle.command_line.specs.declared.plan.Form.TheVariants.{Text};
+ghost use Rattle.command_line.specs.declared.plan.Plan.TheVariants as plans;
 ghost use Rattle.command_line.specs.declared.plan.Task.TheVariants as tasks;
-ghost use Rattle.ima_agent.specs.FaultTexts.{fault_status, IsFailure};
+ghost use Rattle.rendering.specs.FaultTexts.{fault_status, IsFailure};
 ghost use Rattle.ima_agent.specs.Program.{Answers, IsFaultOf, IsOutcome, IsOutput, IsOutputFor, IsOutputOf, Streams, status_after};
 
-use crate::arguments::read_words;
-use crate::explanations::Failure;
 use crate::progress::{NoProgress, Progress};
 use crate::requests::{request_of, save_of};
 use crate::shown::{entries_for, events_for, shown_registers};
 use crate::streams::{DONE, Prepared, Sent, StreamFault, send_output, send_text};
-use crate::texts::{json_fault_line, json_memory_line, status_of, write_fault};
 use crate::version::version_text;
 use agent_inputs::{AgentFiles, RunFault};
 use byte_streams::{Failed, Sink, send};
-use command_line::{Form, Measurement, Task};
+use command_line::{Form, Measurement, Plan, Task};
 use measuring::measure;
-use rendering::{output_for, print_measured};
+use rendering::{
+    Failure, json_fault_line, json_memory_line, output_for, print_measured, status_of, write_fault,
+};
 use std::alloc::{AllocError, Global};
 use std::io;
 use std::process::ExitCode;
@@ -28,6 +30,23 @@ use std::thread::Threads;
 
 // The exit status if the sink failed.
 const FAILED: u8 = 3;
+
+/// Reads the program's arguments, without its name, as [`command_line::read_words`] does. Without arguments the plan is
+/// `Registers`: the log on standard input. After `--version` nothing is looked at. Otherwise the first argument is the command.
+///
+/// Fails with `Usage` if the arguments are not those of a command, and with `Memory` if memory runs out.
+pub fn read_words(alloc: Global, arguments: &[String]) -> Result<Plan, RunFault>
+    // The first argument is the command, the arguments match its options and names, and these are within their ranges; or one of
+    // them requests help; or the first is `--version`.
+    ensures request { IfOk result (λ plan. IsRequestedBy arguments.now plan × IsWithinRanges plan) }
+    ensures refused { IfErr result IsArgumentsFault }
+    // Without arguments the plan is `Registers`, whatever memory there is.
+    ensures none { arguments.now ≡ [] → result ≡ Ok plans.Registers }
+    // After `--version` the plan is to show the version, whatever follows it.
+    ensures version { BeginsWithVersion arguments.now → result ≡ Ok (plans.Task tasks.Version Text) }
+{
+    Ok(command_line::read_words(alloc, arguments)?)
+}
 
 /// Runs the program as [`run_with_progress`] does, and returns the process's exit code. If `arguments` is an error, the program fails
 /// as it does out of memory: with the line `report_fault: memory` and status 3.

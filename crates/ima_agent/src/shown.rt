@@ -12,7 +12,6 @@ use crate::hexadecimal::decode_hexadecimal;
 use crate::streams::{DONE, Prepared, Sent, StreamFault, send_list, send_log, send_output};
 use agent_inputs::{AgentFiles, RunFault, load_input};
 use boot_log::LogView;
-use boot_verdict::{EventData, write_events};
 use byte_streams::Sink;
 use command_line::{DataShown, Form};
 use ima_list::EntryRef;
@@ -20,6 +19,7 @@ use ima_list::laws::entries_to_the_end_are_the_reading;
 use judging::{Input, Request};
 use rendering::{Output, output_on};
 use std::alloc::Global;
+use verdict_texts::{EventData, write_events};
 
 /// The registers that differ from their reset values after the log in hexadecimal on standard input, in this form.
 pub(crate) fn shown_registers<F: AgentFiles>(alloc: Global, files: &mut F, form: Form) -> Prepared

@@ -17,7 +17,7 @@ use Rattle.pieces.specs.declared.piece.End.TheVariants.{Last, Longer, More}
 use Rattle.pieces.specs.declared.piece.Piece.{Piece}
 use Rattle.pieces.specs.declared.piece.Position.{Position}
 use Rattle.pieces.specs.Pieces.{AreEntriesBefore, FailsAfterEntries, IsEntryPiece, AreEventsBefore, FailsAfterEvents, IsEventPiece, is_within}
-use Rattle.ima_agent.specs.FaultTexts.{fault_line, fault_status, IsReportedAsJson}
+use Rattle.rendering.specs.FaultTexts.{fault_line, fault_status, IsReportedAsJson}
 use Rattle.ima_verify_c.specs.declared.told.Told.{Told}
 
 abbrev pub interface_version : ℕ

@@ -2,16 +2,17 @@
 
 ghost use Rattle.std.specs.Prelude.{◌≡◌, ◌≤◌, ◌⊎◌, None, length, option_map, IfOk, IfSome};
 ghost use Rattle.agent_inputs.specs.declared.fault.RunFault.TheVariants.{Memory};
-ghost use Rattle.ima_agent.specs.FaultTexts.{fault_status};
+ghost use Rattle.rendering.specs.FaultTexts.{fault_status};
 ghost use Rattle.judging.specs.Requests.{requested_of};
 ghost use Rattle.ima_verify_c.specs.Answers.{Answers, AnswersMore, AreGiven, GivesFound, GivesPiece, IsAnswerAndNext, IsAnswerTo, IsGiven, IsLineOf, IsRefusal};
 
 use crate::told::Told;
+use agent_inputs::RunFault;
 use byte_streams::{Failed, VecSink};
-use ima_agent::{Form, RunFault, json_fault_line, json_memory_line, status_of, write_fault};
+use command_line::Form;
 use judging::Request;
 use pieces::{End, Piece, Position};
-use rendering::{Given, output_on};
+use rendering::{Given, json_fault_line, json_memory_line, output_on, status_of, write_fault};
 use std::alloc::{AllocError, Global};
 
 /// What a call returns if memory ran out.

@@ -23,8 +23,7 @@ use Rattle.boot_verdict.specs.declared.report.Row.{Row}
 use Rattle.boot_verdict.specs.declared.report.State.{State}
 use Rattle.boot_verdict.specs.declared.report.State.TheVariants.{Match, Differ, Absent}
 use Rattle.boot_verdict.specs.declared.requirement.BankRange.{BankRange}
-use Rattle.boot_verdict.specs.EventTexts.{algorithm_with}
-use Rattle.boot_verdict.specs.PrefixTexts.{unconfirmed_entry, unconfirmed_kind, unconfirmed_message, unconfirmed_number}
+use Rattle.boot_verdict.specs.Words.{algorithm_with, unconfirmed_entry, unconfirmed_kind, unconfirmed_message, unconfirmed_number}
 use Rattle.boot_verdict.specs.declared.register_range.RegisterRange.{RegisterRange}
 use Rattle.boot_verdict.specs.RegisterRanges.{is_within}
 use Rattle.boot_verdict.specs.RegisterTexts.{all_registers, differs, every_register}

@@ -61,6 +61,12 @@ module _ {E : Type 0} {old mid new : Written} where
         ∙ ap (λ (ts : List Token). old.tokens ++ ts) (sym (append-nil (Token.key name ∷ json_tokens value)));
   }
 
+  -- A key and a value of one token.
+  pub single : {name : List ℕ} {value : Json} {token : Token} → Writes {E = E} (Ok tt) old mid (Token.key name)
+      → Writes {E = E} (Ok tt) mid new token → json_tokens value ≡ token ∷ [] → WritesMembers {E = E} (Ok tt) old new ((name, value) ∷ [])
+  single {value} key written same =
+      named key (record { before = written.room.0; tokens = written.ok ∙ ap (λ (ts : List Token). mid.tokens ++ ts) (sym same) })
+
 module _ {E : Type 0} {old opened closed new : Written} where
   pub in_object : {ms : List Member} → Writes {E = E} (Ok tt) old opened Token.begin_object → WritesMembers {E = E} (Ok tt) opened closed ms
       → Writes {E = E} (Ok tt) closed new Token.end_object → WritesValue {E = E} (Ok tt) old new (object_of ms)
@@ -79,6 +85,13 @@ module _ {E : Type 0} {old opened closed new : Written} where
         (one_run opened.tokens (items_written js) (Token.end_array ∷ []) items.tokens last.ok)
         ∙ ap (λ (ts : List Token). old.tokens ++ Token.begin_array ∷ ts) (sym (items_and_end js));
   }
+
+-- A value is an item.
+pub one_item : {E : Type 0} {old new : Written} {value : Json} → WritesValue {E = E} (Ok tt) old new value → WritesItems {E = E} (Ok tt) old new (value ∷ [])
+one_item {old = old} {value = value} written = record {
+  before = written.before;
+  tokens = written.tokens ∙ ap (λ (ts : List Token). old.tokens ++ ts) (sym (append-nil (json_tokens value)));
+}
 
 -- The tokens of what one thing more gives.
 more_written : {X Y : Type 0} (g : Y → List Token) (f : X → List Y) (xs : List X) (i : ℕ) (d : X) (start now next : List Token) → i < length xs

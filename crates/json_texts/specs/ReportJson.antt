@@ -17,9 +17,8 @@ use Rattle.boot_verdict.specs.declared.prefix_report.Unconfirmed.{Unconfirmed}
 use Rattle.boot_verdict.specs.declared.report.Row.{Row}
 use Rattle.boot_verdict.specs.declared.report.State.{State}
 use Rattle.boot_verdict.specs.declared.report.State.TheVariants.{Match, Differ, Absent}
-use Rattle.boot_verdict.specs.PrefixTexts.{unconfirmed_entry, unconfirmed_kind, unconfirmed_message, unconfirmed_number}
+use Rattle.boot_verdict.specs.Words.{aggregate_word, unconfirmed_entry, unconfirmed_kind, unconfirmed_message, unconfirmed_number}
 use Rattle.boot_verdict.specs.ListVerdicts.{ListVerdict, list_matches, required_list_matches}
-use Rattle.boot_verdict.specs.ReportTexts.{aggregate_word}
 use Rattle.boot_verdict.specs.Verdicts.{Verdict, matches}
 use Rattle.json_texts.specs.declared.faults.FaultPlace.TheVariants.{Entry}
 use Rattle.json_texts.specs.FaultJson.{fault_members}

@@ -15,7 +15,7 @@ ghost use Rattle.boot_verdict.specs.declared.prefix_report.Unconfirmed.{Unconfir
 ghost use Rattle.boot_verdict.specs.declared.register_range.RegisterRange.{RegisterRange};
 ghost use Rattle.boot_verdict.specs.declared.positions.Located.{Located};
 ghost use Rattle.boot_verdict.specs.declared.requirement.BankRange.{BankRange};
-ghost use Rattle.boot_verdict.specs.PrefixTexts.{unconfirmed_entry};
+ghost use Rattle.boot_verdict.specs.Words.{unconfirmed_entry};
 ghost use Rattle.boot_verdict.specs.ListVerdicts.{ListVerdict};
 ghost use Rattle.boot_verdict.specs.Verdicts.{Verdict};
 ghost use Rattle.json.specs.Find.{get};

@@ -1,7 +1,7 @@
 //! The lines of reports.
 
 ghost use Rattle.std.specs.Prelude.{◌≡◌, option_copied, option_map};
-ghost use Rattle.boot_verdict.specs.PrefixTexts.{unconfirmed_entry};
+ghost use Rattle.boot_verdict.specs.Words.{unconfirmed_entry};
 ghost use Rattle.boot_verdict.specs.declared.report.State.TheVariants.{Differ};
 ghost use Rattle.boot_verdict.specs.ListVerdicts.{list_verdict_of};
 ghost use Rattle.boot_verdict.specs.Verdicts.{verdict_of};
@@ -21,7 +21,7 @@ use json::Writer;
 use pcr_banks::Digest;
 use std::alloc::Global;
 
-/// Appends the line of a report, in the words of [`boot_verdict::write_report`], or of [`boot_verdict::write_required_report`] where
+/// Appends the line of a report, in the words of `verdict_texts::write_report`, or of `verdict_texts::write_required_report` where
 /// registers are required; the verdict is `match` if the caller says so.
 ///
 /// Its members are `events`, the number of events; `locality`; `entries`, the number of entries; `boot_aggregate`, one of `good`, `wrong`,
@@ -62,8 +62,8 @@ pub fn append_list_report(
     end_line(written, writer, start, line)
 }
 
-/// Appends the line of a report on a confirmed prefix, in the words of [`boot_verdict::write_prefix_report`], or of
-/// [`boot_verdict::write_required_prefix_report`] where registers are required.
+/// Appends the line of a report on a confirmed prefix, in the words of `verdict_texts::write_prefix_report`, or of
+/// `verdict_texts::write_required_prefix_report` where registers are required.
 ///
 /// Its members are those of [`append_report`], of which `entries` has the number of entries of the whole list. After it is
 /// `confirmed`, the number of entries of the prefix, and if something is wrong after the prefix `unconfirmed`, an object with `kind`, which is

@@ -26,7 +26,7 @@ use Rattle.agent_inputs.specs.declared.fault.RunFault.{RunFault}
 use Rattle.agent_inputs.specs.declared.fault.RunFault.TheVariants as runs
 use Rattle.agent_inputs.specs.Faults.{HasLogFault}
 use Rattle.agent_inputs.specs.Loading.{HasFailed, Inputs}
-use Rattle.judging.specs.declared.answer.Answer.TheVariants as answers
+use Rattle.judging.specs.declared.request.Answer.TheVariants as answers
 use Rattle.judging.specs.Answering.{CanBeReadBack, Evidence, GivesInput, IsJudged, IsNext, IsNotFound, IsRefusedAfter, IsRefusedList, IsStarted, IsUnconfirmedIn, IsWrongIn, seeks_prefix}
 use Rattle.judging.specs.Requests.{VerdictOf}
 use Rattle.judging.specs.Inputs.{Holds, IsFaultAt, OfInput, Where, held_in, limit_of}

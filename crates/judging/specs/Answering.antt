@@ -33,8 +33,8 @@ use Rattle.agent_inputs.specs.declared.fault.RunFault.{RunFault}
 use Rattle.agent_inputs.specs.declared.fault.RunFault.TheVariants as runs
 use Rattle.agent_inputs.specs.Faults.{HasLogFault, fault_of_expected}
 use Rattle.agent_inputs.specs.Loading.{GivesAll, HasFailed, Inputs}
-use Rattle.judging.specs.declared.answer.Answer.{Answer}
-use Rattle.judging.specs.declared.answer.Answer.TheVariants as answers
+use Rattle.judging.specs.declared.request.Answer.{Answer}
+use Rattle.judging.specs.declared.request.Answer.TheVariants as answers
 use Rattle.judging.specs.Requests.{Judgement, ListVerdictOf, PositionsOf, VerdictOf, Requested, Compared, Compares, ExpectedOf, ListRegistersOf, LogRegistersOf, Nothing, Requires, These, held_bytes, log_of, resume_of}
 use Rattle.judging.specs.Inputs.{IsFaultAt, IsReadFailure, MayFail, OfInput, Where, held_in, limit_of, Holds, IsInputFault}
 use Rattle.pcr_banks.specs.declared.banks.Banks.{Banks}
@@ -49,7 +49,7 @@ use Rattle.boot_verdict.specs.RegisterRanges.{IsRangeText, is_within}
 use Rattle.boot_verdict.specs.Replays.{IsListStart}
 use Rattle.boot_verdict.specs.WrittenTexts.{those_within}
 use Rattle.growing_lists.specs.CheckpointTexts.{IsOfOtherVersion, checkpoint_text}
-use Rattle.judging.specs.declared.answer.Answered.{Answered}
+use Rattle.judging.specs.declared.request.Answered.{Answered}
 use Rattle.judging.specs.declared.answers.Evidence.{Evidence as HeldEvidence}
 
 -- What a list is judged with: the registers that are required, if a text spells some; the log, no bytes without one; the expected

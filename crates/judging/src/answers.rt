@@ -5,11 +5,10 @@ ghost use Rattle.judging.specs.Answering.{HasNoEvidence, IsAnswer, IsComparison,
 ghost use Rattle.judging.specs.Requests.{requested_of, compared_of, held_bytes, judgement_of, log_of, place_of, requires_of, resume_of};
 ghost use Rattle.judging.specs.Inputs.{Holds, IsInputFault, OfInput};
 
-use crate::answer::{Answer, Answered, Answering, is_well};
 use crate::inputs::{Held, Input, limit_of, load_at, refusal};
 use crate::printed_registers::printed_within;
 use crate::registers::{after_list, after_log};
-use crate::request::{Comparison, Request, Required, Wanted};
+use crate::request::{Answer, Answered, Answering, Comparison, Request, Required, Wanted, is_well};
 use crate::sessions::checkpoint_in;
 use agent_inputs::{AgentFiles, RunFault, not_read};
 use boot_verdict::{

@@ -1,7 +1,6 @@
 //! The answers to what is asked of logs and lists, in files or in memory.
 #![tactic(auto)]
 
-mod answer;
 mod answers;
 mod inputs;
 mod printed_registers;
@@ -9,7 +8,6 @@ mod registers;
 mod request;
 mod sessions;
 
-pub use answer::{Answer, Answered, Registers};
 pub use answers::answer_request;
 pub use inputs::Input;
-pub use request::{Comparison, Request, Required, Wanted};
+pub use request::{Answer, Answered, Comparison, Registers, Request, Required, Wanted};

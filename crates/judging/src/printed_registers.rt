@@ -6,8 +6,8 @@ ghost use Rattle.boot_verdict.specs.RegisterRanges.{is_within};
 ghost use Rattle.judging.specs.Answering.{IsAnswer, IsNotPrintedWithin, IsPrintedWithin, IsRangeFault, IsRefusal, IsRequested};
 ghost use Rattle.judging.specs.Requests.{ExpectedOf, place_of};
 
-use crate::answer::{Answer, Answered, Answering};
 use crate::inputs::{Input, load_at};
+use crate::request::{Answer, Answered, Answering};
 use agent_inputs::{AgentFiles, RunFault};
 use boot_verdict::{ExpectFault, Expected, RegisterRange, read_printed};
 use std::alloc::Global;

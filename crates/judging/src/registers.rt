@@ -5,8 +5,8 @@ ghost use Rattle.agent_inputs.specs.Loading.{Inputs as InputsOf};
 ghost use Rattle.judging.specs.Answering.{IsAnswer, IsRefusal, GivesInput};
 ghost use Rattle.judging.specs.Requests.{ListRegistersOf, LogRegistersOf, place_of};
 
-use crate::answer::{Answer, Answered, Answering, Registers};
 use crate::inputs::{Input, limit_of, load_at, refusal};
+use crate::request::{Answer, Answered, Answering, Registers};
 use agent_inputs::{AgentFiles, RunFault, not_read};
 use boot_log::LogView;
 use boot_verdict::{list_start, replay_from};

@@ -1,7 +1,18 @@
-//! What is asked of a log and a list.
+//! What is asked of a log and a list, and the answer, before it is written.
+
+ghost use Rattle.std.specs.Prelude.{◌≡◌, option_map};
+ghost use Rattle.boot_verdict.specs.Verdicts.{verdict_of};
+ghost use Rattle.judging.specs.Answering.{alone, is_match, is_well};
+ghost use Rattle.judging.specs.Requests.{requires_of};
 
 use crate::inputs::Input;
+use agent_inputs::RunFault;
+use boot_verdict::{
+    Checkpoint, Expected, ListReport, Located, PrefixReport, RegisterRange, Report, Requirement,
+    all_found, required_found,
+};
 use command_line::Scope;
+use pcr_banks::Banks;
 
 /// What the answer is, with what only it is of.
 #[derive(Clone, Copy)]
@@ -70,4 +81,93 @@ pub enum Request<'a> {
         /// The text of the range of registers that are wanted, as `0-10`; none for all of them.
         range: Option<&'a [u8]>,
     },
+}
+
+/// What is answered.
+#[derive(Drop)]
+pub enum Answer {
+    /// A report on all of a list.
+    Report(Report),
+    /// A report on its confirmed prefix.
+    Prefix(PrefixReport),
+    /// Where registers have their values.
+    Positions(Vec<Located>),
+    /// A report on a list alone.
+    ListReport(ListReport),
+    /// Registers, of a log or of a list alone.
+    Registers(Registers),
+    /// Expected registers that a text states.
+    Expected {
+        /// All that it states.
+        expected: Vec<Expected>,
+        /// The range of those that are wanted; at least one is within it.
+        range: RegisterRange,
+    },
+}
+
+/// Registers, and those that they began from.
+#[derive(Clone, Copy)]
+pub struct Registers {
+    /// Before a log's events or a list, at their reset values.
+    pub start: Banks,
+    /// After it.
+    pub now: Banks,
+}
+
+/// An answer, and what it is worth.
+#[derive(Drop)]
+pub struct Answered {
+    /// The answer.
+    pub answer: Answer,
+    /// The registers that are required, if a text spells some.
+    pub requirement: Option<Requirement>,
+    /// Whether all is well: the verdict is `match`, or each register was located; and what has to be among them is.
+    pub is_well: bool,
+    /// Where to go on, if all is well: the checkpoint of what a verdict is on.
+    pub next: Option<Checkpoint>,
+}
+
+/// An answer, or why there is none.
+pub(crate) type Answering = Result<Answered, RunFault>;
+
+impl Answered {
+    /// An answer that compares nothing: all is well with it.
+    pub fn alone(answer: Answer) -> Self
+        ensures { result ≡ alone answer }
+    {
+        Answered {
+            answer,
+            requirement: None,
+            is_well: true,
+            next: None,
+        }
+    }
+}
+
+/// Whether all is well where this has to be among the expected registers, of which the text spells these; so it is with an answer that
+/// compares nothing.
+pub(crate) fn is_well(required: Required<'_>, ranges: Option<&Requirement>, answer: &Answer) -> bool
+    ensures { result ≡ is_well (requires_of required.entry) (option_map (λ ranges. ranges.now) ranges.entry) answer.now }
+{
+    match (answer, ranges) {
+        (Answer::Report(report), None) => is_match(required, report),
+        (Answer::Report(report), Some(requirement)) => report.meets(requirement),
+        (Answer::Prefix(prefix), None) => prefix.report.matches(),
+        (Answer::Prefix(prefix), Some(requirement)) => prefix.report.meets(requirement),
+        (Answer::Positions(positions), None) => all_found(positions),
+        (Answer::Positions(positions), Some(requirement)) => required_found(positions, requirement),
+        (Answer::ListReport(report), None) => report.matches(),
+        (Answer::ListReport(report), Some(requirement)) => report.meets(requirement),
+        (Answer::Registers(_) | Answer::Expected { .. }, _) => true,
+    }
+}
+
+// Whether the verdict is `match` where no text spells what is required.
+fn is_match(required: Required<'_>, report: &Report) -> bool
+    ensures { result ≡ is_match (requires_of required.entry) (verdict_of report.now) }
+{
+    match required {
+        Required::Nothing => report.matches(),
+        Required::Any | Required::These(_) => report.matches() && !report.rows.is_empty(),
+    }
 }

@@ -8,14 +8,15 @@ ghost use Rattle.judging.specs.Answering.{IsCheckpointText, IsNoCheckpoint, evid
 ghost use Rattle.judging.specs.Requests.{VerdictOf, place_of};
 ghost use Rattle.judging.specs.Inputs.{Where};
 
-use crate::answer::Answer;
 use crate::answers::{Evidence, Finding};
 use crate::inputs::{Input, limit_of, refusal};
+use crate::request::Answer;
 use agent_inputs::{NotResumed, RunFault};
 use boot_verdict::{Checkpoint, CheckpointFault, Expected, Report, Requirement, ResumeFault};
 use byte_streams::Source;
 use command_line::Scope;
-use growing_lists::{Session, counted_checkpoint_is_possible, leaves_room, read_checkpoint};
+use growing_lists::laws::counted_checkpoint_is_possible;
+use growing_lists::{Session, leaves_room, read_checkpoint};
 use ima_list::laws::{entries_to_the_end_are_the_reading, no_bytes_have_two_readings};
 use std::alloc::{AllocError, Global};
 

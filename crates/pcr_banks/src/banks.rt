@@ -157,8 +157,10 @@ fn value_in<const N: usize>(bank: &Option<Bank<N>>, index: usize) -> Option<[u8;
     ensures value { result ≡ in_bank bank.now index }
     ensures found { IsSome bank.now → index < register_count → IsSome result }
 {
-    let value = bank.as_ref()?.get(index)?;
-    Some(*value)
+    match bank {
+        Some(registers) => registers.get(index).copied(),
+        None => None,
+    }
 }
 
 // Puts a value into a register, if there are both a bank and such a register.

@@ -78,10 +78,10 @@ impl Digest {
         ensures value { IfSome result (λ digest. digest ≡ digest_of alg bytes.now) }
     {
         match alg {
-            Alg::Sha1 => Some(Digest::Sha1(bytes.try_into().ok()?)),
-            Alg::Sha256 => Some(Digest::Sha256(bytes.try_into().ok()?)),
-            Alg::Sha384 => Some(Digest::Sha384(bytes.try_into().ok()?)),
-            Alg::Sha512 => Some(Digest::Sha512(bytes.try_into().ok()?)),
+            Alg::Sha1 => Some(Digest::Sha1(array_of(bytes)?)),
+            Alg::Sha256 => Some(Digest::Sha256(array_of(bytes)?)),
+            Alg::Sha384 => Some(Digest::Sha384(array_of(bytes)?)),
+            Alg::Sha512 => Some(Digest::Sha512(array_of(bytes)?)),
         }
     }
 
@@ -110,6 +110,14 @@ impl Digest {
         let _ = hex::encode_to_slice(bytes, &mut out[..count]);
         count
     }
+}
+
+// The bytes as an array, or `None` if their number is not N.
+fn array_of<const N: usize>(bytes: &[u8]) -> Option<[u8; N]>
+    ensures found { IsSome result ↔ (length bytes.now ≡ N) }
+    ensures value { IfSome result (λ array. array ≡ bytes.now) }
+{
+    bytes.try_into().ok()
 }
 
 // Parses 2 N hexadecimal digits.

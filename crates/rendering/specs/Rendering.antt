@@ -1,20 +1,21 @@
 -- Answers as text or JSON, and their exit statuses.
 use Rattle.std.specs.Prelude.{ℕ, Bool, List, ◌++◌, Option, Some, None, flat_map, ◌≡◌, ◌⊎◌, if◌then◌else◌, []}
 use Rattle.boot_verdict.specs.declared.requirement.BankRange.{BankRange}
-use Rattle.boot_verdict.specs.ListVerdicts.{list_report_text, list_verdict_of, required_list_report_text}
-use Rattle.boot_verdict.specs.PositionTexts.{positions_text}
+use Rattle.boot_verdict.specs.ListVerdicts.{list_verdict_of}
+use Rattle.verdict_texts.specs.ListReportTexts.{list_report_text, required_list_report_text}
+use Rattle.verdict_texts.specs.PositionTexts.{positions_text}
 use Rattle.boot_verdict.specs.RegisterTexts.{registers_text}
-use Rattle.boot_verdict.specs.ReportTexts.{counts_text, outcome_text}
-use Rattle.boot_verdict.specs.RequiredTexts.{required_positions_text, required_report_text}
+use Rattle.verdict_texts.specs.ReportTexts.{counts_text, outcome_text}
+use Rattle.verdict_texts.specs.RequiredTexts.{required_positions_text, required_report_text}
 use Rattle.boot_verdict.specs.Verdicts.{verdict_of}
 use Rattle.boot_verdict.specs.WrittenTexts.{expected_text}
-use Rattle.boot_verdict.specs.PrefixTexts.{prefix_report_text, required_prefix_report_text}
+use Rattle.verdict_texts.specs.PrefixTexts.{prefix_report_text, required_prefix_report_text}
 use Rattle.json.specs.Json.{Json}
 use Rattle.json_texts.specs.JsonValues.{line_of}
 use Rattle.json_texts.specs.ReportJson.{positions_json, expected_json, registers_json, prefix_report_json, list_report_json, report_json}
-use Rattle.judging.specs.declared.answer.Answer.{Answer}
-use Rattle.judging.specs.declared.answer.Answer.TheVariants.{Report, Prefix, Positions, ListReport, Registers, Expected}
-use Rattle.judging.specs.declared.answer.Answered.{Answered}
+use Rattle.judging.specs.declared.request.Answer.{Answer}
+use Rattle.judging.specs.declared.request.Answer.TheVariants.{Report, Prefix, Positions, ListReport, Registers, Expected}
+use Rattle.judging.specs.declared.request.Answered.{Answered}
 use Rattle.command_line.specs.declared.plan.Form.{Form}
 use Rattle.command_line.specs.declared.plan.Form.TheVariants as forms
 use Rattle.command_line.specs.declared.plan.Print.{Print}

@@ -1,14 +1,20 @@
-//! The outputs of answers, as text or JSON, of files or of bytes in memory.
+//! The outputs of answers, as text or JSON, of files or of bytes in memory; and what is said of a fault.
 #![tactic(auto)]
 
 mod checkpoints;
+mod escapes;
+mod explanations;
+mod fault_lines;
+mod json_faults;
 mod no_files;
-mod output;
 mod outputs;
 mod printed_lists;
 mod renderer;
 
-pub use output::Output;
+pub use escapes::escape;
+pub use explanations::{Failure, explanation};
+pub use fault_lines::{status_of, write_fault};
+pub use json_faults::{json_fault_line, json_memory_line};
 pub use outputs::{Given, output_for, output_on};
 pub use printed_lists::print_measured;
-pub use renderer::render;
+pub use renderer::{Output, render};

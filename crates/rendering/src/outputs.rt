@@ -7,8 +7,7 @@ ghost use Rattle.rendering.specs.Rendering.{GivesAnswer, IsOutputFault, IsRefusa
 
 use crate::checkpoints::save;
 use crate::no_files::NoFiles;
-use crate::output::Output;
-use crate::renderer::render;
+use crate::renderer::{Output, render};
 use agent_inputs::{AgentFiles, RunFault};
 use boot_verdict::Checkpoint;
 use command_line::Form;

@@ -6,8 +6,7 @@ ghost use Rattle.json_texts.specs.ItemLines.{entry_lines};
 ghost use Rattle.measure_book.specs.Books.{exported};
 ghost use Rattle.rendering.specs.Rendering.{print_measured};
 
-use crate::output::Output;
-use crate::renderer::render;
+use crate::renderer::{Output, render};
 use byte_streams::VecSink;
 use command_line::{Form, Print};
 use ima_list::Entry;

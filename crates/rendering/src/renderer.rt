@@ -1,17 +1,12 @@
-//! Answers as text or JSON.
+//! Answers as text or JSON, and what the program writes if nothing is refused.
 
 ghost use Rattle.std.specs.Prelude.{◌≡◌, ◌++◌, if◌then◌else◌, None, IfOk, OnOk};
 ghost use Rattle.byte_streams.specs.Streams.{Sends};
 ghost use Rattle.json_texts.specs.JsonValues.{line_of};
-ghost use Rattle.judging.specs.declared.answer.Answer.TheVariants as answers;
+ghost use Rattle.judging.specs.declared.request.Answer.TheVariants as answers;
 ghost use Rattle.rendering.specs.Rendering.{json_of, lines_of, render};
 
-use crate::output::Output;
-use boot_verdict::{
-    Report, write_counts, write_expected, write_list_report, write_outcome, write_positions,
-    write_prefix_report, write_registers, write_required_list_report, write_required_positions,
-    write_required_prefix_report, write_required_report,
-};
+use boot_verdict::{Report, write_expected, write_registers};
 use byte_streams::{Failed, Sink, VecSink};
 use command_line::Form;
 use json_texts::{
@@ -20,6 +15,47 @@ use json_texts::{
 };
 use judging::{Answer, Answered};
 use std::alloc::{AllocError, Global};
+use verdict_texts::{
+    write_counts, write_list_report, write_outcome, write_positions, write_prefix_report,
+    write_required_list_report, write_required_positions, write_required_prefix_report,
+    write_required_report,
+};
+
+/// A whole output, before its first byte is written.
+#[derive(Drop)]
+pub struct Output {
+    /// The text, or a binary list.
+    pub text: Vec<u8>,
+    /// The exit status once all of it is written: 0; 1 for a verdict that does not match or a value that was not reached; or that of the
+    /// fault that a text of JSON lines ends with.
+    pub status: u8,
+}
+
+impl Output {
+    /// The output of a command that succeeded.
+    pub fn done(text: Vec<u8>) -> Self
+        ensures { (result.text ≡ text) × (result.status ≡ 0) }
+    {
+        Output { text, status: DONE }
+    }
+
+    /// The output of a command that judges: its status says whether all is well.
+    pub fn verdict(text: Vec<u8>, is_well: bool) -> Self
+        ensures text { result.text ≡ text }
+        ensures status { result.status ≡ (if is_well then 0 else 1) }
+    {
+        Output {
+            text,
+            status: if is_well { DONE } else { DIFFERS },
+        }
+    }
+}
+
+// The exit status of success.
+const DONE: u8 = 0;
+
+// The exit status of a report that does not match.
+const DIFFERS: u8 = 1;
 
 /// The output of an answer in this form: its status says whether all is well.
 pub fn render(alloc: Global, given: &Answered, form: Form) -> Result<Output, AllocError>

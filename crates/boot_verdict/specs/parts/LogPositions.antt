@@ -24,7 +24,7 @@ abbrev pub row_at_reset : Banks → Expected → Located
 row_at_reset start expected =
     record { expected = expected; position = position_at_reset expected (value_at start expected.alg expected.register) }
 
--- The log's events were followed from the reset values.
+-- The log's events were tracked from the reset values.
 pub record IsTracked (algs : AlgSet) (events : List LogEvent) (expected : List Expected) (tracker : RowTracker) : Type 0 where
   pub start : RowTracker
   pub reset : IsReset algs (startup_locality events) start.banks

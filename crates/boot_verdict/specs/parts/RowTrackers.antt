@@ -1,4 +1,4 @@
--- The rows whose values are watched for: one look at them, and what they are after some steps.
+-- The rows whose values are sought: one look at them, and what they are after some steps.
 use Rattle.std.specs.Prelude.{◌≡◌, ℕ, ◌==◌, Bool, if◌then◌else◌, List, map}
 use Rattle.pcr_banks.specs.declared.banks.Banks.{Banks}
 use Rattle.pcr_banks.specs.Registers.{value_at}

@@ -2,7 +2,7 @@
 
 use boot_verdict::{
     ExpectFault, Expected, Located, RegisterRange, Report, VerifyFault, locate, read_expected,
-    verify, write_expected, write_positions, write_registers, write_report,
+    verify, write_expected, write_registers,
 };
 use byte_streams::{Failed, Sink, VecSink};
 use measure_book::{Book, ExportFault};
@@ -14,6 +14,7 @@ use test_kit::logs::log_of;
 use test_kit::once_more;
 use test_kit::registers::sha256;
 use test_kit::samples::{EXPECTED, LIST, LOG};
+use verdict_texts::{write_positions, write_report};
 
 /// What has a text.
 #[derive(Drop)]

@@ -66,3 +66,46 @@ returns-in-Err-clause-made g c = λ other. rw c.in-Err.ensures.refused.0 c.loop-
 
 pub returns-in-Err-clause-stopped : goal.returns-in-Err-clause-stopped
 returns-in-Err-clause-stopped g c = λ is. absurd (rw is at c.in-Err.ensures.takes)
+
+-- A worker that stops for a fault keeps what it had.
+pub returns-in-Err-clause-seat : goal.returns-in-Err-clause-seat
+returns-in-Err-clause-seat g c =
+    let same = c.in-Some.ensures.same in
+    rw c.in-Err.ensures.same.0 (same.0, same.1 ∙ c.loop-number.invariant.seat.1)
+
+pub returns-in-Err-clause-taken : goal.returns-in-Err-clause-taken
+returns-in-Err-clause-taken g c = rw c.in-Err.ensures.refused.0 c.loop-number.invariant.rises
+
+pub returns-in-Err-clause-worked : goal.returns-in-Err-clause-worked
+returns-in-Err-clause-worked g c = rw (c.in-Err.ensures.refused.0, c.in-Err.ensures.refused.1) c.loop-number.invariant.worked
+
+pub returns-in-Err-clause-had : goal.returns-in-Err-clause-had
+returns-in-Err-clause-had g c = rw (c.in-Err.ensures.refused.0, c.in-Err.ensures.refused.2) c.loop-number.invariant.had
+
+pub returns-in-Err-clause-unmade : goal.returns-in-Err-clause-unmade
+returns-in-Err-clause-unmade g c = rw (c.in-Err.ensures.refused.0, c.in-Err.ensures.refused.2) c.loop-number.invariant.unmade
+
+pub returns-in-Ok-Last-clause-unmade : goal.returns-in-Ok-Last-clause-unmade
+returns-in-Ok-Last-clause-unmade g c = c.in-Ok-Last.ensures.unmade.right c.loop-number.invariant.unmade
+
+pub returns-in-Ok-Last-clause-made : goal.returns-in-Ok-Last-clause-made
+returns-in-Ok-Last-clause-made g c = λ other. absurd (other refl)
+
+-- A worker that finds no job left.
+pub returns-clause-taken : goal.returns-clause-taken
+returns-clause-taken g c = c.loop-number.invariant.rises
+
+pub returns-clause-worked : goal.returns-clause-worked
+returns-clause-worked g c = c.loop-number.invariant.worked
+
+pub returns-clause-had : goal.returns-clause-had
+returns-clause-had g c = c.loop-number.invariant.had
+
+pub returns-clause-unmade : goal.returns-clause-unmade
+returns-clause-unmade g c = c.loop-number.invariant.unmade
+
+pub returns-clause-made : goal.returns-clause-made
+returns-clause-made g c = λ other. c.loop-number.invariant.made
+
+pub returns-clause-told : goal.returns-clause-told
+returns-clause-told g c = rw c.loop-number.invariant.end c.loop-number.invariant.tells

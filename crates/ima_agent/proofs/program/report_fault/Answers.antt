@@ -1,6 +1,6 @@
 use Rattle.std.proofs.Common.{refl, inl, inr}
 use Rattle.agent_inputs.specs.declared.fault.RunFault.TheVariants.{Memory}
-use Rattle.ima_agent.specs.FaultTexts.{fault_line, fault_status}
+use Rattle.rendering.specs.FaultTexts.{fault_line, fault_status}
 use Rattle.ima_agent.proofs.OutcomeLaws.{line_sent}
 use Rattle.ima_agent.proofs.program.report_fault.Goals as goal
 

@@ -1,7 +1,7 @@
 use Rattle.std.proofs.Common.{inl, inr}
 use Rattle.std.proofs.lemmas.Result.{err_from_is_err_and}
 use Rattle.judging.specs.Requests.{held_bytes}
-use Rattle.judging.specs.declared.answer.Answer.TheVariants as answers
+use Rattle.judging.specs.declared.request.Answer.TheVariants as answers
 use Rattle.judging.proofs.printed_registers.printed_within.Goals as goal
 
 pub returns-in_err-range-clause-fault : goal.returns-in_err-range-clause-fault

@@ -1,5 +1,5 @@
 use Rattle.std.proofs.Common.{inl, inr}
-use Rattle.judging.specs.declared.answer.Answer.TheVariants as answers
+use Rattle.judging.specs.declared.request.Answer.TheVariants as answers
 use Rattle.agent_inputs.proofs.LoadingLemmas.{source_failed}
 use Rattle.judging.proofs.InputLaws.{held, list_refused}
 use Rattle.judging.proofs.RegisterLaws.{starts_alike}

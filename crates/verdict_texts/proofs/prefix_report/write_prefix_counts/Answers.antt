@@ -1,0 +1,15 @@
+use Rattle.byte_streams.proofs.SinkLaws.{Sends-then, Sends-stops}
+use Rattle.verdict_texts.proofs.prefix_report.write_prefix_counts.Goals as goal
+
+pub returns-in_err-write_counts : goal.returns-in_err-write_counts
+returns-in_err-write_counts g c = Sends-stops _ _ _ _ _ _ _ c.from_residual.ensures.1 c.in_err-write_counts.ensures
+
+pub returns-in_err-write_confirmed : goal.returns-in_err-write_confirmed
+returns-in_err-write_confirmed g c =
+    Sends-then _ _ _ tt _ _ _ c.in_ok-write_counts.ensures
+    (Sends-stops _ _ _ _ _ _ _ c.from_residual-in_err-write_confirmed.ensures.1 c.in_err-write_confirmed.ensures)
+
+pub returns : goal.returns
+returns g c =
+    Sends-then _ _ _ tt _ _ _ c.in_ok-write_counts.ensures
+    (Sends-then _ _ _ tt _ _ _ c.in_ok-write_confirmed.ensures c.write_unconfirmed.ensures)

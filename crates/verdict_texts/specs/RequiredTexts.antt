@@ -1,0 +1,46 @@
+-- The texts of a report and of positions where registers are required.
+use Rattle.std.specs.Prelude.{ℕ, if◌then◌else◌, List, [], ◌++◌, length, codes, decimal, flat_map}
+use Rattle.pcr_banks.specs.declared.alg.Alg.{Alg}
+use Rattle.pcr_banks.specs.Hashing.{name_of}
+use Rattle.boot_verdict.specs.declared.expected.Expected.{Expected}
+use Rattle.boot_verdict.specs.declared.positions.Located.{Located}
+use Rattle.boot_verdict.specs.declared.requirement.BankRange.{BankRange}
+use Rattle.verdict_texts.specs.PositionTexts.{found_text, located_text}
+use Rattle.boot_verdict.specs.RegisterTexts.{every_register}
+use Rattle.verdict_texts.specs.ReportTexts.{aggregate_text, counts_text, row_text, verdict_text}
+use Rattle.boot_verdict.specs.Requirements.{expected_of_located, expected_of_rows, is_missing, required_found, required_matches}
+use Rattle.boot_verdict.specs.Verdicts.{Verdict}
+
+-- The line of a missing register, as `sha256 4 missing`.
+abbrev pub missing_line : Alg → ℕ → List ℕ
+missing_line alg register = name_of alg ++ (codes " " ++ (decimal register ++ codes " missing\n"))
+
+-- The line if the register is missing; else nothing.
+abbrev pub line_if_missing : List BankRange → List Expected → Alg → ℕ → List ℕ
+line_if_missing ranges expected alg register = if is_missing ranges expected alg register then missing_line alg register else []
+
+-- The lines of all registers that are missing.
+abbrev pub missing_text : List BankRange → List Expected → List ℕ
+missing_text ranges expected = flat_map (λ register. line_if_missing ranges expected register.0 register.1) every_register
+
+-- The line of how many registers were compared.
+abbrev pub compared_text : ℕ → List ℕ
+compared_text compared = codes "compared " ++ (decimal compared ++ codes "\n")
+
+-- What comes after the counts: how many registers were compared, the boot aggregate, a line for each expected register, one for each
+-- that is missing, and the verdict.
+abbrev pub required_outcome_text : List BankRange → Verdict → List ℕ
+required_outcome_text ranges verdict =
+    compared_text (length verdict.rows) ++ (aggregate_text verdict.aggregate ++ (flat_map row_text verdict.rows
+    ++ (missing_text ranges (expected_of_rows verdict.rows) ++ verdict_text (required_matches ranges verdict))))
+
+-- The report: its counts, and what comes after them.
+abbrev pub required_report_text : List BankRange → Verdict → List ℕ
+required_report_text ranges verdict =
+    counts_text verdict.events verdict.locality verdict.entries ++ required_outcome_text ranges verdict
+
+-- A line for each expected register, one for each that is missing, and whether they are located and none is missing.
+abbrev pub required_positions_text : List BankRange → List Located → List ℕ
+required_positions_text ranges located =
+    flat_map located_text located
+    ++ (missing_text ranges (expected_of_located located) ++ found_text (required_found ranges located))

@@ -1,0 +1,114 @@
+//! The lines of reports and positions where registers are required.
+
+ghost use Rattle.std.specs.Prelude.{map};
+ghost use Rattle.byte_streams.specs.Streams.{Sends};
+ghost use Rattle.verdict_texts.specs.RequiredTexts.{compared_text, line_if_missing, missing_line, missing_text, required_outcome_text, required_positions_text, required_report_text};
+ghost use Rattle.boot_verdict.specs.Verdicts.{verdict_of};
+
+use crate::positions::{found_line, write_all};
+use crate::report::{verdict_line, write_aggregate, write_counts, write_rows};
+use boot_verdict::{
+    ALL_REGISTERS, HasExpected, Located, Report, Requirement, register_numbered, required_found,
+};
+use byte_streams::{Failed, Sink, send, send_pieces};
+use itoa::Buffer;
+use pcr_banks::Alg;
+
+/// Writes a report as [`crate::write_report`] does, with two differences. After the line with the number of entries is one with
+/// the number of expected registers, `compared 24`. And after the lines of these is one for each required register that is not
+/// among them, `sha256 4 missing`, by bank in the order of [`Alg::ALL`], then by register; the verdict then is `differ`.
+pub fn write_required_report<S: Sink>(
+    report: &Report,
+    requirement: &Requirement,
+    sink: &mut S,
+) -> Result<(), Failed>
+    ensures { Sends (S.state sink.old) (S.state sink.new) result
+        (required_report_text requirement.now (verdict_of report.now)) }
+{
+    write_counts(report.events, report.locality, report.entries, sink)?;
+    write_required_outcome(report, requirement, sink)
+}
+
+/// Writes what comes after the counts: how many registers were compared, the boot aggregate, the expected registers, those that are
+/// missing, and the verdict. After `Err` the sink has taken a prefix of it.
+pub fn write_required_outcome<S: Sink>(
+    report: &Report,
+    requirement: &Requirement,
+    sink: &mut S,
+) -> Result<(), Failed>
+    ensures { Sends (S.state sink.old) (S.state sink.new) result
+        (required_outcome_text requirement.now (verdict_of report.now)) }
+{
+    write_compared(report.rows.len(), sink)?;
+    write_aggregate(report.aggregate, sink)?;
+    write_rows(&report.rows, sink)?;
+    write_missing(requirement, &report.rows, sink)?;
+    send(verdict_line(report.meets(requirement)), sink)
+}
+
+fn write_compared<S: Sink>(compared: usize, sink: &mut S) -> Result<(), Failed>
+    ensures { Sends (S.state sink.old) (S.state sink.new) result (compared_text compared) }
+{
+    let mut number = Buffer::new();
+    send_pieces(
+        &[b"compared ", number.format(compared).as_bytes(), b"\n"],
+        sink,
+    )
+}
+
+/// Writes positions as [`crate::write_positions`] does, and after the lines of expected registers one for each required register that
+/// is not among them, as [`write_required_report`] does; the last line then is `not located`.
+pub fn write_required_positions<S: Sink>(
+    located: &[Located],
+    requirement: &Requirement,
+    sink: &mut S,
+) -> Result<(), Failed>
+    ensures { Sends (S.state sink.old) (S.state sink.new) result (required_positions_text requirement.now located.now) }
+{
+    write_all(located, sink)?;
+    write_missing(requirement, located, sink)?;
+    send(found_line(required_found(located, requirement)), sink)
+}
+
+/// Writes the line of each required register that has none of these rows.
+pub(crate) fn write_missing<T: HasExpected, S: Sink>(
+    requirement: &Requirement,
+    rows: &[T],
+    sink: &mut S,
+) -> Result<(), Failed>
+    ensures { Sends (S.state sink.old) (S.state sink.new) result (missing_text requirement.now (map T.expected_of rows.now)) }
+{
+    for number in 0..ALL_REGISTERS {
+        let (alg, register) = register_numbered(number);
+        write_if_missing(requirement, rows, alg, register, sink)?;
+    }
+    Ok(())
+}
+
+// Writes the register's line if it is missing.
+fn write_if_missing<T: HasExpected, S: Sink>(
+    requirement: &Requirement,
+    rows: &[T],
+    alg: Alg,
+    register: u32,
+    sink: &mut S,
+) -> Result<(), Failed>
+    ensures { Sends (S.state sink.old) (S.state sink.new) result
+        (line_if_missing requirement.now (map T.expected_of rows.now) alg register) }
+{
+    if requirement.is_missing(rows, alg, register) {
+        return write_line(alg, register, sink);
+    }
+    Ok(())
+}
+
+fn write_line<S: Sink>(alg: Alg, register: u32, sink: &mut S) -> Result<(), Failed>
+    ensures { Sends (S.state sink.old) (S.state sink.new) result (missing_line alg register) }
+{
+    let mut number = Buffer::new();
+    let register = number.format(register).as_bytes();
+    send_pieces(
+        &[alg.name().as_bytes(), b" ", register, b" missing\n"],
+        sink,
+    )
+}
