@@ -134,7 +134,7 @@ class Commands(harness.TestCase):
             change()
             self.check(f"built where {title}", self.builds_for(), 1)
             self.check("  and not again", self.builds_for(), 0)
-        for name in ("crates/verdict_tests/src/lib.rt", "crates/pcr_banks/further-edits/extend_digest_first.edit"):
+        for name in ("crates/format_tests/src/lib.rt", "crates/pcr_banks/further-edits/extend_digest_first.edit"):
             edit(self.tree.root / name)
             self.check(f"not built where {name} is edited", self.builds_for(), 0)
 

@@ -1,8 +1,5 @@
-//! Tests of the book and of the workers through what their crates hand out: worked examples, what callers gather, batches of many jobs, and what
-//! a gate is told.
+//! Tests of the book through what its crate hands out: worked examples, and what callers gather.
 #![tactic(auto)]
 
 #[cfg(test)]
 mod books;
-#[cfg(test)]
-mod workers;

@@ -1,23 +1,5 @@
-//! Tests of what only a caller of the libraries up to the verdict reaches: hash values, whole logs that are read, lists in pieces, entries that
-//! are made and written, devices that fail, single calls with a refused allocation, and a real boot. How the program reads and shows logs and
-//! lists is in `tests/cases/`. Each test outside `verdicts` holds with any one allocation refused too.
+//! Tests of the verdict through what its crate hands out: lists in pieces, devices that fail, refused allocations, and a real boot.
 #![tactic(auto)]
 
 #[cfg(test)]
-mod cuts;
-#[cfg(test)]
-mod hashes;
-#[cfg(test)]
-mod laws;
-#[cfg(test)]
-mod logs;
-#[cfg(test)]
-mod made;
-#[cfg(test)]
-mod pieces;
-#[cfg(test)]
-mod sending;
-#[cfg(test)]
 mod verdicts;
-#[cfg(test)]
-mod words;

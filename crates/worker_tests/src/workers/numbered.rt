@@ -3,7 +3,7 @@
 ghost use Rattle.std.specs.Prelude.{◌≡◌, ◌⊎◌, IfOk, IfSome, Contains};
 ghost use Rattle.measure_book.specs.Operations.{book_op_of};
 ghost use Rattle.hash_workers.specs.declared.fault.JobFault.TheVariants.{Memory};
-ghost use Rattle.book_tests.specs.Numbered.{operation_of_number, path_of_number};
+ghost use Rattle.worker_tests.specs.Numbered.{operation_of_number, path_of_number};
 
 use super::overlap::comes;
 use super::tasks::lacks_memory;
