@@ -1,7 +1,7 @@
 -- How the faults of the parts become faults of the program. Out of memory is one fault, wherever it happens.
 use Rattle.std.specs.Prelude.{◌≡◌, ℕ, ◌⊎◌, List, Option, Some, None}
-use Rattle.command_line.specs.declared.fault.ArgumentsFault.{ArgumentsFault}
-use Rattle.command_line.specs.declared.fault.ArgumentsFault.TheVariants as arguments
+use Rattle.agent_plans.specs.declared.fault.ArgumentsFault.{ArgumentsFault}
+use Rattle.agent_plans.specs.declared.fault.ArgumentsFault.TheVariants as arguments
 use Rattle.boot_log.specs.declared.fault.LogFault.{LogFault}
 use Rattle.boot_log.specs.declared.fault.LogFault.TheVariants as logs
 use Rattle.boot_log.specs.Faults.{log_fault_event, log_fault_number}
@@ -13,8 +13,6 @@ use Rattle.measure_book.specs.declared.fault.BookFault.{BookFault}
 use Rattle.measure_book.specs.declared.fault.BookFault.TheVariants as books
 use Rattle.measure_book.specs.declared.gathers.GatherFault.TheVariants as gathers
 use Rattle.measure_book.specs.Faults.{fault_number, gather_fault_number}
-use Rattle.hash_workers.specs.declared.fault.AgentFault.{AgentFault}
-use Rattle.hash_workers.specs.declared.fault.AgentFault.TheVariants as agents
 use Rattle.boot_verdict.specs.declared.expected.ExpectFault.{ExpectFault}
 use Rattle.boot_verdict.specs.declared.expected.ExpectFault.TheVariants as expects
 use Rattle.boot_verdict.specs.ExpectFaults.{expect_fault_line, expect_fault_number}
@@ -53,13 +51,6 @@ fault_of_list fault = runs.List fault
 abbrev pub fault_of_expected : ExpectFault → RunFault
 fault_of_expected expects.Memory = runs.Memory
 fault_of_expected fault = runs.Expect fault
-
--- The program's fault for a fault of the workers. A wrong number of workers is a fault of the command line.
-abbrev pub fault_of_agent : AgentFault → RunFault
-fault_of_agent agents.Workers = runs.Usage
-fault_of_agent (agents.Book fault) = runs.Book fault
-fault_of_agent (agents.Gather fault) = runs.Gather fault
-fault_of_agent agents.Memory = runs.Memory
 
 -- The file of this number was refused for this reason.
 abbrev pub fault_of_job : ℕ → BookFault → RunFault

@@ -1,13 +1,12 @@
 //! Why the program failed.
 
 ghost use Rattle.std.specs.Prelude.{◌≡◌};
-ghost use Rattle.agent_inputs.specs.Faults.{fault_head, fault_of_agent, fault_of_expected, fault_of_list, fault_of_log, fault_of_arguments, not_resumed_number};
+ghost use Rattle.agent_inputs.specs.Faults.{fault_head, fault_of_expected, fault_of_list, fault_of_log, fault_of_arguments, not_resumed_number};
 ghost use Rattle.agent_inputs.specs.declared.fault.RunFault.TheVariants.{Memory};
 
+use agent_plans::ArgumentsFault;
 use boot_log::LogFault;
 use boot_verdict::{CheckpointFault, ExpectFault, ResumeFault};
-use command_line::ArgumentsFault;
-use hash_workers::AgentFault;
 use ima_list::{ListFault, ReplayFault};
 use measure_book::{BookFault, GatherFault};
 use std::alloc::{AllocError, AllocFailed};
@@ -252,19 +251,6 @@ impl From<ExpectFault> for RunFault {
         match fault {
             ExpectFault::Memory => RunFault::Memory,
             other => RunFault::Expect(other),
-        }
-    }
-}
-
-impl From<AgentFault> for RunFault {
-    ghost from_gives = { λ agent_fault fault. fault ≡ fault_of_agent agent_fault };
-
-    fn from(fault: AgentFault) -> Self {
-        match fault {
-            AgentFault::Workers => RunFault::Usage,
-            AgentFault::Book(fault) => RunFault::Book(fault),
-            AgentFault::Gather(fault) => RunFault::Gather(fault),
-            AgentFault::Memory => RunFault::Memory,
         }
     }
 }

@@ -8,8 +8,8 @@ use Rattle.clap.specs.declared.parser.matches.Found.{Found}
 use Rattle.clap.specs.declared.parser.matches.MatchedArg.{MatchedArg}
 use Rattle.clap.proofs.OnLiterals.{clap_on_literals}
 use Rattle.clap.proofs.WalkLemmas.{raw_values-rows}
-use Rattle.command_line.specs.Plans.{Parsers, commands, IsRequestedBy, IsPlanOrHelp}
-use Rattle.command_line.specs.declared.plan.Plan.{Plan}
+use Rattle.command_line.specs.Arguments.{Parsers, commands, IsRequestedBy, IsPlanOrHelp}
+use Rattle.agent_plans.specs.declared.plan.Plan.{Plan}
 
 pub commands_are_simple : (parsers : Parsers) → is_simple (commands parsers) ≡ true
 unfolding clap_on_literals

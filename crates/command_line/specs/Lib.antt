@@ -1,2 +1,2 @@
-pub mod Plans
+pub mod Arguments
 pub mod parts

@@ -4,17 +4,17 @@ ghost use Rattle.std.specs.Prelude.{◌≡◌, [], None, Ok, codes, drop, string
 ghost use Rattle.clap.specs.Values.{kind_of};
 ghost use Rattle.clap.specs.Words.{Text as Words, found_of, rows_of, subcommand_rows_of};
 ghost use Rattle.std.specs.Vec.Iter.{into_iter_items};
-ghost use Rattle.command_line.specs.Plans.{BeginsWithVersion, HasHelpWord, HasJudged, HasQuestion, HasValues, HasValuesIn, IsRequestedBy, IsHelp, IsPlanOrHelp, IsWithinRanges, asks_help, IsWithin};
+ghost use Rattle.agent_plans.specs.Plans.{IsWithinRanges, IsWithin};
+ghost use Rattle.command_line.specs.Arguments.{BeginsWithVersion, HasHelpWord, HasJudged, HasQuestion, HasValues, HasValuesIn, IsRequestedBy, IsHelp, IsPlanOrHelp, asks_help};
 ghost use Rattle.std.specs.List.{list_any};
-ghost use Rattle.command_line.specs.declared.plan.Form.TheVariants.{Text};
-ghost use Rattle.command_line.specs.declared.plan.Plan.TheVariants as plans;
-ghost use Rattle.command_line.specs.declared.plan.Question.TheVariants as questions;
-ghost use Rattle.command_line.specs.declared.plan.Task.TheVariants.{Version};
+ghost use Rattle.agent_plans.specs.declared.plan.Form.TheVariants.{Text};
+ghost use Rattle.agent_plans.specs.declared.plan.Plan.TheVariants as plans;
+ghost use Rattle.agent_plans.specs.declared.plan.Question.TheVariants as questions;
+ghost use Rattle.agent_plans.specs.declared.plan.Task.TheVariants.{Version};
 
 use crate::commands::{KnownNames, VERSION, all_commands};
-use crate::fault::ArgumentsFault;
-use crate::plan::{DataShown, Form, Judge, Judged, Plan, Question, Scope, Task};
 use crate::values::{flag_of, measurement_of, name_of, text_if_given};
+use agent_plans::{ArgumentsFault, DataShown, Form, Judge, Judged, Plan, Question, Scope, Task};
 use clap::error::ErrorKind;
 use clap::{ArgMatches, Error};
 use ima_list::Template;

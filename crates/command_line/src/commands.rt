@@ -5,7 +5,7 @@ ghost use Rattle.std.specs.List.{fold};
 ghost use Rattle.clap.specs.Words.{app_of, new_app};
 ghost use Rattle.command_line.specs.parts.Commands.{IsArgument, IsCommand, app_of_row, parser_of_values, rule_of_form, with_row};
 ghost use Rattle.command_line.specs.declared.commands.KnownNames.{KnownNames};
-ghost use Rattle.command_line.specs.Plans.{Parsers, commands, program_app};
+ghost use Rattle.command_line.specs.Arguments.{Parsers, commands, program_app};
 
 use crate::command_table::{ArgumentRow, COMMANDS, CommandRow, Form, Values};
 use crate::help_texts::{PROGRAM_ABOUT, help_end_of};

@@ -2,11 +2,11 @@
 
 ghost use Rattle.std.specs.Prelude.{◌≡◌, ◌<◌, ◌≤◌, ◌^◌, [], Some, codes, map, string_bytes, unwrap_or, vec_len, IfOk};
 ghost use Rattle.clap.specs.Words.{all_of, first_of, found_of, rows_of};
-ghost use Rattle.command_line.specs.Plans.{AreFurtherNames, HasMeasure, HasNumber, IsFlag, IsGivenAs, print_name, HasForm, IsWithinLimits};
+ghost use Rattle.agent_plans.specs.Plans.{HasForm, IsWithinLimits};
+ghost use Rattle.command_line.specs.Arguments.{AreFurtherNames, HasMeasure, HasNumber, IsFlag, IsGivenAs, print_name};
 
 use crate::command_table::{MOST_RECORDS, MOST_WORKERS};
-use crate::fault::ArgumentsFault;
-use crate::plan::{Form, Measurement, NameEnd, Names, Print};
+use agent_plans::{ArgumentsFault, Form, Measurement, NameEnd, Names, Print};
 use clap::ArgMatches;
 use ima_list::Template;
 use pcr_banks::Alg;

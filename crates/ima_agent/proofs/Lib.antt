@@ -1,3 +1,4 @@
+pub mod EscapingLaws
 pub mod ShowingLaws
 pub mod StreamingLaws
 pub mod OutcomeLaws

@@ -7,11 +7,11 @@ use Rattle.byte_streams.specs.Streams.{Sends, SinkState}
 use Rattle.byte_streams.proofs.SinkLaws.{Sends-none, Sends-then}
 use Rattle.agent_inputs.specs.declared.fault.RunFault.{RunFault}
 use Rattle.agent_inputs.specs.Loading.{Holds, Inputs, IsInputFault, Saved}
-use Rattle.command_line.specs.declared.plan.DataShown.{DataShown}
-use Rattle.command_line.specs.declared.plan.Form.{Form}
-use Rattle.command_line.specs.declared.plan.Form.TheVariants.{Json, Text}
-use Rattle.command_line.specs.declared.plan.Task.{Task}
-use Rattle.command_line.specs.declared.plan.Task.TheVariants as tasks
+use Rattle.agent_plans.specs.declared.plan.DataShown.{DataShown}
+use Rattle.agent_plans.specs.declared.plan.Form.{Form}
+use Rattle.agent_plans.specs.declared.plan.Form.TheVariants.{Json, Text}
+use Rattle.agent_plans.specs.declared.plan.Task.{Task}
+use Rattle.agent_plans.specs.declared.plan.Task.TheVariants as tasks
 use Rattle.rendering.specs.declared.renderer.Output.{Output}
 use Rattle.ima_agent.specs.declared.streams.StreamFault.{StreamFault}
 use Rattle.ima_agent.specs.declared.streams.StreamFault.TheVariants as streams

@@ -21,8 +21,8 @@ use Rattle.json_texts.specs.FaultJson.{fault_json}
 use Rattle.json_texts.specs.JsonValues.{line_of}
 use Rattle.json_texts.specs.SentEntries.{AreAllIn, SendsEntries}
 use Rattle.json_texts.specs.SentEvents.{SendsEvents, SendsLines}
-use Rattle.command_line.specs.declared.plan.Form.{Form}
-use Rattle.command_line.specs.declared.plan.Form.TheVariants.{Json}
+use Rattle.agent_plans.specs.declared.plan.Form.{Form}
+use Rattle.agent_plans.specs.declared.plan.Form.TheVariants.{Json}
 use Rattle.agent_inputs.specs.declared.fault.RunFault.{RunFault}
 use Rattle.agent_inputs.specs.declared.fault.RunFault.TheVariants as runs
 use Rattle.agent_inputs.specs.Faults.{fault_of_list, fault_of_log}

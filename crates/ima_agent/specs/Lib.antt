@@ -1,3 +1,4 @@
+pub mod Escaping
 pub mod Showing
 pub mod Program
 pub use Rattle.agent_inputs.specs.Loading

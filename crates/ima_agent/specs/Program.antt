@@ -9,18 +9,19 @@ use Rattle.agent_inputs.specs.declared.fault.RunFault.{RunFault}
 use Rattle.agent_inputs.specs.declared.fault.RunFault.TheVariants as runs
 use Rattle.agent_inputs.specs.Faults.{IsArgumentsFault}
 use Rattle.agent_inputs.specs.Loading.{Inputs, IsInputFault, OfInput, Saved}
-use Rattle.command_line.specs.declared.plan.Scope.TheVariants.{Whole}
-use Rattle.command_line.specs.declared.plan.Form.{Form}
-use Rattle.command_line.specs.declared.plan.Form.TheVariants as forms
-use Rattle.command_line.specs.declared.plan.Judge.{Judge}
-use Rattle.command_line.specs.declared.plan.Judged.{Judged}
-use Rattle.command_line.specs.declared.plan.Judged.TheVariants as judged
-use Rattle.command_line.specs.declared.plan.Plan.{Plan}
-use Rattle.command_line.specs.declared.plan.Question.{Question}
-use Rattle.command_line.specs.declared.plan.Question.TheVariants as questions
-use Rattle.command_line.specs.declared.plan.Task.{Task}
-use Rattle.command_line.specs.declared.plan.Task.TheVariants as tasks
-use Rattle.command_line.specs.Plans.{IsRequestedBy, IsWithinRanges, task_of}
+use Rattle.agent_plans.specs.declared.plan.Scope.TheVariants.{Whole}
+use Rattle.agent_plans.specs.declared.plan.Form.{Form}
+use Rattle.agent_plans.specs.declared.plan.Form.TheVariants as forms
+use Rattle.agent_plans.specs.declared.plan.Judge.{Judge}
+use Rattle.agent_plans.specs.declared.plan.Judged.{Judged}
+use Rattle.agent_plans.specs.declared.plan.Judged.TheVariants as judged
+use Rattle.agent_plans.specs.declared.plan.Plan.{Plan}
+use Rattle.agent_plans.specs.declared.plan.Question.{Question}
+use Rattle.agent_plans.specs.declared.plan.Question.TheVariants as questions
+use Rattle.agent_plans.specs.declared.plan.Task.{Task}
+use Rattle.agent_plans.specs.declared.plan.Task.TheVariants as tasks
+use Rattle.agent_plans.specs.Plans.{IsWithinRanges, task_of}
+use Rattle.command_line.specs.Arguments.{IsRequestedBy}
 use Rattle.judging.specs.Requests.{Any, Requested, Compared, Compares, ExpectedOf, Judgement, ListRegistersOf, ListVerdictOf, LogRegistersOf, Nothing, PositionsOf, Requires, These, VerdictOf}
 use Rattle.judging.specs.Inputs.{FileOf, Where}
 use Rattle.measuring.specs.declared.file_book.Measured.{Measured}

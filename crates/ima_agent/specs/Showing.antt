@@ -14,10 +14,10 @@ use Rattle.verdict_texts.specs.EventTexts.{events_text}
 pub use Rattle.json_texts.specs.ItemLines.{entry_lines, event_lines, numbered_lines, AreAllEntries, AreAllEvents, EndsWithFault, FailsAfterEntries, FailsAfterEvents, ShowsToFault}
 use Rattle.json_texts.specs.SentEntries.{AreAllIn}
 pub use Rattle.json_texts.specs.SentEvents.{log_lines}
-use Rattle.command_line.specs.declared.plan.DataShown.{DataShown}
-use Rattle.command_line.specs.declared.plan.DataShown.TheVariants as arguments
-use Rattle.command_line.specs.declared.plan.Form.{Form}
-use Rattle.command_line.specs.declared.plan.Form.TheVariants.{Text}
+use Rattle.agent_plans.specs.declared.plan.DataShown.{DataShown}
+use Rattle.agent_plans.specs.declared.plan.DataShown.TheVariants as arguments
+use Rattle.agent_plans.specs.declared.plan.Form.{Form}
+use Rattle.agent_plans.specs.declared.plan.Form.TheVariants.{Text}
 use Rattle.agent_inputs.specs.declared.fault.RunFault.{RunFault}
 use Rattle.agent_inputs.specs.declared.fault.RunFault.TheVariants as runs
 use Rattle.agent_inputs.specs.Faults.{HasLogFault, fault_of_list, fault_of_log}

@@ -1,8 +1,10 @@
 //! The agent as a library: the program, and what some of its commands show, of bytes in memory. Re-exports inputs and faults from
-//! `agent_inputs`, what is said of faults from `rendering`, what `command_line` reads from arguments, the verdict from `boot_verdict`,
+//! `agent_inputs`, plans and tasks from `agent_plans`, what is said of faults from `rendering`, the verdict from `boot_verdict`,
 //! and its texts from `verdict_texts`.
 #![tactic(auto)]
 
+mod escapes;
+mod explanations;
 mod hexadecimal;
 mod program;
 mod progress;
@@ -15,22 +17,22 @@ pub use agent_inputs::{
     AgentFiles, Files, Input, LoadFault, NotResumed, ReadSource, RunFault, SharedFiles,
     SystemFiles, WriteSink, hash_from, load,
 };
+pub use agent_plans::{
+    DataShown, Form, Judge, Judged, Measurement, NameEnd, Names, Plan, Print, Question, Scope, Task,
+};
 pub use boot_verdict::{
     Aggregate, BankRange, ExpectFault, Expected, Located, Position, RegisterRange, Report,
     Requirement, RequirementFault, Row, State, VerifyFault, all_found, list_start, locate,
     locate_from, read_expected, read_printed, replay_from, required_found, verify, verify_from,
     write_expected, write_registers,
 };
-pub use command_line::{
-    DataShown, Form, Judge, Judged, Measurement, NameEnd, Names, Plan, Print, Question, Scope,
-    Task, arguments_after_name,
-};
+pub use command_line::arguments_after_name;
+pub use escapes::escape;
+pub use explanations::{Failure, explanation};
 pub use measuring::FileProgress;
 pub use program::{exit_code, read_words, run, run_with_progress};
 pub use progress::{NoProgress, Progress, SystemProgress};
-pub use rendering::{
-    Failure, Output, escape, explanation, json_fault_line, json_memory_line, status_of, write_fault,
-};
+pub use rendering::{Output, json_fault_line, json_memory_line, status_of, write_fault};
 pub use verdict_texts::{
     EventData, write_events, write_positions, write_report, write_required_positions,
     write_required_report,

@@ -3,24 +3,26 @@
 ghost use Rattle.std.specs.Prelude.{◌≡◌, [], Ok, IfOk, IfErr, OnErr};
 ghost use Rattle.std.specs.Process.{exit_status};
 ghost use Rattle.agent_inputs.specs.Faults.{IsArgumentsFault};
-ghost use Rattle.command_line.specs.Plans.{BeginsWithVersion, IsRequestedBy, IsWithin, IsWithinLimits, IsWithinRanges};
-ghost use Rattle.command_line.specs.declared.plan.Form.TheVariants.{Text};
-ghost use Rattle.command_line.specs.declared.plan.Plan.TheVariants as plans;
-ghost use Rattle.command_line.specs.declared.plan.Task.TheVariants as tasks;
+ghost use Rattle.agent_plans.specs.Plans.{IsWithin, IsWithinLimits, IsWithinRanges};
+ghost use Rattle.command_line.specs.Arguments.{BeginsWithVersion, IsRequestedBy};
+ghost use Rattle.agent_plans.specs.declared.plan.Form.TheVariants.{Text};
+ghost use Rattle.agent_plans.specs.declared.plan.Plan.TheVariants as plans;
+ghost use Rattle.agent_plans.specs.declared.plan.Task.TheVariants as tasks;
 ghost use Rattle.rendering.specs.FaultTexts.{fault_status, IsFailure};
 ghost use Rattle.ima_agent.specs.Program.{Answers, IsFaultOf, IsOutcome, IsOutput, IsOutputFor, IsOutputOf, Streams, status_after};
 
+use crate::explanations::Failure;
 use crate::progress::{NoProgress, Progress};
 use crate::requests::{request_of, save_of};
 use crate::shown::{entries_for, events_for, shown_registers};
 use crate::streams::{DONE, Prepared, Sent, StreamFault, send_output, send_text};
 use crate::version::version_text;
 use agent_inputs::{AgentFiles, RunFault};
+use agent_plans::{Form, Measurement, Plan, Task};
 use byte_streams::{Failed, Sink, send};
-use command_line::{Form, Measurement, Plan, Task};
 use measuring::measure;
 use rendering::{
-    Failure, json_fault_line, json_memory_line, output_for, print_measured, status_of, write_fault,
+    json_fault_line, json_memory_line, output_for, print_measured, status_of, write_fault,
 };
 use std::alloc::{AllocError, Global};
 use std::io;

@@ -1,7 +1,7 @@
 //! What is told beside the output: the progress of a measurement, and why a run failed.
 
+use crate::explanations::{Failure, explanation};
 use measuring::FileProgress;
-use rendering::{Failure, explanation};
 use std::alloc::Global;
 use std::io;
 use std::rt::{Clock, Files as FileSystem};

@@ -4,7 +4,7 @@ ghost use Rattle.std.specs.Prelude.{◌≡◌, option_map};
 ghost use Rattle.judging.specs.Requests.{requested_of, compared_of, judgement_of, requires_of};
 ghost use Rattle.ima_agent.specs.Program.{requested_by, compared_by, judgement_by, requires_by, save_by};
 
-use command_line::{Judge, Judged, Question, Scope};
+use agent_plans::{Judge, Judged, Question, Scope};
 use judging::{Comparison, Input, Request, Required, Wanted};
 
 /// What a question asks.

@@ -2,8 +2,8 @@
 
 ghost use Rattle.std.specs.Prelude.{◌≡◌, ◌⊎◌, flat_map, None, Some, IfOk, IfErr, OnErr};
 ghost use Rattle.agent_inputs.specs.Loading.{IsInputFault, OfInput};
-ghost use Rattle.command_line.specs.declared.plan.Form.TheVariants.{Text};
-ghost use Rattle.command_line.specs.declared.plan.Task.TheVariants as tasks;
+ghost use Rattle.agent_plans.specs.declared.plan.Form.TheVariants.{Text};
+ghost use Rattle.agent_plans.specs.declared.plan.Task.TheVariants as tasks;
 ghost use Rattle.ima_list.specs.Lines.{line_of};
 ghost use Rattle.ima_agent.specs.Program.{IsFaultOf, IsOutcome, IsOutputFor, Streams};
 ghost use Rattle.ima_agent.specs.Showing.{AreAllEntries, IsNoListFor, IsRefusedFor, ShowsHexadecimal, ShowsPlainEventsIn, data_of};
@@ -11,9 +11,9 @@ ghost use Rattle.ima_agent.specs.Showing.{AreAllEntries, IsNoListFor, IsRefusedF
 use crate::hexadecimal::decode_hexadecimal;
 use crate::streams::{DONE, Prepared, Sent, StreamFault, send_list, send_log, send_output};
 use agent_inputs::{AgentFiles, RunFault, load_input};
+use agent_plans::{DataShown, Form};
 use boot_log::LogView;
 use byte_streams::Sink;
-use command_line::{DataShown, Form};
 use ima_list::EntryRef;
 use ima_list::laws::entries_to_the_end_are_the_reading;
 use judging::{Input, Request};

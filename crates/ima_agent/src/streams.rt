@@ -1,7 +1,7 @@
 //! Outputs that are sent, some of them while their input is read.
 
 ghost use Rattle.std.specs.Prelude.{◌≡◌};
-ghost use Rattle.command_line.specs.declared.plan.Form.TheVariants.{Json};
+ghost use Rattle.agent_plans.specs.declared.plan.Form.TheVariants.{Json};
 ghost use Rattle.ima_agent.specs.Program.{SendsOutput, SendsText, Streams};
 ghost use Rattle.ima_agent.specs.Showing.{ShowsEntriesOf, ShowsEventsIn};
 

@@ -1,8 +1,8 @@
 -- What a call with these bytes requests, and what it gives.
 use Rattle.std.specs.Prelude.{ℕ, ◌==◌, if◌then◌else◌, Bool, List, bytes_eq, codes, length, Option, None, Some, option_map, ◌≡◌, ℤ, pos, ◌<◌, ◌≤◌, ◌⊎◌, false, [], ◌++◌, drop, Result, Ok, Err, unwrap_or}
-use Rattle.command_line.specs.declared.plan.Scope.TheVariants.{Prefix, Whole}
-use Rattle.command_line.specs.declared.plan.Form.{Form}
-use Rattle.command_line.specs.declared.plan.Form.TheVariants.{Json, Text}
+use Rattle.agent_plans.specs.declared.plan.Scope.TheVariants.{Prefix, Whole}
+use Rattle.agent_plans.specs.declared.plan.Form.{Form}
+use Rattle.agent_plans.specs.declared.plan.Form.TheVariants.{Json, Text}
 use Rattle.judging.specs.Requests.{Any, Requested, Compares, Judgement, ListRegistersOf, ListVerdictOf, LogRegistersOf, Nothing, PositionsOf, Requires, These, VerdictOf}
 use Rattle.judging.specs.Inputs.{BytesOf}
 use Rattle.agent_inputs.specs.declared.fault.FaultKind.{FaultKind}

@@ -19,7 +19,7 @@ ghost use Rattle.ima_verify_c.specs.Answers.{Answers, AnswersMore, GivesEntries,
 
 use crate::replies::{give, give_both, give_lines};
 use crate::requests::{form_of, given_bytes, registers_on, requested_by, verdict_of};
-use command_line::Form;
+use agent_plans::Form;
 use judging::{Input, Request, Required, Wanted};
 use pieces::{Position, entry_lines, event_lines};
 use std::alloc::Global;

@@ -8,8 +8,8 @@ ghost use Rattle.ima_verify_c.specs.Answers.{Answers, AnswersMore, AreGiven, Giv
 
 use crate::told::Told;
 use agent_inputs::RunFault;
+use agent_plans::Form;
 use byte_streams::{Failed, VecSink};
-use command_line::Form;
 use judging::Request;
 use pieces::{End, Piece, Position};
 use rendering::{Given, json_fault_line, json_memory_line, output_on, status_of, write_fault};

@@ -4,7 +4,7 @@ ghost use Rattle.std.specs.Prelude.{◌≡◌, option_map};
 ghost use Rattle.judging.specs.Requests.{requested_of, judgement_of, requires_of};
 ghost use Rattle.ima_verify_c.specs.Answers.{requested_by, requested_of_registers, form_of, given_bytes, required_by, verdict_of};
 
-use command_line::{Form, Scope};
+use agent_plans::{Form, Scope};
 use judging::{Comparison, Input, Request, Required, Wanted};
 
 /// JSON, or lines of text.

@@ -21,7 +21,7 @@ use Rattle.growing_lists.specs.declared.session.Session.{Session}
 use Rattle.growing_lists.specs.CheckpointData.{IsPossible}
 use Rattle.growing_lists.specs.Prefixes.{IsPrefixReport, IsUnconfirmedFault, IsWrongWith, TakesUnconfirmed}
 use Rattle.growing_lists.specs.Sessions.{HasTaken, TakesMore}
-use Rattle.command_line.specs.declared.plan.Scope.{Scope}
+use Rattle.agent_plans.specs.declared.plan.Scope.{Scope}
 use Rattle.agent_inputs.specs.declared.fault.RunFault.{RunFault}
 use Rattle.agent_inputs.specs.declared.fault.RunFault.TheVariants as runs
 use Rattle.agent_inputs.specs.Faults.{HasLogFault}

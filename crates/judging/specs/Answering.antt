@@ -26,8 +26,8 @@ use Rattle.growing_lists.specs.declared.session.Session.{Session}
 use Rattle.growing_lists.specs.CheckpointData.{IsPossible}
 use Rattle.growing_lists.specs.Prefixes.{AreUnconfirmed, IsConfirmed}
 use Rattle.growing_lists.specs.Sessions.{HasTaken, IsOfBoot}
-use Rattle.command_line.specs.declared.plan.Scope.{Scope}
-use Rattle.command_line.specs.declared.plan.Scope.TheVariants.{Whole, Prefix}
+use Rattle.agent_plans.specs.declared.plan.Scope.{Scope}
+use Rattle.agent_plans.specs.declared.plan.Scope.TheVariants.{Whole, Prefix}
 use Rattle.agent_inputs.specs.declared.fault.NotResumed.TheVariants.{OtherBoot, Damaged, Version}
 use Rattle.agent_inputs.specs.declared.fault.RunFault.{RunFault}
 use Rattle.agent_inputs.specs.declared.fault.RunFault.TheVariants as runs

@@ -1,6 +1,6 @@
 -- What is asked for: what is judged, and what the answer says of it.
 use Rattle.std.specs.Prelude.{ℕ, List, Option, None, Some, option_map}
-use Rattle.command_line.specs.declared.plan.Scope.{Scope}
+use Rattle.agent_plans.specs.declared.plan.Scope.{Scope}
 use Rattle.judging.specs.Inputs.{Where, FileOf, BytesOf}
 use Rattle.judging.specs.declared.inputs.Input.{Input}
 use Rattle.judging.specs.declared.inputs.Input.TheVariants as inputs

@@ -7,11 +7,11 @@ ghost use Rattle.judging.specs.Requests.{requires_of};
 
 use crate::inputs::Input;
 use agent_inputs::RunFault;
+use agent_plans::Scope;
 use boot_verdict::{
     Checkpoint, Expected, ListReport, Located, PrefixReport, RegisterRange, Report, Requirement,
     all_found, required_found,
 };
-use command_line::Scope;
 use pcr_banks::Banks;
 
 /// What the answer is, with what only it is of.

@@ -18,12 +18,12 @@ use Rattle.hash_workers.specs.declared.fault.AgentFault.TheVariants as agents
 use Rattle.hash_workers.specs.Batches.{IsBatchOf}
 use Rattle.hash_workers.specs.Faults.{IsAgentFaultOf}
 use Rattle.hash_workers.specs.Reasons.{IsReasonOf}
-use Rattle.command_line.specs.declared.plan.Measurement.{Measurement}
-use Rattle.command_line.specs.declared.plan.NameEnd.{NameEnd}
-use Rattle.command_line.specs.declared.plan.NameEnd.TheVariants.{LineFeed, Nul}
+use Rattle.agent_plans.specs.declared.plan.Measurement.{Measurement}
+use Rattle.agent_plans.specs.declared.plan.NameEnd.{NameEnd}
+use Rattle.agent_plans.specs.declared.plan.NameEnd.TheVariants.{LineFeed, Nul}
 use Rattle.agent_inputs.specs.declared.fault.RunFault.{RunFault}
 use Rattle.agent_inputs.specs.declared.fault.RunFault.TheVariants as runs
-use Rattle.agent_inputs.specs.Faults.{HasLogFault, fault_of_agent, fault_of_job}
+use Rattle.agent_inputs.specs.Faults.{HasLogFault, fault_of_job}
 use Rattle.agent_inputs.specs.Loading.{Inputs, IsInputFault, IsNotRead, IsNotUtf8, IsTooLong, OfInput, input_limit}
 use Rattle.measuring.specs.declared.file_book.Measured.{Measured}
 
@@ -149,13 +149,20 @@ pub record IsFileFault (held : Contents) (Fails : List ℕ → Type 0) (names : 
 abbrev pub IsAfterFiles : Contents → List (List ℕ) → RunFault → Type 0
 IsAfterFiles held names fault = (reason : BookFault) → fault ≡ runs.Book reason → HasFiles held names (length names)
 
+-- The program's fault for a fault of the workers. A wrong number of workers is a fault of the command line.
+abbrev pub fault_of_workers : AgentFault → RunFault
+fault_of_workers agents.Workers = runs.Usage
+fault_of_workers (agents.Book fault) = runs.Book fault
+fault_of_workers (agents.Gather fault) = runs.Gather fault
+fault_of_workers agents.Memory = runs.Memory
+
 -- Why the workers returned no batch. If their outcomes do not account for the book, this is the first reason against them.
 pub record IsNoBatch (held : Contents) (names : List (List ℕ)) (origin : Origin) (workers : ℕ) (fault : RunFault) : Type 0 where
   pub first : AgentFault
   pub first_is : IsAgentFaultOf workers origin first
   pub among : (reason : GatherFault) → first ≡ agents.Gather reason
       → IsReasonOf workers origin (length names) (IsFileMeasure held names origin.alg) reason
-  pub says : fault ≡ fault_of_agent first
+  pub says : fault ≡ fault_of_workers first
   pub after_files : IsAfterFiles held names fault
 
 -- Why the files of these names are not all recorded: there is no batch, or a book refused some, and this is the fault of the first of these.

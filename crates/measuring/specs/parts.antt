@@ -3,7 +3,7 @@ use Rattle.std.specs.Prelude.{ℕ, ◌<◌, ◌≤◌, List, length, map, slice_
 use Rattle.std.specs.Borrow.{Bor}
 use Rattle.hash_workers.specs.declared.fault.JobFault.{JobFault}
 use Rattle.hash_workers.specs.declared.fault.JobFault.TheVariants.{TooLong, Source, Memory}
-use Rattle.command_line.specs.declared.plan.Measurement.{Measurement}
+use Rattle.agent_plans.specs.declared.plan.Measurement.{Measurement}
 use Rattle.agent_inputs.specs.Loading.{Holds, Inputs, input_limit}
 use Rattle.measuring.specs.Measuring.{Contents}
 

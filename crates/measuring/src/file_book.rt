@@ -4,15 +4,15 @@ ghost use Rattle.std.specs.Prelude.{◌≡◌, ◌<◌, ◌⊎◌, ◌^◌, leng
 ghost use Rattle.boot_log.specs.LogViews.{log_bytes};
 ghost use Rattle.measure_book.specs.Operations.{book_outcome_of};
 ghost use Rattle.agent_inputs.specs.Faults.{fault_of_job};
-ghost use Rattle.measuring.specs.Measuring.{AreDone, AreLog, HasRecorded, IsFileFault, IsFirstRefusal};
+ghost use Rattle.measuring.specs.Measuring.{AreDone, AreLog, HasRecorded, IsFileFault, IsFirstRefusal, fault_of_workers};
 ghost use Rattle.measuring.specs.Measuring.{IsMeasuredOver, IsNotRecorded, IsRecordingFault};
 ghost use Rattle.measuring.specs.parts.{names_borrowed};
 
 use crate::named_files::{NamedFiles, ProgressGate};
 use crate::progress::FileProgress;
 use agent_inputs::{RunFault, SharedFiles};
+use agent_plans::Measurement;
 use boot_log::LogView;
-use command_line::Measurement;
 use hash_workers::{AgentFault, JobsFault, record_jobs};
 use measure_book::{Book, BookFault, Origin, Outcome};
 use pcr_banks::Banks;
@@ -87,7 +87,19 @@ fn recorded<R: Threads + Wait + Sync, S: SharedFiles + Sync, P: FileProgress>(
             jobs.check(alloc, origin.alg)?;
             Err(RunFault::Book(fault))
         }
-        Err(JobsFault::Agent(fault)) => Err(fault.into()),
+        Err(JobsFault::Agent(fault)) => Err(fault_of_workers(fault)),
+    }
+}
+
+// The program's fault for a fault of the workers.
+fn fault_of_workers(fault: AgentFault) -> RunFault
+    ensures { result ≡ fault_of_workers fault }
+{
+    match fault {
+        AgentFault::Workers => RunFault::Usage,
+        AgentFault::Book(fault) => RunFault::Book(fault),
+        AgentFault::Gather(fault) => RunFault::Gather(fault),
+        AgentFault::Memory => RunFault::Memory,
     }
 }
 

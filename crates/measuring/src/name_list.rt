@@ -7,7 +7,7 @@ ghost use Rattle.measuring.specs.Measuring.{AreNames, IsNamesFault, byte_of, nam
 ghost use Rattle.measuring.specs.parts.{IsTextFor, names_borrowed};
 
 use agent_inputs::{RunFault, not_utf8};
-use command_line::{Measurement, NameEnd};
+use agent_plans::{Measurement, NameEnd};
 use std::alloc::{AllocError, Global};
 
 // Names that are borrowed, or why there are none.

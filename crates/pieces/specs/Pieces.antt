@@ -7,8 +7,8 @@ use Rattle.pieces.specs.declared.piece.End.TheVariants.{Last, Longer, More}
 use Rattle.pieces.specs.declared.piece.Piece.{Piece}
 use Rattle.pieces.specs.declared.piece.Position.{Position}
 use Rattle.agent_inputs.specs.Faults.{fault_of_list, fault_of_log}
-use Rattle.command_line.specs.declared.plan.Form.{Form}
-use Rattle.command_line.specs.declared.plan.Form.TheVariants.{Json, Text}
+use Rattle.agent_plans.specs.declared.plan.Form.{Form}
+use Rattle.agent_plans.specs.declared.plan.Form.TheVariants.{Json, Text}
 use Rattle.ima_list.specs.Lines.{line_of}
 use Rattle.ima_list.specs.ListEntry.{ListEntry}
 use Rattle.ima_list.specs.Spelling.{BeginsWith}

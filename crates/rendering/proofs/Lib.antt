@@ -1,2 +1,1 @@
 pub mod EntryLineLaws
-pub mod EscapingLaws

@@ -1,3 +1,2 @@
-pub mod Escaping
 pub mod FaultTexts
 pub mod Rendering

@@ -16,10 +16,10 @@ use Rattle.json_texts.specs.ReportJson.{positions_json, expected_json, registers
 use Rattle.judging.specs.declared.request.Answer.{Answer}
 use Rattle.judging.specs.declared.request.Answer.TheVariants.{Report, Prefix, Positions, ListReport, Registers, Expected}
 use Rattle.judging.specs.declared.request.Answered.{Answered}
-use Rattle.command_line.specs.declared.plan.Form.{Form}
-use Rattle.command_line.specs.declared.plan.Form.TheVariants as forms
-use Rattle.command_line.specs.declared.plan.Print.{Print}
-use Rattle.command_line.specs.declared.plan.Print.TheVariants as prints
+use Rattle.agent_plans.specs.declared.plan.Form.{Form}
+use Rattle.agent_plans.specs.declared.plan.Form.TheVariants as forms
+use Rattle.agent_plans.specs.declared.plan.Print.{Print}
+use Rattle.agent_plans.specs.declared.plan.Print.TheVariants as prints
 use Rattle.ima_list.specs.Lines.{line_of as entry_text}
 use Rattle.json_texts.specs.ItemLines.{entry_lines}
 use Rattle.measure_book.specs.Books.{exported}

@@ -1,9 +1,7 @@
-//! The outputs of answers, as text or JSON, of files or of bytes in memory; and what is said of a fault.
+//! The outputs of answers, as text or JSON, of files or of bytes in memory; and the line of a fault.
 #![tactic(auto)]
 
 mod checkpoints;
-mod escapes;
-mod explanations;
 mod fault_lines;
 mod json_faults;
 mod no_files;
@@ -11,8 +9,6 @@ mod outputs;
 mod printed_lists;
 mod renderer;
 
-pub use escapes::escape;
-pub use explanations::{Failure, explanation};
 pub use fault_lines::{status_of, write_fault};
 pub use json_faults::{json_fault_line, json_memory_line};
 pub use outputs::{Given, output_for, output_on};

@@ -7,8 +7,8 @@ ghost use Rattle.measure_book.specs.Books.{exported};
 ghost use Rattle.rendering.specs.Rendering.{print_measured};
 
 use crate::renderer::{Output, render};
+use agent_plans::{Form, Print};
 use byte_streams::VecSink;
-use command_line::{Form, Print};
 use ima_list::Entry;
 use json_texts::append_entry;
 use judging::{Answer, Answered, Registers};

@@ -6,9 +6,9 @@ ghost use Rattle.json_texts.specs.JsonValues.{line_of};
 ghost use Rattle.judging.specs.declared.request.Answer.TheVariants as answers;
 ghost use Rattle.rendering.specs.Rendering.{json_of, lines_of, render};
 
+use agent_plans::Form;
 use boot_verdict::{Report, write_expected, write_registers};
 use byte_streams::{Failed, Sink, VecSink};
-use command_line::Form;
 use json_texts::{
     append_expected, append_list_report, append_positions, append_prefix_report, append_registers,
     append_report,

@@ -6,7 +6,7 @@ use Rattle.clap.specs.declared.builder.Arg.{Arg}
 use Rattle.clap.specs.declared.builder.Command.{Command}
 use Rattle.clap.specs.declared.builder.ValueParser.{ValueParser}
 use Rattle.clap.specs.declared.builder.ValueParser.TheVariants.{Names}
-use Rattle.command_line.specs.Plans.{beside, flag, optional, repeated, required, without_default}
+use Rattle.command_line.specs.Arguments.{beside, flag, optional, repeated, required, without_default}
 use Rattle.command_line.specs.declared.command_table.ArgumentRow.{ArgumentRow}
 use Rattle.command_line.specs.declared.command_table.CommandRow.{CommandRow}
 use Rattle.command_line.specs.declared.command_table.Form.{Form}

@@ -1,5 +1,5 @@
 use Rattle.std.proofs.Common.{refl, rules}
-use Rattle.command_line.specs.Plans.{HasHelpWord}
+use Rattle.command_line.specs.Arguments.{HasHelpWord}
 use Rattle.command_line.proofs.arguments.help_of.Goals as goal
 
 pub returns-in_ok-format-in-DisplayHelp : goal.returns-in_ok-format-in-DisplayHelp

@@ -2,7 +2,8 @@ use Rattle.std.proofs.Common.{ap, map, subst, string_bytes, sym, inl, inr, â—Œâˆ
 use Rattle.std.proofs.lemmas.Result.{IfOk-weaker}
 use Rattle.clap.specs.Takes.{takes}
 use Rattle.clap.specs.Words.{is_simple, subcommand_of}
-use Rattle.command_line.specs.Plans.{HasValuesIn, IsWithinRanges, IsWithin}
+use Rattle.agent_plans.specs.Plans.{IsWithinRanges, IsWithin}
+use Rattle.command_line.specs.Arguments.{HasValuesIn}
 use Rattle.command_line.proofs.ReadLemmas.{commands_are_simple}
 use Rattle.command_line.proofs.arguments.plan_in.Goals as goal
 

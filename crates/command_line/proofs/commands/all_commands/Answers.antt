@@ -2,7 +2,7 @@ use Rattle.std.proofs.Common.{◌∙◌, ap}
 use Rattle.std.specs.List.{fold}
 use Rattle.std.proofs.lemmas.List.{take_all}
 use Rattle.command_line.specs.parts.Commands.{with_row}
-use Rattle.command_line.specs.Plans.{program_app}
+use Rattle.command_line.specs.Arguments.{program_app}
 use Rattle.command_line.proofs.commands.all_commands.Goals as goal
 
 pub returns : goal.returns

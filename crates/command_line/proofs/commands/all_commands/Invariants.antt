@@ -1,7 +1,7 @@
 use Rattle.std.proofs.Common.{take}
 use Rattle.std.specs.List.{fold}
 use Rattle.command_line.specs.parts.Commands.{IsCommand, with_row}
-use Rattle.command_line.specs.Plans.{program_app}
+use Rattle.command_line.specs.Arguments.{program_app}
 use Rattle.command_line.proofs.commands.all_commands.Given as goal
 
 -- The program has the commands of the rows so far.

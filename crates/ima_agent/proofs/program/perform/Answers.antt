@@ -1,5 +1,5 @@
 use Rattle.std.proofs.Common.{refl, inl, string_bytes}
-use Rattle.command_line.specs.declared.plan.Task.TheVariants as tasks
+use Rattle.agent_plans.specs.declared.plan.Task.TheVariants as tasks
 use Rattle.ima_agent.specs.Showing.{version_text}
 use Rattle.ima_agent.proofs.OutcomeLaws.{outcome_sent, text_sent}
 use Rattle.ima_agent.proofs.program.perform.Goals as goal

@@ -1,6 +1,6 @@
 use Rattle.std.proofs.lemmas.Result.{IfOk-weaker}
-use Rattle.command_line.specs.declared.plan.Form.TheVariants.{Text}
-use Rattle.command_line.specs.declared.plan.Task.TheVariants as tasks
+use Rattle.agent_plans.specs.declared.plan.Form.TheVariants.{Text}
+use Rattle.agent_plans.specs.declared.plan.Task.TheVariants as tasks
 use Rattle.ima_agent.proofs.OutcomeLaws.{entries_outcome, kept_so, outcome_sent}
 use Rattle.ima_agent.proofs.StreamingLaws.{streams_so}
 use Rattle.ima_agent.proofs.shown.entries_for.Goals as goal

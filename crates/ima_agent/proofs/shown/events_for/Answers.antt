@@ -1,4 +1,4 @@
-use Rattle.command_line.specs.declared.plan.Task.TheVariants as tasks
+use Rattle.agent_plans.specs.declared.plan.Task.TheVariants as tasks
 use Rattle.ima_agent.proofs.OutcomeLaws.{events_outcome, none_sent, not_loaded, plain_outcome}
 use Rattle.ima_agent.proofs.StreamingLaws.{streams_so}
 use Rattle.ima_agent.proofs.shown.events_for.Goals as goal

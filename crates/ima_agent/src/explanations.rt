@@ -2,11 +2,12 @@
 
 ghost use Rattle.std.specs.Prelude.{◌≡◌, true, string_bytes, IfOk};
 ghost use Rattle.std.specs.List.{list_all};
-ghost use Rattle.rendering.specs.Escaping.{is_shown};
+ghost use Rattle.ima_agent.specs.Escaping.{is_shown};
 
 use crate::escapes::{escape_each, shown_line, shown_lines};
 use agent_inputs::RunFault;
-use command_line::{Judge, Judged, Measurement, Question, Task, refusal_of};
+use agent_plans::{Judge, Judged, Measurement, Question, Task};
+use command_line::refusal_of;
 use measure_book::BookFault;
 use std::alloc::{AllocError, Global};
 use std::fs::File;

@@ -1,6 +1,6 @@
 use Rattle.std.proofs.Common.{append_assoc, refl, sym, ◌∙◌}
-use Rattle.rendering.proofs.EscapingLaws.{escaped_byte_is_printable, hidden_byte, printable_is_ascii}
-use Rattle.rendering.proofs.escapes.push_escaped.Goals as goal
+use Rattle.ima_agent.proofs.EscapingLaws.{escaped_byte_is_printable, hidden_byte, printable_is_ascii}
+use Rattle.ima_agent.proofs.escapes.push_escaped.Goals as goal
 
 pub returns-clause-text : goal.returns-clause-text
 returns-clause-text c =

@@ -1,7 +1,7 @@
 use Rattle.std.proofs.Common.{◌≡◌, true, string_bytes}
 use Rattle.std.specs.List.{list_all}
-use Rattle.rendering.specs.Escaping.{is_shown}
-use Rattle.rendering.proofs.escapes.shown_lines.Given as goal
+use Rattle.ima_agent.specs.Escaping.{is_shown}
+use Rattle.ima_agent.proofs.escapes.shown_lines.Given as goal
 
 -- The lines so far are shown.
 abbrev pub invariant-loop-line : goal.invariant-loop-line

@@ -1,8 +1,8 @@
 use Rattle.std.proofs.Common.{◌≡◌, take, true, string_bytes}
 use Rattle.std.specs.Prelude.{flat_map}
 use Rattle.std.specs.List.{list_all}
-use Rattle.rendering.specs.Escaping.{escaped_byte, is_printable}
-use Rattle.rendering.proofs.escapes.escape.Given as goal
+use Rattle.ima_agent.specs.Escaping.{escaped_byte, is_printable}
+use Rattle.ima_agent.proofs.escapes.escape.Given as goal
 
 -- The bytes so far are shown.
 abbrev pub invariant-loop-byte : goal.invariant-loop-byte

@@ -1,7 +1,7 @@
 //! Why the arguments were refused.
 
 ghost use Rattle.std.specs.Prelude.{◌≡◌};
-ghost use Rattle.command_line.specs.declared.fault.ArgumentsFault.TheVariants.{Memory};
+ghost use Rattle.agent_plans.specs.declared.fault.ArgumentsFault.TheVariants.{Memory};
 
 use std::alloc::{AllocError, AllocFailed};
 use thiserror::Error;

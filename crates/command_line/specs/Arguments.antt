@@ -1,19 +1,6 @@
--- What is to be done, the plans that request it, and how they come from the arguments.
-use Rattle.std.specs.Prelude.{◌≡◌, ◌≤◌, ◌<◌, ◌^◌, not, Bool, false, true, Option, None, is_some, String, vec_len, List, [], ◌∷◌, codes, Some, ℕ, ◌⊎◌, ◌||◌, ◌==◌, IsTrue, bytes_eq, map, option_map, unwrap_or, string_bytes}
+-- The commands as clap takes them, and the plan that comes from the arguments.
+use Rattle.std.specs.Prelude.{◌≡◌, Bool, true, false, Option, None, String, List, [], ◌∷◌, codes, Some, ℕ, ◌⊎◌, ◌||◌, ◌==◌, IsTrue, bytes_eq, map, option_map, unwrap_or, string_bytes}
 use Rattle.std.specs.Global.{Global}
-use Rattle.command_line.specs.declared.plan.Scope.TheVariants.{Whole, Prefix}
-pub use Rattle.command_line.specs.declared.plan.Form.{Form}
-use Rattle.command_line.specs.declared.plan.Form.TheVariants as forms
-pub use Rattle.command_line.specs.declared.plan.Judged.{Judged}
-use Rattle.command_line.specs.declared.plan.Judged.TheVariants as judged
-pub use Rattle.command_line.specs.declared.plan.Measurement.{Measurement}
-pub use Rattle.command_line.specs.declared.plan.Plan.{Plan}
-use Rattle.command_line.specs.declared.plan.Plan.TheVariants as plans
-pub use Rattle.command_line.specs.declared.plan.Print.{Print}
-use Rattle.command_line.specs.declared.plan.Print.TheVariants.{Binary}
-use Rattle.command_line.specs.declared.plan.Question.TheVariants as questions
-pub use Rattle.command_line.specs.declared.plan.Task.{Task}
-use Rattle.command_line.specs.declared.plan.Task.TheVariants as tasks
 use Rattle.std.specs.List.{fold, list_any, starts_with}
 use Rattle.clap.specs.Words.{App, Rule, Text, new_app, new_rule, with_rule, with_subcommand, Row, all_of, first_of, subcommand_of}
 use Rattle.clap.specs.Lexer.{usize_max}
@@ -23,64 +10,26 @@ use Rattle.std.specs.Str.Parse.{IsNumeral, digits_value, without_leading_plus}
 use Rattle.clap.specs.Takes.{takes}
 use Rattle.pcr_banks.specs.Hashing.{name_of}
 use Rattle.ima_list.specs.Templates.{template_name}
-use Rattle.command_line.specs.declared.plan.DataShown.TheVariants.{Size, Bytes}
-use Rattle.command_line.specs.declared.plan.NameEnd.TheVariants.{LineFeed, Nul}
-use Rattle.command_line.specs.declared.plan.Names.{Names}
-use Rattle.command_line.specs.declared.plan.Print.TheVariants as prints
-use Rattle.command_line.specs.declared.plan.Question.{Question}
+use Rattle.agent_plans.specs.Plans.{IsOneOf, task_of}
+use Rattle.agent_plans.specs.declared.plan.DataShown.TheVariants.{Size, Bytes}
+use Rattle.agent_plans.specs.declared.plan.Form.{Form}
+use Rattle.agent_plans.specs.declared.plan.Form.TheVariants as forms
+use Rattle.agent_plans.specs.declared.plan.Judged.{Judged}
+use Rattle.agent_plans.specs.declared.plan.Judged.TheVariants as judged
+use Rattle.agent_plans.specs.declared.plan.Measurement.{Measurement}
+use Rattle.agent_plans.specs.declared.plan.NameEnd.TheVariants.{LineFeed, Nul}
+use Rattle.agent_plans.specs.declared.plan.Names.{Names}
+use Rattle.agent_plans.specs.declared.plan.Plan.{Plan}
+use Rattle.agent_plans.specs.declared.plan.Plan.TheVariants as plans
+use Rattle.agent_plans.specs.declared.plan.Print.{Print}
+use Rattle.agent_plans.specs.declared.plan.Print.TheVariants as prints
+use Rattle.agent_plans.specs.declared.plan.Question.{Question}
+use Rattle.agent_plans.specs.declared.plan.Question.TheVariants as questions
+use Rattle.agent_plans.specs.declared.plan.Scope.TheVariants.{Whole, Prefix}
+use Rattle.agent_plans.specs.declared.plan.Task.{Task}
+use Rattle.agent_plans.specs.declared.plan.Task.TheVariants as tasks
 
--- The task that a plan requests, and the form in which its result is shown.
-abbrev pub task_of : Plan → Task × Form
-task_of plans.Registers = (tasks.Registers, forms.Text)
-task_of (plans.Measure alg template workers limit print log files) = (
-  tasks.Measure
-      (record { alg = alg; template = template; workers = workers; limit = limit; print = print; log = log; files = files; names = None }),
-  forms.Text,
-)
-task_of (plans.Verify log list expected) =
-    (tasks.Answer (questions.Judge (record { judged = judged.Verdict log Whole None None; list = list; expected = expected; required = None })), forms.Text)
-task_of (plans.Show list) = (tasks.Entries list, forms.Text)
-task_of (plans.Help text) = (tasks.Help text, forms.Text)
-task_of (plans.Task task form) = (task, form)
-
--- ---- one plan for each
-
--- The verdict on a whole list, and nothing more.
-abbrev pub is_plain_verdict : Judged → Option (String Global) → Bool
-is_plain_verdict (judged.Verdict log Whole None None) None = true
-is_plain_verdict judged required = false
-
--- Some other plan than `Task` requests this, as text.
-abbrev pub has_plan : Task → Bool
-has_plan tasks.Registers = true
-has_plan (tasks.Answer (questions.Judge judge)) = is_plain_verdict judge.judged judge.required
-has_plan (tasks.Measure request) = not (is_some request.names)
-has_plan (tasks.Entries list) = true
-has_plan (tasks.Help text) = true
-has_plan task = false
-
--- A plan `Task` is only for what no other plan requests.
-abbrev pub IsOneOf : Plan → Type 0
-IsOneOf (plans.Task task forms.Text) = has_plan task ≡ false
-IsOneOf plan = Unit {0}
-
--- ---- ranges
-
--- What is printed of a measurement can be shown in this form: there is no JSON of the binary list.
-abbrev pub HasForm : Form → Print → Type 0
-HasForm forms.Json Binary = ⊥
-HasForm form print = Unit {0}
-
--- A measurement has 1 to 8 workers, a limit of at least one record, and fewer than 2^32 files named by arguments.
-abbrev pub IsWithinLimits : Form → Measurement → Type 0
-IsWithinLimits form request =
-    (1 ≤ request.workers) × (request.workers ≤ 8) × (1 ≤ request.limit) × (vec_len request.files < 2 ^ 32) × HasForm form request.print
-
-abbrev pub IsWithin : Form → Task → Type 0
-IsWithin form (tasks.Measure request) = IsWithinLimits form request
-IsWithin form task = Unit {0}
-
--- ---- the commands, as clap takes them
+-- ---- the commands
 
 -- clap's parsers of the values of options. They are left open: a plan says what the values are.
 pub record Parsers : Type 0 where
@@ -263,10 +212,6 @@ pub record IsMatched (command : Text) (arguments : List Text) (plan : Plan) : Ty
 -- says nothing.)
 abbrev pub AreNotTaken : List Text → Type 0
 AreNotTaken arguments = (parsers : Parsers) × (takes (commands parsers) arguments ≡ true → ⊥)
-
--- What the plan requests is within its ranges.
-abbrev pub IsWithinRanges : Plan → Type 0
-IsWithinRanges plan = IsWithin (task_of plan).1 (task_of plan).0
 
 -- The argument requests help: it is `--help`, or short options of which the first is `-h`.
 abbrev pub asks_help : List ℕ → Bool

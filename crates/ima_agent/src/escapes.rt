@@ -3,7 +3,7 @@
 ghost use Rattle.std.specs.Prelude.{◌≡◌, ◌<◌, ◌++◌, true, map, slice_index, string_bytes, IfOk, OnOk};
 ghost use Rattle.std.specs.List.{list_all};
 ghost use Rattle.hex.specs.Hex.{lower_digits};
-ghost use Rattle.rendering.specs.Escaping.{escape, escaped_byte, is_printable, is_shown};
+ghost use Rattle.ima_agent.specs.Escaping.{escape, escaped_byte, is_printable, is_shown};
 
 use std::alloc::{AllocError, Global};
 

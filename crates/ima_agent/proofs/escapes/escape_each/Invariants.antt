@@ -1,6 +1,6 @@
 use Rattle.std.proofs.Common.{◌≡◌, map, take, string_bytes}
-use Rattle.rendering.specs.Escaping.{escape}
-use Rattle.rendering.proofs.escapes.escape_each.Given as goal
+use Rattle.ima_agent.specs.Escaping.{escape}
+use Rattle.ima_agent.proofs.escapes.escape_each.Given as goal
 
 -- The texts so far are escaped.
 abbrev pub invariant-loop-text : goal.invariant-loop-text

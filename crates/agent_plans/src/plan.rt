@@ -1,10 +1,10 @@
 //! What the program's arguments request.
 
 ghost use Rattle.std.specs.Prelude.{◌≡◌};
-ghost use Rattle.command_line.specs.Plans.{IsOneOf, task_of};
-ghost use Rattle.command_line.specs.declared.plan.Form.TheVariants.{Text};
-ghost use Rattle.command_line.specs.declared.plan.Question.TheVariants as questions;
-ghost use Rattle.command_line.specs.declared.plan.Task.TheVariants as tasks;
+ghost use Rattle.agent_plans.specs.Plans.{IsOneOf, task_of};
+ghost use Rattle.agent_plans.specs.declared.plan.Form.TheVariants.{Text};
+ghost use Rattle.agent_plans.specs.declared.plan.Question.TheVariants as questions;
+ghost use Rattle.agent_plans.specs.declared.plan.Task.TheVariants as tasks;
 
 use ima_list::Template;
 use pcr_banks::Alg;
@@ -268,8 +268,8 @@ impl Plan {
         }
     }
 
-    /// The plan of this task, shown in this form.
-    pub(crate) fn of(request: (Task, Form)) -> Plan
+    /// The plan of this task, shown in this form. `Task` is the plan only of what no other plan requests.
+    pub fn of(request: (Task, Form)) -> Plan
         ensures task { task_of result ≡ request }
         ensures one { IsOneOf result }
     {

@@ -1,7 +1,7 @@
 use Rattle.std.proofs.Common.{[], ◌∷◌, arith, refl, string_bytes}
-use Rattle.rendering.specs.Escaping.{is_shown}
-use Rattle.rendering.proofs.EscapingLaws.{all_joined, printable_is_shown}
-use Rattle.rendering.proofs.escapes.shown_line.Goals as goal
+use Rattle.ima_agent.specs.Escaping.{is_shown}
+use Rattle.ima_agent.proofs.EscapingLaws.{all_joined, printable_is_shown}
+use Rattle.ima_agent.proofs.escapes.shown_line.Goals as goal
 
 pub returns : goal.returns
 returns c =

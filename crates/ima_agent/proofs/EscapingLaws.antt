@@ -5,7 +5,7 @@ use Rattle.std.specs.List.{list_all}
 use Rattle.std.proofs.lemmas.Bool.{and_parts, both_ways, cases_Bool, leb-true}
 use Rattle.std.proofs.lemmas.List.Folds.{list_all-append, list_all_at}
 use Rattle.hex.specs.Hex.{encode_with, lower_digits}
-use Rattle.rendering.specs.Escaping.{escaped_byte, is_printable, is_shown}
+use Rattle.ima_agent.specs.Escaping.{escaped_byte, is_printable, is_shown}
 
 -- Texts that pass, joined.
 pub all_joined : (test : ℕ → Bool) (prefix back : List ℕ) → list_all test prefix ≡ true → list_all test back ≡ true

@@ -1,0 +1,10 @@
+//! What the program can be asked to do: tasks, the forms of their results, and the plans that request them.
+#![tactic(auto)]
+
+mod fault;
+mod plan;
+
+pub use fault::ArgumentsFault;
+pub use plan::{
+    DataShown, Form, Judge, Judged, Measurement, NameEnd, Names, Plan, Print, Question, Scope, Task,
+};
