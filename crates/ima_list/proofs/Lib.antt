@@ -9,4 +9,3 @@ pub mod ReplayLaws
 pub mod FieldsLaws
 pub mod AggregateLaws
 pub mod LineLaws
-pub mod BindingLaws

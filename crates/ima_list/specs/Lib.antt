@@ -11,7 +11,6 @@ pub mod Lines
 pub mod Aggregates
 pub mod Pieces
 pub mod EntriesIn
-pub mod Binding
 pub mod Equality
 pub mod parts
 pub use Rattle.byte_streams.specs.Streams

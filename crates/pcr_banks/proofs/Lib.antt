@@ -4,6 +4,5 @@ pub mod OptionLaws
 pub mod ExtendLaws
 pub mod HashLaws
 pub mod BankLaws
-pub mod BindingLaws
 pub mod PlaceLaws
 pub mod EqualityLaws

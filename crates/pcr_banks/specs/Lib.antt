@@ -3,6 +3,5 @@ pub mod Digests
 pub mod Sets
 pub mod Registers
 pub mod Hashers
-pub mod Binding
 pub mod Equality
 pub mod parts

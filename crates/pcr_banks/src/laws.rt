@@ -1,6 +1,6 @@
 //! Laws: consequences of the definitions, each the contract of a function that does nothing, or only reads.
 
-ghost use Rattle.std.specs.Prelude.{◌≡◌, ◌↔◌, ◌⊎◌, ℕ, ◌<◌, Bool, List, length, count_by, Some, is_some, IsTrue, IsSome, IfSome};
+ghost use Rattle.std.specs.Prelude.{◌≡◌, ◌↔◌, ℕ, ◌<◌, Bool, List, length, count_by, Some, is_some, IsTrue, IsSome, IfSome};
 ghost use Rattle.std.specs.List.{list_all, list_any};
 ghost use Rattle.std.specs.Option.{ForSome};
 ghost use Rattle.hex.specs.Hex.{IsBytes};
@@ -11,8 +11,7 @@ ghost use Rattle.pcr_banks.specs.declared.sets.PerBank.{PerBank};
 ghost use Rattle.pcr_banks.specs.Hashing.{all_algs, same_alg, size_of};
 ghost use Rattle.pcr_banks.specs.Digests.{alg_of, bytes_of};
 ghost use Rattle.pcr_banks.specs.Sets.{has_alg, digest_for};
-ghost use Rattle.pcr_banks.specs.Registers.{extended_by_all, in_bank, is_active, register_count, value_at};
-ghost use Rattle.pcr_banks.specs.Binding.{ExtendsBreakHash};
+ghost use Rattle.pcr_banks.specs.Registers.{in_bank, is_active, register_count, value_at};
 
 use crate::banks::Bank;
 use crate::{Alg, Banks, Digest, REGISTERS};
@@ -120,14 +119,4 @@ pub fn digest_is_a_hash(digest: &Digest)
 // Bytes are below 256.
 fn are_bytes(bytes: &[u8])
     ensures { IsBytes bytes.now }
-{}
-
-/// What the value of a register tells. If two sequences of extends end in the same value, they have the same start value and the
-/// same digests in the same order, or they break the hash. Each extend hashes one input: the value before it, followed by its
-/// digest. The break is a collision between an input of the first sequence and one of the second; or, only if one sequence is
-/// longer, a preimage of the other's start value among the inputs of the longer one.
-pub fn value_tells_extends()
-    ensures { (alg : Alg) (value other : List ℕ) (digests others : List (List ℕ)) → length value ≡ size_of alg
-        → length other ≡ size_of alg → extended_by_all alg value digests ≡ extended_by_all alg other others
-        → ((value ≡ other) × (digests ≡ others)) ⊎ ExtendsBreakHash alg value digests other others }
 {}

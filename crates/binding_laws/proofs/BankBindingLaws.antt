@@ -10,7 +10,7 @@ use Rattle.std.proofs.Math.Seq.{append_snoc}
 use Rattle.pcr_banks.specs.declared.alg.Alg.{Alg}
 use Rattle.pcr_banks.specs.Hashing.{hash_of, size_of}
 use Rattle.pcr_banks.specs.Registers.{extended_value, extended_by_all}
-use Rattle.pcr_banks.specs.Binding.{Collision, Preimage, IsExtendInput, ExtendsBreakHash}
+use Rattle.binding_laws.specs.BankBinding.{Collision, Preimage, IsExtendInput, ExtendsBreakHash}
 use Rattle.pcr_banks.proofs.HashLaws.{hash_size}
 
 -- ---- lists from their end

@@ -1,0 +1,3 @@
+pub mod BankBindingLaws
+pub mod LogBindingLaws
+pub mod ListBindingLaws

@@ -1,0 +1,3 @@
+pub mod BankBinding
+pub mod LogBinding
+pub mod ListBinding

@@ -1,0 +1,14 @@
+//! What the value of a register tells of what extended it, and what it does not: laws, each the contract of a function that does nothing,
+//! or only reads.
+#![tactic(auto)]
+
+mod banks;
+mod lists;
+mod logs;
+
+pub use banks::value_tells_extends;
+pub use lists::{
+    banks_tell_extensions, extensions_tell_genuine_digests, value_tells_extensions,
+    value_tells_extensions_alone,
+};
+pub use logs::{firmware_value_tells_extends, firmware_value_tells_extends_alone};
