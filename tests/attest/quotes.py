@@ -6,6 +6,7 @@ from dataclasses import replace
 
 from calling import GOOD, LAST_ENTRY, LONGER, LOW, NEEDED, NONCE, QUOTED, AttestTests, LenientTests
 from emulated import BOOT
+from reference.quotes import QuoteFault, read_quote
 from reference.registers import SHA256, SHA384, SHA512
 
 
@@ -17,11 +18,26 @@ class Messages(LenientTests):
         message = GOOD.quote.read_bytes()
         texts = re.findall(r"^    \d+ *: 0x(\w+)$", (QUOTED / "sha256.txt").read_text(), re.MULTILINE)
         values = b"".join(map(bytes.fromhex, texts))
+        required = [(SHA256, register) for register in range(11)]
         selection = message.index(bytes.fromhex("00000001000b03ff0700"))
-        bank, size = selection + 4, selection + 6
+        bank, size, apart = selection + 4, selection + 6, []
+
+        def value_of(algorithm, register):
+            return values[32 * register :][:32] or None if algorithm is SHA256 else None
+
+        def holds(message, nonce=NONCE):
+            """Whether the reference takes the message for a quote of these values, with this nonce."""
+            try:
+                quote = read_quote(message)
+            except QuoteFault:
+                return False
+            return quote.nonce == bytes.fromhex(nonce) and quote.covers(required) and quote.is_of(value_of)
 
         def attested(changed, **changes):
-            return self.attest(quote=self.put("message", changed), **changes)
+            ended = self.attest(quote=self.put("message", changed), **changes)
+            if holds(changed, **changes) != (ended.status == 0):
+                apart.append(changed.hex())
+            return ended
 
         def selecting(bits):
             return message[: size + 1] + bytes.fromhex(bits) + message[size + 4 :]
@@ -55,6 +71,7 @@ class Messages(LenientTests):
         for length in (0, 1, 20, 31, 33, 48, 64):
             changed = message[:-34] + length.to_bytes(2, "big") + bytes(length)
             self.check_refused(f"a hash of {length} bytes", attested(changed))
+        self.check("messages of which the reference says another thing than ima-attest", apart, [])
 
 
 class Samples(AttestTests):

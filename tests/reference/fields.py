@@ -1,4 +1,4 @@
-"""Fields of a binary format. All numbers are little endian."""
+"""Fields of a binary format. Numbers are little endian, unless another order is given."""
 
 
 class Cut(Exception):
@@ -8,8 +8,8 @@ class Cut(Exception):
 class Fields:
     """The fields of some bytes, taken one after another."""
 
-    def __init__(self, data):
-        self.data, self.place = data, 0
+    def __init__(self, data, order="little"):
+        self.data, self.place, self.order = data, 0, order
 
     def left(self):
         return len(self.data) - self.place
@@ -21,11 +21,11 @@ class Fields:
         return self.data[self.place - size : self.place]
 
     def number(self, size=4):
-        return int.from_bytes(self.take(size), "little")
+        return int.from_bytes(self.take(size), self.order)
 
-    def with_length(self):
-        """Bytes after their length."""
-        return self.take(self.number())
+    def with_length(self, size=4):
+        """Bytes after their length, which takes so many bytes."""
+        return self.take(self.number(size))
 
 
 def number(value, size=4):

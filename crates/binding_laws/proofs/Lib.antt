@@ -1,3 +1,4 @@
 pub mod BankBindingLaws
 pub mod LogBindingLaws
 pub mod ListBindingLaws
+pub mod QuoteBindingLaws

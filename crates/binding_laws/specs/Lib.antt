@@ -1,3 +1,4 @@
 pub mod BankBinding
 pub mod LogBinding
 pub mod ListBinding
+pub mod QuoteBinding

@@ -1,10 +1,11 @@
-//! What the value of a register tells of what extended it, and what it does not: laws, each the contract of a function that does nothing,
+//! What the value of a register tells of what extended it, and what it does not; what a quote tells of values: laws, each the contract of a function that does nothing,
 //! or only reads.
 #![tactic(auto)]
 
 mod banks;
 mod lists;
 mod logs;
+mod quotes;
 
 pub use banks::value_tells_extends;
 pub use lists::{
@@ -12,3 +13,4 @@ pub use lists::{
     value_tells_extensions_alone,
 };
 pub use logs::{firmware_value_tells_extends, firmware_value_tells_extends_alone};
+pub use quotes::quote_tells_values;

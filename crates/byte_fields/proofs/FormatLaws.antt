@@ -2,14 +2,14 @@
 -- where they fail with it.
 use Rattle.std.proofs.Common.{◌≡◌, ℕ, zero, suc, ◌*◌, ◌^◌, ◌<◌, ◌⊎◌, Bool, true, false, cond, eqb, ltb, List, [], ◌∷◌, ◌++◌, length, take, drop, Option, Some, None, Result, Ok, Err, refl, sym, ap, subst, ◌∙◌, append_assoc, arith, inl, inr}
 use Rattle.std.specs.Prelude.{ok_or, IfErr, flat_map}
-use Rattle.std.specs.Int.{Width, w16, w32, byte_len, from_le_bytes}
+use Rattle.std.specs.Int.{Width, w16, w32, w64, byte_len}
 use Rattle.std.proofs.lemmas.Bool.{ltb-true, ltb-false, lt-ltb, eqb-true}
 use Rattle.std.proofs.lemmas.List.{length-take, take_at, drop_at, append-nil, take-append-drop}
 use Rattle.std.proofs.lemmas.List.Concat.{flat_map-cons}
-use Rattle.byte_fields.specs.Reading.{◌>>=◌, number_at, part_at, byte_at, sized_at, items_at}
-use Rattle.byte_fields.specs.Formats.{Format, Begins, IsRead, number, part, byte, ◌followed_by◌, seen, viewed, unless, telling, mapped, sized_by, sized, read_by, either, within, whole, AreInTurn, spelled_in_turn, FailInTurn, counted}
+use Rattle.byte_fields.specs.Reading.{◌>>=◌, number_at, number_by, part_at, byte_at, sized_at, items_at}
+use Rattle.byte_fields.specs.Formats.{Format, Begins, IsRead, big_number, number, number_in, part, byte, ◌followed_by◌, seen, viewed, unless, telling, mapped, sized_by, sized, read_by, either, within, whole, AreInTurn, spelled_in_turn, FailInTurn, counted}
 use Rattle.byte_fields.proofs.Steps.{IsBytes, IsBytes-drop, IsBytes-take, bind_ok, guard_ok, test_ok, same_fault, the_ok, ok_is}
-use Rattle.byte_fields.proofs.FieldLaws.{IsWide, wide16, wide32, number_again, part_again}
+use Rattle.byte_fields.proofs.FieldLaws.{IsWide, wide16, wide32, big16, big32, big64, number_again, part_again}
 
 -- The reader finds what the bytes begin with, or the fault that they fail with, and nothing else; each fault is a `P`.
 pub record Exact {X E : Type 0} (P : E → Type 0) (format : Format X E) : Type 0 where
@@ -47,37 +47,47 @@ IsBytes-prefix bytes prefix rest parts fits =
 few : {A E : Type 0} (n count : ℕ) (c d : E) (r : Result A E) → (d ≡ c) × (n < count) → cond (ltb n count) (Err c) r ≡ Err d
 few n count c d r fail = rw (lt-ltb n count fail.1, fail.0) refl
 
-number_found : {E : Type 0} (c : E) (w : Width) (bytes : List ℕ) (b : Bool) → IsWide w (2 ^ (8 * byte_len w))
-    → b ≡ ltb (length bytes) (byte_len w) → IsBytes bytes
-    → IsRead (number c w) bytes (cond b (Err c) (Ok (from_le_bytes w (take (byte_len w) bytes), drop (byte_len w) bytes)))
-number_found c w bytes true wide e fits = (refl, ltb-true (length bytes) (byte_len w) (sym e))
-number_found c w bytes false wide e fits =
-    let prefix = take (byte_len w) bytes in
-    let size : length prefix ≡ byte_len w =
-    omega (arith, ltb-false (length bytes) (byte_len w) (sym e), length-take (byte_len w) bytes) in
-    let prefix-fits = IsBytes-take (byte_len w) bytes fits in
-    record {
-      is = wide.below prefix prefix-fits;
-      parts = rw (wide.back prefix size prefix-fits) (sym (take-append-drop (byte_len w) bytes));
-    }
+module _ {E : Type 0} {value : Width → List ℕ → ℕ} {spell : Width → ℕ → List ℕ} (c : E) (w : Width)
+    (wide : IsWide value spell w (2 ^ (8 * byte_len w))) where
+  number_found : (bytes : List ℕ) (b : Bool) → b ≡ ltb (length bytes) (byte_len w) → IsBytes bytes
+      → IsRead (number_in value spell c w) bytes (cond b (Err c) (Ok (value w (take (byte_len w) bytes), drop (byte_len w) bytes)))
+  number_found bytes true e fits = (refl, ltb-true (length bytes) (byte_len w) (sym e))
+  number_found bytes false e fits =
+      let prefix = take (byte_len w) bytes in
+      let size : length prefix ≡ byte_len w =
+      omega (arith, ltb-false (length bytes) (byte_len w) (sym e), length-take (byte_len w) bytes) in
+      let prefix-fits = IsBytes-take (byte_len w) bytes fits in
+      record {
+        is = wide.below prefix prefix-fits;
+        parts = rw (wide.back prefix size prefix-fits) (sym (take-append-drop (byte_len w) bytes));
+      }
 
-number_given : {E : Type 0} (c : E) (w : Width) (bytes : List ℕ) (reading : Result (ℕ × List ℕ) E) → IsWide w (2 ^ (8 * byte_len w))
-    → IsRead (number c w) bytes reading → number_at c w bytes ≡ reading
-number_given c w bytes (Ok x) wide is = ap (number_at c w) is.parts ∙ number_again c w (2 ^ (8 * byte_len w)) wide x.0 x.1 is.is
-number_given c w bytes (Err d) wide fail = few (length bytes) (byte_len w) c d _ fail
+  number_given : (bytes : List ℕ) (reading : Result (ℕ × List ℕ) E) → IsRead (number_in value spell c w) bytes reading
+      → number_by value c w bytes ≡ reading
+  number_given bytes (Ok x) is = ap (number_by value c w) is.parts ∙ number_again c w (2 ^ (8 * byte_len w)) wide x.0 x.1 is.is
+  number_given bytes (Err d) fail = few (length bytes) (byte_len w) c d _ fail
 
-number_exact : {E : Type 0} {P : E → Type 0} (c : E) (w : Width) → IsWide w (2 ^ (8 * byte_len w)) → P c → Exact P (number c w)
-number_exact {E} {P} c w wide p = record {
-  found = λ bytes fits. number_found c w bytes (ltb (length bytes) (byte_len w)) wide refl fits;
-  only = λ bytes reading. number_given c w bytes reading wide;
-  faults = λ bytes d fail. subst P (sym fail.0) p;
-}
+  number_exact : {P : E → Type 0} → P c → Exact P (number_in value spell c w)
+  number_exact {P} p = record {
+    found = λ bytes fits. number_found bytes (ltb (length bytes) (byte_len w)) refl fits;
+    only = number_given;
+    faults = λ bytes d fail. subst P (sym fail.0) p;
+  }
 
 pub number16_exact : {E : Type 0} {P : E → Type 0} (c : E) → P c → Exact P (number c w16)
 number16_exact c p = number_exact c w16 wide16 p
 
 pub number32_exact : {E : Type 0} {P : E → Type 0} (c : E) → P c → Exact P (number c w32)
 number32_exact c p = number_exact c w32 wide32 p
+
+pub big16_exact : {E : Type 0} {P : E → Type 0} (c : E) → P c → Exact P (big_number c w16)
+big16_exact c p = number_exact c w16 big16 p
+
+pub big32_exact : {E : Type 0} {P : E → Type 0} (c : E) → P c → Exact P (big_number c w32)
+big32_exact c p = number_exact c w32 big32 p
+
+pub big64_exact : {E : Type 0} {P : E → Type 0} (c : E) → P c → Exact P (big_number c w64)
+big64_exact c p = number_exact c w64 big64 p
 
 part_found : {E : Type 0} (c : E) (count : ℕ) (bytes : List ℕ) (b : Bool) → b ≡ ltb (length bytes) count
     → IsRead (part c count) bytes (cond b (Err c) (Ok (take count bytes, drop count bytes)))

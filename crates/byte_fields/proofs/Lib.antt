@@ -5,3 +5,4 @@ pub mod FormatLaws
 pub mod ItemLaws
 pub mod LastingLaws
 pub mod PieceLaws
+pub mod TurnLaws

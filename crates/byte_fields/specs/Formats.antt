@@ -1,8 +1,8 @@
 -- Formats as values: which values a format can spell, how it spells them, how it reads one from the start of bytes, and which
 -- bytes fail with which fault. That the four agree is proved once for each way to build a format from others.
 use Rattle.std.specs.Prelude.{◌≡◌, ℕ, zero, suc, ◌^◌, ◌*◌, ◌<◌, ◌⊎◌, Bool, true, false, if◌then◌else◌, ◌==◌, List, [], ◌∷◌, ◌++◌, length, Option, ok_or, Result, Ok, Err}
-use Rattle.std.specs.Int.{Width, w32, byte_len, to_le_bytes}
-use Rattle.byte_fields.specs.Reading.{◌>>=◌, number_at, part_at, byte_at, sized_at, items_at}
+use Rattle.std.specs.Int.{Width, w32, byte_len, from_be_bytes, from_le_bytes, to_be_bytes, to_le_bytes}
+use Rattle.byte_fields.specs.Reading.{◌>>=◌, number_by, part_at, byte_at, sized_at, items_at}
 
 pub record Format (X E : Type 0) : Type 1 where
   -- the value at the start of the bytes and the remaining bytes, or the fault
@@ -27,14 +27,22 @@ IsRead format bytes (Err fault) = format.Fails bytes fault
 
 -- ---- fields
 
--- A little endian number of this width.
-abbrev pub number : {E : Type 0} → E → Width → Format ℕ E
-number fault width = record {
-  at = number_at fault width;
+-- A number of this width, of bytes in some order: the number that `value` makes of them, and those that `spell` makes of a number.
+abbrev pub number_in : {E : Type 0} → (Width → List ℕ → ℕ) → (Width → ℕ → List ℕ) → E → Width → Format ℕ E
+number_in value spell fault width = record {
+  at = number_by value fault width;
   Is = λ n. n < 2 ^ (8 * byte_len width);
-  spell = to_le_bytes width;
+  spell = spell width;
   Fails = λ bytes d. (d ≡ fault) × (length bytes < byte_len width);
 }
+
+-- A little-endian number of this width.
+abbrev pub number : {E : Type 0} → E → Width → Format ℕ E
+number fault width = number_in from_le_bytes to_le_bytes fault width
+
+-- A big-endian number of this width.
+abbrev pub big_number : {E : Type 0} → E → Width → Format ℕ E
+big_number fault width = number_in from_be_bytes to_be_bytes fault width
 
 -- `count` bytes.
 abbrev pub part : {E : Type 0} → E → ℕ → Format (List ℕ) E

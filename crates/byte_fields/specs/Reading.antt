@@ -1,6 +1,6 @@
 -- Reading fields from left to right, up to the first fault.
 use Rattle.std.specs.Prelude.{◌≡◌, ◌⊎◌, ℕ, zero, suc, ◌+◌, nat_lt, if◌then◌else◌, List, [], ◌∷◌, ◌++◌, length, take, drop, Result, Ok, Err}
-use Rattle.std.specs.Int.{Width, w32, byte_len, from_le_bytes}
+use Rattle.std.specs.Int.{Width, w32, byte_len, from_be_bytes, from_le_bytes}
 
 -- ---- steps that may fail
 
@@ -21,10 +21,19 @@ ReadsInMemory memory view (Err fault) reading = (fault ≡ memory) ⊎ (reading 
 
 -- ---- fields: a value and the remaining bytes, or the given fault where there are too few bytes
 
-abbrev pub number_at : {E : Type 0} → E → Width → List ℕ → Result (ℕ × List ℕ) E
-number_at fault width bytes =
+-- A number of this width, which `value` makes of its bytes.
+abbrev pub number_by : {E : Type 0} → (Width → List ℕ → ℕ) → E → Width → List ℕ → Result (ℕ × List ℕ) E
+number_by value fault width bytes =
     if nat_lt (length bytes) (byte_len width) then Err fault
-    else Ok (from_le_bytes width (take (byte_len width) bytes), drop (byte_len width) bytes)
+    else Ok (value width (take (byte_len width) bytes), drop (byte_len width) bytes)
+
+-- A little-endian number.
+abbrev pub number_at : {E : Type 0} → E → Width → List ℕ → Result (ℕ × List ℕ) E
+number_at fault width bytes = number_by from_le_bytes fault width bytes
+
+-- A big-endian number.
+abbrev pub big_number_at : {E : Type 0} → E → Width → List ℕ → Result (ℕ × List ℕ) E
+big_number_at fault width bytes = number_by from_be_bytes fault width bytes
 
 abbrev pub part_at : {E : Type 0} → E → ℕ → List ℕ → Result (List ℕ × List ℕ) E
 part_at fault count bytes = if nat_lt (length bytes) count then Err fault else Ok (take count bytes, drop count bytes)

@@ -1,5 +1,5 @@
 //! Tests of what only a caller of the libraries reaches: hash values, whole logs that are read, lists in pieces, entries that are made and
-//! written, sinks that fail, and single calls with a refused allocation. How the program reads and shows logs and lists is in `tests/cases/`.
+//! written, sinks that fail, quotes, and single calls with a refused allocation. How the program reads and shows logs and lists is in `tests/cases/`.
 //! Each test holds with any one allocation refused too.
 #![tactic(auto)]
 
@@ -15,6 +15,8 @@ mod logs;
 mod made;
 #[cfg(test)]
 mod pieces;
+#[cfg(test)]
+mod quotes;
 #[cfg(test)]
 mod sending;
 #[cfg(test)]

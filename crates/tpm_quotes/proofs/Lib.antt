@@ -1,0 +1,3 @@
+pub mod SelectionLaws
+pub mod QuoteLaws
+pub mod JoiningLaws
