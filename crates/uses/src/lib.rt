@@ -4,8 +4,6 @@
 mod book;
 mod fault;
 mod register;
-#[cfg(test)]
-mod tests;
 mod verdict;
 mod workers;
 

@@ -1,10 +1,7 @@
-//! Each use on a small log, and what comes of it.
+//! Each function of `uses` on a small log, and what comes of it.
 
 mod samples;
 
-use crate::{
-    UseFault, boot_manager_register, measure_by_four, measurement, registers_match, share_book,
-};
 use boot_log::LogFault;
 use boot_verdict::{ExpectFault, VerifyFault};
 use hash_workers::Job;
@@ -14,6 +11,9 @@ use pcr_banks::{Alg, Digest};
 use samples::{AFTER_THREE, AFTER_TWO, EXPECTED, LIST, LOG, PCR_4};
 use std::alloc::{AllocError, Global};
 use std::test::Fail;
+use uses::{
+    UseFault, boot_manager_register, measure_by_four, measurement, registers_match, share_book,
+};
 
 /// The bytes of hexadecimal digits.
 fn bytes_of(alloc: Global, digits: &str) -> Result<Vec<u8>, Fail> {
