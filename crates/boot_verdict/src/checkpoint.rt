@@ -48,7 +48,7 @@ impl Checkpoint {
     }
 
     /// The checkpoint after a whole list in memory, which begins with these registers. Fails with the fault of the list.
-    pub(crate) fn of_list(registers: Banks, list: &[u8]) -> Result<Checkpoint, VerifyFault>
+    pub fn of_list(registers: Banks, list: &[u8]) -> Result<Checkpoint, VerifyFault>
         ensures known { IfOk result (IsCheckpoint list.now) }
         ensures before { IfOk result (λ known. known.before ≡ registers) }
         ensures only { (entries : List ListEntry) → IsReading list.now (Ok entries) → AreGenuine entries → IsOk result }

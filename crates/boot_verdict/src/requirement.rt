@@ -114,8 +114,8 @@ impl Requirement {
         self.is_met_by(expected)
     }
 
-    // Whether the register is required.
-    fn names(&self, alg: Alg, register: u32) -> bool
+    /// Whether the register is required.
+    pub fn names(&self, alg: Alg, register: u32) -> bool
         ensures { result ≡ names self.now alg register }
     {
         self.ranges.iter().any(|bank| bank.has(alg, register))
