@@ -101,7 +101,7 @@ type checkpoint struct {
 }
 
 const (
-	checkpointName, checkpointVersion = "ima-agent checkpoint ", "1\n"
+	checkpointName, checkpointVersion = "ima-agent checkpoint ", "2\n"
 	digits                            = `(0|[1-9][0-9]*)`
 )
 

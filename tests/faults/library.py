@@ -152,7 +152,7 @@ def made_files(folder, program):
     files["damaged"], files["other version"] = folder / "damaged", folder / "other-version"
     text = files["checkpoint"].read_bytes()
     files["damaged"].write_bytes(text[:-2])
-    files["other version"].write_bytes(text.replace(b"checkpoint 1", b"checkpoint 2"))
+    files["other version"].write_bytes(text.replace(b"checkpoint 2", b"checkpoint 1"))
     return files
 
 

@@ -6,11 +6,11 @@ import re
 from typing import NamedTuple
 
 from .faults import CheckpointFault
-from .measurement_list import replay, stated_boot_aggregate
+from .measurement_list import IMA_REGISTER, replay, stated_boot_aggregate
 from .registers import ALGORITHMS, BY_NAME, REGISTERS, SHA256, Registers, register_line
 
 NAME = b"ima-agent checkpoint "
-VERSION = b"1\n"
+VERSION = b"2\n"
 NUMBER = "(0|[1-9][0-9]*)"
 MOST_INPUT = 64 << 20
 # The fewest bytes of an entry.
@@ -18,14 +18,15 @@ ENTRY_BYTES = 32
 
 
 class Checkpoint(NamedTuple):
-    """How many entries and bytes the list had, the boot aggregate that it states, as its algorithm and its digest, or None, and the registers
-    before and after it."""
+    """How many entries and bytes the list had; the boot aggregate that it states, as its algorithm and its digest, or None; the registers before
+    and after it; and the first entry that extends another register than that of the list, as its number and the register, or None."""
 
     entries: int
     bytes: int
     stated: tuple | None
     before: Registers
     after: Registers
+    stray: tuple | None
 
     def following(self, entries):
         """The same after entries that follow the list, or the fault of the first that is not genuine."""
@@ -33,7 +34,8 @@ class Checkpoint(NamedTuple):
         replay(after, entries, self.entries)
         stated = stated_boot_aggregate(entries) if self.entries == 0 else self.stated
         size = sum(len(entry.spelling()) for entry in entries)
-        return Checkpoint(self.entries + len(entries), self.bytes + size, stated, self.before, after)
+        strays = ((number, entry.register) for number, entry in enumerate(entries, self.entries) if entry.register != IMA_REGISTER)
+        return Checkpoint(self.entries + len(entries), self.bytes + size, stated, self.before, after, self.stray or next(strays, None))
 
     @property
     def leaves_room(self):
@@ -45,18 +47,21 @@ class Checkpoint(NamedTuple):
         """Whether its data are such as a list leaves."""
         is_empty = self.bytes == 0 and self.stated is None and self.before.banks == self.after.banks
         is_long = self.entries * ENTRY_BYTES <= self.bytes
-        return self.leaves_room and is_long and self.before.banks.keys() == self.after.banks.keys() and (self.entries > 0 or is_empty)
+        is_within = not self.stray or self.stray[0] < self.entries and self.stray[1] < REGISTERS
+        return self.leaves_room and is_long and is_within and self.before.banks.keys() == self.after.banks.keys() and (self.entries > 0 or is_empty)
 
     def text(self):
         stated = f"{self.stated[0].name}:{self.stated[1].hex()}" if self.stated else "none"
         counts = f"entries {self.entries}\nbytes {self.bytes}\nboot_aggregate {stated}\n"
-        body = NAME + VERSION + f"{counts}before\n{banks_text(self.before)}after\n{banks_text(self.after)}".encode()
+        entry, register = self.stray or (0, IMA_REGISTER)
+        banks = f"before\n{banks_text(self.before)}after\n{banks_text(self.after)}"
+        body = NAME + VERSION + f"{counts}{banks}register {register}\nentry {entry}\n".encode()
         return body + f"sha256 {SHA256.hash(body).hex()}\n".encode()
 
 
 def before_a_list(registers):
     """The checkpoint of no entries, from these registers."""
-    return Checkpoint(0, 0, None, registers, registers)
+    return Checkpoint(0, 0, None, registers, registers, None)
 
 
 def banks_text(registers):
@@ -82,7 +87,7 @@ BANKS = "(" + "".join(map(bank_form, ALGORITHMS)) + ")"
 STATED = "|".join(f"{algorithm.name}:{digits(algorithm)}" for algorithm in ALGORITHMS)
 FORM = re.compile(
     f"{(NAME + VERSION).decode()}entries {NUMBER}\nbytes {NUMBER}\nboot_aggregate (none|{STATED})\n"
-    f"before\n{BANKS}after\n{BANKS}sha256 ({digits(SHA256)})\n".encode()
+    f"before\n{BANKS}after\n{BANKS}register {NUMBER}\nentry {NUMBER}\nsha256 ({digits(SHA256)})\n".encode()
 )
 
 
@@ -93,11 +98,12 @@ def read_checkpoint(text):
     if not text.startswith(NAME + VERSION):
         raise CheckpointFault.VERSION.fault()
     match = FORM.fullmatch(text)
-    if not match or SHA256.hash(text[: match.start(6) - len("sha256 ")]).hex().encode() != match[6]:
+    if not match or SHA256.hash(text[: match.start(8) - len("sha256 ")]).hex().encode() != match[8]:
         raise CheckpointFault.DAMAGED.fault()
-    entries, size, stated, before, after = (part.decode() for part in match.groups()[:5])
-    checkpoint = Checkpoint(int(entries), int(size), stated_in(stated), registers_in(before), registers_in(after))
-    if not checkpoint.is_of_a_list:
+    entries, size, stated, before, after, register, entry = (part.decode() for part in match.groups()[:7])
+    stray = None if int(register) == IMA_REGISTER else (int(entry), int(register))
+    checkpoint = Checkpoint(int(entries), int(size), stated_in(stated), registers_in(before), registers_in(after), stray)
+    if not checkpoint.is_of_a_list or checkpoint.text() != text:
         raise CheckpointFault.DAMAGED.fault()
     return checkpoint
 

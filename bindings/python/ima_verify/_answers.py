@@ -28,7 +28,7 @@ _VALUE = '{"bank":"sha(?:1|256|384|512)","register":(?:1?[0-9]|2[0-3]),"value":"
 _REGISTERS = re.compile(f'{{"registers":\\[(?:{_VALUE}(?:,{_VALUE})*)?\\]}}\n'.encode())
 
 # How a checkpoint begins.
-_CHECKPOINT, _CHECKPOINT_VERSION = b"ima-agent checkpoint ", b"1\n"
+_CHECKPOINT, _CHECKPOINT_VERSION = b"ima-agent checkpoint ", b"2\n"
 _NUMBER = "(0|[1-9][0-9]{0,19})"
 _COUNTS = re.compile(_CHECKPOINT + _CHECKPOINT_VERSION + f"entries {_NUMBER}\nbytes {_NUMBER}\n".encode())
 MOST_BYTES = 2**63 - 1

@@ -35,7 +35,7 @@ OTHER_LOG = inputs.made_log([SHA256], 24).spelling()
 # The expected registers of the firmware alone.
 TEN = b"".join(EXPECTED.splitlines(True)[:10])
 
-STATE = b"ima-agent checkpoint 1\nentries 3\nbytes 300\nboot_aggregate none\n"
+STATE = b"ima-agent checkpoint 2\nentries 3\nbytes 300\nboot_aggregate none\n"
 REPORT = (b'{"events":1,"locality":0,"entries":3,"boot_aggregate":"good",'
           b'"registers":[{"bank":"sha256","register":10,"state":"match"}],"verdict":"match"}\n')
 DIFFERING = REPORT.replace(b'"match"}\n', b'"differ"}\n').replace(b'"good"', b'"wrong"')
@@ -405,8 +405,8 @@ class States(Refusing):
 
     def test_state_of_another_version_is_refused(self):
         state = state_after(50)
-        for version in (b"0", b"2", b"10", b"", b"1 ", b"1\r"):
-            self.check_no_state(sealed(state.replace(b"checkpoint 1\n", b"checkpoint %b\n" % version)), 2)
+        for version in (b"0", b"1", b"20", b"", b"2 ", b"2\r"):
+            self.check_no_state(sealed(state.replace(b"checkpoint 2\n", b"checkpoint %b\n" % version)), 2)
 
     def test_counts_that_cannot_be_are_refused(self):
         state = state_after(50)
@@ -578,7 +578,7 @@ class Answers(unittest.TestCase):
     def test_state_that_is_not_that_of_the_report_is_none(self):
         for state in (
             b"", b"x", STATE[1:], STATE.replace(b"entries 3", b"entries 4"), STATE.replace(b"entries 3", b"entries 2"),
-            STATE.replace(b"entries 3", b"entries 03"), STATE.replace(b"bytes 300", b"bytes 301"), STATE.replace(b"checkpoint 1", b"checkpoint 2"),
+            STATE.replace(b"entries 3", b"entries 03"), STATE.replace(b"bytes 300", b"bytes 301"), STATE.replace(b"checkpoint 2", b"checkpoint 1"),
             STATE.replace(b"bytes 300\n", b""),
         ):
             self.check_wrong(0, REPORT, state=state)

@@ -162,7 +162,7 @@ pub(crate) struct Checkpoint {
 
 impl Checkpoint {
     const NAME: &'static [u8] = b"ima-agent checkpoint ";
-    const FIRST_LINE: &'static [u8] = b"ima-agent checkpoint 1\n";
+    const FIRST_LINE: &'static [u8] = b"ima-agent checkpoint 2\n";
     const MOST_BYTES: u64 = i64::MAX as u64;
 
     /// The checkpoint whose text this is, if it begins as one. (The library judges the rest.)

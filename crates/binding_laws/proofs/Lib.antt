@@ -2,3 +2,4 @@ pub mod BankBindingLaws
 pub mod LogBindingLaws
 pub mod ListBindingLaws
 pub mod QuoteBindingLaws
+pub mod AttestationBindingLaws

@@ -2,3 +2,4 @@ pub mod BankBinding
 pub mod LogBinding
 pub mod ListBinding
 pub mod QuoteBinding
+pub mod AttestationBinding

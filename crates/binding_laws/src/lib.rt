@@ -1,12 +1,14 @@
-//! What the value of a register tells of what extended it, and what it does not; what a quote tells of values: laws, each the contract of a function that does nothing,
-//! or only reads.
+//! What the value of a register tells of what extended it, and what it does not; what a quote tells of values, and an attestation of a log
+//! and a list: laws, each the contract of a function that does nothing, or only reads.
 #![tactic(auto)]
 
+mod attestations;
 mod banks;
 mod lists;
 mod logs;
 mod quotes;
 
+pub use attestations::attestation_tells_extends;
 pub use banks::value_tells_extends;
 pub use lists::{
     banks_tell_extensions, extensions_tell_genuine_digests, value_tells_extensions,

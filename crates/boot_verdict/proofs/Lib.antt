@@ -4,6 +4,7 @@ pub mod ExpectedLaws
 pub mod VerdictLaws
 pub mod StepLaws
 pub mod PositionLaws
+pub mod IsolationLaws
 pub mod ReplayLaws
 pub mod ListVerdictLaws
 pub mod AlgorithmLaws

@@ -7,6 +7,7 @@ use Rattle.ima_list.specs.Replaying.{AreGenuine, IsReplayed}
 use Rattle.boot_verdict.specs.declared.checkpoint.Checkpoint.{Checkpoint}
 use Rattle.boot_verdict.specs.declared.verifier.VerifyFault.{VerifyFault}
 use Rattle.boot_verdict.specs.declared.verifier.VerifyFault.TheVariants as faults
+use Rattle.boot_verdict.specs.Isolation.{first_stray}
 use Rattle.boot_verdict.specs.ListSources.{CameWhole, IsListFaultAfter}
 use Rattle.boot_verdict.specs.Verdicts.{IsForged, recorded_aggregate}
 
@@ -19,6 +20,7 @@ pub record IsCheckpoint (list : List ℕ) (known : Checkpoint) : Type 0 where
   pub count : known.entries ≡ length entries
   pub size : known.bytes ≡ length list
   pub recorded : option_map (λ digest. (alg_of digest, bytes_of digest)) known.recorded ≡ recorded_aggregate entries
+  pub stray : known.stray ≡ first_stray entries
 
 -- How many bytes may follow a checkpoint, where `limit` are allowed: a list has fewer than 2^63 bytes.
 abbrev pub most_after : Checkpoint → ℕ → ℕ

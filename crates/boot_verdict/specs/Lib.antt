@@ -4,6 +4,7 @@ pub mod Lines
 pub mod StatedRegisters
 pub mod ExpectedTexts
 pub mod Verdicts
+pub mod Isolation
 pub mod ListSources
 pub mod Steps
 pub mod Positions

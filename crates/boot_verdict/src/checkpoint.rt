@@ -11,6 +11,7 @@ ghost use Rattle.boot_verdict.specs.ListReplays.{ReplaysAll};
 ghost use Rattle.boot_verdict.specs.Verdicts.{IsSomeLog, IsVerifyFault};
 ghost use Rattle.boot_verdict.specs.Checkpoints.{GoesOn, IsCheckpoint, IsMoreFault, most_after};
 
+use crate::isolation::Stray;
 use crate::list_replay::ListReplay;
 use crate::verifier::VerifyFault;
 use byte_streams::Source;
@@ -34,6 +35,8 @@ pub struct Checkpoint {
     pub bytes: u64,
     /// The boot aggregate that its first entry records, if any.
     pub recorded: Option<Digest>,
+    /// The first of its entries that extends another register than that of the list, if any.
+    pub stray: Option<Stray>,
 }
 
 impl Checkpoint {
@@ -98,6 +101,7 @@ impl Checkpoint {
             entries: replay.entries,
             bytes,
             recorded: replay.recorded,
+            stray: replay.stray,
         }
     }
 
@@ -110,6 +114,7 @@ impl Checkpoint {
             tracker: self.after,
             entries: self.entries,
             recorded: self.recorded,
+            stray: self.stray,
             forged: None,
         }
     }

@@ -3,19 +3,10 @@
 use pcr_banks::{Alg, Digest};
 use std::process::Abort;
 use test_kit::registers::{SHA256_OF_64_ZEROS, start};
+use test_kit::samples::{QUOTE, QUOTE_NONCE};
 use tpm_quotes::{QuoteFault, read_quote};
 
-/// `samples/quoted/quote.msg`, which an emulated TPM signed for tpm2_quote of tpm2-tools 5.4: registers 0 to 10 of the SHA-256 bank.
-const QUOTE: &[u8; 133] = b"\xff\x54\x43\x47\x80\x18\x00\x22\
-    \x00\x0b\x79\x9d\xf6\x50\x51\xcb\x99\x69\x02\x63\xb3\xa0\x5d\x45\x0b\x09\x3a\x20\xbd\xfe\xfc\xc7\xe5\x10\x36\x86\x1d\x46\xb2\x6a\x3c\x52\
-    \x00\x14\x5a\x0f\x1d\x3c\x7b\x2e\x48\x69\x01\x23\x45\x67\x89\xab\xcd\xef\x00\x11\x22\x33\
-    \x00\x00\x00\x00\x00\x00\x02\x72\x00\x00\x00\x01\x00\x00\x00\x00\x01\
-    \x20\x19\x10\x23\x00\x16\x36\x36\
-    \x00\x00\x00\x01\x00\x0b\x03\xff\x07\x00\
-    \x00\x20\xaf\x19\x22\x17\x1f\xe9\x9b\xca\xcf\xc3\x82\xd2\x5c\xd2\x5f\xba\
-    \xb7\x50\xc3\x85\xa1\x5f\x8f\xce\x47\xb2\x43\x79\x41\xa1\xbc\xc7";
-
-/// Bytes of that message that are exchanged, from which on, and the fault; by the fields of TPMS_ATTEST, TPMS_CLOCK_INFO and
+/// Bytes of the sample that are exchanged, from which on, and the fault; by the fields of TPMS_ATTEST, TPMS_CLOCK_INFO and
 /// TPML_PCR_SELECTION (TPM 2.0 Library, part 2).
 const REFUSED: [(usize, &[u8], QuoteFault); 12] = [
     (0, b"\xfe", QuoteFault::NotQuote),
@@ -45,8 +36,7 @@ fn changed(message: &[u8; 133], at: usize, bytes: &[u8]) -> [u8; 133] {
 fn quote_of_an_emulated_tpm(rt: HostRuntime) -> Result<(), QuoteFault> {
     let quote = read_quote(QUOTE)?;
     let clock = quote.clock;
-    let nonce = b"\x5a\x0f\x1d\x3c\x7b\x2e\x48\x69\x01\x23\x45\x67\x89\xab\xcd\xef\x00\x11\x22\x33";
-    assert_eq!(rt; quote.nonce, nonce.as_slice());
+    assert_eq!(rt; quote.nonce, QUOTE_NONCE);
     assert_eq!(rt;
         (
             clock.milliseconds,

@@ -25,8 +25,9 @@ use Rattle.pcr_banks.specs.Sets.{has_alg}
 use Rattle.pcr_banks.proofs.SetLaws.{bytes_again, has_where}
 use Rattle.boot_verdict.specs.declared.checkpoint.Checkpoint.{Checkpoint}
 use Rattle.boot_verdict.specs.declared.expected.Expected.{Expected}
-use Rattle.growing_lists.specs.CheckpointData.{HaveValues, IsHash, SameData, SameValues}
-use Rattle.growing_lists.specs.CheckpointTexts.{IsOfOtherVersion, bank_lines, banks_lines, checkpoint_text, checkpoint_body, data_lines, number_line, seal_line, recorded_line, recorded_words, value_line}
+use Rattle.boot_verdict.specs.declared.isolation.Stray.{Stray}
+use Rattle.growing_lists.specs.CheckpointData.{HaveValues, IsHash, IsStrayOf, SameData, SameValues}
+use Rattle.growing_lists.specs.CheckpointTexts.{IsOfOtherVersion, bank_lines, banks_lines, checkpoint_text, checkpoint_body, data_lines, number_line, seal_line, recorded_line, recorded_words, stray_entry, stray_lines, stray_register, value_line}
 use Rattle.boot_verdict.specs.ExpectedTexts.{IsRegisterLine}
 use Rattle.boot_verdict.specs.RegisterTexts.{all_registers, change_line, register_line}
 use Rattle.boot_verdict.specs.Replays as replays
@@ -132,6 +133,38 @@ pub none_recorded : (words : List ℕ) (recorded : Option Digest) → words ≡ 
 none_recorded words None none is = refl
 none_recorded words (Some digest) none is =
     absurd (not_named (alg_of digest) (codes ":" ++ encode_lower (bytes_of digest)) (sym none ∙ is))
+
+-- ---- the stray entry
+
+pub stray_apart : (stray : Option Stray) (rest : List ℕ)
+    → stray_lines stray ++ rest
+    ≡ number_line (codes "register ") (stray_register stray) ++ (number_line (codes "entry ") (stray_entry stray) ++ rest)
+stray_apart stray rest =
+    append_assoc (number_line (codes "register ") (stray_register stray)) (number_line (codes "entry ") (stray_entry stray)) rest
+
+pub register_fits : (stray : Option Stray) → IfSome stray (IsStrayOf (2 ^ 64)) → stray_register stray < 2 ^ 64
+register_fits None is = omega arith
+register_fits (Some stray) is = let exists = is.exists in omega (arith, exists)
+
+pub entry_fits : (stray : Option Stray) → IfSome stray (IsStrayOf (2 ^ 64)) → stray_entry stray < 2 ^ 64
+entry_fits None is = omega arith
+entry_fits (Some stray) is = is.within
+
+pub stray_fits : (entries : ℕ) (stray : Option Stray) → entries < 2 ^ 64 → IfSome stray (IsStrayOf entries) → IfSome stray (IsStrayOf (2 ^ 64))
+stray_fits entries None few is = tt
+stray_fits entries (Some stray) few is =
+    let within = is.within in record { within = omega (arith, within, few); exists = is.exists; other = is.other }
+
+pub no_stray : (stray : Option Stray) (register : ℕ) → IfSome stray (IsStrayOf (2 ^ 64)) → register ≡ stray_register stray → register ≡ 10 → None ≡ stray
+no_stray None register is same ten = refl
+no_stray (Some stray) register is same ten = absurd (is.other (sym same ∙ ten))
+
+pub some_stray : (stray : Option Stray) (register entry : ℕ) → IfSome stray (IsStrayOf (2 ^ 64)) → register ≡ stray_register stray
+    → entry ≡ stray_entry stray → (register ≡ 10 → ⊥)
+    → (register < 24) × (Some (record { entry = entry; register = register }) ≡ stray)
+some_stray None register entry is same number other = absurd (other same)
+some_stray (Some stray) register entry is same number other =
+    let exists = is.exists in (omega (arith, exists, same), λ i. Some (record { entry = number i; register = same i }))
 
 -- ---- the line of a register
 
@@ -434,10 +467,11 @@ text_same first second same =
       same.entries,
       same.bytes,
       same.recorded,
+      same.stray,
       banks_same first.before second.before same.before,
       banks_same first.after second.after same.after,
     ) refl in
-    ap (λ (l : List ℕ). let body = codes "ima-agent checkpoint " ++ (codes "1\n" ++ l) in body ++ seal_line body) lines
+    ap (λ (l : List ℕ). let body = codes "ima-agent checkpoint " ++ (codes "2\n" ++ l) in body ++ seal_line body) lines
 
 -- What holds of the value in an option is passed on.
 pub some_then : {A : Type 0} {P Q : A → Type 0} (o : Option A) → IsSomeAnd o P → ((x : A) → P x → Q x) → IsSomeAnd o Q
@@ -446,9 +480,12 @@ some_then (Some x) is next = next x is
 
 -- ---- the lines of the data
 
--- What follows the registers before the list, and the lines before these.
+-- What follows the registers after the list, those before it, and the lines before these.
+abbrev pub after_after : Checkpoint → List ℕ → List ℕ
+after_after known rest = stray_lines known.stray ++ rest
+
 abbrev pub after_before : Checkpoint → List ℕ → List ℕ
-after_before known rest = codes "after\n" ++ (banks_lines known.after ++ rest)
+after_before known rest = codes "after\n" ++ (banks_lines known.after ++ after_after known rest)
 
 abbrev pub after_recorded : Checkpoint → List ℕ → List ℕ
 after_recorded known rest = codes "before\n" ++ (banks_lines known.before ++ after_before known rest)
@@ -459,34 +496,40 @@ after_bytes known rest = recorded_line known.recorded ++ after_recorded known re
 abbrev pub after_entries : Checkpoint → List ℕ → List ℕ
 after_entries known rest = number_line (codes "bytes ") known.bytes ++ after_bytes known rest
 
-seven : (a b c d e f g rest : List ℕ)
-    → (a ++ (b ++ (c ++ (d ++ (e ++ (f ++ g)))))) ++ rest ≡ a ++ (b ++ (c ++ (d ++ (e ++ (f ++ (g ++ rest))))))
-seven a b c d e f g rest = simp append_assoc refl
+eight : (a b c d e f g h rest : List ℕ)
+    → (a ++ (b ++ (c ++ (d ++ (e ++ (f ++ (g ++ h))))))) ++ rest ≡ a ++ (b ++ (c ++ (d ++ (e ++ (f ++ (g ++ (h ++ rest)))))))
+eight a b c d e f g h rest = simp append_assoc refl
 
 pub data_apart : (known : Checkpoint) (rest : List ℕ)
     → data_lines known ++ rest ≡ number_line (codes "entries ") known.entries ++ after_entries known rest
 data_apart known rest =
-    seven (number_line (codes "entries ") known.entries) (number_line (codes "bytes ") known.bytes) (recorded_line known.recorded)
-    (codes "before\n") (banks_lines known.before) (codes "after\n") (banks_lines known.after) rest
+    eight (number_line (codes "entries ") known.entries) (number_line (codes "bytes ") known.bytes) (recorded_line known.recorded)
+    (codes "before\n") (banks_lines known.before) (codes "after\n") (banks_lines known.after) (stray_lines known.stray) rest
 
-parts_joined : (entries bytes recorded before after : List ℕ)
-    → (codes "ima-agent checkpoint 1\nentries " ++ (entries ++ (codes "\nbytes " ++ (bytes ++ codes "\n"))))
-    ++ (recorded ++ ((codes "before\n" ++ before) ++ (codes "after\n" ++ after)))
-    ≡ codes "ima-agent checkpoint " ++ (codes "1\n" ++ ((codes "entries " ++ (entries ++ codes "\n"))
-    ++ ((codes "bytes " ++ (bytes ++ codes "\n")) ++ (recorded ++ (codes "before\n" ++ (before ++ (codes "after\n" ++ after)))))))
-parts_joined entries bytes recorded before after = simp append_assoc refl
+parts_joined : (entries bytes recorded before after register entry : List ℕ)
+    → (codes "ima-agent checkpoint 2\nentries " ++ (entries ++ (codes "\nbytes " ++ (bytes ++ codes "\n"))))
+    ++ (recorded ++ ((codes "before\n" ++ before) ++ ((codes "after\n" ++ after)
+    ++ (codes "register " ++ (register ++ (codes "\nentry " ++ (entry ++ codes "\n")))))))
+    ≡ codes "ima-agent checkpoint " ++ (codes "2\n" ++ ((codes "entries " ++ (entries ++ codes "\n"))
+    ++ ((codes "bytes " ++ (bytes ++ codes "\n")) ++ (recorded ++ (codes "before\n" ++ (before ++ (codes "after\n" ++ (after
+    ++ ((codes "register " ++ (register ++ codes "\n")) ++ (codes "entry " ++ (entry ++ codes "\n")))))))))))
+parts_joined entries bytes recorded before after register entry = simp append_assoc refl
 
 -- The parts of the body, as they are written.
 pub body_parts : (known : Checkpoint)
-    → (codes "ima-agent checkpoint 1\nentries " ++ (decimal known.entries ++ (codes "\nbytes " ++ (decimal known.bytes ++ codes "\n"))))
+    → (codes "ima-agent checkpoint 2\nentries " ++ (decimal known.entries ++ (codes "\nbytes " ++ (decimal known.bytes ++ codes "\n"))))
     ++ (recorded_line known.recorded
-    ++ ((codes "before\n" ++ banks_lines known.before) ++ (codes "after\n" ++ banks_lines known.after)))
+    ++ ((codes "before\n" ++ banks_lines known.before) ++ ((codes "after\n" ++ banks_lines known.after)
+    ++ (codes "register "
+    ++ (decimal (stray_register known.stray) ++ (codes "\nentry " ++ (decimal (stray_entry known.stray) ++ codes "\n")))))))
     ≡ checkpoint_body known
 body_parts known =
     let recorded = recorded_line known.recorded in
     let before = banks_lines known.before in
     let after = banks_lines known.after in
-    parts_joined (decimal known.entries) (decimal known.bytes) recorded before after
+    let register = decimal (stray_register known.stray) in
+    let entry = decimal (stray_entry known.stray) in
+    parts_joined (decimal known.entries) (decimal known.bytes) recorded before after register entry
 
 -- ---- the whole text
 
@@ -495,26 +538,26 @@ three a b c rest = simp append_assoc refl
 
 pub text_begins : (known : Checkpoint)
     → checkpoint_text known
-    ≡ codes "ima-agent checkpoint " ++ (codes "1\n" ++ (data_lines known ++ seal_line (checkpoint_body known)))
-text_begins known = three (codes "ima-agent checkpoint ") (codes "1\n") (data_lines known) (seal_line (checkpoint_body known))
+    ≡ codes "ima-agent checkpoint " ++ (codes "2\n" ++ (data_lines known ++ seal_line (checkpoint_body known)))
+text_begins known = three (codes "ima-agent checkpoint ") (codes "2\n") (data_lines known) (seal_line (checkpoint_body known))
 
 pub version_is : (known : Checkpoint) (text version : List ℕ) → text ≡ codes "ima-agent checkpoint " ++ version → text ≡ checkpoint_text known
-    → version ≡ codes "1\n" ++ (data_lines known ++ seal_line (checkpoint_body known))
+    → version ≡ codes "2\n" ++ (data_lines known ++ seal_line (checkpoint_body known))
 version_is known text version found is =
-    append_cancel_left (codes "ima-agent checkpoint ") version (codes "1\n" ++ (data_lines known ++ seal_line (checkpoint_body known)))
+    append_cancel_left (codes "ima-agent checkpoint ") version (codes "2\n" ++ (data_lines known ++ seal_line (checkpoint_body known)))
     (sym found ∙ is ∙ text_begins known)
 
 pub lines_are : (known : Checkpoint) (text version lines : List ℕ) → text ≡ codes "ima-agent checkpoint " ++ version
-    → version ≡ codes "1\n" ++ lines → text ≡ checkpoint_text known → lines ≡ data_lines known ++ seal_line (checkpoint_body known)
+    → version ≡ codes "2\n" ++ lines → text ≡ checkpoint_text known → lines ≡ data_lines known ++ seal_line (checkpoint_body known)
 lines_are known text version lines found then_found is =
-    append_cancel_left (codes "1\n") lines (data_lines known ++ seal_line (checkpoint_body known))
+    append_cancel_left (codes "2\n") lines (data_lines known ++ seal_line (checkpoint_body known))
     (sym then_found ∙ version_is known text version found is)
 
 pub ok_then : {A E : Type 0} {P Q : A → Type 0} (r : Result A E) → IfOk r P → ((x : A) → P x → Q x) → IfOk r Q
 ok_then (Ok x) is next = next x is
 ok_then (Err fault) is next = tt
 
-pub this_version : (text version lines : List ℕ) → text ≡ codes "ima-agent checkpoint " ++ version → version ≡ codes "1\n" ++ lines
+pub this_version : (text version lines : List ℕ) → text ≡ codes "ima-agent checkpoint " ++ version → version ≡ codes "2\n" ++ lines
     → IsOfOtherVersion text → ⊥
 this_version text version lines found then_found other =
     let same = append_cancel_left (codes "ima-agent checkpoint ") other.version version (sym other.begins ∙ found) in
@@ -526,6 +569,7 @@ same_both found first second one other = record {
   entries = sym one.entries ∙ other.entries;
   bytes = sym one.bytes ∙ other.bytes;
   recorded = sym one.recorded ∙ other.recorded;
+  stray = sym one.stray ∙ other.stray;
   before = λ a r. sym (one.before a r) ∙ other.before a r;
   after = λ a r. sym (one.after a r) ∙ other.after a r;
 }

@@ -1,52 +1,46 @@
 -- What a session makes of a search for the confirmed prefix.
-use Rattle.std.proofs.Common.{◌≡◌, ℕ, List, ◌++◌, Option, Some, None, Result, Ok, Err, ap, subst, ◌∙◌}
+use Rattle.std.proofs.Common.{◌≡◌, ℕ, List, ◌++◌, Option, Some, None, Result, Ok, Err, subst}
 use Rattle.boot_log.specs.declared.header.Row.{Row as TableRow}
-use Rattle.boot_log.specs.LogViews.{log_bytes}
-use Rattle.boot_log.specs.Replaying.{IsFirmware}
 use Rattle.boot_log.specs.Spelling.{LogEvent, IsLog, algs_in}
 use Rattle.boot_log.proofs.LogLaws.{one_reading}
 use Rattle.ima_list.specs.ListEntry.{ListEntry}
-use Rattle.ima_list.specs.Spelling.{list_spelling}
 use Rattle.boot_verdict.specs.declared.checkpoint.Checkpoint.{Checkpoint}
 use Rattle.growing_lists.specs.declared.confirmation.Search.{Search}
-use Rattle.boot_verdict.specs.declared.expected.Expected.{Expected}
 use Rattle.boot_verdict.specs.declared.prefix_report.Unconfirmed.{Unconfirmed}
 use Rattle.boot_verdict.specs.declared.prefix_report.Unconfirmed.TheVariants as unconfirmed
-use Rattle.boot_verdict.specs.declared.report.Report.{Report}
 use Rattle.growing_lists.specs.declared.session.Session.{Session}
-use Rattle.boot_verdict.specs.Checkpoints.{IsCheckpoint, IsMoreFault}
-use Rattle.growing_lists.specs.Prefixes.{AreUnconfirmed, IsPrefixReport, IsUnconfirmedFault, IsWrongWith, TakesUnconfirmed}
+use Rattle.boot_verdict.specs.Checkpoints.{IsMoreFault}
+use Rattle.growing_lists.specs.Goals.{Aim}
+use Rattle.growing_lists.specs.Prefixes.{AreUnconfirmed, IsPrefixTaken, IsUnconfirmedFault, IsWrongWith, TakesUnconfirmed}
 use Rattle.growing_lists.specs.Sessions.{HasTaken}
-use Rattle.boot_verdict.specs.Verdicts.{verdict_of, verdict_on}
 use Rattle.growing_lists.specs.parts.Searches.{FindsPrefix, IsConfirmedAt, IsWhole, Searches, fault_in, wrong_with}
-use Rattle.boot_verdict.proofs.VerdictLaws.{log_viewed}
 use Rattle.growing_lists.proofs.SessionLaws.{taken_as}
 
 -- Entries that are unconfirmed after a log are so after any reading of it.
-any_log : (log : List ℕ) (expected : List Expected) (least : ℕ) (entries : List ListEntry) (table : List TableRow) (events : List LogEvent)
-    → IsLog log table events → AreUnconfirmed (algs_in table) events expected least entries
-    → (other : List TableRow) (others : List LogEvent) → IsLog log other others → AreUnconfirmed (algs_in other) others expected least entries
-any_log log expected least entries table events is none other others also =
+any_log : (log : List ℕ) (aim : Aim) (least : ℕ) (entries : List ListEntry) (table : List TableRow) (events : List LogEvent)
+    → IsLog log table events → AreUnconfirmed (algs_in table) events aim least entries
+    → (other : List TableRow) (others : List LogEvent) → IsLog log other others → AreUnconfirmed (algs_in other) others aim least entries
+any_log log aim least entries table events is none other others also =
     let same = one_reading log table other events others is also in
-    subst (λ (p : List TableRow × List LogEvent). AreUnconfirmed (algs_in p.0) p.1 expected least entries) (λ i. (same.0 i, same.1 i)) none
+    subst (λ (p : List TableRow × List LogEvent). AreUnconfirmed (algs_in p.0) p.1 aim least entries) (λ i. (same.0 i, same.1 i)) none
 
-module _ (session : Session) (log list : List ℕ) (has : HasTaken log list session) (old new : Option (List ℕ)) (limit : ℕ) (expected : List Expected)
-    (search : Search) (searches : Searches session.known list old new limit expected search) where
+module _ (session : Session) (log list : List ℕ) (has : HasTaken log list session) (old new : Option (List ℕ)) (limit : ℕ) (aim : Aim)
+    (search : Search) (searches : Searches session.known list old new limit aim search) where
   none_confirmed : search.prefix ≡ None → (table : List TableRow) (events : List LogEvent) → IsLog log table events
-      → AreUnconfirmed (algs_in table) events expected session.known.entries searches.entries
+      → AreUnconfirmed (algs_in table) events aim session.known.entries searches.entries
   none_confirmed none =
-      any_log log expected session.known.entries searches.entries has.table has.events has.log_is
-      (subst (FindsPrefix (algs_in has.table) has.events expected session.known (list ++ searches.came) searches.entries) none
+      any_log log aim session.known.entries searches.entries has.table has.events has.log_is
+      (subst (FindsPrefix (algs_in has.table) has.events aim session.known (list ++ searches.came) searches.entries) none
       (searches.prefix (algs_in has.table) has.events has.start))
 
   -- The list is refused.
   pub refused_by : (wrong : Unconfirmed) → search.whole ≡ Err wrong → search.prefix ≡ None
-      → IsMoreFault list old new limit (fault_in wrong) × IsUnconfirmedFault log list old new limit expected session.known.entries (fault_in wrong)
+      → IsMoreFault list old new limit (fault_in wrong) × IsUnconfirmedFault log list old new limit aim session.known.entries (fault_in wrong)
   refused_by wrong is none = by wrong (subst (IsWhole session.known list old new limit searches.entries) is searches.whole)
       (subst (λ (whole : Result Checkpoint Unconfirmed). IsWrongWith list old new limit search.entries (wrong_with whole)) is searches.wrong)
     where
       by : (wrong : Unconfirmed) → IsWhole session.known list old new limit searches.entries (Err wrong) → IsWrongWith list old new limit search.entries (Some wrong)
-          → IsMoreFault list old new limit (fault_in wrong) × IsUnconfirmedFault log list old new limit expected session.known.entries (fault_in wrong)
+          → IsMoreFault list old new limit (fault_in wrong) × IsUnconfirmedFault log list old new limit aim session.known.entries (fault_in wrong)
       by (unconfirmed.List fault) whole why = (
         why.0,
         (
@@ -71,11 +65,11 @@ module _ (session : Session) (log list : List ℕ) (has : HasTaken log list sess
 
   -- No prefix is confirmed.
   pub takes_unconfirmed : (known : Checkpoint) → search.whole ≡ Ok known → search.prefix ≡ None
-      → TakesUnconfirmed log list old new limit expected session.known.entries (record { log = session.log; known = known })
+      → TakesUnconfirmed log list old new limit aim session.known.entries (record { log = session.log; known = known })
   takes_unconfirmed known is none = by (subst (IsWhole session.known list old new limit searches.entries) is searches.whole)
     where
       by : IsWhole session.known list old new limit searches.entries (Ok known)
-          → TakesUnconfirmed log list old new limit expected session.known.entries (record { log = session.log; known = known })
+          → TakesUnconfirmed log list old new limit aim session.known.entries (record { log = session.log; known = known })
       by (more, came, reading, checkpoint, before) = record {
         takes = record { more = more; came = came; taken = taken_as has checkpoint before };
         entries = searches.entries;
@@ -86,30 +80,23 @@ module _ (session : Session) (log list : List ℕ) (has : HasTaken log list sess
   -- ---- the prefix
 
   module _ (at : Checkpoint) (found : search.prefix ≡ Some at) where
-    abbrev pub here : IsConfirmedAt (algs_in has.table) has.events expected session.known (list ++ searches.came) at
-    here = subst (FindsPrefix (algs_in has.table) has.events expected session.known (list ++ searches.came) searches.entries) found
+    abbrev pub here : IsConfirmedAt (algs_in has.table) has.events aim session.known (list ++ searches.came) at
+    here = subst (FindsPrefix (algs_in has.table) has.events aim session.known (list ++ searches.came) searches.entries) found
         (searches.prefix (algs_in has.table) has.events has.start)
 
-    pub prefix_reported : (report : Report)
-        → ((table : List TableRow) (events : List LogEvent) (list : List ℕ) → IsLog (log_bytes session.log) table events
-        → IsFirmware (algs_in table) events at.before → (is : IsCheckpoint list at) → verdict_of report ≡ verdict_on (algs_in table) events is.entries expected)
-        → IsPrefixReport log list old new limit expected session.known.entries (record { log = session.log; known = at })
-        (record { report = report; entries = search.entries; unconfirmed = wrong_with search.whole })
-    prefix_reported report shows =
-        let start : IsFirmware (algs_in has.table) has.events at.before = rw here.before has.start in
-        let verdict = shows has.table has.events (list_spelling here.prefix) (log_viewed has.same_log has.log_is) start here.checkpoint in
-        record {
-          came = searches.came;
-          over = searches.over;
-          table = has.table;
-          events = has.events;
-          prefix = here.prefix;
-          rest = here.rest;
-          came_is = searches.came_is;
-          log_is = has.log_is;
-          begins = here.begins;
-          confirmed = here.confirmed;
-          verdict_is = verdict ∙ ap (λ (entries : List ListEntry). verdict_on (algs_in has.table) has.events entries expected) here.same;
-          taken = taken_as has here.checkpoint here.before;
-          wrong = searches.wrong;
-        }
+    pub prefix_taken : IsPrefixTaken log list old new limit aim session.known.entries (record { log = session.log; known = at })
+        (record { entries = search.entries; unconfirmed = wrong_with search.whole })
+    prefix_taken = record {
+      came = searches.came;
+      over = searches.over;
+      table = has.table;
+      events = has.events;
+      prefix = here.prefix;
+      rest = here.rest;
+      came_is = searches.came_is;
+      log_is = has.log_is;
+      begins = here.begins;
+      shortest = here.confirmed;
+      taken = taken_as has here.checkpoint here.before;
+      wrong = searches.wrong;
+    }

@@ -1,7 +1,8 @@
 -- Checkpoints: with the same data, and with possible counts.
-use Rattle.std.proofs.Common.{◌≡◌, ℕ, ◌*◌, ◌≤◌, List, [], ◌∷◌, ◌++◌, length, Option, Some, None, option_map, refl, sym, ap, subst, ◌∙◌, arith, inl, inr}
-use Rattle.std.specs.Prelude.{IsSome, IsTrue, is_some}
+use Rattle.std.proofs.Common.{◌≡◌, ℕ, ◌+◌, ◌*◌, ◌≤◌, List, [], ◌∷◌, ◌++◌, length, Option, Some, None, option_map, refl, sym, ap, subst, ◌∙◌, arith, inl, inr}
+use Rattle.std.specs.Prelude.{IfSome, IsSome, IsTrue, is_some}
 use Rattle.std.proofs.lemmas.Bool.{cases_Bool, false≢true, true≢false}
+use Rattle.std.proofs.lemmas.Bool.Decides.{eqb_tells}
 use Rattle.std.proofs.lemmas.List.{append-nil, length-append}
 use Rattle.std.specs.Int.{w32, to_le_bytes}
 use Rattle.pcr_banks.specs.declared.alg.Alg.{Alg}
@@ -15,7 +16,8 @@ use Rattle.ima_list.specs.Spelling.{list_spelling, payload_spelling, spelling}
 use Rattle.boot_verdict.specs.declared.checkpoint.Checkpoint.{Checkpoint}
 use Rattle.boot_verdict.specs.Checkpoints.{IsCheckpoint}
 use Rattle.boot_verdict.specs.Verdicts.{recorded_aggregate}
-use Rattle.growing_lists.specs.CheckpointData.{HaveValues, IsCounted, IsPossible, LeavesRoom, SameData, SameValues}
+use Rattle.boot_verdict.specs.Isolation.{first_stray, stray_from}
+use Rattle.growing_lists.specs.CheckpointData.{HaveValues, IsCounted, IsPossible, IsStrayOf, LeavesRoom, SameData, SameValues}
 use Rattle.growing_lists.specs.Sessions.{IsOfBoot}
 
 -- ---- the same data
@@ -53,6 +55,7 @@ module _ (first second : Checkpoint) (one : IsPossible first) (two : IsPossible 
     count = sym same.entries ∙ is.count;
     size = sym same.bytes ∙ is.size;
     recorded = ap (λ (recorded : Option Digest). option_map (λ digest. (alg_of digest, bytes_of digest)) recorded) (sym same.recorded) ∙ is.recorded;
+    stray = sym same.stray ∙ is.stray;
   }
 
   -- They are those of the same boots.
@@ -80,6 +83,7 @@ counted_same first second before after possible same =
       room = rw same.bytes possible.counted.room;
       size = rw (same.entries, same.bytes) possible.counted.size;
       active = active;
+      stray = rw (same.entries, same.stray) possible.counted.stray;
       empty = λ none.
           let nothing = possible.counted.empty (sym same.entries ∙ none) in
           record {
@@ -135,18 +139,34 @@ same_option : (value : Option (List ℕ)) → option_map (λ bytes. bytes) value
 same_option None = refl
 same_option (Some bytes) = refl
 
+-- The stray entry of a list is one of its entries.
+stray_is_one : (n : ℕ) (entries : List ListEntry) → AreEntries entries → IfSome (stray_from n entries) (IsStrayOf (n + length entries))
+stray_is_one n [] are = tt
+stray_is_one n (entry ∷ entries) are =
+    let exists = are.0.register_exists in
+    let size : n + 1 + length entries ≡ n + length (entry ∷ entries) = omega arith in
+    elim (eqb_tells entry.register 10) [
+      | inl same ↦ rw same.0 (subst (λ (count : ℕ). IfSome (stray_from (n + 1) entries) (IsStrayOf count)) size (stray_is_one (n + 1) entries are.1))
+      | inr other ↦ rw other.0 (record { within = omega arith; exists = exists; other = other.1 })
+    ]
+
 -- They are those of a list that leaves room.
 pub counted_list : (known : Checkpoint) (list : List ℕ) → IsCheckpoint list known → LeavesRoom known → IsCounted known
 counted_list known list is room =
     let count = is.count in
     let size = is.size in
     let spelled = ap (λ (l : List ℕ). length l) (is.list_is.begins.parts ∙ append-nil (list_spelling is.entries)) in
-    let long = entries_size is.entries is.list_is.begins.are in
+    let are = is.list_is.begins.are in
+    let long = entries_size is.entries are in
     let active = λ (a : Alg). sym (is.replayed.active a) in
+    let counted : 0 + length is.entries ≡ known.entries = omega (arith, count) in
     record {
       room = room;
       size = omega (arith, count, size, spelled, long);
       active = active;
+      stray = rw is.stray (
+          subst (λ n. IfSome (first_stray is.entries) (IsStrayOf n)) counted (stray_is_one 0 is.entries are)
+          );
       empty = λ none.
           let empty = no_entries is.entries (sym is.count ∙ none) in
           record {

@@ -1,7 +1,6 @@
 -- The search for the confirmed prefix: one more step, and what is found at the end.
-use Rattle.std.proofs.Common.{◌≡◌, ℕ, zero, suc, ◌+◌, ◌-◌, ◌^◌, ◌<◌, ◌≤◌, min, Bool, true, false, cond, leb, List, [], ◌∷◌, ◌++◌, length, take, drop, Option, Some, None, option_map, Ok, Err, refl, sym, ap, subst, ◌∙◌, append_assoc, append-nil, arith, inl, inr}
+use Rattle.std.proofs.Common.{◌≡◌, ℕ, zero, suc, ◌+◌, ◌-◌, ◌^◌, ◌<◌, ◌≤◌, min, Bool, true, false, cond, eqb, leb, List, [], ◌∷◌, ◌++◌, length, take, drop, Option, Some, None, option_map, Ok, Err, refl, sym, ap, subst, ◌∙◌, append_assoc, append-nil, arith, inl, inr}
 use Rattle.std.specs.Prelude.{◌&&◌}
-use Rattle.std.specs.Borrow.{Bor}
 use Rattle.std.specs.List.{AllByRecursion, list_all}
 use Rattle.std.specs.Option.{option_or}
 use Rattle.std.proofs.Math.Bool.{and-false}
@@ -32,14 +31,19 @@ use Rattle.boot_verdict.specs.declared.list_replay.ListReplay.{ListReplay}
 use Rattle.boot_verdict.specs.declared.positions.Position.{Position}
 use Rattle.boot_verdict.specs.declared.positions.Position.TheVariants.{Reset, Event, Entry, Nowhere, Absent}
 use Rattle.boot_verdict.specs.Checkpoints.{IsCheckpoint, IsMoreFault}
+use Rattle.boot_verdict.specs.declared.isolation.Stray.{Stray}
+use Rattle.boot_verdict.specs.Isolation.{first_stray, stray_from}
 use Rattle.boot_verdict.specs.ListSources.{CameFrom}
 use Rattle.boot_verdict.specs.Positions.{is_reached, position_after}
 use Rattle.boot_verdict.specs.Steps.{Step, OfEntry, entries_as_steps, least_prefix, value_after}
-use Rattle.boot_verdict.specs.Verdicts.{aggregate_of, is_good, is_match, matches, pcr_after_log_and_list, row_on, recorded_aggregate, verdict_on}
-use Rattle.growing_lists.specs.parts.Confirming.{PrefixIs, IsConfirmingAfter, IsPrefixAt, are_reached, confirms, prefix_at, is_late, reached_after_steps, search_after, search_before, size_after, size_more}
+use Rattle.boot_verdict.specs.Verdicts.{aggregate_of, is_good, is_match, pcr_after_log_and_list, row_on, recorded_aggregate}
+use Rattle.tpm_quotes.specs.Quoting.{Values}
+use Rattle.growing_lists.specs.declared.goal.Goal.{Goal}
+use Rattle.growing_lists.specs.Goals.{Aim, OfExpected, OfQuote, aim_of, is_confirmed, is_met}
+use Rattle.growing_lists.specs.parts.Confirming.{PrefixIs, IsConfirmingAfter, IsPrefixAt, confirms, prefix_at, is_late, search_after, search_before, size_after, size_more, values_after}
 use Rattle.boot_verdict.specs.Tracking.{AreAfter}
 use Rattle.boot_verdict.specs.ListReplays.{IsReplayedOrForged, Replays, ReplaysAll, ReplaysMore, StopsAt}
-use Rattle.growing_lists.specs.parts.Searches.{FindsPrefix, IsConfirmedAt, Searches, checkpoint_at, fault_in, prefix_after, prefix_with, whole_after}
+use Rattle.growing_lists.specs.parts.Searches.{FindsPrefix, IsConfirmedAt, Searches, checkpoint_at, fault_in, prefix_after, prefix_with, stray_within, whole_after}
 use Rattle.boot_verdict.proofs.PositionLaws.{row_matches, steps_back, steps_to, two_ways}
 use Rattle.boot_verdict.proofs.StepLaws.{TellsLeast, banks_joined, entries_value, followed_by, fun_same, least_more, least_tells, none_taken, or_all, position_of_entry, replayed_after}
 
@@ -68,10 +72,11 @@ late first events n many =
 
 -- ---- one more step
 
-reached_same : (start now : Banks) (expected : List Expected) (steps : List Step) → AreAfter start steps now
-    → are_reached now expected ≡ reached_after_steps start expected steps
-reached_same start now expected steps after =
-    ap (λ (p : Expected → Bool). list_all p expected) (fun_same _ _ (λ e. ap (is_reached e) (after.values e.alg e.register)))
+met_same : (start now : Banks) (aim : Aim) (steps : List Step) → AreAfter start steps now
+    → is_met aim (value_at now) ≡ is_met aim (values_after start steps)
+met_same start now aim steps after =
+    let all : value_at now ≡ values_after start steps = λ i alg register. after.values alg register i in
+    ap (is_met aim) all
 
 prefix_by : {start : Confirming} {events : ℕ} {steps : List Step} {prefix : Prefix} (passes : Bool) → IsPrefixAt start events steps prefix
     → PrefixIs start events (cond passes (Some steps) None) (cond passes (Some prefix) None)
@@ -80,39 +85,39 @@ prefix_by false is = tt
 
 -- After an entry the registers are looked at.
 prefix_here : (start now : Confirming) (events : ℕ) (steps : List Step) (last : ℕ) → position_after events (length steps) ≡ Entry last
-    → AreAfter start.banks steps now.banks → now.bytes ≡ size_after start.bytes steps → now.first ≡ start.first → now.expected ≡ start.expected
+    → AreAfter start.banks steps now.banks → now.bytes ≡ size_after start.bytes steps → now.first ≡ start.first → now.goal ≡ start.goal
     → PrefixIs start events (cond (confirms start events steps) (Some steps) None) (prefix_at now (Entry last))
-prefix_here start now events steps last position banks bytes first expected =
+prefix_here start now events steps last position banks bytes first goal =
     let from = sym first in
-    let those = sym expected in
-    let passes : confirms start events steps ≡ (leb now.first last && are_reached now.banks now.expected.now) =
-    ap (λ (p : Position). is_late start.first p && reached_after_steps start.banks start.expected.now steps) position
-    ∙ (λ i. leb (from i) last && reached_after_steps start.banks (those i).now steps)
-    ∙ ap (λ (b : Bool). leb now.first last && b) (sym (reached_same start.banks now.banks now.expected.now steps banks)) in
-    rw passes (prefix_by (leb now.first last && are_reached now.banks now.expected.now) (record { position = position; registers = banks; size = bytes }))
+    let that = sym goal in
+    let passes : confirms start events steps ≡ (leb now.first last && is_met (aim_of now.goal) (value_at now.banks)) =
+    ap (λ (p : Position). is_late start.first p && is_met (aim_of start.goal) (values_after start.banks steps)) position
+    ∙ (λ i. leb (from i) last && is_met (aim_of (that i)) (values_after start.banks steps))
+    ∙ ap (λ (b : Bool). leb now.first last && b) (sym (met_same start.banks now.banks (aim_of now.goal) steps banks)) in
+    rw passes (prefix_by (leb now.first last && is_met (aim_of now.goal) (value_at now.banks)) (record { position = position; registers = banks; size = bytes }))
 
 module _ (start : Confirming) (events : ℕ) (before : List Step) (step : Step) where
   abbrev all : List Step
   all = before ++ step ∷ []
 
   prefix_next : (now : Confirming) (position : Position) → position_after events (length all) ≡ position → AreAfter start.banks all now.banks
-      → now.bytes ≡ size_after start.bytes all → now.first ≡ start.first → now.expected ≡ start.expected
+      → now.bytes ≡ size_after start.bytes all → now.first ≡ start.first → now.goal ≡ start.goal
       → (found : Option (List Step)) (old : Option Prefix) → PrefixIs start events found old
       → PrefixIs start events (or_all found all (confirms start events all)) (option_or old (prefix_at now position))
-  prefix_next now position at banks bytes first expected (Some steps) (Some prefix) is = is
-  prefix_next now position at banks bytes first expected (Some steps) None is = absurd is
-  prefix_next now position at banks bytes first expected None (Some prefix) is = absurd is
-  prefix_next now (Entry last) at banks bytes first expected None None is = prefix_here start now events all last at banks bytes first expected
-  prefix_next now Reset at banks bytes first expected None None is = rw at tt
-  prefix_next now (Event number) at banks bytes first expected None None is = rw at tt
-  prefix_next now Nowhere at banks bytes first expected None None is = rw at tt
-  prefix_next now Absent at banks bytes first expected None None is = rw at tt
+  prefix_next now position at banks bytes first goal (Some steps) (Some prefix) is = is
+  prefix_next now position at banks bytes first goal (Some steps) None is = absurd is
+  prefix_next now position at banks bytes first goal None (Some prefix) is = absurd is
+  prefix_next now (Entry last) at banks bytes first goal None None is = prefix_here start now events all last at banks bytes first goal
+  prefix_next now Reset at banks bytes first goal None None is = rw at tt
+  prefix_next now (Event number) at banks bytes first goal None None is = rw at tt
+  prefix_next now Nowhere at banks bytes first goal None None is = rw at tt
+  prefix_next now Absent at banks bytes first goal None None is = rw at tt
 
   -- After any step.
   pub search_more : (old now : Confirming) (position : Position) → IsConfirmingAfter start events before old → AreAfter old.banks (step ∷ []) now.banks
-      → now.bytes ≡ size_more old.bytes step → now.first ≡ old.first → now.expected ≡ old.expected → position ≡ position_after events (length before + 1)
+      → now.bytes ≡ size_more old.bytes step → now.first ≡ old.first → now.goal ≡ old.goal → position ≡ position_after events (length before + 1)
       → now.prefix ≡ option_or old.prefix (prefix_at now position) → IsConfirmingAfter start events all now
-  search_more old now position earlier one bytes first expected at prefix =
+  search_more old now position earlier one bytes first goal at prefix =
       let banks = banks_joined start.banks old.banks now.banks before (step ∷ []) earlier.banks one in
       let size : now.bytes ≡ size_after start.bytes all =
       bytes ∙ ap (λ (n : ℕ). size_more n step) earlier.bytes ∙ sym (fold-append size_more start.bytes before (step ∷ [])) in
@@ -121,9 +126,9 @@ module _ (start : Confirming) (events : ℕ) (before : List Step) (step : Step) 
         banks = banks;
         bytes = size;
         first = first ∙ earlier.first;
-        expected = expected ∙ earlier.expected;
+        goal = goal ∙ earlier.goal;
         prefix = rw (prefix, least_more (confirms start events) before step)
-            (prefix_next now position at_all banks size (first ∙ earlier.first) (expected ∙ earlier.expected) (least_prefix (confirms start events) before)
+            (prefix_next now position at_all banks size (first ∙ earlier.first) (goal ∙ earlier.goal) (least_prefix (confirms start events) before)
             old.prefix earlier.prefix);
       }
 
@@ -158,9 +163,9 @@ only_whole test steps fails = by (least_prefix test steps) (least_tells test ste
     ]
 
 -- After the list of a checkpoint, whose end is looked at.
-module _ (list : List ℕ) (known : Checkpoint) (expected : Bor (List Expected)) (is : IsCheckpoint list known) (few : known.bytes < 2 ^ 64)
+module _ (list : List ℕ) (known : Checkpoint) (goal : Goal) (is : IsCheckpoint list known) (few : known.bytes < 2 ^ 64)
     (origin : Confirming) (events : ℕ) (log : List Step) (size : events ≡ length log)
-    (after : IsConfirmingAfter origin events log (search_before known expected)) where
+    (after : IsConfirmingAfter origin events log (search_before known goal)) where
   abbrev steps : List Step
   steps = log ++ entries_as_steps is.entries
 
@@ -182,7 +187,7 @@ module _ (list : List ℕ) (known : Checkpoint) (expected : Bor (List Expected))
       let listed = length-map is.entries (λ (entry : ListEntry). OfEntry entry) in
       omega (arith, size, is.count, listed, length-append log (entries_as_steps is.entries))
 
-  known_prefix : PrefixIs origin events (least_prefix (confirms origin events) steps) (search_after known expected).prefix
+  known_prefix : PrefixIs origin events (least_prefix (confirms origin events) steps) (search_after known goal).prefix
   known_prefix =
       let first = after.first in
       let only : least_prefix (confirms origin events) steps ≡ cond (confirms origin events steps) (Some steps) None =
@@ -198,22 +203,22 @@ module _ (list : List ℕ) (known : Checkpoint) (expected : Bor (List Expected))
             let position : position_after events (length steps) ≡ Entry (known.entries - 1) =
             position_of_entry events (length steps) (known.entries - 1) (omega (arith, known_count, some)) in
             rw (other.0, only) (prefix_here origin
-            (record { banks = known.after; bytes = known.bytes; first = known.entries - 1; expected = expected; prefix = None })
-            events steps (known.entries - 1) position known_banks known_bytes first after.expected)
+            (record { banks = known.after; bytes = known.bytes; first = known.entries - 1; goal = goal; prefix = None })
+            events steps (known.entries - 1) position known_banks known_bytes first after.goal)
       ]
 
-  known_after : IsConfirmingAfter origin events steps (search_after known expected)
-  known_after = record { banks = known_banks; bytes = known_bytes; first = after.first; expected = after.expected; prefix = known_prefix }
+  known_after : IsConfirmingAfter origin events steps (search_after known goal)
+  known_after = record { banks = known_banks; bytes = known_bytes; first = after.first; goal = after.goal; prefix = known_prefix }
 
-pub known_search : (list : List ℕ) (known : Checkpoint) (expected : Bor (List Expected)) → IsCheckpoint list known → known.bytes < 2 ^ 64
-    → ReplaysAll IsConfirmingAfter (search_before known expected) list
-    (record { tracker = search_after known expected; entries = known.entries; recorded = known.recorded; forged = None })
-known_search list known expected is few =
-    let tracked = known_after list known expected is few in
+pub known_search : (list : List ℕ) (known : Checkpoint) (goal : Goal) → IsCheckpoint list known → known.bytes < 2 ^ 64
+    → ReplaysAll IsConfirmingAfter (search_before known goal) list
+    (record { tracker = search_after known goal; entries = known.entries; recorded = known.recorded; stray = known.stray; forged = None })
+known_search list known goal is few =
+    let tracked = known_after list known goal is few in
     record {
       entries = is.entries;
       reading = is.list_is;
-      replays = record { count = is.count; recorded = is.recorded; replayed = (is.genuine, tracked) };
+      replays = record { count = is.count; recorded = is.recorded; stray = is.stray; replayed = (is.genuine, tracked) };
       genuine = is.genuine;
       tracked = tracked;
     }
@@ -230,34 +235,80 @@ recorded_take zero entries some = absurd (omega (arith, some))
 recorded_take (suc n) [] some = refl
 recorded_take (suc n) (entry ∷ entries) some = refl
 
-module _ (algs : AlgSet) (events : List LogEvent) (start : Banks) (expected : List Expected) (firmware : IsFirmware algs events start) where
-  value_reached : (entries : List ListEntry) (e : Expected)
-      → value_after e.alg e.register (value_at start e.alg e.register) (entries_as_steps entries)
-      ≡ pcr_after_log_and_list algs events entries e.alg e.register
-  value_reached entries e =
-      ap (λ (f : List ℕ → List ℕ). option_map f (value_at start e.alg e.register)) (fun_same _ _ (λ v. entries_value e.alg e.register v entries))
-      ∙ ap (option_map (λ value. extended_by_all e.alg value (digests_of entries e.alg e.register))) (firmware.values e.alg e.register)
+-- The first stray entry of these, where the first has the number `k`, has no smaller number.
+not_before : (k last : ℕ) (entries : List ListEntry) → last < k → stray_within (stray_from k entries) last ≡ None
+not_before k last [] lt = refl
+not_before k last (entry ∷ entries) lt =
+    before (eqb entry.register 10) (record { entry = k; register = entry.register }) (stray_from (k + 1) entries) (stray_is_after k last lt)
+    (not_before (k + 1) last entries (omega (arith, lt)))
+  where
+    stray_is_after : (k last : ℕ) → last < k → leb k last ≡ false
+    stray_is_after k last lt = elim (leb_tells k last) [
+      | inl le ↦ let no = le.1 in absurd (omega (arith, lt, no))
+      | inr gt ↦ gt.0
+    ]
 
-  -- The verdict on entries is 'match' if the boot aggregate is good, and each value is reached.
-  matched_by : (entries : List ListEntry) → matches (verdict_on algs events entries expected)
-      ≡ (is_good (aggregate_of algs events (recorded_aggregate entries)) && reached_after_steps start expected (entries_as_steps entries))
-  matched_by entries =
+    before : (b : Bool) (first : Stray) (rest : Option Stray) → leb first.entry last ≡ false → stray_within rest last ≡ None
+        → stray_within (cond b rest (Some first)) last ≡ None
+    before true first rest late none = none
+    before false first rest late none = rw late refl
+
+stray_take_from : (k n last : ℕ) (entries : List ListEntry) → k + n ≡ 1 + last
+    → stray_within (stray_from k entries) last ≡ stray_from k (take n entries)
+stray_take_from k zero last entries size = not_before k last entries (omega (arith, size))
+stray_take_from k (suc n) last [] size = refl
+stray_take_from k (suc n) last (entry ∷ entries) size =
+    one (eqb entry.register 10) (record { entry = k; register = entry.register }) (stray_from (k + 1) entries) (stray_from (k + 1) (take n entries))
+    here (stray_take_from (k + 1) n last entries (omega (arith, size)))
+  where
+    here : leb k last ≡ true
+    here = elim (leb_tells k last) [
+      | inl le ↦ le.0
+      | inr gt ↦ let more = gt.1 in absurd (omega (arith, size, more))
+    ]
+
+    one : (b : Bool) (first : Stray) (all some : Option Stray) → leb first.entry last ≡ true → stray_within all last ≡ some
+        → stray_within (cond b all (Some first)) last ≡ cond b some (Some first)
+    one true first all some within same = same
+    one false first all some within same = rw within refl
+
+-- The first stray entry of a prefix is that of all, if it is within.
+stray_take : (n last : ℕ) (entries : List ListEntry) → n ≡ 1 + last → stray_within (first_stray entries) last ≡ first_stray (take n entries)
+stray_take n last entries size = stray_take_from 0 n last entries (omega (arith, size))
+
+module _ (algs : AlgSet) (events : List LogEvent) (start : Banks) (firmware : IsFirmware algs events start) where
+  value_reached : (entries : List ListEntry) (alg : Alg) (register : ℕ)
+      → value_after alg register (value_at start alg register) (entries_as_steps entries) ≡ pcr_after_log_and_list algs events entries alg register
+  value_reached entries alg register =
+      ap (λ (f : List ℕ → List ℕ). option_map f (value_at start alg register)) (fun_same _ _ (λ v. entries_value alg register v entries))
+      ∙ ap (option_map (λ value. extended_by_all alg value (digests_of entries alg register))) (firmware.values alg register)
+
+  values_reached : (entries : List ListEntry) → values_after start (entries_as_steps entries) ≡ pcr_after_log_and_list algs events entries
+  values_reached entries = λ i alg register. value_reached entries alg register i
+
+  -- Log and list are confirmed if the boot aggregate is good, and the values are as is sought.
+  confirmed_by : (aim : Aim) (entries : List ListEntry) → is_confirmed aim algs events entries
+      ≡ (is_good (aggregate_of algs events (recorded_aggregate entries)) && is_met aim (values_after start (entries_as_steps entries)))
+  confirmed_by (OfExpected expected) entries =
       ap (λ (b : Bool). is_good (aggregate_of algs events (recorded_aggregate entries)) && b)
       (list_all-map is_match (row_on algs events entries) expected
       ∙ ap (λ (p : Expected → Bool). list_all p expected) (fun_same _ _ (λ e.
-      sym (ap (is_reached e) (value_reached entries e) ∙ row_matches e (pcr_after_log_and_list algs events entries e.alg e.register)))))
+      sym (ap (is_reached e) (value_reached entries e.alg e.register)
+      ∙ row_matches e (pcr_after_log_and_list algs events entries e.alg e.register)))))
+  confirmed_by (OfQuote quote) entries =
+      ap (λ (v : Values). is_good (aggregate_of algs events (recorded_aggregate entries)) && is_met (OfQuote quote) v) (sym (values_reached entries))
 
 -- The genuine entries at the start of those that were searched.
-pub record IsSearched (known : Checkpoint) (expected : Bor (List Expected)) (entries : List ListEntry) (now : Confirming) : Type 0 where
+pub record IsSearched (known : Checkpoint) (goal : Goal) (entries : List ListEntry) (now : Confirming) : Type 0 where
   pub genuine : List ListEntry
   pub others : List ListEntry
   pub parts : entries ≡ genuine ++ others
   pub are : AreGenuine genuine
   pub most : (n : ℕ) → n ≤ length entries → AreGenuine (take n entries) → n ≤ length genuine
-  pub after : IsConfirmingAfter (search_before known expected) 0 (entries_as_steps genuine) now
+  pub after : IsConfirmingAfter (search_before known goal) 0 (entries_as_steps genuine) now
 
-search_none : (known : Checkpoint) (expected : Bor (List Expected)) → IsConfirmingAfter (search_before known expected) 0 [] (search_before known expected)
-search_none known expected = record { banks = none_taken known.before; bytes = refl; first = refl; expected = refl; prefix = tt }
+search_none : (known : Checkpoint) (goal : Goal) → IsConfirmingAfter (search_before known goal) 0 [] (search_before known goal)
+search_none known goal = record { banks = none_taken known.before; bytes = refl; first = refl; goal = refl; prefix = tt }
 
 -- No genuine prefix goes on beyond an entry that is not.
 within_genuine : (before after : List ListEntry) (forged : ListEntry) (n : ℕ) → (IsGenuine forged → ⊥) → AreGenuine (take n (before ++ forged ∷ after))
@@ -267,39 +318,39 @@ within_genuine [] after forged (suc n) no_is are = absurd (no_is are.0)
 within_genuine (first ∷ before) after forged (suc n) no_is are =
     let within = within_genuine before after forged n no_is are.1 in omega (arith, within)
 
-search_list : (known : Checkpoint) (expected : Bor (List Expected)) (entries : List ListEntry) (now : Confirming) (forged : Option ℕ)
-    → IsReplayedOrForged IsConfirmingAfter (search_before known expected) entries now forged → IsSearched known expected entries now
-search_list known expected entries now None is = record {
+search_list : (known : Checkpoint) (goal : Goal) (entries : List ListEntry) (now : Confirming) (forged : Option ℕ)
+    → IsReplayedOrForged IsConfirmingAfter (search_before known goal) entries now forged → IsSearched known goal entries now
+search_list known goal entries now None is = record {
   genuine = entries;
   others = [];
   parts = sym (append-nil entries);
   are = is.0;
   most = λ n le are. le;
-  after = is.1 (search_before known expected) 0 [] refl (search_none known expected);
+  after = is.1 (search_before known goal) 0 [] refl (search_none known goal);
 }
-search_list known expected entries now (Some position) (first, tracked) = record {
+search_list known goal entries now (Some position) (first, tracked) = record {
   genuine = first.before;
   others = first.forged ∷ first.after;
   parts = first.parts;
   are = first.genuine_before;
   most = λ n le are. within_genuine first.before first.after first.forged n first.is_forged
       (subst (λ (l : List ListEntry). AreGenuine (take n l)) first.parts are);
-  after = tracked (search_before known expected) 0 [] refl (search_none known expected);
+  after = tracked (search_before known goal) 0 [] refl (search_none known goal);
 }
 
 -- ---- the prefix
 
-module _ (known : Checkpoint) (expected : Bor (List Expected)) (bytes : List ℕ) (entries : List ListEntry) (rest : List ℕ) (replay : ListReplay Confirming)
-    (begins : BeginsWith bytes entries rest) (replays : Replays IsConfirmingAfter (search_before known expected) entries replay)
+module _ (known : Checkpoint) (goal : Goal) (bytes : List ℕ) (entries : List ListEntry) (rest : List ℕ) (replay : ListReplay Confirming)
+    (begins : BeginsWith bytes entries rest) (replays : Replays IsConfirmingAfter (search_before known goal) entries replay)
     (few : length bytes < 2 ^ 64) (counted : replay.entries < 2 ^ 64) where
-  abbrev found : IsSearched known expected entries replay.tracker
-  found = search_list known expected entries replay.tracker replay.forged replays.replayed
+  abbrev found : IsSearched known goal entries replay.tracker
+  found = search_list known goal entries replay.tracker replay.forged replays.replayed
 
   abbrev steps_found : List Step
   steps_found = entries_as_steps found.genuine
 
   abbrev test : List Step → Bool
-  test = confirms (search_before known expected) 0
+  test = confirms (search_before known goal) 0
 
   -- A prefix of the genuine entries is one of all.
   same_prefix : (n : ℕ) → n ≤ length found.genuine → take n entries ≡ take n found.genuine
@@ -336,7 +387,7 @@ module _ (known : Checkpoint) (expected : Bor (List Expected)) (bytes : List ℕ
 
   -- The checkpoint of a prefix that is found.
   abbrev prefix_checkpoint : (n : ℕ) (prefix : Prefix) → n ≤ length found.genuine → n ≡ 0 + 1 + prefix.last
-      → IsPrefixAt (search_before known expected) 0 (entries_as_steps (take n entries)) prefix
+      → IsPrefixAt (search_before known goal) 0 (entries_as_steps (take n entries)) prefix
       → IsCheckpoint (list_spelling (take n entries)) (checkpoint_at known replay prefix)
   prefix_checkpoint n prefix within last at =
       let listed = prefix_size n within in
@@ -350,25 +401,26 @@ module _ (known : Checkpoint) (expected : Bor (List Expected)) (bytes : List ℕ
         count = omega (arith, last, listed, within, all, length-append found.genuine found.others, replays.count, counted);
         size = at.size ∙ sized (take n entries) 0 (omega (arith, prefix_few n)) ∙ omega arith;
         recorded = replays.recorded ∙ sym (recorded_take n entries (omega (arith, last)));
+        stray = ap (λ (s : Option Stray). stray_within s prefix.last) replays.stray ∙ stray_take n prefix.last entries (omega (arith, last));
       }
 
   module _ (algs : AlgSet) (events : List LogEvent) (firmware : IsFirmware algs events known.before) (good : Bool)
       (tells : good ≡ is_good (aggregate_of algs events (recorded_aggregate entries))) where
-    -- Whether the verdict on a prefix is 'match'.
+    -- Whether a prefix is confirmed.
     confirms_is : (n : ℕ) → known.entries ≤ n → n ≤ length found.genuine
-        → matches (verdict_on algs events (take n entries) expected.now) ≡ (good && test (take n steps_found))
-    confirms_is zero enough le = sym (and-false good)
+        → is_confirmed (aim_of goal) algs events (take n entries) ≡ (good && test (take n steps_found))
+    confirms_is zero enough le = confirmed_by algs events known.before firmware (aim_of goal) [] ∙ sym (and-false good)
     confirms_is (suc k) enough le =
         let steps = entries_as_steps (take (suc k) entries) in
-        let tested : test (take (suc k) steps_found) ≡ reached_after_steps known.before expected.now steps =
+        let tested : test (take (suc k) steps_found) ≡ is_met (aim_of goal) (values_after known.before steps) =
         ap test (prefix_steps (suc k) le) ∙ rw (late (known.entries - 1) 0 (length steps) (omega (arith, step_count (suc k) le, enough))) refl in
-        matched_by algs events known.before expected.now firmware (take (suc k) entries)
-        ∙ ap (λ (recorded : Option (Alg × List ℕ)). is_good (aggregate_of algs events recorded) && reached_after_steps known.before expected.now steps)
+        confirmed_by algs events known.before firmware (aim_of goal) (take (suc k) entries)
+        ∙ ap (λ (recorded : Option (Alg × List ℕ)). is_good (aggregate_of algs events recorded) && is_met (aim_of goal) (values_after known.before steps))
         (recorded_take (suc k) entries (omega arith))
-        ∙ ap (λ (b : Bool). b && reached_after_steps known.before expected.now steps) (sym tells) ∙ ap (λ (b : Bool). good && b) (sym tested)
+        ∙ ap (λ (b : Bool). b && is_met (aim_of goal) (values_after known.before steps)) (sym tells) ∙ ap (λ (b : Bool). good && b) (sym tested)
 
     prefix_confirmed : (steps : List Step) (prefix : Prefix) → TellsLeast test steps_found (Some steps)
-        → IsPrefixAt (search_before known expected) 0 steps prefix → good ≡ true → IsConfirmedAt algs events expected.now known bytes (checkpoint_at known replay prefix)
+        → IsPrefixAt (search_before known goal) 0 steps prefix → good ≡ true → IsConfirmedAt algs events (aim_of goal) known bytes (checkpoint_at known replay prefix)
     prefix_confirmed steps prefix least at yes_is =
         let n = length steps in
         let size = ap (λ (l : List Step). length l) least.0 in
@@ -388,26 +440,26 @@ module _ (known : Checkpoint) (expected : Bor (List Expected)) (bytes : List ℕ
             enough = omega (arith, enough, listed);
             is_match = confirms_is n enough within ∙ ap (λ (l : List Step). good && test l) (sym least.0) ∙ (λ i. yes_is i && least.1 i);
             shortest = λ m more lt.
-                ap (λ (l : List ListEntry). matches (verdict_on algs events l expected.now)) (take-take m n entries (omega (arith, lt, listed)))
+                ap (λ (l : List ListEntry). is_confirmed (aim_of goal) algs events l) (take-take m n entries (omega (arith, lt, listed)))
                 ∙ confirms_is m more (omega (arith, lt, listed, within)) ∙ ap (λ (b : Bool). good && b) (least.2 m (omega (arith, lt, listed))) ∙ and-false good;
           };
           checkpoint = prefix_checkpoint n prefix within (sym (steps_back 0 n) ∙ ap (steps_to 0) at.position)
-              (subst (λ (l : List Step). IsPrefixAt (search_before known expected) 0 l prefix) (least.0 ∙ prefix_steps n within) at);
+              (subst (λ (l : List Step). IsPrefixAt (search_before known goal) 0 l prefix) (least.0 ∙ prefix_steps n within) at);
           same = refl;
           before = refl;
         }
 
-    pub prefix_is : FindsPrefix algs events expected.now known bytes entries (prefix_after good known replay)
+    pub prefix_is : FindsPrefix algs events (aim_of goal) known bytes entries (prefix_after good known replay)
     prefix_is = by (least_prefix test steps_found) replay.tracker.prefix (least_tells test steps_found) found.after.prefix
       where
-        by_good : (b : Bool) (steps : List Step) (prefix : Prefix) → TellsLeast test steps_found (Some steps) → IsPrefixAt (search_before known expected) 0 steps prefix
-            → good ≡ b → FindsPrefix algs events expected.now known bytes entries (cond b (Some (checkpoint_at known replay prefix)) None)
+        by_good : (b : Bool) (steps : List Step) (prefix : Prefix) → TellsLeast test steps_found (Some steps) → IsPrefixAt (search_before known goal) 0 steps prefix
+            → good ≡ b → FindsPrefix algs events (aim_of goal) known bytes entries (cond b (Some (checkpoint_at known replay prefix)) None)
         by_good true steps prefix least at is = prefix_confirmed steps prefix least at is
         by_good false _ prefix least at is = λ n enough le are.
             confirms_is n enough (found.most n le are) ∙ ap (λ (b : Bool). b && test (take n steps_found)) is
 
-        by : (least : Option (List Step)) (prefix : Option Prefix) → TellsLeast test steps_found least → PrefixIs (search_before known expected) 0 least prefix
-            → FindsPrefix algs events expected.now known bytes entries (prefix_with good known replay prefix)
+        by : (least : Option (List Step)) (prefix : Option Prefix) → TellsLeast test steps_found least → PrefixIs (search_before known goal) 0 least prefix
+            → FindsPrefix algs events (aim_of goal) known bytes entries (prefix_with good known replay prefix)
         by (Some steps) (Some prefix) least at = by_good good steps prefix least at refl
         by (Some _) None least at = absurd at
         by None (Some prefix) none at = absurd at
@@ -421,27 +473,27 @@ GoodOf known replay prefix =
     (algs : AlgSet) (events : List LogEvent) → IsFirmware algs events known.before
     → prefix ≡ prefix_after (is_good (aggregate_of algs events (option_map (λ digest. (alg_of digest, bytes_of digest)) replay.recorded))) known replay
 
-module _ (known : Checkpoint) (expected : Bor (List Expected)) (list : List ℕ) (old new : Option (List ℕ)) (limit : ℕ) (replay : ListReplay Confirming)
+module _ (known : Checkpoint) (goal : Goal) (list : List ℕ) (old new : Option (List ℕ)) (limit : ℕ) (replay : ListReplay Confirming)
     (prefix : Option Checkpoint) (is : IsCheckpoint list known) (room : known.bytes + limit < 2 ^ 64) (counted : replay.entries < 2 ^ 64)
     (good : GoodOf known replay prefix) where
   few_bytes : (came over : List ℕ) → CameFrom old new limit came over → length (list ++ came) < 2 ^ 64
   few_bytes came over from = let within = from.within in omega (arith, room, is.size, within, length-append list came)
 
   finds : (bytes : List ℕ) (entries : List ListEntry) (rest : List ℕ) → BeginsWith bytes entries rest
-      → Replays IsConfirmingAfter (search_before known expected) entries replay → length bytes < 2 ^ 64
+      → Replays IsConfirmingAfter (search_before known goal) entries replay → length bytes < 2 ^ 64
       → (algs : AlgSet) (events : List LogEvent) → IsFirmware algs events known.before
-      → FindsPrefix algs events expected.now known bytes entries prefix
+      → FindsPrefix algs events (aim_of goal) known bytes entries prefix
   finds bytes entries rest begins replays few algs events firmware =
-      rw (good algs events firmware) (prefix_is known expected bytes entries rest replay begins replays few counted algs events firmware _
+      rw (good algs events firmware) (prefix_is known goal bytes entries rest replay begins replays few counted algs events firmware _
       (ap (λ (recorded : Option (Alg × List ℕ)). is_good (aggregate_of algs events recorded)) replays.recorded))
 
   -- All that came is a list of genuine entries.
-  pub searches_whole : ReplaysMore IsConfirmingAfter (search_before known expected) list old new limit replay
-      → Searches known list old new limit expected.now (record { prefix = prefix; entries = replay.entries; whole = Ok (whole_after known replay) })
+  pub searches_whole : ReplaysMore IsConfirmingAfter (search_before known goal) list old new limit replay
+      → Searches known list old new limit (aim_of goal) (record { prefix = prefix; entries = replay.entries; whole = Ok (whole_after known replay) })
   searches_whole more =
       let all = more.all in
       let entries = all.entries in
-      let after = all.tracked (search_before known expected) 0 [] refl (search_none known expected) in
+      let after = all.tracked (search_before known goal) 0 [] refl (search_none known goal) in
       let few = few_bytes more.more [] more.came.came in
       let listed : length (list ++ more.more) ≡ length (list_spelling entries) =
       ap (λ (l : List ℕ). length l) (all.reading.begins.parts ∙ append-nil (list_spelling entries)) in
@@ -453,6 +505,7 @@ module _ (known : Checkpoint) (expected : Bor (List Expected)) (list : List ℕ)
         count = all.replays.count;
         size = after.bytes ∙ sized entries 0 (omega (arith, few, listed)) ∙ omega arith ∙ sym listed;
         recorded = all.replays.recorded;
+        stray = all.replays.stray;
       } in
       record {
         came = more.more;
@@ -469,8 +522,8 @@ module _ (known : Checkpoint) (expected : Bor (List Expected)) (list : List ℕ)
 
   -- Something is wrong with what came.
   pub searches_part : (wrong : Unconfirmed) → IsMoreFault list old new limit (fault_in wrong)
-      → StopsAt IsConfirmingAfter (search_before known expected) list old new limit replay (fault_in wrong)
-      → Searches known list old new limit expected.now (record { prefix = prefix; entries = replay.entries; whole = Err wrong })
+      → StopsAt IsConfirmingAfter (search_before known goal) list old new limit replay (fault_in wrong)
+      → Searches known list old new limit (aim_of goal) (record { prefix = prefix; entries = replay.entries; whole = Err wrong })
   searches_part (unconfirmed.List fault) why (came, over, from, number, (rest, stops)) = record {
     came = came;
     over = over;

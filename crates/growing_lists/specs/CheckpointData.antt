@@ -7,6 +7,8 @@ use Rattle.pcr_banks.specs.Hashing.{size_of}
 use Rattle.pcr_banks.specs.Digests.{alg_of, bytes_of}
 use Rattle.pcr_banks.specs.Registers.{register_count, is_active, value_at}
 use Rattle.boot_verdict.specs.declared.checkpoint.Checkpoint.{Checkpoint}
+use Rattle.boot_verdict.specs.declared.isolation.Stray.{Stray}
+use Rattle.boot_verdict.specs.Isolation.{list_register}
 
 -- Bytes, as many as a hash of the algorithm has.
 abbrev pub IsHash : Alg → List ℕ → Type 0
@@ -35,17 +37,24 @@ pub record AreSameBanks (first second : Banks) : Type 0 where
 abbrev pub LeavesRoom : Checkpoint → Type 0
 LeavesRoom checkpoint = checkpoint.bytes + 2 ^ 26 < 2 ^ 63
 
+-- The entry is one of so many, and extends another register than that of the list.
+pub record IsStrayOf (entries : ℕ) (stray : Stray) : Type 0 where
+  pub within : stray.entry < entries
+  pub exists : stray.register < register_count
+  pub other : stray.register ≡ list_register → ⊥
+
 -- Nothing was taken: no byte, no boot aggregate, and no register is another.
 pub record HasTakenNothing (checkpoint : Checkpoint) : Type 0 where
   pub bytes : checkpoint.bytes ≡ 0
   pub recorded : checkpoint.recorded ≡ None
   pub same : AreSameBanks checkpoint.before checkpoint.after
 
--- The counts, the boot aggregate and the active banks are such as a list leaves, each of whose entries has 32 bytes or more.
+-- The counts, the boot aggregate, the stray entry and the active banks are such as a list leaves, each of whose entries has 32 bytes or more.
 pub record IsCounted (checkpoint : Checkpoint) : Type 0 where
   pub room : LeavesRoom checkpoint
   pub size : checkpoint.entries * 32 ≤ checkpoint.bytes
   pub active : SameActive checkpoint.before checkpoint.after
+  pub stray : IfSome checkpoint.stray (IsStrayOf checkpoint.entries)
   pub empty : checkpoint.entries ≡ 0 → HasTakenNothing checkpoint
 
 -- The counts are possible; and what else is so of all values that a program has.
@@ -60,5 +69,6 @@ pub record SameData (first second : Checkpoint) : Type 0 where
   pub entries : first.entries ≡ second.entries
   pub bytes : first.bytes ≡ second.bytes
   pub recorded : first.recorded ≡ second.recorded
+  pub stray : first.stray ≡ second.stray
   pub before : SameValues first.before second.before
   pub after : SameValues first.after second.after

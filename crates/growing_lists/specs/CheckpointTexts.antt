@@ -9,6 +9,8 @@ use Rattle.pcr_banks.specs.Hashing.{all_algs, hash_of, name_of}
 use Rattle.pcr_banks.specs.Digests.{alg_of, bytes_of}
 use Rattle.pcr_banks.specs.Registers.{value_at}
 use Rattle.boot_verdict.specs.declared.checkpoint.Checkpoint.{Checkpoint}
+use Rattle.boot_verdict.specs.declared.isolation.Stray.{Stray}
+use Rattle.boot_verdict.specs.Isolation.{list_register}
 use Rattle.boot_verdict.specs.RegisterTexts.{all_registers, change_line}
 
 -- A line of a word and a number in decimal.
@@ -22,6 +24,19 @@ recorded_words (Some digest) = name_of (alg_of digest) ++ (codes ":" ++ encode_l
 
 abbrev pub recorded_line : Option Digest → List ℕ
 recorded_line recorded = codes "boot_aggregate " ++ (recorded_words recorded ++ codes "\n")
+
+-- The first entry that extends another register than that of the list: the register and the entry's number; without one, the register of
+-- the list and 0.
+abbrev pub stray_register : Option Stray → ℕ
+stray_register None = list_register
+stray_register (Some stray) = stray.register
+
+abbrev pub stray_entry : Option Stray → ℕ
+stray_entry None = 0
+stray_entry (Some stray) = stray.entry
+
+abbrev pub stray_lines : Option Stray → List ℕ
+stray_lines stray = number_line (codes "register ") (stray_register stray) ++ number_line (codes "entry ") (stray_entry stray)
 
 -- The line of a register, where it has a value.
 abbrev pub value_line : Banks → Alg → ℕ → List ℕ
@@ -42,11 +57,11 @@ data_lines checkpoint =
     number_line (codes "entries ") checkpoint.entries
     ++ (number_line (codes "bytes ") checkpoint.bytes
     ++ (recorded_line checkpoint.recorded
-    ++ (codes "before\n" ++ (banks_lines checkpoint.before ++ (codes "after\n" ++ banks_lines checkpoint.after)))))
+    ++ (codes "before\n" ++ (banks_lines checkpoint.before ++ (codes "after\n" ++ (banks_lines checkpoint.after ++ stray_lines checkpoint.stray))))))
 
 -- What stands before the last line.
 abbrev pub checkpoint_body : Checkpoint → List ℕ
-checkpoint_body checkpoint = codes "ima-agent checkpoint " ++ (codes "1\n" ++ data_lines checkpoint)
+checkpoint_body checkpoint = codes "ima-agent checkpoint " ++ (codes "2\n" ++ data_lines checkpoint)
 
 -- The last line: the SHA-256 of what stands before it.
 abbrev pub seal_line : List ℕ → List ℕ
@@ -59,4 +74,4 @@ checkpoint_text checkpoint = checkpoint_body checkpoint ++ seal_line (checkpoint
 pub record IsOfOtherVersion (text : List ℕ) : Type 0 where
   pub version : List ℕ
   pub begins : text ≡ codes "ima-agent checkpoint " ++ version
-  pub other : (rest : List ℕ) → version ≡ codes "1\n" ++ rest → ⊥
+  pub other : (rest : List ℕ) → version ≡ codes "2\n" ++ rest → ⊥

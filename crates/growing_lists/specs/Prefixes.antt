@@ -1,4 +1,4 @@
--- The confirmed prefix of a list: the shortest with which all is as expected.
+-- The confirmed prefix of a list: the shortest with which all is as is sought.
 use Rattle.std.specs.Prelude.{◌≡◌, ℕ, ◌<◌, ◌≤◌, true, false, List, ◌++◌, length, take, Option, Some, None, Ok}
 use Rattle.pcr_banks.specs.declared.sets.AlgSet.{AlgSet}
 use Rattle.boot_log.specs.declared.header.Row.{Row as TableRow}
@@ -7,29 +7,28 @@ use Rattle.ima_list.specs.ListEntry.{ListEntry}
 use Rattle.ima_list.specs.ListFaults.{list_fault_entry}
 use Rattle.ima_list.specs.Spelling.{BeginsWith, IsReading, list_spelling}
 use Rattle.ima_list.specs.Replaying.{AreGenuine, IsReplayFault}
-use Rattle.boot_verdict.specs.declared.expected.Expected.{Expected}
-use Rattle.boot_verdict.specs.declared.prefix_report.PrefixReport.{PrefixReport}
 use Rattle.boot_verdict.specs.declared.prefix_report.Unconfirmed.{Unconfirmed}
 use Rattle.boot_verdict.specs.declared.prefix_report.Unconfirmed.TheVariants as unconfirmed
+use Rattle.growing_lists.specs.declared.confirmation.Confirmed.{Confirmed}
 use Rattle.growing_lists.specs.declared.session.Session.{Session}
 use Rattle.boot_verdict.specs.declared.verifier.VerifyFault.{VerifyFault}
 use Rattle.boot_verdict.specs.declared.verifier.VerifyFault.TheVariants as faults
 use Rattle.boot_verdict.specs.ListSources.{CameFrom, CameWhole, IsListFaultAfter}
+use Rattle.growing_lists.specs.Goals.{Aim, is_confirmed}
 use Rattle.growing_lists.specs.Sessions.{HasTaken, TakesMore}
-use Rattle.boot_verdict.specs.Verdicts.{matches, verdict_of, verdict_on}
 
--- These entries are the shortest prefix of a list that has at least `least` entries and on which the verdict is 'match'. Each of them
--- is genuine.
-pub record IsConfirmed (algs : AlgSet) (events : List LogEvent) (expected : List Expected) (least : ℕ) (prefix : List ListEntry) : Type 0 where
+-- These entries are the shortest prefix of a list that has at least `least` entries and with which log and list are confirmed. Each of
+-- them is genuine.
+pub record IsConfirmed (algs : AlgSet) (events : List LogEvent) (aim : Aim) (least : ℕ) (prefix : List ListEntry) : Type 0 where
   pub genuine : AreGenuine prefix
   pub enough : least ≤ length prefix
-  pub is_match : matches (verdict_on algs events prefix expected) ≡ true
-  pub shortest : (n : ℕ) → least ≤ n → n < length prefix → matches (verdict_on algs events (take n prefix) expected) ≡ false
+  pub is_match : is_confirmed aim algs events prefix ≡ true
+  pub shortest : (n : ℕ) → least ≤ n → n < length prefix → is_confirmed aim algs events (take n prefix) ≡ false
 
--- None of the prefixes of these entries that have at least `least` entries, all genuine, has the verdict 'match'.
-abbrev pub AreUnconfirmed : AlgSet → List LogEvent → List Expected → ℕ → List ListEntry → Type 0
-AreUnconfirmed algs events expected least entries =
-    (n : ℕ) → least ≤ n → n ≤ length entries → AreGenuine (take n entries) → matches (verdict_on algs events (take n entries) expected) ≡ false
+-- None of the prefixes of these entries that have at least `least` entries, all genuine, is confirmed.
+abbrev pub AreUnconfirmed : AlgSet → List LogEvent → Aim → ℕ → List ListEntry → Type 0
+AreUnconfirmed algs events aim least entries =
+    (n : ℕ) → least ≤ n → n ≤ length entries → AreGenuine (take n entries) → is_confirmed aim algs events (take n entries) ≡ false
 
 -- The list that goes on after these bytes with what a source had left has so many entries, and this is wrong with it, if anything: the
 -- fault of its bytes, which has so many entries before it; or else that of its entries.
@@ -43,10 +42,10 @@ IsWrongWith list old new limit count (Some (unconfirmed.Replay fault)) =
 IsWrongWith list old new limit count (Some (unconfirmed.List fault)) =
     IsListFaultAfter list old new limit (faults.List fault) × (list_fault_entry fault ≡ Some count)
 
--- The report on the confirmed prefix of a list that goes on after these bytes, with at least `least` entries; the session has taken
--- the prefix.
-pub record IsPrefixReport (log list : List ℕ) (old new : Option (List ℕ)) (limit : ℕ) (expected : List Expected) (least : ℕ) (session : Session)
-    (report : PrefixReport) : Type 0 where
+-- The session has taken the confirmed prefix, with at least `least` entries, of a list that goes on after these bytes; and this comes
+-- with it.
+pub record IsPrefixTaken (log list : List ℕ) (old new : Option (List ℕ)) (limit : ℕ) (aim : Aim) (least : ℕ) (session : Session)
+    (confirmed : Confirmed) : Type 0 where
   pub came : List ℕ
   pub over : List ℕ
   pub table : List TableRow
@@ -56,20 +55,19 @@ pub record IsPrefixReport (log list : List ℕ) (old new : Option (List ℕ)) (l
   pub came_is : CameFrom old new limit came over
   pub log_is : IsLog log table events
   pub begins : BeginsWith (list ++ came) prefix rest
-  pub confirmed : IsConfirmed (algs_in table) events expected least prefix
-  pub verdict_is : verdict_of report.report ≡ verdict_on (algs_in table) events prefix expected
+  pub shortest : IsConfirmed (algs_in table) events aim least prefix
   pub taken : HasTaken log (list_spelling prefix) session
-  pub wrong : IsWrongWith list old new limit report.entries report.unconfirmed
+  pub wrong : IsWrongWith list old new limit confirmed.entries confirmed.unconfirmed
 
 -- The session has taken all of the list, and no prefix of it is confirmed.
-pub record TakesUnconfirmed (log list : List ℕ) (old new : Option (List ℕ)) (limit : ℕ) (expected : List Expected) (least : ℕ) (session : Session) : Type 0 where
+pub record TakesUnconfirmed (log list : List ℕ) (old new : Option (List ℕ)) (limit : ℕ) (aim : Aim) (least : ℕ) (session : Session) : Type 0 where
   pub takes : TakesMore log list old new limit session
   pub entries : List ListEntry
   pub list_is : IsReading (list ++ takes.more) (Ok entries)
-  pub none : (table : List TableRow) (events : List LogEvent) → IsLog log table events → AreUnconfirmed (algs_in table) events expected least entries
+  pub none : (table : List TableRow) (events : List LogEvent) → IsLog log table events → AreUnconfirmed (algs_in table) events aim least entries
 
 -- So many entries are at the start of what came, and no prefix of them is confirmed.
-pub record CameUnconfirmed (log list : List ℕ) (old new : Option (List ℕ)) (limit : ℕ) (expected : List Expected) (least count : ℕ) : Type 0 where
+pub record CameUnconfirmed (log list : List ℕ) (old new : Option (List ℕ)) (limit : ℕ) (aim : Aim) (least count : ℕ) : Type 0 where
   pub came : List ℕ
   pub over : List ℕ
   pub entries : List ListEntry
@@ -77,19 +75,19 @@ pub record CameUnconfirmed (log list : List ℕ) (old new : Option (List ℕ)) (
   pub came_is : CameFrom old new limit came over
   pub begins : BeginsWith (list ++ came) entries rest
   pub count_is : length entries ≡ count
-  pub none : (table : List TableRow) (events : List LogEvent) → IsLog log table events → AreUnconfirmed (algs_in table) events expected least entries
+  pub none : (table : List TableRow) (events : List LogEvent) → IsLog log table events → AreUnconfirmed (algs_in table) events aim least entries
 
 -- All that came is a list, and no prefix of it is confirmed.
-pub record IsUnconfirmedList (log list : List ℕ) (old new : Option (List ℕ)) (limit : ℕ) (expected : List Expected) (least : ℕ) : Type 0 where
+pub record IsUnconfirmedList (log list : List ℕ) (old new : Option (List ℕ)) (limit : ℕ) (aim : Aim) (least : ℕ) : Type 0 where
   pub more : List ℕ
   pub entries : List ListEntry
   pub came : CameWhole old new limit more
   pub list_is : IsReading (list ++ more) (Ok entries)
-  pub none : (table : List TableRow) (events : List LogEvent) → IsLog log table events → AreUnconfirmed (algs_in table) events expected least entries
+  pub none : (table : List TableRow) (events : List LogEvent) → IsLog log table events → AreUnconfirmed (algs_in table) events aim least entries
 
 -- The list is refused only if no prefix of it is confirmed: of the entries before the one that the fault names, or of all.
-abbrev pub IsUnconfirmedFault : List ℕ → List ℕ → Option (List ℕ) → Option (List ℕ) → ℕ → List Expected → ℕ → VerifyFault → Type 0
-IsUnconfirmedFault log list old new limit expected least (faults.List fault) =
-    (count : ℕ) × (list_fault_entry fault ≡ Some count) × CameUnconfirmed log list old new limit expected least count
-IsUnconfirmedFault log list old new limit expected least (faults.Replay fault) = IsUnconfirmedList log list old new limit expected least
-IsUnconfirmedFault log list old new limit expected least fault = Unit {0}
+abbrev pub IsUnconfirmedFault : List ℕ → List ℕ → Option (List ℕ) → Option (List ℕ) → ℕ → Aim → ℕ → VerifyFault → Type 0
+IsUnconfirmedFault log list old new limit aim least (faults.List fault) =
+    (count : ℕ) × (list_fault_entry fault ≡ Some count) × CameUnconfirmed log list old new limit aim least count
+IsUnconfirmedFault log list old new limit aim least (faults.Replay fault) = IsUnconfirmedList log list old new limit aim least
+IsUnconfirmedFault log list old new limit aim least fault = Unit {0}

@@ -9,9 +9,10 @@ ghost use Rattle.pcr_banks.specs.Hashing.{name_of};
 ghost use Rattle.pcr_banks.specs.Digests.{alg_of, bytes_of};
 ghost use Rattle.pcr_banks.specs.Registers.{is_active, register_count};
 ghost use Rattle.boot_verdict.specs.declared.checkpoint.Checkpoint.{Checkpoint};
+ghost use Rattle.boot_verdict.specs.declared.isolation.Stray.{Stray};
 ghost use Rattle.boot_verdict.specs.RegisterTexts.{all_registers, register_line};
-ghost use Rattle.growing_lists.specs.CheckpointData.{HasTakenNothing, HaveValues, IsCounted, IsHash, IsPossible, SameData, SameValues};
-ghost use Rattle.growing_lists.specs.CheckpointTexts.{IsOfOtherVersion, bank_lines, banks_lines, checkpoint_text, data_lines, number_line, recorded_line, recorded_words, value_line};
+ghost use Rattle.growing_lists.specs.CheckpointData.{HasTakenNothing, HaveValues, IsCounted, IsHash, IsPossible, IsStrayOf, SameData, SameValues};
+ghost use Rattle.growing_lists.specs.CheckpointTexts.{IsOfOtherVersion, bank_lines, banks_lines, checkpoint_text, data_lines, number_line, recorded_line, recorded_words, stray_entry, stray_lines, stray_register, value_line};
 ghost use Rattle.growing_lists.specs.parts.CheckpointParts.{HasBank, Sets, TakesBank};
 
 use crate::laws::{banks_have_values, counted_checkpoint_is_possible};
@@ -19,7 +20,8 @@ use crate::same_banks::{are_same_active, are_same_banks};
 use crate::session::leaves_room;
 use crate::texts::write_checkpoint;
 use boot_verdict::{
-    Checkpoint, CheckpointFault, after_prefix, list_start, register_on, split_once,
+    Checkpoint, CheckpointFault, LIST_REGISTER, Stray, after_prefix, list_start, register_on,
+    split_once,
 };
 use pcr_banks::{Alg, Banks, Digest, REGISTERS};
 use std::alloc::{AllocError, Global};
@@ -43,7 +45,7 @@ pub fn read_checkpoint(alloc: Global, text: &[u8]) -> Result<Checkpoint, Checkpo
     let Some(version) = after_prefix(b"ima-agent checkpoint ", text) else {
         return Err(CheckpointFault::Damaged);
     };
-    let Some(lines) = after_prefix(b"1\n", version) else {
+    let Some(lines) = after_prefix(b"2\n", version) else {
         return Err(CheckpointFault::Version);
     };
     let Some(checkpoint) = data_at(lines) else {
@@ -76,14 +78,27 @@ fn check_text(
     Ok(checkpoint)
 }
 
-// Whether the counts, the boot aggregate and the active banks are such as a list leaves.
+// Whether the counts, the boot aggregate, the stray entry and the active banks are such as a list leaves.
 fn is_counted(checkpoint: &Checkpoint) -> bool
     ensures { IsTrue result ↔ IsCounted checkpoint.now }
 {
     leaves_room(checkpoint)
         && (checkpoint.entries as u64).saturating_mul(32) <= checkpoint.bytes
         && are_same_active(&checkpoint.before, &checkpoint.after)
+        && is_stray_of(checkpoint.entries, checkpoint.stray)
         && (checkpoint.entries > 0 || has_taken_nothing(checkpoint))
+}
+
+// Whether the entry, if there is one, is one of so many, and extends another register than that of the list.
+fn is_stray_of(entries: usize, stray: Option<Stray>) -> bool
+    ensures { IsTrue result ↔ IfSome stray (IsStrayOf entries) }
+{
+    match stray {
+        None => true,
+        Some(stray) => stray.entry < entries
+            && stray.register < REGISTERS
+            && stray.register != LIST_REGISTER,
+    }
 }
 
 // Whether there is no byte and no boot aggregate, and all registers are as before the list.
@@ -112,13 +127,15 @@ fn data_at(text: &[u8]) -> Option<Checkpoint>
     let (bytes, rest) = number_at(b"bytes ", rest)?;
     let (recorded, rest) = recorded_at(rest)?;
     let (before, rest) = section_at(b"before\n", rest)?;
-    let (after, _) = section_at(b"after\n", rest)?;
+    let (after, rest) = section_at(b"after\n", rest)?;
+    let (stray, _) = stray_at(rest)?;
     Some(Checkpoint {
         before,
         after,
         entries: entries as usize,
         bytes,
         recorded,
+        stray,
     })
 }
 
@@ -167,6 +184,31 @@ fn is_none(words: &[u8]) -> bool
     ensures { IsTrue result ↔ (words.now ≡ codes "none") }
 {
     words == b"none".as_slice()
+}
+
+// The first entry that extends another register than that of the list, by its lines at the start, and what follows the lines.
+fn stray_at(text: &[u8]) -> Option<(Option<Stray>, &[u8])>
+    ensures { (stray : Option Stray) (rest : List ℕ) → IfSome stray (IsStrayOf (2 ^ 64)) → text.now ≡ stray_lines stray ++ rest
+        → IsSomeAnd result (λ x. (x.0 ≡ stray) × (x.1.now ≡ rest)) }
+{
+    let (register, rest) = number_at(b"register ", text)?;
+    let (entry, rest) = number_at(b"entry ", rest)?;
+    Some((stray_of(register, entry), rest))
+}
+
+// The entry with these numbers; none if the register is that of the list.
+fn stray_of(register: u64, entry: u64) -> Option<Stray>
+    ensures { (stray : Option Stray) → IfSome stray (IsStrayOf (2 ^ 64)) → register ≡ stray_register stray → entry ≡ stray_entry stray
+        → result ≡ stray }
+{
+    if register == LIST_REGISTER as u64 {
+        return None;
+    }
+    let register = u32::try_from(register).ok()?;
+    Some(Stray {
+        entry: entry as usize,
+        register,
+    })
 }
 
 // The banks whose lines follow this word, and what follows them.

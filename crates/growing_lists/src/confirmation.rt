@@ -1,4 +1,4 @@
-//! The confirmed prefix of a list that grows: the shortest with which the verdict is `match`.
+//! The confirmed prefix of a list that grows: the shortest with which log and list are as is sought.
 
 ghost use Rattle.std.specs.Prelude.{◌≡◌, ◌<◌, ◌^◌, List, ℕ, Ok, Err, is_some, option_map, IfOk, IfErr, IfSome, IfNone, OnErr};
 ghost use Rattle.byte_streams.specs.Streams.{LosesPrefix};
@@ -10,28 +10,38 @@ ghost use Rattle.boot_verdict.specs.declared.prefix_report.Unconfirmed.{Unconfir
 ghost use Rattle.boot_verdict.specs.Checkpoints.{IsCheckpoint, IsMoreFault, most_after};
 ghost use Rattle.boot_verdict.specs.ListSources.{failures_after_list};
 ghost use Rattle.boot_verdict.specs.Verdicts.{aggregate_of, is_good};
+ghost use Rattle.growing_lists.specs.Goals.{aim_of};
 ghost use Rattle.growing_lists.specs.parts.Confirming.{IsConfirmingAfter, search_before};
 ghost use Rattle.boot_verdict.specs.ListReplays.{ReplaysAll};
-ghost use Rattle.growing_lists.specs.parts.Searches.{IsNoListFault, Searches, fault_in, prefix_after, whole_after, wrong_with};
+ghost use Rattle.growing_lists.specs.parts.Searches.{IsNoListFault, Searches, fault_in, prefix_after, stray_within, whole_after, wrong_with};
 
+use crate::goal::Goal;
 use crate::prefixes::Confirming;
 use crate::session::Session;
 use boot_verdict::{
-    Aggregate, Checkpoint, Expected, ListReplay, PrefixReport, Unconfirmed, VerifyFault,
-    aggregate_of, report_on,
+    Aggregate, Checkpoint, ListReplay, Stray, Unconfirmed, VerifyFault, aggregate_of,
 };
 use byte_streams::Source;
 use std::alloc::Global;
 
+/// What comes with a confirmed prefix, which the session has taken.
+#[derive(Clone, Copy)]
+pub struct Confirmed {
+    /// How many entries the whole list has, up to its fault.
+    pub entries: usize,
+    /// What is wrong with the list after the prefix, if anything.
+    pub unconfirmed: Option<Unconfirmed>,
+}
+
 impl Session<'_> {
-    ghost use Rattle.growing_lists.specs.Prefixes.{IsPrefixReport, IsUnconfirmedFault, TakesUnconfirmed};
+    ghost use Rattle.growing_lists.specs.Prefixes.{IsPrefixTaken, IsUnconfirmedFault, TakesUnconfirmed};
     ghost use Rattle.growing_lists.specs.Sessions.{HasTaken};
 
     /// Takes what the source has left, as [`Session::more`] does, up to the confirmed prefix: the shortest prefix of the list, no shorter
-    /// than what was taken so far, whose entries are genuine and on which the verdict is `match`. Returns the report on it. The source is
-    /// read to its end all the same, or to a fault of the list, of which the report tells.
+    /// than what was taken so far, whose entries are genuine and with which the boot aggregate is good and the registers are as is sought. Of
+    /// expected registers the verdict on it is `match`. The source is read to its end all the same, or to a fault of the list.
     ///
-    /// Without such a prefix all is taken, as by [`Session::more`], with its faults; the result is `None`, and the verdict is `differ`.
+    /// Without such a prefix all is taken, as by [`Session::more`], with its faults; the result is `None`.
     /// A source that fails, or has too many bytes, is a fault in any case. After `Err` the session is as before. What came after the prefix
     /// is not taken: the next call wants it again, from the byte of the list at which [`Session::checkpoint`] stands.
     pub fn confirm<R: Source>(
@@ -39,15 +49,15 @@ impl Session<'_> {
         alloc: Global,
         source: &mut R,
         limit: u64,
-        expected: &[Expected],
-    ) -> Result<Option<PrefixReport>, VerifyFault>
-        // The report is on the confirmed prefix, and that is what the session has taken.
-        ensures prefix { IfOk result (λ found. IfSome found (λ report. (log list : List ℕ) → HasTaken log list self.old
-            → IsPrefixReport log list (R.state source.old).remaining (R.state source.new).remaining (most_after self.old.known limit) expected.now
-            self.old.known.entries self.new report)) }
-        // Without a report no prefix is confirmed.
+        goal: Goal<'_>,
+    ) -> Result<Option<Confirmed>, VerifyFault>
+        // The session has taken the confirmed prefix.
+        ensures prefix { IfOk result (λ found. IfSome found (λ confirmed. (log list : List ℕ) → HasTaken log list self.old
+            → IsPrefixTaken log list (R.state source.old).remaining (R.state source.new).remaining (most_after self.old.known limit) (aim_of goal.entry)
+            self.old.known.entries self.new confirmed)) }
+        // Else no prefix is confirmed.
         ensures none { IfOk result (λ found. IfNone found ((log list : List ℕ) → HasTaken log list self.old
-            → TakesUnconfirmed log list (R.state source.old).remaining (R.state source.new).remaining (most_after self.old.known limit) expected.now
+            → TakesUnconfirmed log list (R.state source.old).remaining (R.state source.new).remaining (most_after self.old.known limit) (aim_of goal.entry)
             self.old.known.entries self.new)) }
         ensures kept { OnErr result (self.new ≡ self.old) }
         // Any fault is the first reason, and the list is refused only if no prefix is confirmed.
@@ -55,21 +65,19 @@ impl Session<'_> {
             → IsMoreFault list (R.state source.old).remaining (R.state source.new).remaining (most_after self.old.known limit) fault) }
         ensures unconfirmed { IfErr result (λ fault. (log list : List ℕ) → HasTaken log list self.old
             → IsUnconfirmedFault log list (R.state source.old).remaining (R.state source.new).remaining (most_after self.old.known limit)
-            expected.now self.old.known.entries fault) }
+            (aim_of goal.entry) self.old.known.entries fault) }
         // In any case the source loses bytes from its start, and nothing else.
         ensures source { LosesPrefix (R.state source.old).remaining (R.state source.new).remaining }
         ensures telling { is_some (R.state source.new).remaining ≡ is_some (R.state source.old).remaining }
         ensures counts { (R.state source.new).failures ≡ failures_after_list result (R.state source.old).failures }
     {
-        let search = search_list(alloc, &self.known, source, limit, expected)?;
+        let search = search_list(alloc, &self.known, source, limit, goal)?;
         let Some(prefix) = search.prefix else {
             self.known = whole_of(search.whole)?;
             return Ok(None);
         };
-        let report = report_on(alloc, &self.log, &prefix, expected)?;
         self.known = prefix;
-        Ok(Some(PrefixReport {
-            report,
+        Ok(Some(Confirmed {
             entries: search.entries,
             unconfirmed: wrong_with(search.whole),
         }))
@@ -93,10 +101,10 @@ fn search_list<R: Source>(
     known: &Checkpoint,
     source: &mut R,
     limit: u64,
-    expected: &[Expected],
+    goal: Goal<'_>,
 ) -> Result<Search, VerifyFault>
     ensures found { IfOk result (λ search. (list : List ℕ) → IsCheckpoint list known.now
-        → Searches known.now list (R.state source.old).remaining (R.state source.new).remaining (most_after known.now limit) expected.now search) }
+        → Searches known.now list (R.state source.old).remaining (R.state source.new).remaining (most_after known.now limit) (aim_of goal.entry) search) }
     ensures fault { IfErr result (λ fault. (list : List ℕ) → IsCheckpoint list known.now
         → IsMoreFault list (R.state source.old).remaining (R.state source.new).remaining (most_after known.now limit) fault) }
     ensures other { IfErr result IsNoListFault }
@@ -104,7 +112,7 @@ fn search_list<R: Source>(
     ensures telling { is_some (R.state source.new).remaining ≡ is_some (R.state source.old).remaining }
     ensures counts { (R.state source.new).failures ≡ failures_after_list result (R.state source.old).failures }
 {
-    let mut replay = searching(known, expected);
+    let mut replay = searching(known, goal);
     let whole = match replay.replay_more(alloc, source, known.room(limit)) {
         Ok(_count) => Ok(whole_after(known, &replay)),
         Err(fault) => Err(unconfirmed_of(fault)?),
@@ -117,15 +125,16 @@ fn search_list<R: Source>(
 }
 
 // The replay of the list, searched for a prefix: its end may be one.
-fn searching<'a>(known: &Checkpoint, expected: &'a [Expected]) -> ListReplay<Confirming<'a>>
+fn searching<'a>(known: &Checkpoint, goal: Goal<'a>) -> ListReplay<Confirming<'a>>
     ensures replays { (list : List ℕ) → IsCheckpoint list known.now → known.now.bytes < 2 ^ 64
-        → ReplaysAll IsConfirmingAfter (search_before known.now expected.entry) list result }
+        → ReplaysAll IsConfirmingAfter (search_before known.now goal.entry) list result }
     ensures entries { result.entries ≡ known.now.entries }
 {
     ListReplay {
-        tracker: Confirming::after(known, expected),
+        tracker: Confirming::after(known, goal),
         entries: known.entries,
         recorded: known.recorded,
+        stray: known.stray,
         forged: None,
     }
 }
@@ -140,10 +149,11 @@ fn whole_after(known: &Checkpoint, replay: &ListReplay<Confirming<'_>>) -> Check
         entries: replay.entries,
         bytes: replay.tracker.bytes,
         recorded: replay.recorded,
+        stray: replay.stray,
     }
 }
 
-// The checkpoint of the prefix after which the registers are as expected, if the boot aggregate is good.
+// The checkpoint of the prefix after which the registers are as is sought, if the boot aggregate is good.
 fn prefix_in(known: &Checkpoint, replay: &ListReplay<Confirming<'_>>) -> Option<Checkpoint>
     ensures prefix { (algs : AlgSet) (events : List LogEvent) → IsFirmware algs events known.now.before
         → result ≡ prefix_after (is_good (aggregate_of algs events (option_map (λ digest. (alg_of digest, bytes_of digest)) replay.now.recorded)))
@@ -161,7 +171,18 @@ fn prefix_in(known: &Checkpoint, replay: &ListReplay<Confirming<'_>>) -> Option<
         entries: prefix.last.saturating_add(1),
         bytes: prefix.bytes,
         recorded: replay.recorded,
+        stray: stray_within(replay.stray, prefix.last),
     })
+}
+
+// The stray entry, if it is not after the entry with this number.
+fn stray_within(stray: Option<Stray>, last: usize) -> Option<Stray>
+    ensures { result ≡ stray_within stray last }
+{
+    match stray {
+        Some(first) if first.entry <= last => stray,
+        _ => None,
+    }
 }
 
 // Whether the boot aggregate is good.

@@ -1,9 +1,10 @@
 //! The verification of a measurement list that grows: sessions, which take the list as it comes and report on what they have taken;
-//! the prefix of the list that the expected registers confirm; and the text of where a session stopped, from which another goes on.
+//! the prefix of the list that expected registers or a quote confirm; and the text of where a session stopped, from which another goes on.
 #![tactic(auto)]
 
 mod checkpoint_reader;
 mod confirmation;
+mod goal;
 pub mod laws;
 mod prefixes;
 mod same_banks;
@@ -11,5 +12,7 @@ mod session;
 mod texts;
 
 pub use checkpoint_reader::read_checkpoint;
+pub use confirmation::Confirmed;
+pub use goal::Goal;
 pub use session::{Session, leaves_room};
 pub use texts::write_checkpoint;

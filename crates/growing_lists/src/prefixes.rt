@@ -1,10 +1,11 @@
-//! The search for the shortest prefix of a list after which each expected register has its value.
+//! The search for the shortest prefix of a list after which the registers are as is sought.
 
 ghost use Rattle.std.specs.Prelude.{◌≡◌};
-ghost use Rattle.growing_lists.specs.parts.Confirming.{IsConfirmingAfter, are_reached, prefix_at, search_after, size_of_step};
+ghost use Rattle.growing_lists.specs.parts.Confirming.{IsConfirmingAfter, prefix_at, search_after, size_of_step};
 ghost use Rattle.boot_verdict.specs.Tracking.{step_of};
 
-use boot_verdict::{Checkpoint, Expected, Position, Step, Tracker, is_reached};
+use crate::goal::Goal;
+use boot_verdict::{Checkpoint, Position, Step, Tracker};
 use pcr_banks::Banks;
 
 /// A prefix of the list that ends with an entry.
@@ -18,7 +19,7 @@ pub(crate) struct Prefix {
     pub bytes: u64,
 }
 
-/// Registers, and the first prefix after which each expected one had its value.
+/// Registers, and the first prefix after which they were as is sought.
 #[derive(Drop)]
 pub(crate) struct Confirming<'a> {
     /// The registers.
@@ -27,22 +28,22 @@ pub(crate) struct Confirming<'a> {
     pub bytes: u64,
     /// The number of the first entry that may be the last of a prefix.
     pub first: usize,
-    /// The expected registers.
-    pub expected: &'a [Expected],
+    /// What is sought.
+    pub goal: Goal<'a>,
     /// The prefix, if there is one so far.
     pub prefix: Option<Prefix>,
 }
 
 impl<'a> Confirming<'a> {
     /// After the list of this checkpoint: its end may be the prefix.
-    pub fn after(known: &Checkpoint, expected: &'a [Expected]) -> Self
-        ensures { result ≡ search_after known.now expected.entry }
+    pub fn after(known: &Checkpoint, goal: Goal<'a>) -> Self
+        ensures { result ≡ search_after known.now goal.entry }
     {
         let search = Confirming {
             banks: known.after,
             bytes: known.bytes,
             first: known.entries.saturating_sub(1),
-            expected,
+            goal,
             prefix: None,
         };
         if known.entries == 0 {
@@ -54,14 +55,14 @@ impl<'a> Confirming<'a> {
         }
     }
 
-    // The prefix that ends at this position, if it is that of an entry that may be the last, and each expected register has its value now.
+    // The prefix that ends at this position, if it is that of an entry that may be the last, and the registers are as is sought now.
     fn prefix_at(&self, position: Position) -> Option<Prefix>
         ensures { result ≡ prefix_at self.now position }
     {
         let Position::Entry(last) = position else {
             return None;
         };
-        if last >= self.first && are_reached(self.expected, &self.banks) {
+        if last >= self.first && self.goal.is_met(&self.banks) {
             Some(Prefix {
                 registers: self.banks,
                 last,
@@ -94,11 +95,4 @@ fn size_of(step: &Step<'_>) -> u64
         Step::Event(_) => 0,
         Step::Entry(entry) => entry.size() as u64,
     }
-}
-
-// Whether each expected register has its value in these banks.
-fn are_reached(expected: &[Expected], banks: &Banks) -> bool
-    ensures { result ≡ are_reached banks.now expected.now }
-{
-    expected.iter().all(|expected| is_reached(expected, banks))
 }

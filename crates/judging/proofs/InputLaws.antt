@@ -1,25 +1,32 @@
 -- What a list that was read from the source of an input says of the input, whatever list was taken before.
-use Rattle.std.proofs.Common.{◌≡◌, ◌⊎◌, ℕ, ◌≤◌, List, [], ◌++◌, length, Option, None, Some, Err, refl, sym, ap, subst, ◌∙◌, append_assoc, append-nil, arith, true, inl, inr}
+use Rattle.std.proofs.Common.{◌≡◌, ◌⊎◌, ℕ, ◌≤◌, List, [], ◌++◌, length, Option, None, Some, Ok, Err, refl, sym, ap, subst, ◌∙◌, append_assoc, append-nil, arith, true, inl, inr}
 use Rattle.std.specs.Prelude.{IfSome}
 use Rattle.std.specs.Io.KnownBytes.{Consumes, IsAtEnd}
 use Rattle.std.proofs.lemmas.List.{length-append}
 use Rattle.byte_streams.specs.Streams.{SourceState}
+use Rattle.boot_log.specs.declared.header.Row.{Row as TableRow}
+use Rattle.boot_log.specs.Spelling.{IsLog, LogEvent, algs_in}
+use Rattle.boot_log.proofs.LogLaws.{one_reading}
 use Rattle.ima_list.specs.declared.fault.ListFault.{ListFault}
 use Rattle.ima_list.specs.declared.fault.ListFault.TheVariants as lists
 use Rattle.ima_list.specs.ListEntry.{ListEntry}
 use Rattle.ima_list.specs.Spelling.{BeginsWith, IsReading, list_spelling}
+use Rattle.ima_list.proofs.PieceLaws.{reading_to_the_end}
+use Rattle.boot_verdict.specs.declared.expected.Expected.{Expected}
 use Rattle.boot_verdict.specs.declared.report.Report.{Report}
 use Rattle.boot_verdict.specs.declared.verifier.VerifyFault.{VerifyFault}
 use Rattle.boot_verdict.specs.declared.verifier.VerifyFault.TheVariants as verdicts
 use Rattle.boot_verdict.specs.Checkpoints.{IsMoreFault, most_after}
 use Rattle.boot_verdict.specs.ListSources.{CameFrom, CameWhole, FailsFor, IsListFaultAfter}
-use Rattle.boot_verdict.specs.Verdicts.{IsSomeLog, IsVerdict, IsVerifyFaultFrom, verdict_of}
-use Rattle.boot_verdict.specs.declared.prefix_report.PrefixReport.{PrefixReport}
+use Rattle.boot_verdict.specs.Verdicts.{IsSomeLog, IsVerdict, IsVerifyFaultFrom, Verdict, verdict_of, verdict_on}
+use Rattle.boot_verdict.proofs.ReplayLaws.{one_list}
 use Rattle.boot_verdict.specs.declared.prefix_report.Unconfirmed.{Unconfirmed}
 use Rattle.boot_verdict.specs.declared.prefix_report.Unconfirmed.TheVariants as unconfirmed
 use Rattle.growing_lists.specs.declared.session.Session.{Session}
 use Rattle.growing_lists.specs.CheckpointData.{IsPossible}
-use Rattle.growing_lists.specs.Prefixes.{IsPrefixReport, IsUnconfirmedFault, IsWrongWith, TakesUnconfirmed}
+use Rattle.growing_lists.specs.declared.confirmation.Confirmed.{Confirmed}
+use Rattle.growing_lists.specs.Goals.{OfExpected}
+use Rattle.growing_lists.specs.Prefixes.{IsPrefixTaken, IsUnconfirmedFault, IsWrongWith, TakesUnconfirmed}
 use Rattle.growing_lists.specs.Sessions.{HasTaken, TakesMore}
 use Rattle.agent_plans.specs.declared.plan.Scope.{Scope}
 use Rattle.agent_inputs.specs.declared.fault.RunFault.{RunFault}
@@ -70,6 +77,17 @@ goes_on taken came later entries rest begins = record {
       sym (append_assoc taken came later) ∙ ap (λ (bytes : List ℕ). bytes ++ later) begins.parts
       ∙ append_assoc (list_spelling entries) rest later;
 }
+
+-- The verdict on a log and the spelling of entries is that on what they read as.
+verdict_here : {log list rest : List ℕ} {prefix : List ListEntry} {table : List TableRow} {events : List LogEvent} (expected : List Expected)
+    (verdict : Verdict) → IsLog log table events → BeginsWith list prefix rest → IsVerdict log (list_spelling prefix) expected verdict
+    → verdict ≡ verdict_on (algs_in table) events prefix expected
+verdict_here {log} {list} {rest} {prefix} {table} {events} expected verdict log_is begins is =
+    let same = one_reading log is.table table is.events events is.log_is log_is in
+    let listed : IsReading (list_spelling prefix) (Ok prefix) =
+    reading_to_the_end (list_spelling prefix) prefix (record { are = begins.are; parts = sym (append-nil (list_spelling prefix)) }) in
+    let entries : is.entries ≡ prefix = one_list is.list_is listed in
+    is.verdict_is ∙ (λ i. verdict_on (algs_in (same.0 i)) (same.1 i) (entries i) expected)
 
 -- Whoever goes on from what a session knows goes on from what it has taken.
 next_of : {log list : List ℕ} {session : Session} → HasTaken log list session → IsPossible session.known → IsNext log list session.known
@@ -147,7 +165,7 @@ module _ {inputs : Inputs} {list : Where} {old new : SourceState} (gives : Gives
         → ((log taken : List ℕ) → HasTaken log taken before
         → TakesMore log taken old.remaining new.remaining (most_after before.known (limit_of list)) after)
         → (seeks_prefix scope evidence.required evidence.expected ≡ true → (log taken : List ℕ) → HasTaken log taken before
-        → TakesUnconfirmed log taken old.remaining new.remaining (most_after before.known (limit_of list)) evidence.expected
+        → TakesUnconfirmed log taken old.remaining new.remaining (most_after before.known (limit_of list)) (OfExpected evidence.expected)
         before.known.entries after)
         → ((log all : List ℕ) → HasTaken log all after → IsVerdict log all evidence.expected (verdict_of report))
         → IsJudged inputs (VerdictOf place scope resume) list evidence (answers.Report report) (Some after.known)
@@ -168,12 +186,14 @@ module _ {inputs : Inputs} {list : Where} {old new : SourceState} (gives : Gives
           (n.takes.more, held n.takes.came, (n.entries, n.list_is, n.none)),
     )
 
-    pub prefix_found : (after : Session) (report : PrefixReport) → CanBeReadBack after.known
+    pub prefix_found : (after : Session) (report : Report) (confirmed : Confirmed) → CanBeReadBack after.known
         → seeks_prefix scope evidence.required evidence.expected ≡ true
-        → ((log taken : List ℕ) → HasTaken log taken before → IsPrefixReport log taken old.remaining new.remaining
-        (most_after before.known (limit_of list)) evidence.expected before.known.entries after report)
-        → IsJudged inputs (VerdictOf place scope resume) list evidence (answers.Prefix report) (Some after.known)
-    prefix_found after report room sought prefixes = (
+        → ((log taken : List ℕ) → HasTaken log taken before → IsPrefixTaken log taken old.remaining new.remaining
+        (most_after before.known (limit_of list)) (OfExpected evidence.expected) before.known.entries after confirmed)
+        → ((log all : List ℕ) → HasTaken log all after → IsVerdict log all evidence.expected (verdict_of report))
+        → IsJudged inputs (VerdictOf place scope resume) list evidence
+        (answers.Prefix (record { report = report; entries = confirmed.entries; unconfirmed = confirmed.unconfirmed })) (Some after.known)
+    prefix_found after report confirmed room sought prefixes verdict = (
       started.boot,
       sought,
       λ taken take.
@@ -188,18 +208,19 @@ module _ {inputs : Inputs} {list : Where} {old new : SourceState} (gives : Gives
               rest = f.rest ++ more.0;
               log_is = f.log_is;
               begins = goes_on taken f.came more.0 f.prefix f.rest f.begins;
-              confirmed = f.confirmed;
-              verdict_is = f.verdict_is;
+              confirmed = f.shortest;
+              verdict_is = verdict_here evidence.expected (verdict_of report) f.log_is f.begins
+                  (verdict evidence.log (list_spelling f.prefix) f.taken);
               next_is = next_of f.taken (room _ f.taken.checkpoint);
             },
           ),
       λ taken take.
-          wrong_with taken (most_after before.known (limit_of list)) report.entries report.unconfirmed
+          wrong_with taken (most_after before.known (limit_of list)) confirmed.entries confirmed.unconfirmed
           (prefixes evidence.log taken (started.takes taken take)).wrong,
     )
 
     unconfirmed_in : (first : VerifyFault) → ((log taken : List ℕ) → HasTaken log taken before → IsUnconfirmedFault log taken old.remaining
-        new.remaining (most_after before.known (limit_of list)) evidence.expected before.known.entries first)
+        new.remaining (most_after before.known (limit_of list)) (OfExpected evidence.expected) before.known.entries first)
         → IsUnconfirmedIn inputs list evidence first
     unconfirmed_in (verdicts.Log first) is = tt
     unconfirmed_in (verdicts.List first) is =
@@ -228,7 +249,7 @@ module _ {inputs : Inputs} {list : Where} {old new : SourceState} (gives : Gives
         → ((log taken : List ℕ) → HasTaken log taken before
         → IsMoreFault taken old.remaining new.remaining (most_after before.known (limit_of list)) first)
         → (seeks_prefix scope evidence.required evidence.expected ≡ true → (log taken : List ℕ) → HasTaken log taken before
-        → IsUnconfirmedFault log taken old.remaining new.remaining (most_after before.known (limit_of list)) evidence.expected
+        → IsUnconfirmedFault log taken old.remaining new.remaining (most_after before.known (limit_of list)) (OfExpected evidence.expected)
         before.known.entries first) → IsFaultAt list first fault → IsNotFound inputs (VerdictOf place scope resume) list evidence fault
     not_found first fault failed is unconfirmed says =
         inr (inl (inr (record {

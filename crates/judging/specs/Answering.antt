@@ -24,6 +24,7 @@ use Rattle.boot_verdict.specs.declared.prefix_report.Unconfirmed.{Unconfirmed}
 use Rattle.boot_verdict.specs.declared.prefix_report.Unconfirmed.TheVariants as unconfirmed
 use Rattle.growing_lists.specs.declared.session.Session.{Session}
 use Rattle.growing_lists.specs.CheckpointData.{IsPossible}
+use Rattle.growing_lists.specs.Goals.{OfExpected}
 use Rattle.growing_lists.specs.Prefixes.{AreUnconfirmed, IsConfirmed}
 use Rattle.growing_lists.specs.Sessions.{HasTaken, IsOfBoot}
 use Rattle.agent_plans.specs.declared.plan.Scope.{Scope}
@@ -101,7 +102,7 @@ pub record IsNext (log list : List ℕ) (next : Checkpoint) : Type 0 where
 abbrev pub AreUnconfirmedAfter : Evidence → List ListEntry → Type 0
 AreUnconfirmedAfter evidence entries =
     (table : List TableRow) (events : List LogEvent) → IsLog evidence.log table events
-    → AreUnconfirmed (algs_in table) events evidence.expected (entries_taken evidence.known) entries
+    → AreUnconfirmed (algs_in table) events (OfExpected evidence.expected) (entries_taken evidence.known) entries
 
 -- No prefix of the list is confirmed.
 abbrev pub HasNoPrefix : Evidence → List ℕ → Type 0
@@ -123,7 +124,7 @@ pub record IsPrefixOf (evidence : Evidence) (list : List ℕ) (report : PrefixRe
   pub rest : List ℕ
   pub log_is : IsLog evidence.log table events
   pub begins : BeginsWith list prefix rest
-  pub confirmed : IsConfirmed (algs_in table) events evidence.expected (entries_taken evidence.known) prefix
+  pub confirmed : IsConfirmed (algs_in table) events (OfExpected evidence.expected) (entries_taken evidence.known) prefix
   pub verdict_is : verdict_of report.report ≡ verdict_on (algs_in table) events prefix evidence.expected
   pub next_is : IsNext evidence.log (list_spelling prefix) next
 

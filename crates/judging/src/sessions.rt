@@ -13,10 +13,12 @@ use crate::inputs::{Input, limit_of, refusal};
 use crate::request::Answer;
 use agent_inputs::{NotResumed, RunFault};
 use agent_plans::Scope;
-use boot_verdict::{Checkpoint, CheckpointFault, Expected, Report, Requirement, ResumeFault};
+use boot_verdict::{
+    Checkpoint, CheckpointFault, Expected, PrefixReport, Report, Requirement, ResumeFault,
+};
 use byte_streams::Source;
 use growing_lists::laws::counted_checkpoint_is_possible;
-use growing_lists::{Session, leaves_room, read_checkpoint};
+use growing_lists::{Goal, Session, leaves_room, read_checkpoint};
 use ima_list::laws::{entries_to_the_end_are_the_reading, no_bytes_have_two_readings};
 use std::alloc::{AllocError, Global};
 
@@ -63,8 +65,17 @@ impl Evidence<'_> {
             session.old session.new result }
     {
         if seeks_prefix(scope, self.requirement.as_ref(), &self.expected) {
-            match session.confirm(alloc, source, limit_of(list), &self.expected) {
-                Ok(Some(prefix)) => Ok(Answer::Prefix(prefix)),
+            match session.confirm(
+                alloc,
+                source,
+                limit_of(list),
+                Goal::Expected(&self.expected),
+            ) {
+                Ok(Some(confirmed)) => Ok(Answer::Prefix(PrefixReport {
+                    report: report(alloc, session, &self.expected)?,
+                    entries: confirmed.entries,
+                    unconfirmed: confirmed.unconfirmed,
+                })),
                 Ok(None) => Ok(Answer::Report(report(alloc, session, &self.expected)?)),
                 Err(fault) => Err(refusal(alloc, list, fault)),
             }

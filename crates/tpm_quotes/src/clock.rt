@@ -6,7 +6,9 @@ ghost use Rattle.tpm_quotes.specs.Reading.{clock, flag};
 use crate::fault::QuoteFault;
 use byte_fields::{big_endian_u32_at, big_endian_u64_at, u8_at};
 
-/// A TPM's clock and its counts when it signed (TPM 2.0 Library, part 2, TPMS_CLOCK_INFO).
+/// A TPM's clock and its counts when it signed (TPM 2.0 Library, part 2, TPMS_CLOCK_INFO). By a key that is neither in the endorsement nor in
+/// the platform hierarchy a TPM adds to resets, restarts and the version of the firmware what hides them, the same each time (part 3,
+/// 'Attestation Commands'): only differences between two quotes by one key say something.
 #[derive(Clone, Copy)]
 pub struct Clock {
     /// For how many milliseconds the TPM has had power since it was last cleared.

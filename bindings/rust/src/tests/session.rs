@@ -13,7 +13,7 @@ const TENTHS: [(usize, &str); 5] = [
 const CUTS: [usize; 7] = [0, 1, 2, 50, 97, 98, 99];
 /// Register 10 after the first 60 entries but the fiftieth, and the hash that ends the state after none, by Python's hashlib.
 const FOREIGN_TENTH: &str = "91ee775cae5dee03c7218c11fa254f17575b5bf0d36775f71dc974968209ce24";
-const HASH_OF_NONE: &str = "2259585589ecbb8f47e391e499c488838569cee3d597e244389774d031643ee0";
+const HASH_OF_NONE: &str = "ddf3fbba98d33327336e7fe2534822e76067e1218ce732d9853e4db5495dfa04";
 
 fn sample(name: &str) -> Vec<u8> {
     std::fs::read(format!("{}/../../samples/real-boot/{name}", env!("CARGO_MANIFEST_DIR"))).unwrap()
@@ -66,8 +66,8 @@ impl Sample {
             let text = String::from_utf8(self.state_after(1)).unwrap();
             let (_, before) = text.split_once("before\n").unwrap();
             let (before, _) = before.split_once("after\n").unwrap();
-            let counts = "ima-agent checkpoint 1\nentries 0\nbytes 0\nboot_aggregate none\n";
-            return format!("{counts}before\n{before}after\n{before}sha256 {HASH_OF_NONE}\n").into_bytes();
+            let counts = "ima-agent checkpoint 2\nentries 0\nbytes 0\nboot_aggregate none\n";
+            return format!("{counts}before\n{before}after\n{before}register 10\nentry 0\nsha256 {HASH_OF_NONE}\n").into_bytes();
         }
         let mut session = self.session_of(count);
         assert!(session.more(self.until(count)).unwrap().matches);
@@ -385,8 +385,8 @@ fn state_that_is_not_whole_is_refused() {
     for wrong in [&boot.list, &boot.expected, &[&state[..], b"\n"].concat(), &state.repeat(2), &state.to_ascii_uppercase()] {
         boot.check_no_state(wrong, 1);
     }
-    for version in ["0", "2", "10", "", "1 ", "1\r"] {
-        boot.check_no_state(text.replacen("checkpoint 1\n", &format!("checkpoint {version}\n"), 1).as_bytes(), 2);
+    for version in ["0", "1", "20", "", "2 ", "2\r"] {
+        boot.check_no_state(text.replacen("checkpoint 2\n", &format!("checkpoint {version}\n"), 1).as_bytes(), 2);
     }
     for place in (0..60).chain((60..state.len()).step_by(97)) {
         let mut turned = state.clone();
@@ -421,6 +421,6 @@ fn state_of_another_boot_or_list_gives_no_match() {
         }
     }
     let none = boot.state_after(0);
-    assert!(none.starts_with(b"ima-agent checkpoint 1\nentries 0\nbytes 0\nboot_aggregate none\n"));
+    assert!(none.starts_with(b"ima-agent checkpoint 2\nentries 0\nbytes 0\nboot_aggregate none\n"));
     assert!(boot.session().resume(&none).unwrap().more(&boot.list).unwrap().matches);
 }

@@ -1,28 +1,23 @@
 -- The search for the confirmed prefix, step by step.
 use Rattle.std.specs.Prelude.{◌≡◌, ℕ, ◌+◌, ◌-◌, ◌^◌, min, nat_le, ◌==◌, ◌&&◌, Bool, false, if◌then◌else◌, List, length, fold, Option, Some, None}
-use Rattle.std.specs.Borrow.{Bor}
-use Rattle.std.specs.List.{list_all}
 use Rattle.pcr_banks.specs.declared.banks.Banks.{Banks}
 use Rattle.pcr_banks.specs.Registers.{value_at}
 use Rattle.ima_list.specs.Spelling.{spelling}
 use Rattle.boot_verdict.specs.declared.checkpoint.Checkpoint.{Checkpoint}
-use Rattle.boot_verdict.specs.declared.expected.Expected.{Expected}
+use Rattle.tpm_quotes.specs.Quoting.{Values}
+use Rattle.growing_lists.specs.declared.goal.Goal.{Goal}
 use Rattle.growing_lists.specs.declared.prefixes.Confirming.{Confirming}
 use Rattle.growing_lists.specs.declared.prefixes.Prefix.{Prefix}
 use Rattle.boot_verdict.specs.declared.positions.Position.{Position}
 use Rattle.boot_verdict.specs.declared.positions.Position.TheVariants.{Reset, Event, Entry, Nowhere, Absent}
-use Rattle.boot_verdict.specs.Positions.{is_reached, position_after}
+use Rattle.boot_verdict.specs.Positions.{position_after}
 use Rattle.boot_verdict.specs.Steps.{Step, OfEvent, OfEntry, least_prefix, value_after}
 use Rattle.boot_verdict.specs.Tracking.{AreAfter}
+use Rattle.growing_lists.specs.Goals.{aim_of, is_met}
 
--- Whether each expected register has its value in these banks.
-abbrev pub are_reached : Banks → List Expected → Bool
-are_reached banks expected = list_all (λ e. is_reached e (value_at banks e.alg e.register)) expected
-
--- All of them have their values after these steps.
-abbrev pub reached_after_steps : Banks → List Expected → List Step → Bool
-reached_after_steps start expected steps =
-    list_all (λ e. is_reached e (value_after e.alg e.register (value_at start e.alg e.register) steps)) expected
+-- The values after these steps.
+abbrev pub values_after : Banks → List Step → Values
+values_after start steps alg register = value_after alg register (value_at start alg register) steps
 
 -- How many bytes a step has in the list.
 abbrev pub size_of_step : Step → ℕ
@@ -44,10 +39,10 @@ is_late first (Event number) = false
 is_late first Nowhere = false
 is_late first Absent = false
 
--- The prefix that ends at this position, if it may, and each expected register has its value now.
+-- The prefix that ends at this position, if it may, and the registers are as is sought now.
 abbrev pub prefix_at : Confirming → Position → Option Prefix
 prefix_at confirming (Entry last) =
-    if nat_le confirming.first last && are_reached confirming.banks confirming.expected.now
+    if nat_le confirming.first last && is_met (aim_of confirming.goal) (value_at confirming.banks)
     then Some (record { registers = confirming.banks; last = last; bytes = confirming.bytes }) else None
 prefix_at confirming Reset = None
 prefix_at confirming (Event number) = None
@@ -56,7 +51,7 @@ prefix_at confirming Absent = None
 
 -- Whether a prefix of the steps is one that is searched for.
 abbrev pub confirms : Confirming → ℕ → List Step → Bool
-confirms start events prefix = is_late start.first (position_after events (length prefix)) && reached_after_steps start.banks start.expected.now prefix
+confirms start events prefix = is_late start.first (position_after events (length prefix)) && is_met (aim_of start.goal) (values_after start.banks prefix)
 
 -- The prefix is that of these steps.
 pub record IsPrefixAt (start : Confirming) (events : ℕ) (steps : List Step) (prefix : Prefix) : Type 0 where
@@ -76,22 +71,22 @@ pub record IsConfirmingAfter (start : Confirming) (events : ℕ) (steps : List S
   pub banks : AreAfter start.banks steps now.banks
   pub bytes : now.bytes ≡ size_after start.bytes steps
   pub first : now.first ≡ start.first
-  pub expected : now.expected ≡ start.expected
+  pub goal : now.goal ≡ start.goal
   pub prefix : PrefixIs start events (least_prefix (confirms start events) steps) now.prefix
 
 -- The search after the list of this checkpoint, whose end may be the prefix.
-abbrev pub search_after : Checkpoint → Bor (List Expected) → Confirming
-search_after known expected = record {
+abbrev pub search_after : Checkpoint → Goal → Confirming
+search_after known goal = record {
   banks = known.after;
   bytes = known.bytes;
   first = known.entries - 1;
-  expected = expected;
+  goal = goal;
   prefix = if known.entries == 0 then None
-      else prefix_at (record { banks = known.after; bytes = known.bytes; first = known.entries - 1; expected = expected; prefix = None })
+      else prefix_at (record { banks = known.after; bytes = known.bytes; first = known.entries - 1; goal = goal; prefix = None })
       (Entry (known.entries - 1));
 }
 
 -- The search before that list's first entry.
-abbrev pub search_before : Checkpoint → Bor (List Expected) → Confirming
-search_before known expected =
-    record { banks = known.before; bytes = 0; first = known.entries - 1; expected = expected; prefix = None }
+abbrev pub search_before : Checkpoint → Goal → Confirming
+search_before known goal =
+    record { banks = known.before; bytes = 0; first = known.entries - 1; goal = goal; prefix = None }

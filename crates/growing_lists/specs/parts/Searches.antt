@@ -1,5 +1,5 @@
 -- What a search for the confirmed prefix found.
-use Rattle.std.specs.Prelude.{◌≡◌, ℕ, ◌+◌, ◌-◌, ◌^◌, min, Bool, if◌then◌else◌, List, ◌++◌, length, Option, Some, None, Result, Ok, Err}
+use Rattle.std.specs.Prelude.{◌≡◌, ℕ, ◌+◌, ◌-◌, ◌^◌, min, nat_le, Bool, if◌then◌else◌, List, ◌++◌, length, Option, Some, None, Result, Ok, Err}
 use Rattle.pcr_banks.specs.declared.sets.AlgSet.{AlgSet}
 use Rattle.boot_log.specs.Replaying.{IsFirmware}
 use Rattle.boot_log.specs.Spelling.{LogEvent}
@@ -7,7 +7,7 @@ use Rattle.ima_list.specs.ListEntry.{ListEntry}
 use Rattle.ima_list.specs.Spelling.{BeginsWith, IsReading, list_spelling}
 use Rattle.boot_verdict.specs.declared.checkpoint.Checkpoint.{Checkpoint}
 use Rattle.growing_lists.specs.declared.confirmation.Search.{Search}
-use Rattle.boot_verdict.specs.declared.expected.Expected.{Expected}
+use Rattle.boot_verdict.specs.declared.isolation.Stray.{Stray}
 use Rattle.boot_verdict.specs.declared.prefix_report.Unconfirmed.{Unconfirmed}
 use Rattle.boot_verdict.specs.declared.prefix_report.Unconfirmed.TheVariants as unconfirmed
 use Rattle.growing_lists.specs.declared.prefixes.Confirming.{Confirming}
@@ -16,23 +16,24 @@ use Rattle.boot_verdict.specs.declared.list_replay.ListReplay.{ListReplay}
 use Rattle.boot_verdict.specs.declared.verifier.VerifyFault.{VerifyFault}
 use Rattle.boot_verdict.specs.declared.verifier.VerifyFault.TheVariants as faults
 use Rattle.boot_verdict.specs.Checkpoints.{IsCheckpoint}
+use Rattle.growing_lists.specs.Goals.{Aim}
 use Rattle.growing_lists.specs.Prefixes.{AreUnconfirmed, IsConfirmed, IsUnconfirmedFault, IsWrongWith}
 use Rattle.boot_verdict.specs.ListSources.{CameFrom, CameWhole}
 
 -- The checkpoint of a confirmed prefix of these bytes.
-pub record IsConfirmedAt (algs : AlgSet) (events : List LogEvent) (expected : List Expected) (known : Checkpoint) (bytes : List ℕ) (at : Checkpoint) : Type 0 where
+pub record IsConfirmedAt (algs : AlgSet) (events : List LogEvent) (aim : Aim) (known : Checkpoint) (bytes : List ℕ) (at : Checkpoint) : Type 0 where
   pub prefix : List ListEntry
   pub rest : List ℕ
   pub begins : BeginsWith bytes prefix rest
-  pub confirmed : IsConfirmed algs events expected known.entries prefix
+  pub confirmed : IsConfirmed algs events aim known.entries prefix
   pub checkpoint : IsCheckpoint (list_spelling prefix) at
   pub same : checkpoint.entries ≡ prefix
   pub before : at.before ≡ known.before
 
 -- The confirmed prefix of these entries, with which the bytes begin, or none.
-abbrev pub FindsPrefix : AlgSet → List LogEvent → List Expected → Checkpoint → List ℕ → List ListEntry → Option Checkpoint → Type 0
-FindsPrefix algs events expected known bytes entries None = AreUnconfirmed algs events expected known.entries entries
-FindsPrefix algs events expected known bytes entries (Some at) = IsConfirmedAt algs events expected known bytes at
+abbrev pub FindsPrefix : AlgSet → List LogEvent → Aim → Checkpoint → List ℕ → List ListEntry → Option Checkpoint → Type 0
+FindsPrefix algs events aim known bytes entries None = AreUnconfirmed algs events aim known.entries entries
+FindsPrefix algs events aim known bytes entries (Some at) = IsConfirmedAt algs events aim known bytes at
 
 abbrev pub wrong_with : Result Checkpoint Unconfirmed → Option Unconfirmed
 wrong_with (Ok whole) = None
@@ -47,7 +48,7 @@ IsWhole known list old new limit entries (Err (unconfirmed.Replay fault)) = (mor
 IsWhole known list old new limit entries (Err (unconfirmed.List fault)) = Unit {0}
 
 -- What came of a list that goes on after these bytes was searched.
-pub record Searches (known : Checkpoint) (list : List ℕ) (old new : Option (List ℕ)) (limit : ℕ) (expected : List Expected) (search : Search) : Type 0 where
+pub record Searches (known : Checkpoint) (list : List ℕ) (old new : Option (List ℕ)) (limit : ℕ) (aim : Aim) (search : Search) : Type 0 where
   pub came : List ℕ
   pub over : List ℕ
   pub entries : List ListEntry
@@ -55,7 +56,7 @@ pub record Searches (known : Checkpoint) (list : List ℕ) (old new : Option (Li
   pub came_is : CameFrom old new limit came over
   pub begins : BeginsWith (list ++ came) entries rest
   pub prefix : (algs : AlgSet) (events : List LogEvent) → IsFirmware algs events known.before
-      → FindsPrefix algs events expected known (list ++ came) entries search.prefix
+      → FindsPrefix algs events aim known (list ++ came) entries search.prefix
   pub count : length entries ≡ search.entries
   pub wrong : IsWrongWith list old new limit search.entries (wrong_with search.whole)
   pub whole : IsWhole known list old new limit entries search.whole
@@ -69,7 +70,13 @@ whole_after known replay = record {
   entries = replay.entries;
   bytes = replay.tracker.bytes;
   recorded = replay.recorded;
+  stray = replay.stray;
 }
+
+-- The stray entry, if it is not after the entry with this number.
+abbrev pub stray_within : Option Stray → ℕ → Option Stray
+stray_within None last = None
+stray_within (Some first) last = if nat_le first.entry last then Some first else None
 
 abbrev pub checkpoint_at : Checkpoint → ListReplay Confirming → Prefix → Checkpoint
 checkpoint_at known replay prefix = record {
@@ -78,6 +85,7 @@ checkpoint_at known replay prefix = record {
   entries = min (prefix.last + 1) (2 ^ 64 - 1);
   bytes = prefix.bytes;
   recorded = replay.recorded;
+  stray = stray_within replay.stray prefix.last;
 }
 
 -- The prefix of the search, if the boot aggregate is good.
@@ -95,5 +103,5 @@ fault_in (unconfirmed.Replay fault) = faults.Replay fault
 
 -- It is no fault of a list, so it does not tell of a prefix.
 abbrev pub IsNoListFault : VerifyFault → Type 0
-IsNoListFault fault = (log list : List ℕ) (old new : Option (List ℕ)) (limit : ℕ) (expected : List Expected) (least : ℕ)
-    → IsUnconfirmedFault log list old new limit expected least fault
+IsNoListFault fault = (log list : List ℕ) (old new : Option (List ℕ)) (limit : ℕ) (aim : Aim) (least : ℕ)
+    → IsUnconfirmedFault log list old new limit aim least fault

@@ -6,16 +6,17 @@ ghost use Rattle.hex.specs.Hex.{encode_lower};
 ghost use Rattle.byte_streams.specs.Streams.{Sends};
 ghost use Rattle.std.specs.Prelude.{codes, decimal, flat_map};
 ghost use Rattle.boot_verdict.specs.RegisterTexts.{all_registers};
-ghost use Rattle.growing_lists.specs.CheckpointTexts.{bank_lines, banks_lines, checkpoint_body, checkpoint_text, number_line, seal_line, recorded_line, value_line};
+ghost use Rattle.growing_lists.specs.CheckpointTexts.{bank_lines, banks_lines, checkpoint_body, checkpoint_text, number_line, seal_line, recorded_line, stray_entry, stray_register, value_line};
 
-use boot_verdict::{Checkpoint, digits_of, write_change};
+use boot_verdict::{Checkpoint, LIST_REGISTER, Stray, digits_of, write_change};
 use byte_streams::{Failed, Sink, VecSink, send, send_pieces};
 use itoa::Buffer;
 use pcr_banks::{Alg, Banks, Digest, MOST_DIGITS, REGISTERS, hash};
 use std::alloc::{AllocError, Global};
 
 /// Makes the text of a checkpoint: a line with the version of this form, one with the number of entries, one with that of bytes, one
-/// with the boot aggregate; the lines of the registers before the list, and of those after it; and last the SHA-256 of all this.
+/// with the boot aggregate; the lines of the registers before the list, and of those after it; two of the first entry that extends another
+/// register than that of the list, with the register and the entry (without one, that register and 0); and last the SHA-256 of all this.
 /// [`crate::read_checkpoint`] reads it.
 ///
 /// Each bank is there, in the order of [`Alg::ALL`]: with a line for each register, as [`boot_verdict::write_registers`] writes it, or
@@ -49,17 +50,18 @@ fn write_body<S: Sink>(checkpoint: &Checkpoint, sink: &mut S) -> Result<(), Fail
     write_counts(checkpoint.entries, checkpoint.bytes, sink)?;
     write_recorded(&checkpoint.recorded, sink)?;
     write_section(b"before\n", &checkpoint.before, sink)?;
-    write_section(b"after\n", &checkpoint.after, sink)
+    write_section(b"after\n", &checkpoint.after, sink)?;
+    write_stray(checkpoint.stray, sink)
 }
 
 fn write_counts<S: Sink>(entries: usize, bytes: u64, sink: &mut S) -> Result<(), Failed>
-    ensures { Sends (S.state sink.old) (S.state sink.new) result (codes "ima-agent checkpoint 1\nentries "
+    ensures { Sends (S.state sink.old) (S.state sink.new) result (codes "ima-agent checkpoint 2\nentries "
         ++ (decimal entries ++ (codes "\nbytes " ++ (decimal bytes ++ codes "\n")))) }
 {
     let mut first = Buffer::new();
     let mut second = Buffer::new();
     let pieces: [&[u8]; 5] = [
-        b"ima-agent checkpoint 1\nentries ",
+        b"ima-agent checkpoint 2\nentries ",
         first.format(entries).as_bytes(),
         b"\nbytes ",
         second.format(bytes).as_bytes(),
@@ -79,6 +81,34 @@ fn write_recorded<S: Sink>(recorded: &Option<Digest>, sink: &mut S) -> Result<()
             let name = digest.alg().name().as_bytes();
             send_pieces(&[b"boot_aggregate ", name, b":", digits, b"\n"], sink)
         }
+    }
+}
+
+// Writes the lines of the first entry that extends another register than that of the list.
+fn write_stray<S: Sink>(stray: Option<Stray>, sink: &mut S) -> Result<(), Failed>
+    ensures { Sends (S.state sink.old) (S.state sink.new) result (codes "register "
+        ++ (decimal (stray_register stray) ++ (codes "\nentry " ++ (decimal (stray_entry stray) ++ codes "\n")))) }
+{
+    let (register, entry) = numbers_of(stray);
+    let mut first = Buffer::new();
+    let mut second = Buffer::new();
+    let pieces: [&[u8]; 5] = [
+        b"register ",
+        first.format(register).as_bytes(),
+        b"\nentry ",
+        second.format(entry).as_bytes(),
+        b"\n",
+    ];
+    send_pieces(&pieces, sink)
+}
+
+// The register and the number of the entry; without one, the register of the list and 0.
+fn numbers_of(stray: Option<Stray>) -> (u32, usize)
+    ensures { (result.0 ≡ stray_register stray) × (result.1 ≡ stray_entry stray) }
+{
+    match stray {
+        None => (LIST_REGISTER, 0),
+        Some(stray) => (stray.register, stray.entry),
     }
 }
 

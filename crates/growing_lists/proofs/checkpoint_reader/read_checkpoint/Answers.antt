@@ -8,7 +8,7 @@ use Rattle.growing_lists.proofs.checkpoint_reader.read_checkpoint.Goals as goal
 pub returns-in_default-clause-only : goal.returns-in_default-clause-only
 returns-in_default-clause-only c =
     λ known possible is.
-    absurd (c.in_default.ensures.none (codes "1\n" ++ (data_lines known ++ seal_line (checkpoint_body known))) (is ∙ text_begins known))
+    absurd (c.in_default.ensures.none (codes "2\n" ++ (data_lines known ++ seal_line (checkpoint_body known))) (is ∙ text_begins known))
 
 pub returns-in_default-clause-version : goal.returns-in_default-clause-version
 returns-in_default-clause-version c =
@@ -48,7 +48,7 @@ returns-clause-version c = (
 pub returns-in_default-clause-one : goal.returns-in_default-clause-one
 returns-in_default-clause-one c =
     λ first second possible other is also.
-    absurd (c.in_default.ensures.none (codes "1\n" ++ (data_lines first ++ seal_line (checkpoint_body first))) (is ∙ text_begins first))
+    absurd (c.in_default.ensures.none (codes "2\n" ++ (data_lines first ++ seal_line (checkpoint_body first))) (is ∙ text_begins first))
 
 pub returns-in_default-after_prefix-clause-one : goal.returns-in_default-after_prefix-clause-one
 returns-in_default-after_prefix-clause-one c =

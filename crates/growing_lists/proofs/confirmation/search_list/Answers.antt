@@ -10,7 +10,7 @@ returns-in_err-unconfirmed_of-in-Err-clause-fault g c =
     let p = err_from_is_err_and c.from_residual.result c.from_residual.ensures.1 in
     let known = c.args.known.now in
     rw (p.1, p.2, ← c.room.ensures.room, ← c.in_err-unconfirmed_of-in-Err.ensures.same) (λ list is.
-    ((rw c.in-Err.is at c.replay_more.ensures.fault) (search_before known c.args.expected) list
+    ((rw c.in-Err.is at c.replay_more.ensures.fault) (search_before known c.args.goal) list
     (c.searching-replay.ensures.replays list is (omega (arith, c.room.ensures.bytes)))).0)
 
 pub returns-clause-found : goal.returns-clause-found
@@ -18,15 +18,15 @@ returns-clause-found g c =
     let known = c.args.known.now in
     rw (← c.room.ensures.room) (λ list is.
     let all = c.searching-replay.ensures.replays list is (omega (arith, c.room.ensures.bytes)) in
-    let start = search_before known c.args.expected in
+    let start = search_before known c.args.goal in
     elim c.match-replay_more.branch [
       | in-Ok w ↦
-          rw (w.whole-is, w.whole_after.ensures) (searches_whole known c.args.expected list _ _ c.room.result c.replay_more.new.self c.prefix_in.result is
+          rw (w.whole-is, w.whole_after.ensures) (searches_whole known c.args.goal list _ _ c.room.result c.replay_more.new.self c.prefix_in.result is
           c.room.ensures.bytes c.prefix_in.ensures.counted c.prefix_in.ensures.prefix
           ((rw w.in-Ok.is at c.replay_more.ensures.replays) start list all).0)
       | in-Err+in_ok-unconfirmed_of-in-Err w ↦
           let wrong = w.in_ok-unconfirmed_of-in-Err.ensures.wrong in
           let why = (rw (w.in-Err.is ∙ ap Err wrong) at c.replay_more.ensures.fault) start list all in
-          rw w.whole-is (searches_part known c.args.expected list _ _ c.room.result c.replay_more.new.self c.prefix_in.result is
+          rw w.whole-is (searches_part known c.args.goal list _ _ c.room.result c.replay_more.new.self c.prefix_in.result is
           c.room.ensures.bytes c.prefix_in.ensures.counted c.prefix_in.ensures.prefix _ why.0 why.1)
     ])

@@ -12,4 +12,5 @@ returns-clause-known c =
       count = all.replays.count;
       size = size;
       recorded = all.replays.recorded;
+      stray = all.replays.stray;
     }

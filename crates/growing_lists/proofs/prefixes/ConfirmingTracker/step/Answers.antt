@@ -22,7 +22,7 @@ returns-then-is_none c =
       banks = c.replay_into.new.banks;
       bytes = c.saturating_add-self.result;
       first = old.first;
-      expected = old.expected;
+      goal = old.goal;
       prefix = c.prefix_at-self.result;
     } in
     λ start events before at after.
@@ -34,7 +34,7 @@ pub returns-else-is_none : goal.returns-else-is_none
 returns-else-is_none c =
     let old = c.args.self.now in
     let now : Confirming =
-    record { banks = c.replay_into.new.banks; bytes = c.saturating_add-self.result; first = old.first; expected = old.expected; prefix = old.prefix } in
+    record { banks = c.replay_into.new.banks; bytes = c.saturating_add-self.result; first = old.first; goal = old.goal; prefix = old.prefix } in
     λ start events before at after.
     search_more start events before (step_of c.args.step.now) old now c.args.position after c.replay_into.ensures.banks
     (rw c.size_of.ensures at c.saturating_add-self.ensures) refl refl at (found_yet old.prefix _ (c.is_none.ensures ∙ ap not c.if-is_none.false))

@@ -1,5 +1,6 @@
 use Rattle.std.proofs.lemmas.Result.{err_from_is_err_and}
-use Rattle.growing_lists.proofs.ConfirmLaws.{prefix_reported, refused_by, takes_unconfirmed}
+use Rattle.growing_lists.specs.Goals.{aim_of}
+use Rattle.growing_lists.proofs.ConfirmLaws.{prefix_taken, refused_by, takes_unconfirmed}
 use Rattle.growing_lists.proofs.session.Session.confirm.Goals as goal
 
 pub returns-in_err-search-clause-fault : goal.returns-in_err-search-clause-fault
@@ -10,14 +11,14 @@ returns-in_err-search-clause-fault g c =
 pub returns-in_err-search-clause-unconfirmed : goal.returns-in_err-search-clause-unconfirmed
 returns-in_err-search-clause-unconfirmed g c =
     let p = err_from_is_err_and c.from_residual.result c.from_residual.ensures.1 in
-    rw (p.1, p.2) (λ log list has. c.in_err-search.ensures.other log list _ _ _ c.args.expected.now _)
+    rw (p.1, p.2) (λ log list has. c.in_err-search.ensures.other log list _ _ _ (aim_of c.args.goal) _)
 
 pub returns-in_err-self-clause-fault : goal.returns-in_err-self-clause-fault
 returns-in_err-self-clause-fault g c =
     let p = err_from_is_err_and c.from_residual-in_err-self.result c.from_residual-in_err-self.ensures.1 in
     let wrong = c.in_err-self.ensures.fault in
     rw (p.1, p.2, wrong.2) (λ log list has.
-    (refused_by c.args.self.now log list has _ _ _ c.args.expected.now c.in_ok-search.search (c.in_ok-search.ensures.found list has.checkpoint)
+    (refused_by c.args.self.now log list has _ _ _ (aim_of c.args.goal) c.in_ok-search.search (c.in_ok-search.ensures.found list has.checkpoint)
     wrong.0 wrong.1 c.in_default.is).0)
 
 pub returns-in_err-self-clause-unconfirmed : goal.returns-in_err-self-clause-unconfirmed
@@ -25,27 +26,17 @@ returns-in_err-self-clause-unconfirmed g c =
     let p = err_from_is_err_and c.from_residual-in_err-self.result c.from_residual-in_err-self.ensures.1 in
     let wrong = c.in_err-self.ensures.fault in
     rw (p.1, p.2, wrong.2) (λ log list has.
-    (refused_by c.args.self.now log list has _ _ _ c.args.expected.now c.in_ok-search.search (c.in_ok-search.ensures.found list has.checkpoint)
+    (refused_by c.args.self.now log list has _ _ _ (aim_of c.args.goal) c.in_ok-search.search (c.in_ok-search.ensures.found list has.checkpoint)
     wrong.0 wrong.1 c.in_default.is).1)
 
 pub returns-in_default-clause-none : goal.returns-in_default-clause-none
 returns-in_default-clause-none g c =
     λ log list has.
-    takes_unconfirmed c.args.self.now log list has _ _ _ c.args.expected.now c.in_ok-search.search (c.in_ok-search.ensures.found list has.checkpoint)
+    takes_unconfirmed c.args.self.now log list has _ _ _ (aim_of c.args.goal) c.in_ok-search.search (c.in_ok-search.ensures.found list has.checkpoint)
     c.in_ok-self.field-0 c.in_ok-self.ensures.whole c.in_default.is
-
-pub returns-in_err-report-clause-fault : goal.returns-in_err-report-clause-fault
-returns-in_err-report-clause-fault g c =
-    let p = err_from_is_err_and c.from_residual-in_err-report.result c.from_residual-in_err-report.ensures.1 in
-    rw (p.1, p.2) (λ log list has. tt)
-
-pub returns-in_err-report-clause-unconfirmed : goal.returns-in_err-report-clause-unconfirmed
-returns-in_err-report-clause-unconfirmed g c =
-    let p = err_from_is_err_and c.from_residual-in_err-report.result c.from_residual-in_err-report.ensures.1 in
-    rw (p.1, p.2) (λ log list has. tt)
 
 pub returns-clause-prefix : goal.returns-clause-prefix
 returns-clause-prefix g c =
     rw c.wrong_with.ensures (λ log list has.
-    prefix_reported c.args.self.now log list has _ _ _ c.args.expected.now c.in_ok-search.search (c.in_ok-search.ensures.found list has.checkpoint)
-    c.in-Some.prefix c.in-Some.is c.in_ok-report.report c.in_ok-report.ensures)
+    prefix_taken c.args.self.now log list has _ _ _ (aim_of c.args.goal) c.in_ok-search.search (c.in_ok-search.ensures.found list has.checkpoint)
+    c.in-Some.prefix c.in-Some.is)

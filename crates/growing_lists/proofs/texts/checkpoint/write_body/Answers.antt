@@ -20,9 +20,18 @@ returns-in_err-write_section g c =
     (Sends-then _ _ _ tt _ _ _ c.in_ok-write_recorded.ensures
     (Sends-stops _ _ _ _ _ _ _ c.from_residual-in_err-write_section.ensures.1 c.in_err-write_section.ensures)))
 
+pub returns-in_err-write_section-2 : goal.returns-in_err-write_section-2
+returns-in_err-write_section-2 g c =
+    Sends-same _ _ _ _ _ (body_parts c.args.checkpoint.now)
+    (Sends-then _ _ _ tt _ _ _ c.in_ok-write_counts.ensures
+    (Sends-then _ _ _ tt _ _ _ c.in_ok-write_recorded.ensures
+    (Sends-then _ _ _ tt _ _ _ c.in_ok-write_section.ensures
+    (Sends-stops _ _ _ _ _ _ _ c.from_residual-in_err-write_section-2.ensures.1 c.in_err-write_section-2.ensures))))
+
 pub returns : goal.returns
 returns g c =
     Sends-same _ _ _ _ _ (body_parts c.args.checkpoint.now)
     (Sends-then _ _ _ tt _ _ _ c.in_ok-write_counts.ensures
     (Sends-then _ _ _ tt _ _ _ c.in_ok-write_recorded.ensures
-    (Sends-then _ _ _ tt _ _ _ c.in_ok-write_section.ensures c.write_section-2.ensures)))
+    (Sends-then _ _ _ tt _ _ _ c.in_ok-write_section.ensures
+    (Sends-then _ _ _ tt _ _ _ c.in_ok-write_section-2.ensures c.write_stray.ensures))))

@@ -5,12 +5,13 @@ use Rattle.judging.specs.Answering.{evidence_of}
 use Rattle.judging.proofs.InputLaws.{prefix_found, not_found, whole_found}
 use Rattle.judging.proofs.answers.Evidence.judge_from.Goals as goal
 
-pub returns-in-Ok-Some : goal.returns-in-Ok-Some
-returns-in-Ok-Some g c =
+pub returns-in_ok-report-in-Ok-Some : goal.returns-in_ok-report-in-Ok-Some
+returns-in_ok-report-in-Ok-Some g c =
     λ inputs log resume gives started room.
-    prefix_found gives log resume c.args.scope (evidence_of c.args.self.now) started _ _ room
+    prefix_found gives log resume c.args.scope (evidence_of c.args.self.now) started _ c.in_ok-report-in-Ok-Some.field-0 c.in-Ok-Some.confirmed room
     (sym (rw (c.as_ref.ensures.value, c.deref.ensures.value) at c.seeks_prefix.ensures) ∙ c.if-seeks_prefix.true)
     (rw (c.in-Ok-Some.field-0-is, c.limit_of.ensures, c.deref-then-seeks_prefix.ensures.value) at c.in-Ok-Some.ensures.prefix)
+    (rw c.deref-in-Ok-Some.ensures.value at c.in_ok-report-in-Ok-Some.ensures)
 
 pub returns-in_ok-report-in-Ok-None : goal.returns-in_ok-report-in-Ok-None
 returns-in_ok-report-in-Ok-None g c =

@@ -1,0 +1,64 @@
+-- The judgement on a log, a list and a quote that were read. All of this is this project's choice.
+use Rattle.std.specs.Prelude.{ℕ, not, if◌then◌else◌, List, length, bytes_eq, Option, Some, None, option_map}
+use Rattle.std.specs.Option.{option_or}
+use Rattle.pcr_banks.specs.declared.sets.AlgSet.{AlgSet}
+use Rattle.boot_log.specs.Spelling.{LogEvent}
+use Rattle.boot_log.specs.Replaying.{startup_locality}
+use Rattle.ima_list.specs.ListEntry.{ListEntry}
+use Rattle.boot_verdict.specs.Verdicts.{aggregate_of, is_good, pcr_after_log_and_list, recorded_aggregate}
+use Rattle.tpm_quotes.specs.Spelling.{TpmQuote, quote_of}
+use Rattle.tpm_quotes.specs.Quoting.{confirms}
+use Rattle.attestations.specs.declared.attested.AttestFault.{AttestFault}
+use Rattle.attestations.specs.declared.attested.AttestFault.TheVariants.{OtherNonce, NotSelected}
+use Rattle.attestations.specs.declared.attested.Attested.{Attested}
+use Rattle.attestations.specs.declared.cause.Cause.{Cause}
+use Rattle.attestations.specs.declared.cause.Cause.TheVariants.{LogExtends, ListExtends, BadAggregate, Differs}
+use Rattle.boot_verdict.specs.Isolation.{first_extending, first_stray}
+use Rattle.attestations.specs.Policies.{Terms, first_unselected}
+
+-- What is known where log and list are attested.
+pub record Attestation : Type 0 where
+  pub events : ℕ
+  pub locality : ℕ
+  pub entries : ℕ
+  pub quote : TpmQuote
+
+abbrev pub attestation_on : List LogEvent → List ListEntry → TpmQuote → Attestation
+attestation_on events entries quote = record {
+  events = length events;
+  locality = startup_locality events;
+  entries = length entries;
+  quote = quote;
+}
+
+-- Why the quote is not the one that is asked for: it has another nonce; or it does not select a register that is required.
+abbrev pub quote_refusal : TpmQuote → Terms → Option AttestFault
+quote_refusal quote terms =
+    if not (bytes_eq quote.nonce terms.nonce) then Some OtherNonce
+    else option_map (λ at. NotSelected at.0 at.1) (first_unselected terms.required quote.selections)
+
+-- The first cause in which registers log and list extend.
+abbrev pub cause_in_extends : List LogEvent → List ListEntry → Option Cause
+cause_in_extends events entries =
+    option_or (option_map LogExtends (first_extending events)) (option_map (λ stray. ListExtends stray.entry stray.register) (first_stray entries))
+
+-- The first cause in the values to which log and list replay.
+abbrev pub cause_in_registers : AlgSet → List LogEvent → List ListEntry → TpmQuote → Option Cause
+cause_in_registers algs events entries quote =
+    if not (is_good (aggregate_of algs events (recorded_aggregate entries))) then Some BadAggregate
+    else if not (confirms quote (pcr_after_log_and_list algs events entries)) then Some Differs
+    else None
+
+-- The first cause against log and list.
+abbrev pub cause_against : AlgSet → List LogEvent → List ListEntry → TpmQuote → Option Cause
+cause_against algs events entries quote = option_or (cause_in_extends events entries) (cause_in_registers algs events entries quote)
+
+-- ---- what contracts see of what is known
+
+abbrev pub attestation_of : Attested → Attestation
+attestation_of attested = record {
+  events = attested.events;
+  locality = attested.locality;
+  entries = attested.entries;
+  quote = quote_of attested.quote;
+}

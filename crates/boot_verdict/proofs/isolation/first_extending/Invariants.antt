@@ -1,0 +1,11 @@
+use Rattle.std.proofs.Common.{◌≡◌, List, length, None}
+use Rattle.boot_log.specs.LogViews.{HasBorrowed, log_bytes, unread}
+use Rattle.boot_log.specs.Spelling.{LogEvent}
+use Rattle.boot_verdict.specs.Isolation.{first_extending}
+use Rattle.boot_verdict.proofs.isolation.first_extending.Given as goal
+
+abbrev pub invariant-loop-event : goal.invariant-loop-event
+invariant-loop-event l = (given : List LogEvent) × HasBorrowed (log_bytes l.log) given l.events × (first_extending given ≡ None)
+
+abbrev pub decreases-loop-event : goal.decreases-loop-event
+decreases-loop-event l = length (unread l.events)

@@ -1,0 +1,62 @@
+//! That a log and a list extend different registers.
+
+ghost use Rattle.std.specs.Prelude.{◌≡◌, List, [], ◌∷◌, ◌++◌, length};
+ghost use Rattle.boot_log.specs.declared.header.Row.{Row as TableRow};
+ghost use Rattle.boot_log.specs.LogViews.{log_bytes};
+ghost use Rattle.boot_log.specs.Spelling.{LogEvent, IsLog, log_event_of};
+ghost use Rattle.boot_log.specs.Replaying.{is_extended_into};
+ghost use Rattle.ima_list.specs.ListEntry.{ListEntry};
+ghost use Rattle.boot_verdict.specs.Isolation.{first_extending, first_stray, list_register};
+
+use boot_log::{Event, LogView};
+use ima_list::EntryRef;
+
+/// The register that IMA extends, and nothing else does.
+pub const LIST_REGISTER: u32 = 10;
+
+/// The type of an event that is not extended.
+const EV_NO_ACTION: u32 = 3;
+
+/// An entry of a list that extends another register than [`LIST_REGISTER`].
+#[derive(Clone, Copy, PartialEq, Eq)]
+pub struct Stray {
+    /// Its number, counted from 0.
+    pub entry: usize,
+    /// The register.
+    pub register: u32,
+}
+
+// Whether the event extends the list's register.
+fn extends(event: &Event<'_>) -> bool
+    ensures { result ≡ is_extended_into list_register (log_event_of event.now) }
+{
+    event.kind != EV_NO_ACTION && event.register == LIST_REGISTER
+}
+
+/// The number of the first event of the log that extends the list's register, if one does. Events count from 1.
+pub fn first_extending(log: &LogView<'_>) -> Option<usize>
+    ensures { (table : List TableRow) (events : List LogEvent) → IsLog (log_bytes log.now) table events → result ≡ first_extending events }
+{
+    let mut events = log.events();
+    while let Some(event) = events.next_event() {
+        if extends(&event) {
+            return Some(events.count());
+        }
+    }
+    None
+}
+
+/// The first stray entry up to this one, which has this number; `stray` is that of the entries before it.
+pub(crate) fn stray_with(stray: Option<Stray>, number: usize, entry: &EntryRef<'_>) -> Option<Stray>
+    ensures { (entries : List ListEntry) → number ≡ length entries → stray ≡ first_stray entries
+        → result ≡ first_stray (entries ++ entry.now ∷ []) }
+{
+    match stray {
+        Some(_) => stray,
+        None if entry.register() != LIST_REGISTER => Some(Stray {
+            entry: number,
+            register: entry.register(),
+        }),
+        None => None,
+    }
+}
