@@ -2,13 +2,13 @@
 //! and a list: laws, each the contract of a function that does nothing, or only reads.
 #![tactic(auto)]
 
-mod attestations;
+mod attested;
 mod banks;
 mod lists;
 mod logs;
 mod quotes;
 
-pub use attestations::attestation_tells_extends;
+pub use attested::attestation_tells_extends;
 pub use banks::value_tells_extends;
 pub use lists::{
     banks_tell_extensions, extensions_tell_genuine_digests, value_tells_extensions,

@@ -22,10 +22,13 @@ fn required(alloc: Global, text: &[u8]) -> Result<Requirement, RequirementFault>
 
 /// The bytes with another one at this place.
 fn changed(alloc: Global, bytes: &[u8], at: usize, byte: u8) -> Result<Vec<u8>, AllocError> {
-    once_more(
-        AllocError,
-        || joined(alloc, &[&bytes[..at], &[byte], &bytes[at + 1..]]),
-    )
+    let before = bytes.get(..at).unwrap_or_default();
+    let after = bytes
+        .get(at..)
+        .unwrap_or_default()
+        .get(1..)
+        .unwrap_or_default();
+    joined(alloc, &[before, &[byte], after])
 }
 
 /// The log and the list of a real boot, by the quote of the TPM into which both were extended.
@@ -116,19 +119,22 @@ fn policies_that_the_quote_does_not_meet(rt: HostRuntime) -> Result<(), Fail> {
 }
 
 /// Logs, lists, messages and nonces, and what is wrong with them. Where two things are wrong the first is told. The last entry of the real
-/// list has 95 bytes; the event of the small log begins at byte 65 with its register, and the template digest of the first entry at byte 4.
+/// list has 95 bytes; the event of the small log begins at byte 65 with its register, and at 69 with its type, of which 3 (`EV_NO_ACTION`)
+/// extends nothing; the template digest of the first entry begins at byte 4.
 #[test]
 fn evidence_that_the_quote_is_not_of(rt: HostRuntime) -> Result<(), Fail> {
     let alloc = rt.alloc();
     let required = required(alloc, b"sha256:0-10")?;
     let extending = changed(alloc, LOG, 65, 10)?;
+    let telling = changed(alloc, extending.as_slice(), 69, 3)?;
     let stray = changed(alloc, LIST, 0, 11)?;
+    let early = changed(alloc, LIST, 0, 9)?;
     let forged = changed(alloc, LIST, 4, 0)?;
     let shorter = &IMA_LIST[..IMA_LIST.len() - 95];
     let (short_nonce, other_nonce) = (&QUOTE_NONCE[..15], &QUOTE_NONCE[..19]);
     let cut = &QUOTE[..132];
     let forged_entry = VerifyFault::Replay(ReplayFault::BadTemplateDigest { entry: 0 });
-    let cases: [(&[u8], &[u8], &[u8], &[u8], AttestFault); 12] = [
+    let cases: [(&[u8], &[u8], &[u8], &[u8], AttestFault); 14] = [
         (
             LOG,
             LIST,
@@ -181,6 +187,23 @@ fn evidence_that_the_quote_is_not_of(rt: HostRuntime) -> Result<(), Fail> {
                 entry: 0,
                 register: 11,
             }),
+        ),
+        (
+            LOG,
+            early.as_slice(),
+            QUOTE,
+            QUOTE_NONCE,
+            AttestFault::Against(Cause::ListExtends {
+                entry: 0,
+                register: 9,
+            }),
+        ),
+        (
+            telling.as_slice(),
+            LIST,
+            QUOTE,
+            QUOTE_NONCE,
+            AttestFault::Against(Cause::BadAggregate),
         ),
         (
             FIRMWARE_LOG,
