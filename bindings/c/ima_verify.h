@@ -18,8 +18,8 @@
  * formats.md has the formats, and what each fault number means; ima-agent(1) has the faults, too.
  *
  * A verdict speaks of the registers that are expected, and of no others: so say in `require` which registers it
- * must cover. It is about the machine's boot only if no event of the log extends register 10 and each entry of the
- * list names register 10: look into what ima_verify_registers and ima_verify_entries give.
+ * must cover. With it a verdict is `match` only if no event of the log extends register 10 and each entry of the
+ * list names it; else the report has a line as `event 31 extends 10` or `entry 17 extends 11`.
  *
  * Pointers. One that is NULL has a size of 0; else the function returns IMA_VERIFY_MISUSED. Nothing may change an
  * input during a call. Inputs may overlap each other, and calls may share them; outputs may overlap nothing else
@@ -145,7 +145,7 @@ struct ima_verify_evidence {
     struct ima_verify_bytes expected;
     /* The registers that must be among them, as `sha256:0-10` or `sha256:0-7,sha1:10`: each that is not has a row,
      * as `sha256 4 missing`, and then the verdict is `differ`. The word `none` (ima_verify_none) requires no
-     * register; without bytes it is refused. */
+     * register. Without bytes it is refused, and so is one that names register 10 of no bank. */
     struct ima_verify_bytes require;
 };
 
@@ -235,7 +235,7 @@ static inline enum ima_verify_result ima_verify_tell(struct ima_verify_output *o
 }
 
 /* The verdict on a log, a list and expected registers. IMA_VERIFY_DONE if the boot aggregate is good, each expected
- * register has its value and none of `require` is missing, else IMA_VERIFY_DIFFERS; the text is the report. The
+ * register has its value and what `require` asks for holds, else IMA_VERIFY_DIFFERS; the text is the report. The
  * first fault is reported, in this order: `require`, the expected registers, the log, the list, whether each entry
  * is genuine. */
 IMA_VERIFY_USE_RESULT static inline enum ima_verify_result
@@ -273,7 +273,7 @@ ima_verify_locate(const struct ima_verify_evidence *evidence, enum ima_verify_fo
 
 /* The verdict on a list alone: it is replayed into banks of all algorithms from their registers' reset values, so a
  * register that the firmware extends too differs. The log is not looked at. IMA_VERIFY_DONE if the list has an
- * entry, some register is expected, each has its value and none of `require` is missing, else IMA_VERIFY_DIFFERS;
+ * entry, some register is expected, each has its value and what `require` asks for holds, else IMA_VERIFY_DIFFERS;
  * the text is the report. The first fault is reported, in this order: `require`, the expected registers, the list,
  * whether each entry is genuine. */
 IMA_VERIFY_USE_RESULT static inline enum ima_verify_result
@@ -297,8 +297,8 @@ ima_verify_replay(const struct ima_verify_evidence *evidence, enum ima_verify_fo
  * gave, and the list has the bytes after what that checkpoint is of. The verdict is on the whole list, and faults
  * number its entries from the first. If no register is expected, the verdict is `differ`. With `prefix` the report
  * is on the confirmed front, if there is one: the list's shortest front, no shorter than what the checkpoint is of,
- * whose entries are genuine and on which the verdict is `match`. What comes after it is not refused, and the report
- * says how many entries it has.
+ * whose entries are genuine, and with which the boot aggregate is good, each expected register has its value and none
+ * of `require` is missing. What comes after it is not refused, and the report says how many entries it has.
  *
  * After IMA_VERIFY_DONE `next` has the checkpoint of what the report is on, the whole list or the confirmed front:
  * less than 20000 bytes. If one of both outputs has too little room, the function returns IMA_VERIFY_TOO_SHORT,

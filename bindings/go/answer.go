@@ -151,10 +151,24 @@ func (a answer) verdictIn(r *reader, o object, mayMatchNothing bool) Verdict {
 	v := Verdict{Events: r.number(o, "events", math.MaxUint64), Locality: uint8(r.number(o, "locality", math.MaxUint8)),
 		Entries: r.number(o, "entries", math.MaxUint64), Rows: r.rows(o), JSON: a.line()}
 	v.BootAggregate = oneOf(r, o, "boot_aggregate", BootAggregateGood, BootAggregateWrong, BootAggregateNoBank, BootAggregateMissing)
-	isGood := v.BootAggregate == BootAggregateGood && (len(v.Rows) > 0 || mayMatchNothing)
-	v.Matches = r.matches(a.result, o, v.Rows, isGood) && len(v.Rows) > 0
 	v.Confirmed, v.Unconfirmed = r.confirmed(o, v.Entries)
+	v.Extends = r.strays(o, v.Events, v.covered())
+	isGood := v.BootAggregate == BootAggregateGood && (len(v.Rows) > 0 || mayMatchNothing) && v.Extends == nil
+	v.Matches = r.matches(a.result, o, v.Rows, isGood) && len(v.Rows) > 0
 	return v
+}
+
+// covered is how many entries the verdict is on.
+func (v Verdict) covered() uint64 {
+	if v.Confirmed != 0 {
+		return v.Confirmed
+	}
+	return v.Entries
+}
+
+// hasAllValues is whether the verdict is a match, apart from Extends.
+func (v Verdict) hasAllValues() bool {
+	return v.BootAggregate == BootAggregateGood && len(v.Rows) > 0 && allMatch(v.Rows)
 }
 
 // more reads the verdict on a list that has so many bytes after a checkpoint, and the next checkpoint. Only a match has one:
@@ -163,17 +177,17 @@ func (a answer) more(from checkpoint, size uint64, prefix bool) (Verdict, checkp
 	reached, isState := checkpointIn(a.next)
 	v, err := read(a, func(r *reader, o object) Verdict {
 		v := a.verdictIn(r, o, false)
-		r.require((v.Confirmed != 0) == (prefix && v.Matches))
+		r.require((v.Confirmed != 0) == (prefix && v.hasAllValues()) && from.entries <= v.covered())
 		if !v.Matches {
-			r.require(len(a.next) == 0 && from.entries <= v.Entries)
+			r.require(len(a.next) == 0)
 			reached = from
 			return v
 		}
-		entries, least, end := v.Entries, from.bytes+size, from.bytes+size
+		least, end := from.bytes+size, from.bytes+size
 		if v.Confirmed != 0 {
-			entries, least = v.Confirmed, from.bytes
+			least = from.bytes
 		}
-		r.require(isState && from.entries <= entries && reached.entries == entries && least <= reached.bytes && reached.bytes <= end)
+		r.require(isState && reached.entries == v.covered() && least <= reached.bytes && reached.bytes <= end)
 		return v
 	})
 	return v, reached, err
@@ -183,7 +197,8 @@ func (a answer) more(from checkpoint, size uint64, prefix bool) (Verdict, checkp
 func (a answer) listVerdict() (ListVerdict, error) {
 	return read(a, func(r *reader, o object) ListVerdict {
 		v := ListVerdict{Entries: r.number(o, "entries", math.MaxUint64), Rows: r.rows(o), JSON: a.line()}
-		v.Matches = r.matches(a.result, o, v.Rows, v.Entries > 0 && len(v.Rows) > 0)
+		v.Extends = r.strays(o, 0, v.Entries)
+		v.Matches = r.matches(a.result, o, v.Rows, v.Entries > 0 && len(v.Rows) > 0 && v.Extends == nil)
 		return v
 	})
 }

@@ -22,6 +22,8 @@ const (
 	listReport  = `{"entries":3,"registers":[{"bank":"sha256","register":10,"state":"match"}],"verdict":"match"}` + "\n"
 	matchingRow = `{"bank":"sha256","register":10,"state":"match"}`
 	missingRow  = `{"bank":"sha1","register":4,"state":"missing"}`
+	strayEvent  = `{"event":1,"register":10}`
+	strayEntry  = `{"entry":2,"register":11}`
 	algorithms  = `{"algorithms":[{"id":18,"size":1},{"name":"sha1","id":4,"size":20}]}` + "\n"
 	listFault   = `{"fault":{"kind":"list","number":1,"entry":2,"message":"refused: list fault 1 at entry 2"}}` + "\n"
 	logFault    = `{"fault":{"kind":"log","number":1,"event":2,"message":"refused: log fault 1 at event 2"}}` + "\n"
@@ -290,6 +292,52 @@ func TestWrongReportsOnAListAloneAreNoVerdicts(t *testing.T) {
 		{`"verdict":"match"`, `"verdict":"differ"`}, {"}\n", "}"}, {listReport, ""},
 	})
 	checkUnexpected(t, readListVerdict(differs, listReport), listReport)
+}
+
+// The report with these strays, which is no match.
+func strayed(report, strays string) string {
+	return strings.Replace(report, `"verdict":"match"`, `"extends":[`+strays+`],"verdict":"differ"`, 1)
+}
+
+func TestRightReportsWithStraysAreRead(t *testing.T) {
+	event, entry := Stray{Event: 1, Register: 10}, Stray{Entry: 2, Register: 11}
+	for strays, wanted := range map[string][]Stray{
+		strayEvent: {event}, strayEntry: {entry}, strayEvent + "," + strayEntry: {event, entry},
+		`{"x":[null],"register":23,"entry":0}`: {{Register: 23}},
+	} {
+		verdict, err := of(differs, strayed(report, strays)).verdict()
+		equal(t, []interface{}{verdict.Matches, verdict.Extends, verdict.Compared(), err}, []interface{}{false, wanted, 1, nil})
+		text := strings.Replace(strayed(report, strays), `"state":"match"`, differingState, 1)
+		verdict, err = of(differs, text).verdict()
+		equal(t, []interface{}{verdict.Matches, verdict.Extends, err}, []interface{}{false, wanted, nil})
+	}
+	alone, err := of(differs, strayed(listReport, strayEntry)).listVerdict()
+	equal(t, []interface{}{alone.Matches, alone.Extends, err}, []interface{}{false, []Stray{entry}, nil})
+	verdict, err := of(done, report).verdict()
+	equal(t, []interface{}{verdict.Extends, err}, []interface{}{[]Stray(nil), nil})
+}
+
+func TestWrongReportsWithStraysAreNoVerdicts(t *testing.T) {
+	both := strayEvent + "," + strayEntry
+	changes := [][2]string{
+		{`"event":1,`, `"event":0,`}, {`"event":1,`, `"event":2,`}, {`"event":1,`, `"event":"1",`}, {`"event":1,`, `"event":null,`},
+		{`"event":1,`, `"event":true,`}, {`"event":1,`, `"event":1.5,`}, {`"event":1,`, ``}, {`"event":1,`, `"event":1,"entry":2,`},
+		{`"event":1,`, `"event":1,"entry":null,`}, {`1,"register":10}`, `1,"register":11}`}, {strayEvent, strayEvent + "," + strayEvent},
+		{both, strayEntry + "," + strayEvent}, {both, ``}, {strayEvent, `1`}, {strayEvent, `null`}, {strayEvent, `"event"`}, {strayEvent, `["event"]`},
+	}
+	ofEntries := [][2]string{
+		{`"entry":2,`, `"entry":3,`}, {`"entry":2,`, `"entry":-1,`}, {`"entry":2,`, `"line":2,`}, {`2,"register":11`, `2,"register":10`},
+		{`2,"register":11`, `2,"register":24`}, {`2,"register":11`, `2`}, {strayEntry, strayEntry + "," + strayEntry},
+		{`"extends"`, `"extend"`}, {`"extends":`, `"extends":null,"x":`}, {`"extends":`, `"extends":{},"x":`}, {`"verdict":"differ"`, `"verdict":"match"`},
+	}
+	checkChanges(t, readVerdict, differs, strayed(report, both), append(changes, ofEntries...))
+	checkUnexpected(t, readVerdict(done, strayed(report, both)), both)
+	checkUnexpected(t, readVerdict(differs, strings.Replace(differing, `"verdict"`, `"extends":[],"verdict"`, 1)), differing)
+	checkUnexpected(t, readVerdict(differs, strayed(report, `{"event":0,"register":10}`)), report)
+	checkChanges(t, readListVerdict, differs, strayed(listReport, strayEntry), ofEntries)
+	for _, strays := range []string{strayEvent, both} { // (there is no log)
+		checkUnexpected(t, readListVerdict(differs, strayed(listReport, strays)), strays)
+	}
 }
 
 func TestReportOfNoRegistersIsNoMatch(t *testing.T) {
@@ -599,7 +647,7 @@ func TestErrorsSayWhatIsWrong(t *testing.T) {
 	equal(t, ErrOutOfMemory.Error(), "libima_verify got no memory")
 	equal(t, (&RefusedError{Line: "refused: log fault 2", Kind: KindLog, Number: 2}).Error(), "refused: log fault 2")
 	equal(t, (&RefusedError{Line: "refused: command line", Kind: KindArgument}).Error(),
-		"refused: command line (no PCRs are named in the form sha256:0-10 or 0-10)")
+		"refused: command line (PCRs are named as in sha256:0-10, with PCR 10, or as in 0-10)")
 	equal(t, (&UnexpectedError{5, 10, []byte("text\n")}).Error(),
 		`libima_verify gave the result 5 and the size 10, with a text that begins "text\n"`)
 }

@@ -86,13 +86,11 @@ func ExampleListRegisters() {
 	// sha512 10
 }
 
-func ExampleAreApart() {
-	log, list := read("firmware.log"), read("ima.list")
-	fmt.Println(imaverify.AreApart(log, list))
-	fmt.Println(imaverify.AreApart(log, append([]byte{9}, list[1:]...))) // the first entry names register 9
-	// Output:
-	// true <nil>
-	// false <nil>
+func ExampleStray() {
+	list := append([]byte{9}, read("ima.list")[1:]...) // the first entry names register 9
+	verdict, err := imaverify.Verify(read("firmware.log"), list, read("expected.txt"), "sha256:0-10")
+	fmt.Printf("%t %+v %v\n", verdict.Matches, verdict.Extends, err)
+	// Output: false [{Event:0 Entry:0 Register:9}] <nil>
 }
 
 func ExampleShow() {
@@ -157,28 +155,27 @@ func ExampleEntryScanner_Err() {
 
 func ExampleSession() {
 	firmware, list, expected := read("firmware.log"), read("ima.list"), read("expected.txt")
-	ofFirmware := bytes.Join(bytes.SplitAfter(expected, []byte("\n"))[:10], nil)
-	first, err := imaverify.NewSession(firmware, ofFirmware, "sha256:0-9")
+	first, err := imaverify.NewSession(firmware, expected, "sha256:0-10", imaverify.Prefix())
 	if err != nil {
 		log.Fatal(err)
 	}
-	verdict, err := first.More(list[:101]) // the boot aggregate
-	fmt.Println(verdict.Matches, verdict.Entries, err)
+	verdict, err := first.More(append(list, "cut"...)) // more than the PCRs confirm
+	fmt.Println(verdict.Matches, verdict.Confirmed, verdict.Unconfirmed.Line, err)
 
-	later, err := imaverify.NewSession(firmware, expected, "sha256:0-10", imaverify.Prefix(), imaverify.Resume(first.State()))
+	later, err := imaverify.NewSession(firmware, expected, "sha256:0-10", imaverify.Resume(first.State()))
 	if err != nil {
 		log.Fatal(err) // such as "refused: checkpoint fault 1", of the type *imaverify.RefusedError
 	}
-	verdict, err = later.More(append(list[later.Offset():], "cut"...))
-	fmt.Println(verdict.Matches, verdict.Confirmed, verdict.Unconfirmed.Line, err)
+	verdict, err = later.More(list[later.Offset():])
+	fmt.Println(verdict.Matches, verdict.Entries, err)
 	// Output:
-	// true 1 <nil>
 	// true 99 unconfirmed: list fault 1 at entry 99 <nil>
+	// true 99 <nil>
 }
 
 func ExampleEvents() {
 	firmware := read("firmware.log")
-	places, err := imaverify.Locate(firmware, read("ima.list"), read("expected.txt"), "sha256:4")
+	places, err := imaverify.Locate(firmware, read("ima.list"), read("expected.txt"), "sha256:4,sha256:10")
 	if err != nil {
 		log.Fatal(err)
 	}

@@ -6,9 +6,9 @@
 // `sha256 10 <64 hexadecimal digits>`.
 //
 // A verdict covers only the boot aggregate and the PCRs in the expected text. So each call says which PCRs it must cover:
-// Verify(log, list, expected, "sha256:0-10"). A requirement that is empty is refused. A match covers only a log and a list that
-// are apart (AreApart). Entries and Events go through the inputs themselves. A Session is for a list that grows, and for one
-// that grew after the expected PCRs were read.
+// Verify(log, list, expected, "sha256:0-10"). With such a requirement a verdict is a match only if no event of the log extends PCR
+// 10 and each entry of the list names it. Entries and Events go through the inputs themselves. A Session is for a list that grows,
+// and for one that grew after the expected PCRs were read.
 //
 // If an input, a requirement or a range is refused, the error is a *RefusedError. If memory runs out, it is ErrOutOfMemory. If the
 // library's answer is not as its header describes, it is an *UnexpectedError. With any error the result is the zero value, whose
@@ -61,13 +61,23 @@ type Row struct {
 	Value     []byte
 }
 
+// Stray is an event of the log that extends PCR 10, or an entry of the list that extends another. Event is the number of the event,
+// or 0 if it is an entry; then Entry is that of the entry. Register is the PCR that it extends.
+type Stray struct {
+	Event    uint64
+	Entry    uint64
+	Register int
+}
+
 // Verdict is the verdict on a log, a list and expected PCRs.
 //
-// Matches says that the boot aggregate is good, that each expected PCR has its value, that there is one, and that no required one
-// is missing. It covers no PCR that has no row. JSON is the report as `ima-agent verify --json` prints it, without the line feed.
+// Matches says that the boot aggregate is good, that each expected PCR has its value, that there is one, that no required one is
+// missing, and that Extends is empty. It covers no PCR that has no row. JSON is the report as `ima-agent verify --json` prints it,
+// without the line feed. If PCRs are required, Extends has the first event that extends PCR 10, and the first entry that extends
+// another.
 //
-// Only a Session with Prefix gives a Confirmed other than 0: then the verdict is a match on that many first entries, of all
-// Entries, and does not cover those after them. Unconfirmed is the first error in these, or nil if they have none.
+// Only a Session with Prefix gives a Confirmed other than 0: then the verdict is on that many first entries, of all Entries, with
+// which the PCRs match, and does not cover those after them. Unconfirmed is the first error in these, or nil if they have none.
 type Verdict struct {
 	Events        uint64
 	Locality      uint8
@@ -78,6 +88,7 @@ type Verdict struct {
 	JSON          string
 	Confirmed     uint64
 	Unconfirmed   *Unconfirmed
+	Extends       []Stray
 }
 
 // Unconfirmed is an error in a list after its confirmed part, for which the list is not refused. Kind is KindList or KindReplay.
@@ -96,13 +107,15 @@ func (v Verdict) Compared() int {
 
 // ListVerdict is the verdict on a list without a log, and expected PCRs.
 //
-// Matches says that the list has an entry, that each expected PCR has its value, that there is one, and that no required one is
-// missing. JSON is the report as `ima-agent replay --json` prints it, without the line feed.
+// Matches says that the list has an entry, that each expected PCR has its value, that there is one, that no required one is
+// missing, and that Extends is empty. JSON is the report as `ima-agent replay --json` prints it, without the line feed. If PCRs are
+// required, Extends has the first entry that extends another PCR than 10.
 type ListVerdict struct {
 	Entries uint64
 	Rows    []Row
 	Matches bool
 	JSON    string
+	Extends []Stray
 }
 
 // Compared is how many expected PCRs were compared.
@@ -191,7 +204,7 @@ type RefusedError struct {
 
 func (r *RefusedError) Error() string {
 	if r.Kind == KindArgument {
-		return r.Line + " (no PCRs are named in the form sha256:0-10 or 0-10)"
+		return r.Line + " (PCRs are named as in sha256:0-10, with PCR 10, or as in 0-10)"
 	}
 	return r.Line
 }
@@ -265,7 +278,8 @@ func Version() uint32 {
 // Verify gives the verdict on a firmware event log, a measurement list and the expected PCRs that a text states.
 //
 // require names the PCRs that must be among the expected ones, such as "sha256:0-10" or "sha256:0-7,sha1:10". Each that is not has
-// a row whose state is StateMissing, and then the verdict is no match. NothingRequired requires none; an empty text is refused.
+// a row whose state is StateMissing, and then the verdict is no match. NothingRequired requires none; a text without PCR 10, or an
+// empty one, is refused.
 func Verify(log, list, expected []byte, require string) (Verdict, error) {
 	return askFor(answer.verdict, func(out []byte) (int32, told) { return callVerdict(log, list, expected, []byte(require), out) })
 }
@@ -297,27 +311,4 @@ func Registers(log []byte) ([]Register, error) {
 // a log.
 func ListRegisters(list []byte) ([]Register, error) {
 	return askFor(answer.registers, func(out []byte) (int32, told) { return callRegisters(list, true, out) })
-}
-
-// The PCR that IMA alone extends.
-const listRegister = 10
-
-// AreApart says whether no event of the log extends PCR 10, which IMA alone does, and no entry of the list names another PCR.
-// Otherwise all PCRs can match though entries were moved from the list into the log, or events from the log into the list. Each
-// part of a list that grows can be asked about by itself. Inputs are refused as by Registers and ListRegisters; with an error it
-// is false.
-func AreApart(log, list []byte) (bool, error) {
-	ofLog, err := Registers(log)
-	if err != nil {
-		return false, err
-	}
-	ofList, err := ListRegisters(list)
-	areApart := err == nil
-	for _, extended := range ofLog {
-		areApart = areApart && extended.Register != listRegister
-	}
-	for _, extended := range ofList {
-		areApart = areApart && extended.Register == listRegister
-	}
-	return areApart, err
 }

@@ -176,12 +176,16 @@ func replay(t *testing.T, list, expected []byte, require string) ListVerdict {
 }
 
 // The line of register 10, which the sample's list alone extends.
-var tenth = bootTPM[bytes.Index(bootTPM, []byte("sha256 10 ")):bytes.Index(bootTPM, []byte("sha256 11 "))]
+var tenth = tenthOf(bootTPM)
+
+func tenthOf(expected []byte) []byte {
+	return expected[bytes.Index(expected, []byte("sha256 10 ")):bytes.Index(expected, []byte("sha256 11 "))]
+}
 
 func TestRegisterOfTheListAloneMatches(t *testing.T) {
 	rows := []Row{{AlgorithmSHA256, 10, StateMatch, nil}}
 	equal(t, replay(t, bootList, tenth, "sha256:10"),
-		ListVerdict{99, rows, true, `{"entries":99,"registers":[{"bank":"sha256","register":10,"state":"match"}],"verdict":"match"}`})
+		ListVerdict{99, rows, true, `{"entries":99,"registers":[{"bank":"sha256","register":10,"state":"match"}],"verdict":"match"}`, nil})
 	verdict := replay(t, longer, tenth, "sha256:10")
 	equal(t, []interface{}{verdict.Matches, verdict.Entries, fmt.Sprintf("%x", verdict.Rows[0].Value)},
 		[]interface{}{false, uint64(100), afterLonger})
@@ -199,48 +203,62 @@ func TestRegistersAfterTheListAlone(t *testing.T) {
 	checkRefused(t, err, RefusedError{"refused: replay fault 1 at entry 5", KindReplay, 1, 5, true})
 }
 
-func areApart(t *testing.T, log, list []byte) bool {
+// The registers are as expected after log and list. With a requirement this is a match unless these extend another's register.
+func checkApart(t *testing.T, log, list, expected []byte, wanted ...Stray) {
 	t.Helper()
-	found, err := AreApart(log, list)
-	equal(t, err, nil)
-	return found
+	without, verdict := verify(t, log, list, expected, NothingRequired), verify(t, log, list, expected, "sha256:0-10")
+	equal(t, []interface{}{without.Matches, without.Extends}, []interface{}{true, []Stray(nil)})
+	equal(t, []interface{}{verdict.Matches, verdict.Extends, verdict.Rows}, []interface{}{wanted == nil, wanted, without.Rows})
 }
 
-func TestLogAndListAreApart(t *testing.T) {
-	for _, cut := range []int{0, 1, 50, 99} {
-		equal(t, []interface{}{areApart(t, bootLog, bootList[:ends[cut]]), areApart(t, bootLog, bootList[ends[cut]:])}, []interface{}{true, true})
+// An event of register 10 that extends the SHA-256 bank with this digest, or nothing.
+func eventOf10(kind int, digest []byte) []byte {
+	return joined(number(10), number(kind), number(1), []byte{0x0b, 0}, digest, number(0))
+}
+
+const eventTag, noAction = 6, 3
+
+func TestMatchNeedsALogAndAListThatAreApart(t *testing.T) {
+	for _, cut := range []int{1, 50, 99} {
+		checkApart(t, bootLog, bootList[:ends[cut]], tenthAfter(cut))
+		equal(t, verify(t, bootLog, bootList[ends[cut]:], bootTPM, "sha256:0-10").Extends, []Stray(nil))
 	}
-	for _, register := range []byte{0, 9, 11, 17, 23} {
+	for _, register := range []int{0, 9, 11, 17, 23} {
 		for _, place := range []int{0, 1, 50, 93, 98} { // (93 is a violation)
 			list := clone(bootList)
-			list[ends[place]] = register
-			equal(t, areApart(t, bootLog, list), false)
+			list[ends[place]] = byte(register)
+			checkApart(t, bootLog, list, expectedAfter(t, nil, list), Stray{Entry: uint64(place), Register: register})
 		}
 	}
-	// (an event of register 10, and one that extends nothing)
-	event := func(kind int) []byte {
-		return joined(number(10), number(kind), number(1), []byte{0x0b, 0}, ones, ones[:12], number(0))
-	}
-	equal(t, areApart(t, joined(bootLog, event(13)), bootList), false)
-	equal(t, areApart(t, joined(bootLog, event(3)), bootList), true)
-	for _, wrong := range []struct {
-		log, list []byte
-		line      string
-	}{{bootLog[:len(bootLog)-1], bootList, "refused: log fault 1 at event 24"}, {bootLog, changed, "refused: replay fault 1 at entry 5"},
-		{bootLog, bootList[:len(bootList)-1], "refused: list fault 1 at entry 98"}} {
-		found, err := AreApart(wrong.log, wrong.list)
-		equal(t, []interface{}{found, fmt.Sprint(err)}, []interface{}{false, wrong.line})
+	digest, event := bytes.Repeat([]byte{1}, 32), Stray{Event: 25, Register: 10}
+	checkApart(t, joined(bootLog, eventOf10(eventTag, digest)), bootList, expectedAfter(t, digest, bootList), event)
+	checkApart(t, joined(bootLog, eventOf10(noAction, digest)), bootList, bootTPM)
+	hidden, list := extensions[5], joined(bootList[:ends[5]], bootList[ends[6]:]) // (entry 5 is moved into the log)
+	checkApart(t, joined(bootLog, eventOf10(eventTag, hidden)), list, expectedAfter(t, hidden, list), event)
+	starts, _ := listed(list)
+	list[starts[60]] = 11
+	checkApart(t, joined(bootLog, eventOf10(eventTag, hidden)), list, expectedAfter(t, hidden, list), event, Stray{Entry: 60, Register: 11})
+}
+
+func TestListAloneMatchesOnlyIfItExtendsRegister10Alone(t *testing.T) {
+	list := clone(bootList)
+	list[ends[98]] = 11
+	for require, wanted := range map[string][]Stray{NothingRequired: nil, "sha256:10": {{Entry: 98, Register: 11}}} {
+		verdict := replay(t, list, tenthOf(tenthAfter(98)), require)
+		equal(t, []interface{}{verdict.Matches, verdict.Extends}, []interface{}{wanted == nil, wanted})
 	}
 }
 
 func TestLogOfAnyOneBankMayExtendRegister10(t *testing.T) {
 	// (a header of one algorithm, and an event of register 10; by the specification of logs)
-	for id, size := range map[int]int{4: 20, 11: 32, 12: 48, 13: 64} {
-		algorithm := []byte{byte(id), 0}
-		spec := joined([]byte("Spec ID Event03\x00"), number(0), []byte{0, 2, 0, 2}, number(1), algorithm, []byte{byte(size), 0, 0})
+	for name, algorithm := range map[Algorithm][2]byte{"sha1": {4, 20}, "sha256": {11, 32}, "sha384": {12, 48}, "sha512": {13, 64}} {
+		id, size := []byte{algorithm[0], 0}, algorithm[1]
+		spec := joined([]byte("Spec ID Event03\x00"), number(0), []byte{0, 2, 0, 2}, number(1), id, []byte{size, 0, 0})
 		header := joined(number(0), number(3), zeros, withLength(spec))
-		event := joined(number(10), number(13), number(1), algorithm, make([]byte, size), number(0))
-		equal(t, []interface{}{areApart(t, header, bootList), areApart(t, joined(header, event), bootList)}, []interface{}{true, false})
+		event := joined(number(10), number(13), number(1), id, make([]byte, size), number(0))
+		require := string(name) + ":10"
+		equal(t, verify(t, header, bootList, nil, require).Extends, []Stray(nil))
+		equal(t, verify(t, joined(header, event), bootList, nil, require).Extends, []Stray{{Event: 1, Register: 10}})
 	}
 }
 
@@ -304,8 +322,8 @@ func TestListAloneIsRefused(t *testing.T) {
 }
 
 func TestWrongRequirementOrRangeIsRefused(t *testing.T) {
-	for _, require := range []string{"", "sha256", "sha256:24", "sha256:10-0", "sha256:0-10,", "sha256: 0", "None", "none ", "none,sha256:0",
-		"0-10", "\xff"} {
+	for _, require := range []string{"", "sha256", "sha256:10,sha256:24", "sha256:10-0,sha256:10", "sha256:0-10,", "sha256: 10", "None", "none ",
+		"none,sha256:10", "0-10", "\xff", "sha256:0-9", "sha1:11-23,sha256:0"} {
 		verdict, err := Verify(nil, nil, nil, require)
 		checkArgument(t, err)
 		equal(t, verdict, Verdict{})
@@ -323,9 +341,13 @@ func TestWrongRequirementOrRangeIsRefused(t *testing.T) {
 }
 
 func TestInputsAreRefusedAsWithoutARequirement(t *testing.T) {
-	_, err := Verify(bootLog, changed, bootTPM, "sha256:0")
+	_, err := Verify(bootLog, changed, bootTPM, "sha256:10")
 	checkRefused(t, err, RefusedError{"refused: replay fault 1 at entry 5", KindReplay, 1, 5, true})
-	_, err = Locate(bootLog[:31], bootList, bootTPM, "sha256:0")
+	_, err = Verify(bootLog, bootList[:len(bootList)-1], bootTPM, "sha256:10")
+	checkRefused(t, err, RefusedError{"refused: list fault 1 at entry 98", KindList, 1, 98, true})
+	_, err = Verify(bootLog[:len(bootLog)-1], bootList, bootTPM, "sha256:10")
+	checkRefused(t, err, RefusedError{"refused: log fault 1 at event 24", KindLog, 1, 24, true})
+	_, err = Locate(bootLog[:31], bootList, bootTPM, "sha256:10")
 	checkRefused(t, err, RefusedError{"refused: log fault 1 at event 0", KindLog, 1, 0, true})
 }
 

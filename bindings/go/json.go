@@ -9,7 +9,10 @@ import (
 	"strings"
 )
 
-const registersOfBank = 24
+const (
+	registersOfBank = 24
+	listRegister    = 10 // the PCR that IMA alone extends
+)
 
 var digestSizes = map[Algorithm]int{AlgorithmSHA1: 20, AlgorithmSHA256: 32, AlgorithmSHA384: 48, AlgorithmSHA512: 64}
 
@@ -113,12 +116,45 @@ func (r *reader) rows(o object) []Row {
 // matches is whether a report is a match: what comes before its rows is good, and each row matches. Its result and its verdict
 // say the same.
 func (r *reader) matches(result int32, o object, rows []Row, isGood bool) bool {
-	matches := isGood
-	for _, row := range rows {
-		matches = matches && row.State == StateMatch
-	}
+	matches := isGood && allMatch(rows)
 	r.require((oneOf(r, o, "verdict", "match", "differ") == "match") == matches && result == resultOf(matches))
 	return matches
+}
+
+func allMatch(rows []Row) bool {
+	for _, row := range rows {
+		if row.State != StateMatch {
+			return false
+		}
+	}
+	return true
+}
+
+// strays are what a report on so many events and entries has in extends: an event, an entry, or an event and then an entry.
+func (r *reader) strays(o object, events, entries uint64) []Stray {
+	if !has(o, "extends") {
+		return nil
+	}
+	var strays []Stray
+	for _, o := range member[[]object](r, o, "extends") {
+		strays = append(strays, r.stray(o, events, entries))
+	}
+	isOne, areBoth := len(strays) == 1, len(strays) == 2 && strays[0].Event != 0 && strays[1].Event == 0
+	r.require(isOne || areBoth)
+	return strays
+}
+
+func (r *reader) stray(o object, events, entries uint64) Stray {
+	s, isEvent := Stray{Register: r.register(o)}, has(o, "event")
+	r.require(isEvent != has(o, "entry") && isEvent == (s.Register == listRegister))
+	if isEvent {
+		s.Event = r.number(o, "event", events)
+		r.require(s.Event > 0)
+	} else {
+		s.Entry = r.number(o, "entry", math.MaxUint64)
+		r.require(s.Entry < entries)
+	}
+	return s
 }
 
 func (r *reader) placeRow(o object) PlaceRow {

@@ -18,9 +18,9 @@ type Session struct {
 // Option is one of a session: Prefix or Resume.
 type Option func(s *Session) error
 
-// Prefix has the verdict be on the confirmed part of the list, if there is one: the list's first entries, as few as give a
-// match. What comes after them may be new since the PCRs were read, or damaged. The verdict's Confirmed says how many entries
-// they are, and its Unconfirmed what is wrong after them.
+// Prefix has the verdict be on the confirmed part of the list, if there is one: the list's first entries, as few as make all
+// PCRs match. What comes after them may be new since the PCRs were read, or damaged. The verdict's Confirmed says how many
+// entries they are, and its Unconfirmed what is wrong after them.
 func Prefix() Option {
 	return func(s *Session) error {
 		s.prefix = true

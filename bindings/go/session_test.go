@@ -10,14 +10,17 @@ import (
 	"testing"
 )
 
-// Where each entry of the sample's list starts, and where the last ends; and register 10 after as many entries.
-var ends, tenths = listed(bootList)
+// Where each entry of the sample's list starts, and where the last ends; what each extends the SHA-256 bank with; and register 10
+// after as many entries.
+var (
+	ends, extensions = listed(bootList)
+	tenths           = extendedBy(extensions)
+)
 
 var cuts = []int{0, 1, 2, 50, 97, 98, 99}
 
 func listed(list []byte) ([]int, [][]byte) {
-	ends, value := []int{0}, make([]byte, 32)
-	tenths := [][]byte{value}
+	ends, extensions := []int{0}, [][]byte(nil)
 	for at := 0; at < len(list); {
 		digest := list[at+4 : at+24]
 		name := int(binary.LittleEndian.Uint32(list[at+24:]))
@@ -27,12 +30,43 @@ func listed(list []byte) ([]int, [][]byte) {
 		if bytes.Equal(digest, make([]byte, 20)) { // a violation
 			copy(extension[:], bytes.Repeat([]byte{0xff}, 32))
 		}
-		next := sha256.Sum256(append(value[:32:32], extension[:]...))
 		at += 32 + name + size
-		value, ends = next[:], append(ends, at)
-		tenths = append(tenths, value)
+		ends, extensions = append(ends, at), append(extensions, extension[:])
 	}
-	return ends, tenths
+	return ends, extensions
+}
+
+func extended(value, extension []byte) []byte {
+	next := sha256.Sum256(joined(value, extension))
+	return next[:]
+}
+
+// A register before and after each of these.
+func extendedBy(extensions [][]byte) [][]byte {
+	values := [][]byte{make([]byte, 32)}
+	for k, extension := range extensions {
+		values = append(values, extended(values[k], extension))
+	}
+	return values
+}
+
+// The expected registers of the sample after its log, with an event that extends register 10, if there is one, and this list.
+func expectedAfter(t *testing.T, event, list []byte) []byte {
+	registers := registersIn(t, bootTPM)
+	registers[10].Value = make([]byte, 32)
+	if event != nil {
+		registers[10].Value = extended(registers[10].Value, event)
+	}
+	starts, extensions := listed(list)
+	for k, extension := range extensions {
+		r := &registers[list[starts[k]]]
+		r.Value = extended(r.Value, extension)
+	}
+	var text []byte
+	for _, r := range registers {
+		text = append(text, fmt.Sprintf("%s %d %x\n", r.Algorithm, r.Register, r.Value)...)
+	}
+	return text
 }
 
 // The expected registers of the sample, with register 10 as it is after so many entries.
@@ -245,7 +279,8 @@ func TestRequiredRegistersOfASession(t *testing.T) {
 		missing := []Row{{AlgorithmSHA1, 10, StateMissing, nil}, {AlgorithmSHA256, 23, StateMissing, nil}}
 		equal(t, []interface{}{verdict.Matches, verdict.Compared(), verdict.Rows[23:], verdict.Confirmed}, []interface{}{false, 23, missing, uint64(0)})
 	}
-	for _, wrong := range []string{"", "sha256", "sha256:24", "sha256:10-0", "sha256:0-10,", " ", "None", "none ", "\xff"} {
+	for _, wrong := range []string{"", "sha256", "sha256:10,sha256:24", "sha256:10-0,sha256:10", "sha256:0-10,", " ", "None", "none ", "\xff",
+		"sha256:0-9"} {
 		for _, s := range []*Session{session(t, nil, []byte("x"), wrong), session(t, bootLog, bootTPM, wrong)} {
 			verdict, err := s.More(bootList)
 			checkArgument(t, err)
@@ -263,19 +298,70 @@ func TestRequiredRegistersOfASession(t *testing.T) {
 }
 
 func TestRequirementOfAResumedSessionHolds(t *testing.T) {
-	ten := bootTPM[:bytes.Index(bootTPM, []byte("sha256 10 "))]
+	eleven := bootTPM[:bytes.Index(bootTPM, []byte("sha256 11 "))]
 	for _, cut := range []int{0, 1, 50, 99} {
 		resume := Resume(stateAfter(t, cut))
 		for _, options := range [][]Option{{resume}, {Prefix(), resume}, {resume, Prefix()}} {
-			s := session(t, bootLog, ten, "sha256:0-10", options...)
+			s := session(t, bootLog, eleven, "sha256:0-11", options...)
 			for k := 0; k < 2; k++ {
 				verdict := more(t, s, bootList[ends[cut]:])
-				equal(t, []interface{}{verdict.Matches, verdict.Rows[10:]}, []interface{}{false, []Row{{AlgorithmSHA256, 10, StateMissing, nil}}})
+				equal(t, []interface{}{verdict.Matches, verdict.Rows[11:]}, []interface{}{false, []Row{{AlgorithmSHA256, 11, StateMissing, nil}}})
 			}
 		}
-		for _, require := range []string{"sha256:0-9", NothingRequired, "none"} {
-			equal(t, more(t, session(t, bootLog, ten, require, resume), bootList[ends[cut]:]).Matches, true)
+		for _, require := range []string{"sha256:0-10", NothingRequired, "none"} {
+			equal(t, more(t, session(t, bootLog, eleven, require, resume), bootList[ends[cut]:]).Matches, true)
 		}
+	}
+}
+
+// The sample's list, whose entry 40 is of register 11, and the registers after its first 60 entries.
+func straying(t *testing.T) ([]byte, []byte) {
+	list := clone(bootList)
+	list[ends[40]] = 11
+	return list, expectedAfter(t, nil, list[:ends[60]])
+}
+
+func TestEntryOfAnotherRegisterIsNoMatchAndNoState(t *testing.T) {
+	list, expected := straying(t)
+	states := [][]Option{nil}
+	for _, cut := range []int{41, 60} { // (entries before the state count)
+		s := session(t, bootLog, expectedAfter(t, nil, list[:ends[cut]]), NothingRequired)
+		more(t, s, list[:ends[cut]])
+		states = append(states, []Option{Resume(s.State())})
+	}
+	for _, test := range []struct {
+		list               []byte
+		entries, confirmed uint64
+		unconfirmed        *Unconfirmed
+		options            []Option
+	}{
+		{list[:ends[60]], 60, 0, nil, nil}, {list[:ends[60]], 60, 60, nil, []Option{Prefix()}}, {list, 99, 60, nil, []Option{Prefix()}},
+		{joined(list, []byte("x")), 99, 60, &Unconfirmed{"unconfirmed: list fault 1 at entry 99", KindList, 1, 99}, []Option{Prefix()}},
+	} {
+		for _, state := range states {
+			options := append(test.options, state...)
+			without := session(t, bootLog, expected, NothingRequired, options...)
+			equal(t, more(t, without, test.list[without.Offset():]).Matches, true)
+			s := session(t, bootLog, expected, "sha256:0-10", options...)
+			before, offset := s.State(), s.Offset()
+			verdict := more(t, s, test.list[offset:])
+			equal(t, []interface{}{verdict.Matches, verdict.Extends}, []interface{}{false, []Stray{{Entry: 40, Register: 11}}})
+			equal(t, []interface{}{verdict.Entries, verdict.Confirmed, verdict.Unconfirmed},
+				[]interface{}{test.entries, test.confirmed, test.unconfirmed})
+			equal(t, []interface{}{s.State(), s.Offset()}, []interface{}{before, offset})
+		}
+	}
+	before := session(t, bootLog, tenthAfter(40), "sha256:0-10", Prefix())
+	checkFront(t, more(t, before, list), 99, 40, nil)
+}
+
+func TestEventOfRegister10IsNoMatchAndNoState(t *testing.T) {
+	digest := bytes.Repeat([]byte{1}, 32)
+	log, expected := joined(bootLog, eventOf10(eventTag, digest)), expectedAfter(t, digest, bootList)
+	for _, options := range [][]Option{nil, {Prefix()}} {
+		s := session(t, log, expected, "sha256:0-10", options...)
+		verdict := more(t, s, bootList)
+		equal(t, []interface{}{verdict.Matches, verdict.Extends, s.State() == nil}, []interface{}{false, []Stray{{Event: 25, Register: 10}}, true})
 	}
 }
 
@@ -393,9 +479,7 @@ func TestStateOfAnotherBootIsRefused(t *testing.T) {
 
 func TestStateOfAnotherListGivesNoMatch(t *testing.T) {
 	other := joined(bootList[:ends[50]], bootList[ends[51]:ends[60]])
-	_, values := listed(other)
-	expected := fmt.Sprintf("%ssha256 10 %x\n", bootTPM[:bytes.Index(bootTPM, []byte("sha256 10 "))], values[59])
-	foreign := session(t, bootLog, []byte(expected), NothingRequired)
+	foreign := session(t, bootLog, expectedAfter(t, nil, other), NothingRequired)
 	equal(t, more(t, foreign, other).Matches, true)
 	for _, cut := range []int{50, 51, 59, 60} {
 		for _, options := range [][]Option{{Resume(foreign.State())}, {Prefix(), Resume(foreign.State())}} {
@@ -522,6 +606,28 @@ func TestFrontThatCannotBeIsNone(t *testing.T) {
 		checkUnexpected(t, sessionError(t, done, stateText, text, false), text)
 		checkUnexpected(t, readVerdict(done, text), text)
 	}
+}
+
+func TestFrontWithAStrayIsNoMatch(t *testing.T) {
+	read := func(status int32, text string) error { return sessionError(t, status, stateOf(status), text, true) }
+	for _, strays := range []string{strayEntry, strayEvent, strayEvent + "," + strayEntry} {
+		for _, text := range []string{front, frontAndReplay} {
+			text := strayed(text, strays)
+			v, err := session(t, nil, nil, NothingRequired, Prefix()).given(300, differs, "", text)
+			equal(t, []interface{}{v.Matches, v.Confirmed, v.Unconfirmed != nil, err}, []interface{}{false, uint64(3), strings.Contains(text, "replay"), nil})
+			checkChanges(t, read, differs, text, [][2]string{{`"extends":[` + strays + `],`, ``}, {`"verdict":"differ"`, `"verdict":"match"`},
+				{`"good"`, `"wrong"`}, {`"state":"match"`, `"state":"missing"`}})
+			checkUnexpected(t, read(done, text), text)
+			checkUnexpected(t, sessionError(t, differs, stateText, text, true), text) // (only a match has a state)
+			checkUnexpected(t, sessionError(t, differs, "", text, false), text)
+			checkUnexpected(t, readVerdict(differs, text), text)
+		}
+		whole := strayed(report, strays)
+		checkUnexpected(t, read(differs, whole), whole) // (all registers match, so there is a front)
+		v, err := session(t, nil, nil, NothingRequired).given(300, differs, "", whole)
+		equal(t, []interface{}{v.Matches, v.Extends != nil, err}, []interface{}{false, true, nil})
+	}
+	checkChanges(t, read, differs, strayed(front, strayEntry), [][2]string{{`"entry":2,`, `"entry":3,`}}) // (an entry after the front)
 }
 
 func TestFaultAfterTheFrontThatCannotBeIsNone(t *testing.T) {

@@ -18,7 +18,7 @@ with tabs between. TABLE is the table of verdicts, a file of SQLite, which is ma
 scheduler, or N processes of this computer. They read the files themselves, and need the Python package `ima_verify` and the library
 below it.
 
-REGISTERS is what each machine's expected registers must name, as sha256:0-10, or `none`.
+REGISTERS is what each machine's expected registers must name, register 10 among them, as sha256:0-10; or `none`.
 
 With --poll each run verifies all machines, each from its checkpoint in TABLE on, if it has one.
 
@@ -62,7 +62,7 @@ def add_options(parser: argparse.ArgumentParser) -> None:
     workers.add_argument("--workers", metavar="N", type=positive, help="start N workers on this computer")
     parser.add_argument(
         "--require", metavar="REGISTERS", action=Once,
-        help=f"what the expected registers of each machine must name, as sha256:0-10 or sha256:0-7,sha1:10; or {NONE}",
+        help=f"what the expected registers of each machine must name, register 10 among them, as sha256:0-10 or sha256:0-7,sha1:10; or {NONE}",
     )
     parser.add_argument(
         "--again", metavar="KINDS", action=Once, type=verdict_kinds,

@@ -25,12 +25,6 @@ NONE = "none"
 # Why a machine is refused whose inputs the library takes. Its own lines begin with `refused:`.
 NOTHING_EXPECTED = "nothing to compare: no register is expected"
 
-# The register that IMA alone extends, and no other. A machine is refused whose log extends it: entries that were cut from the list could be
-# there. One is refused whose list extends another: events that were cut from the log could be there, or entries confirmed by no register.
-LIST_REGISTER = 10
-IN_LOG = "log: its events extend register 10, as IMA alone may"
-IN_LIST = "list: its entries extend another register than 10, as IMA may not"
-
 # Why a file is not read, or not to its end.
 NOT_REGULAR = "it is no regular file"
 LATE = "no answer in time"
@@ -91,19 +85,20 @@ def required(require: str) -> Any:
 
 
 def require_fitness(require: str, is_poll: bool) -> None:
-    """Makes sure that this process has the library, with sessions for a poll, and that it takes this text for what is required.
+    """Makes sure that this process has the library, whose verdicts tell what log and list extend, with sessions for a poll, and that it takes
+    this text for what is required.
 
     Otherwise there is an ImportError, or a ValueError, and no error of a class of `ima_verify`: the client may lack the package. The library
     reads that text before the inputs."""
     import ima_verify
-    from ima_verify import list_registers, log_extends  # noqa: F401
+    from ima_verify import Stray  # noqa: F401
 
     if is_poll:
         from ima_verify import Session  # noqa: F401
     try:
         ima_verify.report(b"", b"", b"", require=required(require))
     except ima_verify.Misuse:
-        raise ValueError(f"--require {require!r} is neither BANK:A-B[,BANK:C-D..], as sha256:0-10, nor {NONE}") from None
+        raise ValueError(f"--require {require!r} is neither BANK:A-B[,BANK:C-D..] with register 10, as sha256:0-10, nor {NONE}") from None
     except ima_verify.Refused:  # (no log is empty)
         pass
     except ima_verify.Error as fault:
@@ -208,14 +203,6 @@ def read_inputs(paths: Sequence[str], limit: float, start: int) -> Tuple[Fields,
     return fields, inputs
 
 
-def extends_others(measurements: bytes) -> bool:
-    """Whether an entry of a list is of another register than IMA's, which then, after the list alone, is not at its reset value. (`entries`
-    of the library would make an object of each.)"""
-    from ima_verify import list_registers
-
-    return any(found.register != LIST_REGISTER for found in list_registers(measurements))
-
-
 def verdict_on(
     paths: Sequence[str], require: str, limit: float, is_poll: bool = False, checkpoint: Optional[bytes] = None
 ) -> Fields:
@@ -249,10 +236,6 @@ def verdict_on(
         return {**fields, "verdict": "unreadable", "cause": SHORTER}
     if not verdict.compared:
         return {**fields, "verdict": "refused", "cause": NOTHING_EXPECTED}
-    if ima_verify.log_extends(log, LIST_REGISTER):
-        return {**fields, "verdict": "refused", "cause": IN_LOG}
-    if extends_others(measurements):
-        return {**fields, "verdict": "refused", "cause": IN_LIST}
     return {**fields, **verdict_fields(verdict), **next_checkpoint}
 
 

@@ -3,13 +3,12 @@
 import os
 from dataclasses import replace
 
-from calling import ENTRIES, LOG, SECOND_KERNEL, Evidence, LenientTests, executable, moved, values_after
+from calling import ENTRIES, LOG, LOW, SECOND_KERNEL, Evidence, LenientTests, executable, moved, values_after
 from reference.log import EV_NO_ACTION
 from reference.measurement_list import BOOT_AGGREGATE, IMA_NG, Entry, entry_of, list_spelling
 from reference.registers import SHA1, SHA256, SHA384, SHA512
 
-EXTENDS_TEN = "the log extends register 10"
-OTHER_REGISTER = "the list has an entry of another register than 10"
+EXTENDS_TEN = f"event {len(LOG.events) + 1} extends 10"  # the first after those of the sample's log
 
 
 class EntriesInLog(LenientTests):
@@ -29,13 +28,13 @@ class EntriesInLog(LenientTests):
         self.check("a match says nothing on a terminal", self.said_on_terminal(honest), (0, ""))
         lines = [f"sha256 {register} {value.hex()}\n" for register, value in enumerate(self.values)]
         expected = self.put("expected.txt", "".join(lines).encode())
-        ended = self.call(["ima-agent", "verify", "--require", "sha256:0-10", str(forged.log), str(forged.list), str(expected)])
+        ended = self.call(["ima-agent", "verify", str(forged.log), str(forged.list), str(expected)])
         self.check("the registers match a log with entries of the list", (ended.status, ended.last), (0, "verdict match"))
-        self.check_refused("a log with entries of the list", self.attest(forged), 2, EXTENDS_TEN)
-        self.check_refused("with the front of the list", self.attest(forged, prefix=True), 2, EXTENDS_TEN)
-        self.check_refused("from standard input", self.attest_from(forged.log, replace(forged, log="/dev/stdin")), 2, EXTENDS_TEN)
+        self.check_differ("a log with entries of the list", self.attest(forged), EXTENDS_TEN, *LOW)
+        self.check_differ("with the front of the list", self.attest(forged, prefix=True), EXTENDS_TEN, *LOW)
+        self.check_differ("from standard input", self.attest_from(forged.log, replace(forged, log="/dev/stdin")), EXTENDS_TEN, *LOW)
         one = self.put("one.log", moved(self.entries, 1)[0])
-        self.check_refused("a log with one entry, of a list that has it too", self.attest(honest, log=one), 2, EXTENDS_TEN)
+        self.check_differ("a log with one entry, of a list that has it too", self.attest(honest, log=one), EXTENDS_TEN, *LOW[:10])
         cut = replace(forged, log=self.put("cut.log", forged.log.read_bytes()[:-1]))
         ended = self.attest(cut)
         self.check("a log with entries of the list, cut", (ended.status, ended.output), (2, f"refused: log fault 1 at event {24 + 99}\n"))
@@ -49,16 +48,11 @@ class EntriesInLog(LenientTests):
         ended = self.attest(honest, log=self.put("empty.log", b""))
         self.check("an empty log", (ended.status, ended.output), (2, "refused: log fault 1 at event 0\n"))
 
-    def test_searches(self):
-        """A log or a list that is not copied whole, or cannot be searched, has no verdict."""
-        for name, command in (("log", "registers"), ("list", "show")):
+    def test_copies(self):
+        """A log or a list that is not copied whole has no verdict."""
+        for name in ("log", "list"):
             ended = self.attest(self.honest, self.stand_in("dd", f'[[ $2 != */{name} ]] || exit 1; exec "$real" "$@"'))
             self.check_refused(f"a {name} that is not copied", ended, 3, f"cannot read '{getattr(self.honest, name)}'")
-            for title, body in (("fails", "exit 1"), ("prints nothing", "exit 0"), ("is killed", "kill -KILL $$"),
-                                ("dies after its lines", '"$real" "$@"; exit 3'), ("prints a part", '"$real" "$@" | head -c 100; exit 0'),
-                                ("lacks a line", '"$real" "$@" | sed 1d; exit 0')):
-                with self.other_agent(f"[[ $1 != {command} ]] || {{ {body}; }}"):
-                    self.check_refused(f"the search of the {name} {title}", self.attest(self.honest), 3, "searched")
 
     def test_longest(self):
         """A log, and a list of one entry, as long as the program reads, and longer by a byte."""
@@ -89,7 +83,8 @@ class OddLists(LenientTests):
             self.check(f"a log of {name} alone", (ended.status, ended.last, ended.errors), (0, "verdict match", ""))
             log, rest = moved(entries, 2, log=log)
             forged = replace(honest, log=self.put("forged.log", log), list=self.put("rest.list", rest))
-            self.check_refused(f"a log of {name} alone with entries of the list", self.attest(forged), 2, EXTENDS_TEN)
+            rows = [f"{name} {register} match" for register in range(11)]
+            self.check_differ(f"a log of {name} alone with entries of the list", self.attest(forged), EXTENDS_TEN, *rows)
 
     def test_entries_of_others(self):
         """A list has entries of other registers than 10, or of 10 whose names would have one think so."""
@@ -102,7 +97,10 @@ class OddLists(LenientTests):
             return self.attest(quote=quote, list=self.put("others.list", list_spelling(entries) + end), **changes)
 
         def check_other(title, entries, **given):
-            self.check_refused(title, attested(entries, **given), 2, OTHER_REGISTER)
+            """The report says which entry is of another register, and each register but that one matches."""
+            number, register = next((number, entry.register) for number, entry in enumerate(entries) if entry.register != 10)
+            rows = [row for row in LOW if row != f"sha256 {register} match"]
+            self.check_differ(title, attested(entries, **given), f"entry {number} extends {register}", *rows)
 
         self.check_match("entries of register 10 with odd names", attested(entries))
         for register in (0, 1, 9, 11, 23):
@@ -113,18 +111,14 @@ class OddLists(LenientTests):
             for other in (executable(name, 11), Entry(11, SHA1.hash(b""), name, b"")):
                 check_other(f"an entry of register 11 with an odd name: {other.template} {name}", [*entries, other])
         later, eleven = executable(b"/bin/later"), executable(b"/bin/later", 11)
-        check_other("an entry of register 11 after the front", [*entries, eleven, later], prefix=True)
+        check_other("an entry of register 11 in the front", [*entries[:1], eleven, *entries[1:], later], prefix=True)
+        self.check_match("an entry of register 11 after the front", attested([*entries, eleven, later], prefix=True))
         forged = later._replace(template_digest=SHA1.hash(b""))
         self.check_match("damage after the front", attested([*entries, later, forged, later], end=b"\n", prefix=True))
         said = self.said_on_terminal(Evidence(quote=quote, list=self.folder / "others.list", prefix=True))
         self.check("damage after the front says nothing on a terminal", said, (0, ""))
         title = "damage, and before it an entry of register 11, after the front"
-        check_other(title, [*entries, forged, eleven], end=b"\n", prefix=True)
-        for title, body in (("fails", "exit 2"), ("dies after its lines", '"$real" "$@"; exit 3'),
-                            ("is refused memory", 'echo \'{"fault":{"kind":"memory","message":"failed: memory"}}\'; exit 3')):
-            with self.other_agent(f"[[ $1 != show ]] || {{ {body}; }}"):
-                ended = attested([*entries, later], end=b"\n", prefix=True)
-            self.check_refused(f"the search of a list with damage after the front {title}", ended, 3, "searched")
+        self.check_match(title, attested([*entries, forged, eleven], end=b"\n", prefix=True))
 
     def test_many_entries(self):
         """A list is long, as that of a machine that runs for months."""

@@ -101,7 +101,7 @@ class Samples(AttestTests):
         self.check("it is told", "\nunconfirmed: replay fault 1 at entry 99\n" in ended.output)
         ended = self.attest(list=self.put("early.list", entries[:-LAST_ENTRY]), prefix=True)
         self.check_differ("a list that is older than the quote", ended, *LOW[:10])
-        for require in ("none", "sha256", "sha256:0-24", "sha256:10-0", "-h", "--help", " ", "sha256:0-10,"):
+        for require in ("none", "sha256", "sha256:0-9", "sha256:0-24", "sha256:10-0", "-h", "--help", " ", "sha256:0-10,"):
             self.check_refused(f"what is required is {require!r}", self.attest(require=require), 64, "what is required is not")
 
     def test_names(self):

@@ -291,6 +291,8 @@ static void check_faults(const struct given *sample) {
         check_refusal(&functions[i], WITH(evidence.require, ima_verify_text("")), argument, IMA_VERIFY_ARGUMENT, 0, IMA_VERIFY_NO_PLACE);
         check_refusal(&functions[i], WITH(evidence.require, ima_verify_text("sha256:0-24")), argument, IMA_VERIFY_ARGUMENT, 0,
                       IMA_VERIFY_NO_PLACE);
+        check_refusal(&functions[i], WITH(evidence.require, ima_verify_text("sha256:0-9")), argument, IMA_VERIFY_ARGUMENT, 0,
+                      IMA_VERIFY_NO_PLACE);
         check_refusal(&functions[i], WITH(evidence.expected, ima_verify_text("sha256 24 00\n")), "refused: expected fault 1 at line 1\n",
                       IMA_VERIFY_EXPECTED, 1, 1);
         struct ima_verify_bytes list = sample->evidence.list;
@@ -323,7 +325,7 @@ static void check_requirements(const struct given *sample) {
         check(result == wanted, function->name, "the sample");
         ask(function, WITH(evidence.require, ima_verify_none()), IMA_VERIFY_TEXT, ROOM);
         check(result == wanted, function->name, "nothing is required");
-        ask(function, WITH(evidence.require, ima_verify_text("sha512:7")), IMA_VERIFY_TEXT, ROOM);
+        ask(function, WITH(evidence.require, ima_verify_text("sha512:10")), IMA_VERIFY_TEXT, ROOM);
         check(result == IMA_VERIFY_DIFFERS, function->name, "a register that is missing");
         given.evidence.require = ima_verify_none();
         given.evidence.expected = ima_verify_text("");
@@ -331,6 +333,58 @@ static void check_requirements(const struct given *sample) {
         ask(function, &given, IMA_VERIFY_TEXT, ROOM);
         check(result == wanted, function->name, "no register is expected");
     }
+}
+
+static bool has_line(const char *line) {
+    return memmem(text, out.size, line, strlen(line)) != NULL;
+}
+
+/* The line of register 10, which the sample's list alone extends. */
+static struct ima_verify_bytes tenth_of(struct ima_verify_bytes expected) {
+    const uint8_t *line = memmem(expected.data, expected.size, "sha256 10 ", 10), *next = line;
+    if (line)
+        next = memmem(line, expected.size - (size_t)(line - expected.data), "sha256 11 ", 10);
+    if (!next)
+        abort();
+    return (struct ima_verify_bytes){line, (size_t)(next - line)};
+}
+
+/* A function says with a requirement, and only then, that the entry 98 is of register 11: `locate` never does. */
+static void check_told(const struct function *function, struct given *given) {
+    bool is_told = function->call != call_locate;
+    given->evidence.require = ima_verify_none();
+    ask(function, given, IMA_VERIFY_TEXT, ROOM);
+    check(result == IMA_VERIFY_DONE, function->name, "an entry of register 11, where nothing is required");
+    given->evidence.require = ima_verify_text("sha256:10");
+    ask(function, given, IMA_VERIFY_TEXT, ROOM);
+    check(result == (is_told ? IMA_VERIFY_DIFFERS : IMA_VERIFY_DONE) && has_line("entry 98 extends 11\n") == is_told, function->name,
+          "an entry of register 11");
+    check(function != more || (next.size == 0 && is_filled(checkpoint, 0)), function->name, "no checkpoint");
+}
+
+/* The sample's list has an entry of register 11 before its last one, and its log an event of register 10 after its last one. */
+static void check_strays(const struct given *sample) {
+    enum { LAST = 95 };
+    static uint8_t straying[ROOM];
+    static const uint8_t event[50] = {10, 0, 0, 0, 13, 0, 0, 0, 1, 0, 0, 0, 0x0b};
+    struct ima_verify_bytes list = sample->evidence.list, log = sample->evidence.log;
+    struct given given = *sample;
+    memcpy(straying, list.data, list.size);
+    memcpy(straying + list.size, list.data + list.size - LAST, LAST);
+    straying[list.size - LAST] = 11;
+    given.evidence.list = (struct ima_verify_bytes){straying, list.size + LAST};
+    given.evidence.expected = tenth_of(sample->evidence.expected);
+    for (int i = 0; i < 4; i++)
+        check_told(&functions[i], &given);
+    given.prefix = true;
+    check_told(more, &given);
+
+    given = *sample;
+    memcpy(straying, log.data, log.size);
+    memcpy(straying + log.size, event, sizeof event);
+    given.evidence.log = (struct ima_verify_bytes){straying, log.size + sizeof event};
+    ask(&functions[0], &given, IMA_VERIFY_TEXT, ROOM);
+    check(result == IMA_VERIFY_DIFFERS && has_line("event 25 extends 10\n"), "verdict", "an event of register 10");
 }
 
 /* Lines one by one, and all at once; and there is nothing after the last. */
@@ -485,6 +539,7 @@ int main(int count, char **words) {
     check_rooms(&sample);
     check_faults(&sample);
     check_requirements(&sample);
+    check_strays(&sample);
     check_pieces(&sample);
     fflush(stdout);
     check_stack(&sample, count > 5 ? strtoul(words[5], NULL, 10) : STACK);

@@ -62,9 +62,8 @@ def sha1_inputs(folder):
     """A folder with a log and a list with an entry whose digest is a SHA-1, and that as a known digest."""
     log, files = inputs.made_log([SHA256], 12), list(inputs.made_measurements(3))
     digest = SHA1.hash(b"x")
-    made_folder(folder, log, [*inputs.made_entries(log, files), entry_of(IMA_NG, SHA1, digest, b"/short")])
-    (folder / "known.txt").write_text("".join(f"{known.hex()}  /x\n" for known in [*(known for _, known in files), digest]))
-    return folder
+    entries = [*inputs.made_entries(log, files), entry_of(IMA_NG, SHA1, digest, b"/short")]
+    return made_folder(folder, log, entries, [*(known for _, known in files), digest])
 
 
 def hiding_inputs():
@@ -90,13 +89,14 @@ def doc_samples():
     return dict(zip(FILES, (log.spelling(), list_spelling(entries), expected)))
 
 
-def made_folder(folder, log, entries):
-    """A folder with this log and list, and the registers after them, so that all match."""
+def made_folder(folder, log, entries, known=()):
+    """A folder with this log and list, the registers after them, so that all match, and these known digests."""
     folder.mkdir()
     expected = inputs.expected_text(inputs.expected_after(log, entries))
     for file, data in zip(FILES, (log.spelling(), list_spelling(entries), expected)):
         (folder / file).write_bytes(data)
-    assert answer(["verify", "--require=sha256:0-10", *FILES], folder)[0] == 0
+    (folder / "known.txt").write_text("".join(f"{digest.hex()}  /x\n" for digest in known))
+    assert answer(["verify", *FILES], folder)[0] == 0
     return folder
 
 

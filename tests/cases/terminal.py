@@ -34,7 +34,7 @@ from reference.log import Log  # noqa: E402
 from reference.registers import SHA256  # noqa: E402
 
 PROGRAM = harness.argument()
-SECONDS = 60
+SECONDS = 180  # (beside the other parts of the gate)
 MEBIBYTE = 1 << 20
 MOST_BYTES = 4 * MEBIBYTE
 LARGE_FILES, LARGE_BYTES = 16, 48 * MEBIBYTE
@@ -61,6 +61,7 @@ LOG, LIST, REPLAY, EXPECTED, CHECKPOINT, BOOK = map(form.sentences_of, ("Log", "
 # What clap says of wrong arguments, or the program in its form where clap takes them.
 MORE = "\nFor more information, try '--help'.\n"
 REQUIRE, REGISTERS = "--require <BANK:A-B[,BANK:C-D..]>", "--registers <A-B>"
+MALFORMED = "not of the form BANK:A-B[,BANK:C-D..]"
 USAGES = [
     (["nothing"], f"error: unrecognized subcommand 'nothing'\n\nUsage: ima-agent <COMMAND>\n{MORE}"),
     (["show"], f"error: the following required arguments were not provided:\n  <LIST>\n\nUsage: ima-agent show <LIST>\n{MORE}"),
@@ -70,9 +71,11 @@ USAGES = [
      f"error: invalid value 'sm3' for '--alg <A>'\n  [possible values: sha1, sha256, sha384, sha512]\n{MORE}"),
     (["measure", "--json", "--print", "binary", "L"], "error: invalid value 'binary' for '--print <P>' with '--json'\n"),
     (["\x1b[31m\nred"], f"error: unrecognized subcommand '\\x1b[31m\\x0ared'\n\nUsage: ima-agent <COMMAND>\n{MORE}"),
-    (["verify", "--require", "sha256", "L", "M", "N"], f"error: invalid value 'sha256' for '{REQUIRE}'\n"),
-    (["locate", "--require=\x9b2J", "L", "M", "N"], f"error: invalid value '\\xc2\\x9b2J' for '{REQUIRE}'\n"),
-    (["replay", "--require", "sha256:9-8", "L", "M"], f"error: invalid value 'sha256:9-8' for '{REQUIRE}'\n"),
+    (["verify", "--require", "sha256", "L", "M", "N"], f"error: invalid value 'sha256' for '{REQUIRE}': {MALFORMED}\n"),
+    (["locate", "--require=\x9b2J", "L", "M", "N"], f"error: invalid value '\\xc2\\x9b2J' for '{REQUIRE}': {MALFORMED}\n"),
+    (["replay", "--require", "sha256:9-8", "L", "M"], f"error: invalid value 'sha256:9-8' for '{REQUIRE}': {MALFORMED}\n"),
+    (["verify", "--require", "sha256:0-9", "L", "M", "N"],
+     f"error: invalid value 'sha256:0-9' for '{REQUIRE}': register 10 is named of no bank, so nothing of the list would be required\n"),
     (["expected", "--registers", "24", "L"], f"error: invalid value '24' for '{REGISTERS}'\n"),
 ]
 

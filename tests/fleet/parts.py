@@ -168,7 +168,7 @@ def judge(require):
             print("fit")
         except Exception as fault:
             print(type(fault).__module__, type(fault).__name__, str(fault).startswith(f"--require {require!r} is neither"))
-for require in ("sha256:0-10", "none", "", "sha256:24", "None"):
+for require in ("sha256:0-10", "none", "", "sha256:24", "sha256:0-9", "None"):
     judge(require)
 print(required("none"), required("sha256:0-10"), repr(required("")))
 os.environ["IMA_VERIFY_LIBRARY"] = "/nowhere/libima_verify.so"
@@ -176,7 +176,7 @@ ima_verify._library.loaded.cache_clear()
 judge("sha256:0-10")
 """
 FITNESS_WANTED = [
-    *4 * ["fit"], *6 * ["builtins ValueError True"], "Nothing.NOTHING sha256:0-10 ''", *2 * ["builtins ImportError False"],
+    *4 * ["fit"], *8 * ["builtins ValueError True"], "Nothing.NOTHING sha256:0-10 ''", *2 * ["builtins ImportError False"],
 ]
 
 

@@ -29,9 +29,8 @@ FILES = (("firmware.log", "ima.list", "expected.txt"), ("log", "list", "expected
 GONE = "list: FileNotFoundError: [Errno 2] No such file or directory"
 DAMAGED = "refused: checkpoint fault 1"
 NOTHING = "nothing to compare: no register is expected"
-IN_LOG = "log: its events extend register 10, as IMA alone may"
-IN_LIST = "list: its entries extend another register than 10, as IMA may not"
-ROWS = "SELECT machine, verdict, cause, list_from, list_sha256 FROM verdicts"
+HIDDEN = '[{"event":25,"register":10}]'  # what is told of HIDING
+ROWS = "SELECT machine, verdict, cause, json_extract(report, '$.extends'), list_from, list_sha256 FROM verdicts"
 CHECKPOINTS = "SELECT machine, checkpoint FROM checkpoints"
 
 # Reads a list in an object store that is a class of fsspec, from some bytes on, and prints the ranges that it is asked for.
@@ -172,16 +171,16 @@ class Growing:
         if poll == 3 and self.kind == "gone":
             self.paths[1].unlink()
 
-    def row(self, verdict="match", cause=None, start: Optional[int] = 0, poll=3):
+    def row(self, verdict="match", cause=None, start: Optional[int] = 0, poll=3, extends=None):
         """A row in the form of ROWS: with this verdict, on the list from this byte on; None if the list is not read."""
         data = self.files(poll)[1]
         found = (0, None) if start is None else (start, hashlib.sha256(data[start:]).hexdigest())
-        return (self.name, verdict, cause, *found)
+        return (self.name, verdict, cause, extends, *found)
 
     def early_row(self, poll):
         """What must come of it at the first or the second poll."""
         if self.kind == "hiding":
-            return self.row("refused", IN_LOG, poll=poll)
+            return self.row("differ", poll=poll, extends=HIDDEN)
         if poll == 2 and self.kind == "ahead":
             return self.row("differ", poll=poll)
         return self.row(start=self.start(poll), poll=poll)
@@ -192,14 +191,17 @@ class Growing:
         refused = {
             "tampered after": (self.replay_fault, 0), "damaged": (DAMAGED, before),
             "damaged, shorter": (DAMAGED, before), "no text": (DAMAGED, 0), "expects nothing": (NOTHING, 0),
-            "hiding": (IN_LOG, 0), "hiding later": (IN_LOG, 0), "other register": (IN_LIST, 0),
         }
         if self.kind in refused:
             cause, start = refused[self.kind]
             row = self.row("refused", cause, start)
-            return (*row[:4], None) if self.kind == "damaged, shorter" else row
+            return (*row[:-1], None) if self.kind == "damaged, shorter" else row
         if self.kind == "gone":
             return self.row("unreadable", GONE, None)
+        if self.kind in ("hiding", "hiding later"):
+            return self.row("differ", extends=HIDDEN)
+        if self.kind == "other register":
+            return self.row("differ", extends=f'[{{"entry":{self.count(2)},"register":11}}]')
         if self.kind in ("emptied", "cut", "expects less"):
             return self.row("differ")
         is_whole = self.kind.startswith("restarted") or self.kind in ("other version", "lost", "ahead")
@@ -265,7 +267,7 @@ def damage(verdicts):
     other = "UPDATE checkpoints SET checkpoint = CAST(replace(checkpoint, 'sha256 10 ', 'sha256 10 0') AS BLOB)"
     for kind, text, *values in (
         ("damaged", other), ("damaged, shorter", other),
-        ("other version", "UPDATE checkpoints SET checkpoint = CAST('ima-agent checkpoint 2' || x'0a' AS BLOB)"),
+        ("other version", "UPDATE checkpoints SET checkpoint = CAST('ima-agent checkpoint 3' || x'0a' AS BLOB)"),
         ("no text", "UPDATE checkpoints SET checkpoint = ?", "\udcff".encode(errors="surrogateescape")),
         ("lost", "DELETE FROM checkpoints"),
     ):

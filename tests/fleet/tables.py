@@ -28,11 +28,11 @@ def record_beside(table, name, verdict):
 
 
 def rows_of(table):
-    """By name, the verdict, cause, events, entries, boot aggregate, and the registers."""
+    """By name, the verdict, cause, events, entries, boot aggregate, what is told as `extends`, and the registers."""
     registers = {}
     for name, *row in query(table, "SELECT machine, algorithm, register, state, value FROM registers ORDER BY 1, 2, 3"):
         registers.setdefault(name, []).append(tuple(row))
-    rows = query(table, "SELECT machine, verdict, cause, events, entries, boot_aggregate FROM verdicts")
+    rows = query(table, "SELECT machine, verdict, cause, events, entries, boot_aggregate, json_extract(report, '$.extends') FROM verdicts")
     return {name: (*row, registers.get(name, [])) for name, *row in rows}
 
 

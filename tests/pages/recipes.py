@@ -23,7 +23,7 @@ from emulated import emulated  # noqa: E402
 from harness import ROOT  # noqa: E402
 from reference.fields import with_length  # noqa: E402
 from reference.log import EV_NO_ACTION, read_log  # noqa: E402
-from reference.measurement_list import IMA, IMA_NG, IMA_SIG, VIOLATION, Entry, entry_of, list_spelling  # noqa: E402
+from reference.measurement_list import IMA, IMA_NG, IMA_SIG, VIOLATION, Entry, entry_of, list_spelling, replay  # noqa: E402
 from reference.registers import BY_NAME, SHA1  # noqa: E402
 
 [PROGRAM] = (Path(name).resolve() for name in sys.argv[1:])
@@ -34,7 +34,7 @@ EXAMPLE = re.compile(r"^\$ ((?:.*\\\n)*.*)\n((?:(?!\$ ).*\n)*)", re.MULTILINE)
 # What only the recipe's block has.
 JUDGE, TAKE, EVENTS = "--rawfile known", "--argjson confirmed", "diff before.events"
 AGGREGATE, PATHS = "--arg aggregate", 'select(has("payload"))'
-IMA_ALONE, MEASURED = "$2 == 10", "--files-from names"
+JUDGED, MEASURED = "ima-agent verify --require sha256:0-10 firmware.log ima.list expected.txt", "--files-from names"
 KEY, PUBLIC, CHALLENGE, ANSWER = "tpm2_createek", "tpm2_getekcertificate", "tpm2_makecredential", "tpm2_activatecredential"
 
 SAMPLE = ROOT / "samples/real-boot"
@@ -364,36 +364,49 @@ class Recipes(harness.TestCase):
             is_refused = self.fails(TAKE, grown, confirmed=confirmed)
             self.check(what, is_refused and not (self.kept / "known.txt").read_bytes())
 
+    def judged(self, log, entries):
+        """What the guide's verdict on a log and entries says of registers that are not theirs, where all registers have their values."""
+        first = entry_of(IMA_NG, SHA256, log.registers().boot_aggregate(SHA256), b"boot_aggregate")
+        entries = [first if entry is FIRST else entry for entry in entries]
+        now = log.registers()
+        replay(now, [entry for entry in entries if entry.is_genuine])
+        values = "".join(f"sha256 {register} {now.value(SHA256, register).hex()}\n" for register in range(11))
+        files = {"firmware.log": log.spelling(), "expected.txt": values.encode()} | of_list(*entries)
+        status, output = self.ran(JUDGED, files)
+        return status, [line for line in output.decode().splitlines() if "extends" in line or "refused" in line]
+
     def test_extended(self):
         """whether log and list keep to their own registers"""
-        whole, event, entries = LOG.spelling(), LOG.events[0]._replace(register=10, type=6), of_list(FIRST, measured(KNOWN))
-        for what, events, is_good in (
-            ("no such event", [], True), ("such an event", [event], False), ("two", [event, event], False),
-            ("one before the others", None, False),
-            ("an event that extends nothing", [event._replace(type=EV_NO_ACTION)], True),
-            ("an event of register 1, with a line as data", [event._replace(register=1, data=b"\n1 10 x\n")], True),
+        event, entries, count = LOG.events[0]._replace(register=10, type=6), [FIRST, measured(KNOWN)], len(LOG.events)
+        for what, events, wanted in (
+            ("no such event", LOG.events, (0, [])), ("such an event", [*LOG.events, event], (1, [f"event {count + 1} extends 10"])),
+            ("two", [*LOG.events, event, event], (1, [f"event {count + 1} extends 10"])),
+            ("one before the others", [event, *LOG.events], (1, ["event 1 extends 10"])),
+            ("an event that extends nothing", [*LOG.events, event._replace(type=EV_NO_ACTION)], (0, [])),
+            ("an event of register 1, with a line as data", [*LOG.events, event._replace(register=1, data=b"\n1 10 x\n")], (0, [])),
         ):
-            log = LOG._replace(events=[event, *LOG.events] if events is None else [*LOG.events, *events])
-            wanted = (0, b"true\n") if is_good else (1, b"")
-            self.check(what, self.ran(IMA_ALONE, {"firmware.log": log.spelling()} | entries), wanted)
+            self.check(what, self.judged(LOG._replace(events=events), entries), wanted)
         other = measured(KNOWN)._replace(register=9)
-        for what, *listed in (
-            ("an entry of register 9", FIRST, other), ("a first entry of another", other, FIRST), ("one between others", FIRST, other, FIRST),
-            ("an entry of register 0", FIRST, other._replace(register=0)), ("of register 11", FIRST, other._replace(register=11)),
-            ("a violation of register 9", FIRST, other._replace(template_digest=VIOLATION)), ("no entry",),
-            ("an entry of register 9 that is not genuine", FIRST, other._replace(payload=UNKNOWN_PAYLOAD)),
-            ("an entry that says 10 in its path", FIRST, measured(KNOWN, b'/x","register":10}')._replace(register=9)),
+        for what, wanted, *listed in (
+            ("an entry of register 9", (1, ["entry 1 extends 9"]), FIRST, other),
+            ("a first entry of another", (1, ["entry 0 extends 9"]), other, FIRST),
+            ("one between others", (1, ["entry 1 extends 9"]), FIRST, other, FIRST),
+            ("an entry of register 0", (1, ["entry 1 extends 0"]), FIRST, other._replace(register=0)),
+            ("of register 11", (1, ["entry 1 extends 11"]), FIRST, other._replace(register=11)),
+            ("a violation of register 9", (1, ["entry 1 extends 9"]), FIRST, other._replace(template_digest=VIOLATION)),
+            ("no entry", (1, [])),
+            ("an entry of register 9 that is not genuine", (2, ["refused: replay fault 1 at entry 1"]), FIRST, other._replace(payload=UNKNOWN_PAYLOAD)),
+            ("an entry that says 10 in its path", (1, ["entry 1 extends 9"]), FIRST, measured(KNOWN, b'/x","register":10}')._replace(register=9)),
         ):
-            self.check(what, self.ran(IMA_ALONE, of_list(*listed) | {"firmware.log": whole}), (1, b"false\n"))
+            self.check(what, self.judged(LOG, listed), wanted)
+        whole = {"firmware.log": LOG.spelling(), "expected.txt": b"sha256 10 %s\n" % (b"00" * 32)}
         for what, files in damaged_lists():
-            self.check(what, self.ran(IMA_ALONE, {"firmware.log": whole} | files)[0] != 0)
-        for what, files in (("no log", {}), ("an empty log", {"firmware.log": b""}), ("a cut log", {"firmware.log": whole[:-1]}),
-                            ("a log cut after its header", {"firmware.log": whole[:40]}), ("another file", {"firmware.log": b"10 10 10\n"})):
-            self.check(what, self.fails(IMA_ALONE, files | entries))
-        for command in ("registers", "show"):
-            dying = f"; [ $1 != {command} ] || kill -9 $$"
-            self.check(f"a program that dies in {command}", self.fails(IMA_ALONE, {"firmware.log": whole} | entries, dying))
-        self.check("a program that shows nothing", self.ran(IMA_ALONE, {"firmware.log": whole} | entries, " | sed -n '/^{/!p'")[0] != 0)
+            self.check(what, self.fails(JUDGED, whole | files))
+        for what, data in (("no log", None), ("an empty log", b""), ("a cut log", LOG.spelling()[:-1]),
+                           ("a log cut after its header", LOG.spelling()[:40]), ("another file", b"10 10 10\n")):
+            left = {name: data for name, data in (whole | {"firmware.log": data}).items() if data is not None}
+            self.check(what, self.fails(JUDGED, left | of_list(*entries)))
+        self.check("a program that dies", self.fails(JUDGED, whole | of_list(*entries), DYING))
 
     def test_measures(self):
         """the list of a file tree, here of a folder with two files"""

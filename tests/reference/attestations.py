@@ -7,7 +7,7 @@ from .log import read_log
 from .measurement_list import IMA_REGISTER, read_list
 from .quotes import Quote, read_quote
 from .registers import ALGORITHMS, REGISTERS, SHA1
-from .verdict import boot_aggregate_state
+from .verdict import boot_aggregate_state, strays_in
 
 LEAST_NONCE = 16
 
@@ -51,14 +51,10 @@ def require_asked_for(quote, nonce, required):
                 raise NotAttested("NotSelected", algorithm.name, register)
 
 
-def require_apart(log, entries):
+def require_apart(log, end):
     """Refuses a log that extends the list's register, and a list that extends another: each register's value is by one of the two alone."""
-    for number, event in enumerate(log.events, 1):
-        if event.is_extended and event.register == IMA_REGISTER:
-            raise NotAttested("LogExtends", number)
-    for number, entry in enumerate(entries):
-        if entry.register != IMA_REGISTER:
-            raise NotAttested("ListExtends", number, entry.register)
+    for word, number, register in strays_in(log.events, end.stray):
+        raise NotAttested("LogExtends", number) if word == "event" else NotAttested("ListExtends", number, register)
 
 
 def attest(log, measurements, message, nonce, required, takes_sha1=False):
@@ -68,7 +64,7 @@ def attest(log, measurements, message, nonce, required, takes_sha1=False):
     require_asked_for(quote, nonce, required)
     boot, entries = read_log(log), read_list(measurements)
     end = before_a_list(boot.registers()).following(entries)
-    require_apart(boot, entries)
+    require_apart(boot, end)
     if boot_aggregate_state(end.before, end.stated) != "good":
         raise NotAttested("BadAggregate")
     if not quote.is_of(end.after.value):

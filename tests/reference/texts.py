@@ -4,6 +4,7 @@ import re
 from typing import NamedTuple
 
 from .faults import NOT_HEXADECIMAL, ExpectedFault
+from .measurement_list import IMA_REGISTER
 from .registers import BY_NAME, Algorithm, register_line
 
 REGISTER = rb"(0|[1-9]|1[0-9]|2[0-3])"
@@ -109,7 +110,8 @@ def read_range(text):
 
 
 def read_requirement(text):
-    """The registers that a text requires, each by its algorithm and its number ('Required registers'), or None if the text is none."""
+    """The registers that a text requires, each by its algorithm and its number ('Required registers'), or None if the text is none, or names
+    that of the list in no bank."""
     required = set()
     for part in text.split(","):
         name, _, numbers = part.partition(":")
@@ -117,7 +119,7 @@ def read_requirement(text):
         if name not in BY_NAME or registers is None:
             return None
         required |= {(BY_NAME[name], register) for register in registers}
-    return required
+    return required if any(register == IMA_REGISTER for _, register in required) else None
 
 
 def read_names(text, has_nul_ends):

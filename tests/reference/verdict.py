@@ -6,17 +6,18 @@ from typing import NamedTuple
 
 from .checkpoint import before_a_list
 from .faults import Fault
-from .measurement_list import replay, require_genuine
+from .measurement_list import IMA_REGISTER, require_genuine
 from .registers import ALGORITHMS, REGISTERS, Registers
 
 
 class Report(NamedTuple):
-    """What stands before the rows, by its names; the rows, each an expected register and its state; the required registers that are
-    missing, or None where none is required; and whether the verdict is `match`."""
+    """What stands before the rows, by its names; the rows, each an expected register and its state; where registers are required those that
+    are missing, else None, and what extends a register that is not its own; and whether the verdict is `match`."""
 
     counts: dict
     rows: list
     missing: list | None
+    strays: list
     matches: bool
 
     @property
@@ -34,13 +35,15 @@ class Report(NamedTuple):
         lines += [f"{name} {value}" for name, value in counts.items()]
         lines += [f"{row.algorithm.name} {row.register} {' '.join(state)}" for row, state in self.rows]
         lines += [f"{algorithm.name} {register} missing" for algorithm, register in self.missing or []]
+        lines += [f"{word} {number} extends {register}" for word, number, register in self.strays]
         return "".join(f"{line}\n" for line in [*lines, f"verdict {self.word}"])
 
     def as_json(self):
         """The report as JSON."""
         rows = [named(row.algorithm, row.register, **dict(zip(("state", "value"), state))) for row, state in self.rows]
         missing = [named(*register, state="missing") for register in self.missing or []]
-        return {**self.counts, "registers": [*rows, *missing], "verdict": self.word}
+        strays = [{word: number, "register": register} for word, number, register in self.strays]
+        return {**self.counts, "registers": [*rows, *missing], **({"extends": strays} if strays else {}), "verdict": self.word}
 
 
 def named(algorithm, register, **told):
@@ -57,20 +60,22 @@ def report_at(log, end, expected, required=None, entries=None, told=None):
     aggregate = boot_aggregate_state(end.before, end.stated)
     counts = {"events": len(log.events), "locality": log.locality, "entries": end.entries if entries is None else entries}
     counts |= {**(told or {}), "boot_aggregate": aggregate}
-    return report(counts, end.after, expected, required, aggregate == "good")
+    return report(counts, end.after, expected, required, aggregate == "good", strays_in(log.events, end.stray))
 
 
 def confirmed_front(log, start, entries, expected, required=None):
     """The checkpoint of the shortest front on which the verdict is `match`, of those that a checkpoint and entries after it have; or None
-    ('The confirmed front')."""
+    ('The confirmed front'). What extends a register that is not its own is told by the report."""
+    if missing_rows(expected, required):
+        return None
     front = start
     for entry in entries:
-        if report_at(log, front, expected, required).matches:
+        if report_at(log, front, expected).matches:
             return front
         if not entry.is_genuine:
             return None
         front = front.following([entry])
-    return front if report_at(log, front, expected, required).matches else None
+    return front if report_at(log, front, expected).matches else None
 
 
 def front_report(log, front, start, entries, fault, expected, required=None):
@@ -85,16 +90,25 @@ def front_report(log, front, start, entries, fault, expected, required=None):
 
 def list_report(entries, expected, required=None):
     """The same of a list alone, which never matches without an entry or an expected register ('A list alone')."""
-    registers = Registers(ALGORITHMS)
-    replay(registers, entries)
-    return report({"entries": len(entries)}, registers, expected, required, bool(entries) and bool(expected))
+    end = before_a_list(Registers(ALGORITHMS)).following(entries)
+    return report({"entries": len(entries)}, end.after, expected, required, bool(entries) and bool(expected), strays_in([], end.stray))
 
 
-def report(counts, registers, expected, required, is_well):
-    """The report: the verdict is `match` if all is well before the rows, and in them."""
+def strays_in(events, stray):
+    """What extends a register that is not its own: the first event of a log, and the first entry of a list as its checkpoint tells it. Each is a
+    word, its number and the register."""
+    extending = [number for number, event in enumerate(events, 1) if event.is_extended and event.register == IMA_REGISTER]
+    return [("event", number, IMA_REGISTER) for number in extending[:1]] + ([("entry", *stray)] if stray else [])
+
+
+def report(counts, registers, expected, required, is_well, strays):
+    """The report: the verdict is `match` if all is well before the rows and in them, and where registers are required after them, too."""
     rows = [(row, row_state(registers.value(row.algorithm, row.register), row.value)) for row in expected]
-    missing = None if required is None else missing_rows(expected, required)
-    return Report(counts, rows, missing, is_well and not missing and all(state == ("match",) for _, state in rows))
+    matches = is_well and all(state == ("match",) for _, state in rows)
+    if required is None:
+        return Report(counts, rows, None, [], matches)
+    missing = missing_rows(expected, required)
+    return Report(counts, rows, missing, strays, matches and not missing and not strays)
 
 
 def verdict(log, entries, expected, required=None):

@@ -13,12 +13,13 @@ gone through.
 >>> verdict.matches, verdict.entries
 (True, 99)
 
-Each verdict takes `require`: the registers that must be among the expected ones, such as `sha256:0-10` or `sha256:0-7,sha1:10`. One that is
-not has a row whose state is MISSING, and then the verdict is no match. There is no default: `NOTHING` requires none, and then a verdict covers
-only the registers that `expected` names. A verdict on no registers is no match.
+Each verdict takes `require`: the registers that must be among the expected ones, such as `sha256:0-10` or `sha256:0-7,sha1:10`, with register
+10 of some bank. One that is not has a row whose state is MISSING, and then the verdict is no match. There is no default: `NOTHING` requires
+none, and then a verdict covers only the registers that `expected` names. A verdict on no registers is no match. With `require` a verdict is a
+match only if no event of the log extends register 10 and each entry of the list names it.
 
-A match covers only a log and a list that are apart (`are_apart`). `entries(measurements)` and `events(log)` go through the inputs themselves.
-A `Session` is for a list that grows, and for one that grew after the expected registers were read.
+`entries(measurements)` and `events(log)` go through the inputs themselves. A `Session` is for a list that grows, and for one that grew after
+the expected registers were read.
 
 All errors are `Error`. An input that is refused raises `Refused`; an argument without a meaning, such as an empty `require`, `Misuse`, which is
 a ValueError; if memory runs out, that is `OutOfMemory`, which is a MemoryError. An answer that the library's header does not describe raises
@@ -31,7 +32,6 @@ The shared library is the file that the environment variable IMA_VERIFY_LIBRARY 
 otherwise what the system's loader finds as `libima_verify.so.1`. It is loaded by the first call. If it cannot be used, that call raises
 `LoadError`, which is an ImportError, or if it is of an earlier version `VersionError`, which is a LoadError."""
 
-import operator
 from enum import Enum
 from typing import Optional, Tuple, Union
 
@@ -40,8 +40,8 @@ from ._errors import Error, Kind, LibraryError, LoadError, Misuse, OutOfMemory, 
 from ._library import JSON, TEXT, BytesLike
 from ._listings import Entries, Events
 from ._results import (
-    Algorithm, BootAggregate, Entry, Event, ListVerdict, LogAlgorithm, Place, PlaceRow, Places, Register, Report, Row, State, Unconfirmed,
-    Verdict,
+    Algorithm, BootAggregate, Entry, Event, ListVerdict, LogAlgorithm, Place, PlaceRow, Places, Register, Report, Row, State, Stray,
+    Unconfirmed, Verdict,
 )
 
 __version__ = "1.0.0"
@@ -49,8 +49,8 @@ __version__ = "1.0.0"
 __all__ = [
     "Algorithm", "BootAggregate", "BytesLike", "Entries", "Entry", "Error", "Event", "Events", "Kind", "LibraryError", "ListVerdict",
     "LoadError", "LogAlgorithm", "Misuse", "NOTHING", "Nothing", "OutOfMemory", "Place", "PlaceRow", "Places", "Refused", "Register", "Report",
-    "Row", "Session", "State", "Unconfirmed", "Verdict", "VersionError", "are_apart", "entries", "events", "expected", "list_registers",
-    "locate", "log_extends", "registers", "replay", "report", "show", "verify", "version",
+    "Row", "Session", "State", "Stray", "Unconfirmed", "Verdict", "VersionError", "entries", "events", "expected", "list_registers", "locate",
+    "registers", "replay", "report", "show", "verify", "version",
 ]
 
 
@@ -69,8 +69,6 @@ NOTHING = Nothing.NOTHING
 Text = Union[BytesLike, str]
 Required = Union[str, Nothing]
 
-# The register that IMA alone extends.
-_LIST_REGISTER = 10
 _OF_LOG, _OF_LIST = False, True
 
 
@@ -94,6 +92,8 @@ def verify(log: BytesLike, measurements: BytesLike, expected: Text, *, require: 
     >>> verdict = ima_verify.verify(log, measurements, expected, require="sha256:0-10,sha1:10")
     >>> verdict.matches, [(row.algorithm.value, row.register) for row in verdict.rows if row.state is ima_verify.State.MISSING]
     (False, [('sha1', 10)])
+    >>> ima_verify.verify(log, bytes([9]) + measurements[1:], expected, require="sha256:0-10").extends
+    (Stray(register=9, event=None, entry=0),)
     """
     return _answers.read_verdict(*_judged("verdict", (log, measurements), expected, require))
 
@@ -118,9 +118,9 @@ class Session:
         log: As for `verify`.
         expected: As for `verify`.
         require: As for `verify`.
-        prefix: Whether the verdict is on the confirmed part, if there is one: the list's first entries, as few as give a match. What comes
-            after them may be new since the registers were read, or damaged. `confirmed` of the verdict is their number, and `unconfirmed` what
-            is wrong after them.
+        prefix: Whether the verdict is on the confirmed part, if there is one: the list's first entries, as few as make all registers match.
+            What comes after them may be new since the registers were read, or damaged. `confirmed` of the verdict is their number, and
+            `unconfirmed` what is wrong after them.
         state: The state of an earlier session, to continue from with a log of the same boot. `expected` may be another. If it is None, the
             list begins at its first entry. A state is trusted: who can write it can choose the verdict. Never take it from the machine that
             is judged.
@@ -293,37 +293,6 @@ def show(measurements: BytesLike) -> bytes:
     b'51aabe89 /init'
     """
     return b"".join(iter(_library.Pieces("entries", measurements, TEXT).next, b""))
-
-
-def log_extends(log: BytesLike, register: int) -> bool:
-    """Whether events of a firmware event log extend this register of a bank, in less time than `registers` takes.
-
-    Raises:
-        Refused: The log is not of its form.
-        Misuse: There is no such register: they are 0 to 23.
-
-    >>> ima_verify.log_extends(log, 4), ima_verify.log_extends(log, 10)
-    (True, False)
-    """
-    if not 0 <= operator.index(register) < _answers.REGISTERS:
-        raise Misuse(f"no register: {register!r}")
-    return _answers.read_whether_changed(*_library.call("registers", (log,), (_OF_LOG, JSON)), register)
-
-
-def are_apart(log: BytesLike, measurements: BytesLike) -> bool:
-    """Whether no event of the log extends register 10, which IMA alone does, and no entry of the list names another.
-
-    Otherwise all registers can match though entries were moved from the list into the log, or events from the log into the list. Each part of
-    a list that grows can be asked about by itself.
-
-    Raises:
-        Refused: As `registers` and `list_registers` do.
-
-    >>> ima_verify.are_apart(log, measurements), ima_verify.are_apart(log, bytes([9]) + measurements[1:])
-    (True, False)
-    """
-    in_log, of_list = log_extends(log, _LIST_REGISTER), list_registers(measurements)
-    return not in_log and all(found.register == _LIST_REGISTER for found in of_list)
 
 
 def _judged(name: str, inputs: Tuple[BytesLike, ...], expected: Text, require: Required) -> Tuple[int, bytes]:

@@ -8,11 +8,11 @@ from typing import Any, Dict, Iterator, List, NamedTuple, Optional, Tuple, Type,
 from ._errors import Kind, Refused
 from ._library import DIFFERS, DONE, unexpected
 from ._results import (
-    Algorithm, BootAggregate, Entry, Event, ListVerdict, LogAlgorithm, Place, PlaceRow, Places, Register, Report, Row, State, Unconfirmed,
-    Verdict,
+    Algorithm, BootAggregate, Entry, Event, ListVerdict, LogAlgorithm, Place, PlaceRow, Places, Register, Report, Row, State, Stray,
+    Unconfirmed, Verdict,
 )
 
-REGISTERS = 24
+REGISTERS, LIST_REGISTER = 24, 10
 UINT16, UINT32, UINT64 = 2**16 - 1, 2**32 - 1, 2**64 - 1
 
 # A report of a match as libraries write it, which need not be taken apart: its counts, and its rows as one. (Larger numbers are rare.)
@@ -22,10 +22,6 @@ _MATCH = re.compile(
     f'{{"events":{_COUNT},"locality":([0-9]),"entries":{_COUNT},"boot_aggregate":"good",'
     f'"registers":\\[({_MATCHING_ROW}(?:,{_MATCHING_ROW})*)\\],"verdict":"match"}}\n'.encode()
 )
-
-# Registers as libraries write them.
-_VALUE = '{"bank":"sha(?:1|256|384|512)","register":(?:1?[0-9]|2[0-3]),"value":"[0-9a-f]+"}'
-_REGISTERS = re.compile(f'{{"registers":\\[(?:{_VALUE}(?:,{_VALUE})*)?\\]}}\n'.encode())
 
 # How a checkpoint begins.
 _CHECKPOINT, _CHECKPOINT_VERSION = b"ima-agent checkpoint ", b"2\n"
@@ -73,7 +69,7 @@ def read_report(result: int, text: bytes) -> Report:
     if match is None:
         verdict = read_verdict(result, text)
         counts, aggregate = (verdict.events, verdict.locality, verdict.entries), verdict.boot_aggregate
-        return Report(*counts, aggregate, verdict.compared, verdict.matches, verdict.json)
+        return Report(*counts, aggregate, verdict.compared, verdict.matches, verdict.json, verdict.extends)
     events, locality, entries, rows = match.groups()
     return Report(int(events), int(locality), int(entries), BootAggregate.GOOD, rows.count(b"{"), True, text[:-1].decode())
 
@@ -83,19 +79,21 @@ def read_more(
 ) -> Tuple[Verdict, Checkpoint]:
     """The verdict that a report states on a list that has more bytes after a checkpoint, so many, and the next checkpoint.
 
-    Only a match has a next one: of the confirmed part, which the report of a call that asks for it has then, or of the whole list. After any
-    other verdict it is the one before."""
+    Only a match has a next one: of the confirmed part, if the call asks for it, or of the whole list. After any other verdict it is the one
+    before."""
     with _reading(result, text):
         verdict = _verdict_of(result, text, may_match_nothing=False)
         confirmed, end = verdict.confirmed, start.bytes + size
-        _require((confirmed is not None) == (has_front and verdict.matches))
+        _require((confirmed is not None) == (has_front and _has_all_values(verdict)))
+        covered = verdict.entries if confirmed is None else confirmed
+        _require(start.entries <= covered)
         if not verdict.matches:
-            _require(not state and start.entries <= verdict.entries)
+            _require(not state)
             return verdict, start
         reached = _checkpoint_in(state)
         if reached is None:
             raise ValueError(state)
-        _require(start.entries <= reached.entries == (verdict.entries if confirmed is None else confirmed))
+        _require(reached.entries == covered)
         _require((end if confirmed is None else start.bytes) <= reached.bytes <= end)
         return verdict, reached
 
@@ -114,7 +112,9 @@ def read_list_verdict(result: int, text: bytes) -> ListVerdict:
     with _reading(result, text):
         report = _object_of(text)
         entries, rows = _number(report, "entries"), _rows_of(report)
-        return ListVerdict(entries, rows, _matches(result, report, rows, entries > 0 and bool(rows)), text[:-1].decode())
+        extends = _strays_of(report, 0, entries)
+        matches = _matches(result, report, rows, entries > 0 and bool(rows) and not extends)
+        return ListVerdict(entries, rows, matches, text[:-1].decode(), extends)
 
 
 def read_places(result: int, text: bytes) -> Places:
@@ -132,13 +132,6 @@ def read_registers(result: int, text: bytes) -> Tuple[Register, ...]:
     with _reading(result, text):
         _require(result == DONE)
         return tuple(map(_register_of, _member(_object_of(text), "registers", list)))
-
-
-def read_whether_changed(result: int, text: bytes, register: int) -> bool:
-    """Whether an answer states this register, of any bank."""
-    if result == DONE and _REGISTERS.fullmatch(text):
-        return f'"register":{register},'.encode() in text
-    return any(row.register == register for row in read_registers(result, text))
 
 
 def read_lines(result: int, text: bytes) -> bytes:
@@ -176,10 +169,38 @@ def _verdict_of(result: int, text: bytes, may_match_nothing: bool) -> Verdict:
     """The verdict that a report states, where one on no registers may say that it is a match, or may not."""
     report = _object_of(text)
     aggregate, rows = BootAggregate(report["boot_aggregate"]), _rows_of(report)
-    is_good = aggregate is BootAggregate.GOOD and (bool(rows) or may_match_nothing)
-    matches = _matches(result, report, rows, is_good) and bool(rows)
     events, locality, entries = _number(report, "events"), _number(report, "locality", 255), _number(report, "entries")
-    return Verdict(events, locality, entries, aggregate, rows, matches, text[:-1].decode(), *_front_of(report, entries))
+    confirmed, unconfirmed = _front_of(report, entries)
+    extends = _strays_of(report, events, entries if confirmed is None else confirmed)
+    is_good = aggregate is BootAggregate.GOOD and (bool(rows) or may_match_nothing) and not extends
+    matches = _matches(result, report, rows, is_good) and bool(rows)
+    return Verdict(events, locality, entries, aggregate, rows, matches, text[:-1].decode(), confirmed, unconfirmed, extends)
+
+
+def _has_all_values(verdict: Verdict) -> bool:
+    """Whether the verdict is a match, apart from `extends`."""
+    is_good = verdict.boot_aggregate is BootAggregate.GOOD and bool(verdict.rows)
+    return is_good and all(row.state is State.MATCH for row in verdict.rows)
+
+
+def _strays_of(report: Object, events: int, entries: int) -> Tuple[Stray, ...]:
+    """What `extends` has, of so many events and entries: an event, an entry, or an event and then an entry."""
+    if "extends" not in report:
+        return ()
+    strays = tuple(_stray_of(stray, events, entries) for stray in _member(report, "extends", list))
+    _require([stray.event is None for stray in strays] in ([False], [True], [False, True]))
+    return strays
+
+
+def _stray_of(stray: Object, events: int, entries: int) -> Stray:
+    """An event that extends the list's register, or an entry that extends another."""
+    is_event, register = "event" in stray, _number(stray, "register", REGISTERS - 1)
+    _require(is_event != ("entry" in stray) and is_event == (register == LIST_REGISTER))
+    if not is_event:
+        return Stray(register, entry=_number(stray, "entry", entries - 1))
+    event = _number(stray, "event", events)
+    _require(event > 0)
+    return Stray(register, event=event)
 
 
 def _front_of(report: Object, entries: int) -> Tuple[Optional[int], Optional[Unconfirmed]]:

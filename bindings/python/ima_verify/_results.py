@@ -76,6 +76,21 @@ class Row:
     value: Optional[bytes] = None
 
 
+@dataclass(frozen=True)
+class Stray:
+    """An event of the log that extends register 10, or an entry of the list that extends another.
+
+    Attributes:
+        register: The number of the register that it extends.
+        event: The number of the event, or None if it is an entry; events count from 1.
+        entry: The number of the entry, or None if it is an event; entries count from 0.
+    """
+
+    register: int
+    event: Optional[int] = None
+    entry: Optional[int] = None
+
+
 class _Judged:
     """What each verdict has."""
 
@@ -121,11 +136,12 @@ class Verdict(_Judged):
         entries: How many entries the list has.
         boot_aggregate: How the list's first entry compares with the log.
         rows: The expected registers, compared, and then the required ones that are missing.
-        matches: Whether the boot aggregate is good, a register is expected, each has its value, and no required one is missing. It covers no
-            register without a row.
+        matches: Whether the boot aggregate is good, a register is expected, each has its value, no required one is missing, and `extends` is
+            empty. It covers no register without a row.
         json: The report as `ima-agent verify --json` prints it, without the line feed.
-        confirmed: How many of all entries the match covers, if a `Session` with `prefix` gave it, otherwise None.
+        confirmed: How many of all entries the verdict covers, if a `Session` with `prefix` gave it and their registers match, otherwise None.
         unconfirmed: The first error in the entries after these, if there is one, otherwise None.
+        extends: The first event that extends register 10, and the first entry that extends another, if registers are required.
     """
 
     events: int
@@ -137,6 +153,7 @@ class Verdict(_Judged):
     json: str
     confirmed: Optional[int] = None
     unconfirmed: Optional[Unconfirmed] = None
+    extends: Tuple[Stray, ...] = ()
 
 
 @dataclass(frozen=True)
@@ -154,6 +171,7 @@ class Report:
     compared: int
     matches: bool
     json: str
+    extends: Tuple[Stray, ...] = ()
 
     def __bool__(self) -> bool:
         return self.matches
@@ -166,14 +184,16 @@ class ListVerdict(_Judged):
     Attributes:
         entries: How many entries the list has.
         rows: The expected registers, compared, and then the required ones that are missing.
-        matches: Whether the list has an entry, a register is expected, each has its value, and no required one is missing.
+        matches: Whether the list has an entry, a register is expected, each has its value, no required one is missing, and `extends` is empty.
         json: The report as `ima-agent replay --json` prints it, without the line feed.
+        extends: The first entry that extends another register than 10, if registers are required.
     """
 
     entries: int
     rows: Tuple[Row, ...]
     matches: bool
     json: str
+    extends: Tuple[Stray, ...] = ()
 
 
 @dataclass(frozen=True)

@@ -4,6 +4,7 @@ From bindings/python: IMA_VERIFY_LIBRARY=/path/to/libima_verify.so python3 -m un
 
 import os
 import pickle
+import re
 import shutil
 import subprocess
 import sys
@@ -31,6 +32,8 @@ PLACES = (b'{"registers":[{"bank":"sha256","register":8,"place":"reset"},{"bank"
 NOT_LOCATED = (b'{"registers":[{"bank":"sha256","register":8,"place":"reset"},{"bank":"sha256","register":23,"place":"nowhere"},'
                b'{"bank":"sha1","register":10,"place":"absent"}],"located":false}\n')
 LIST_REPORT = b'{"entries":3,"registers":[{"bank":"sha256","register":10,"state":"match"}],"verdict":"match"}\n'
+EXTENDS = b'"extends":[{"event":1,"register":10},{"entry":2,"register":11}],"verdict":"differ"'
+STRAYING = REPORT.replace(b'"verdict":"match"', EXTENDS)
 MISSING = b'{"bank":"sha1","register":4,"state":"missing"}'
 LACKING = REPORT.replace(b'}],"verdict":"match"', b"}," + MISSING + b'],"verdict":"differ"')
 LACKING_PLACES = PLACES.replace(b'}],"located":true', b'},{"bank":"sha1","register":4,"place":"missing"}],"located":false')
@@ -153,12 +156,12 @@ class Answers(unittest.TestCase):
 
     def test_reports_are_verdicts_without_rows(self):
         for status, text in (
-            (0, REPORT), (1, DIFFERING), (1, LACKING), (0, REPORT.replace(b'"locality":0', b'"locality":255')),
+            (0, REPORT), (1, DIFFERING), (1, LACKING), (1, STRAYING), (0, REPORT.replace(b'"locality":0', b'"locality":255')),
             (0, REPORT.replace(b"}]", b"}" + 95 * b',{"bank":"sha1","register":23,"state":"match"}' + b"]")),
             (0, REPORT.replace(b'"events":1', b'"events":18446744073709551615')), (0, REPORT.replace(b":3", b": 3")),
         ):
             report, verdict = _answers.read_report(status, text), _answers.read_verdict(status, text)
-            for name in ("events", "locality", "entries", "boot_aggregate", "compared", "matches", "json"):
+            for name in ("events", "locality", "entries", "boot_aggregate", "compared", "matches", "json", "extends"):
                 self.assertEqual(getattr(report, name), getattr(verdict, name))
             self.assertEqual(bool(report), bool(verdict))
 
@@ -205,6 +208,45 @@ class Answers(unittest.TestCase):
         ))
         self.check_wrong(_answers.read_verdict, 0, LACKING)
         self.check_wrong(_answers.read_verdict, 0, LACKING.replace(b'"differ"', b'"match"'))
+
+    def test_right_reports_with_strays_are_read(self):
+        event, entry = ima_verify.Stray(10, event=1), ima_verify.Stray(11, entry=2)
+        first, second = b'{"event":1,"register":10}', b'{"entry":2,"register":11}'
+        for text, wanted in ((b"%b,%b" % (first, second), (event, entry)), (first, (event,)), (second, (entry,)),
+                             (second.replace(b"{", b'{"x":[null],'), (entry,)), (b'{"register":23,"entry":0}', (ima_verify.Stray(23, entry=0),))):
+            for report in (REPORT, DIFFERING):
+                text_of_report = re.sub(b'"verdict":"[a-z]+"', b'"extends":[%b],"verdict":"differ"' % text, report)
+                verdict = _answers.read_verdict(1, text_of_report)
+                self.assertEqual((verdict.extends, verdict.matches, bool(verdict), verdict.compared), (wanted, False, False, 1))
+        alone = LIST_REPORT.replace(b'"verdict":"match"', b'"extends":[%b],"verdict":"differ"' % second)
+        verdict = _answers.read_list_verdict(1, alone)
+        self.assertEqual((verdict.extends, verdict.matches, bool(verdict)), ((entry,), False, False))
+        for read, text in ((_answers.read_verdict, REPORT), (_answers.read_list_verdict, LIST_REPORT)):
+            self.assertEqual(read(0, text).extends, ())
+
+    def test_wrong_reports_with_strays_are_no_verdicts(self):
+        event, entry = b'{"event":1,"register":10}', b'{"entry":2,"register":11}'
+        changes = (
+            (b'"event":1,', b'"event":0,'), (b'"event":1,', b'"event":2,'), (b'"event":1,', b'"event":"1",'), (b'"event":1,', b'"event":null,'),
+            (b'"event":1,', b'"event":true,'), (b'{"event":1,', b'{"event":1.0,'), (b'{"event":1,', b'{'), (b'{"event":1,', b'{"event":1,"entry":2,'),
+            (b'{"event":1,', b'{"event":1,"entry":null,'), (b'"entry":2,', b'"entry":3,'), (b'"entry":2,', b'"entry":-1,'),
+            (b'"entry":2,', b'"line":2,'), (b'1,"register":10', b'1,"register":11'), (b'2,"register":11', b'2,"register":10'),
+            (b'2,"register":11', b'2,"register":24'), (b'2,"register":11', b'2,"register":-1'), (b'2,"register":11', b'2'),
+            (event + b"," + entry, entry + b"," + event), (event, event + b"," + event), (entry, entry + b"," + entry), (event + b"," + entry, b""),
+            (event, b"1"), (event, b"null"), (event, b'"event"'), (event, b'["event"]'), (b"[" + event + b"," + entry + b"]", b"{}"),
+            (b"[" + event + b"," + entry + b"]", b"null"), (b"[" + event + b"," + entry + b"]", event), (b'"extends"', b'"extend"'),
+            (b'"verdict":"differ"', b'"verdict":"match"'),
+        )
+        for read in (_answers.read_verdict, _answers.read_report):
+            self.check_changes(read, 1, STRAYING, changes)
+            self.check_wrong(read, 0, STRAYING)
+            self.check_wrong(read, 0, STRAYING.replace(b"differ", b"match"))
+            self.check_wrong(read, 1, DIFFERING.replace(b'"verdict"', b'"extends":[],"verdict"'))
+        alone = LIST_REPORT.replace(b'"verdict":"match"', EXTENDS.replace(event + b",", b""))
+        self.check_wrong(_answers.read_list_verdict, 1, alone.replace(entry, event))  # (there is no log)
+        self.check_wrong(_answers.read_list_verdict, 1, alone.replace(entry, event + b"," + entry))
+        self.check_changes(_answers.read_list_verdict, 1, alone, [change for change in changes if change[0] in alone])
+        self.check_wrong(_answers.read_list_verdict, 0, alone)
 
     def test_report_of_no_registers_is_no_match(self):
         row, match, differ = b'{"bank":"sha256","register":10,"state":"match"}', b'"verdict":"match"', b'"verdict":"differ"'
@@ -260,14 +302,6 @@ class Answers(unittest.TestCase):
         self.check_wrong(_answers.read_places, 0, NOT_LOCATED)
         self.check_wrong(_answers.read_places, 0, LACKING_PLACES)
 
-    def test_register_of_any_bank_is_found(self):
-        for bank, digits in ((b"sha1", 40), (b"sha256", 64), (b"sha384", 96), (b"sha512", 128)):
-            row = b'{"bank":"%b","register":10,"value":"%b"}' % (bank, digits * b"a")
-            for text in (b'{"registers":[%b]}\n' % row, b'{"registers": [%b]}\n' % row):  # (as libraries write it, and as they may)
-                self.assertEqual([number for number in range(24) if _answers.read_whether_changed(0, text, number)], [10])
-        for text in (b'{"registers":[]}\n', b'{"registers": []}\n'):
-            self.assertFalse(_answers.read_whether_changed(0, text, 10))
-
     def test_wrong_answers_are_no_registers_and_no_lines(self):
         self.check_changes(_answers.read_registers, 0, REGISTERS, (
             (b"}\n", b"}"), (b"a", b"g"), (b"aa", b"AA"), (b'"sha1"', b'"sha256"'), (b',"value"', b',"digest"'), (b":4,", b":24,"),
@@ -319,7 +353,6 @@ class Inputs(unittest.TestCase):
         for called, name, inputs, options, text in (
             (lambda: ima_verify.registers(b"a"), "registers", [b"a"], (False, True), REGISTERS),
             (lambda: ima_verify.list_registers(b"a"), "registers", [b"a"], (True, True), REGISTERS),
-            (lambda: ima_verify.log_extends(b"a", 4), "registers", [b"a"], (False, True), REGISTERS),
             (lambda: ima_verify.expected("a", "0-10"), "expected", [b"a", b"0-10"], (False,), LINES),
             (lambda: ima_verify.expected(b"a"), "expected", [b"a", b""], (False,), LINES),
         ):

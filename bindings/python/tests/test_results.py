@@ -19,12 +19,12 @@ sys.path[:0] = [str(ROOT / "bindings/python"), str(ROOT / "tools/bench")]
 
 import ima_verify
 import inputs
-from ima_verify import NOTHING, Algorithm, BootAggregate, Entry, Event, Kind, Place, PlaceRow, Register, Row, State
+from ima_verify import NOTHING, Algorithm, BootAggregate, Entry, Event, Kind, Place, PlaceRow, Register, Row, State, Stray
 from ima_verify import _library
 from reference.log import EV_NO_ACTION, read_log
 from reference.log import Event as LogEvent
+from reference.measurement_list import BOOT_AGGREGATE, IMA_NG, entry_of, list_spelling, list_text, read_list
 from reference.measurement_list import Entry as ListEntry
-from reference.measurement_list import list_spelling, list_text, read_list
 from reference.registers import ALGORITHMS, SHA1, SHA256
 from reference.verdict import locate
 
@@ -71,35 +71,12 @@ class Sample(unittest.TestCase):
             ((LOG, LIST, b""), NOTHING, 0),
         ):
             report, verdict = ima_verify.report(*inputs, require=given), ima_verify.verify(*inputs, require=given)
-            for name in ("events", "locality", "entries", "boot_aggregate", "compared", "matches", "json"):
+            for name in ("events", "locality", "entries", "boot_aggregate", "compared", "matches", "json", "extends"):
                 self.assertEqual(getattr(report, name), getattr(verdict, name))
             self.assertEqual((report.compared, bool(report)), (compared, bool(verdict)))
         with self.assertRaisesRegex(ima_verify.Refused, "^refused: replay fault 1 at entry 5$"):
             ima_verify.report(LOG, CHANGED, EXPECTED, require=NOTHING)
         self.assertRaises(ima_verify.Misuse, ima_verify.report, LOG, LIST, EXPECTED, require="")
-
-    def test_log_extends_what_its_events_extend(self):
-        extended = {register.register for register in registers_in(REGISTERS)}
-        self.assertEqual({number for number in range(24) if ima_verify.log_extends(LOG, number)}, extended)
-        log = read_log(LOG)
-        for kind, is_extended in ((inputs.EV_EVENT_TAG, True), (EV_NO_ACTION, False)):
-            event = LogEvent(10, kind, {SHA256.identifier: bytes(32)}, b"")
-            self.assertIs(ima_verify.log_extends(log._replace(events=[*log.events, event]).spelling(), 10), is_extended)
-        self.assertFalse(ima_verify.log_extends(log._replace(events=[]).spelling(), 0))
-        for data in (b"", LOG[:-1]):
-            self.assertRaises(ima_verify.Refused, ima_verify.log_extends, data, 10)
-        for wrong in (10.0, "10", b"10", None):
-            self.assertRaises(TypeError, ima_verify.log_extends, LOG, wrong)
-        for wrong in (-1, 24):
-            self.assertRaises(ima_verify.Misuse, ima_verify.log_extends, LOG, wrong)
-
-    def test_log_of_any_one_bank_may_extend_register_10(self):
-        for bank in ALGORITHMS:
-            log = inputs.made_log([bank], 12)
-            event = LogEvent(10, inputs.EV_EVENT_TAG, {bank.identifier: bytes(bank.size)}, b"")
-            hiding = log._replace(events=[*log.events, event])
-            found = [(ima_verify.log_extends(data.spelling(), 10), ima_verify.are_apart(data.spelling(), LIST)) for data in (log, hiding)]
-            self.assertEqual(found, [(False, True), (True, False)])
 
     def test_registers_are_those_of_the_sample(self):
         self.assertEqual(ima_verify.registers(LOG), registers_in(REGISTERS))
@@ -160,39 +137,68 @@ class Sample(unittest.TestCase):
 
 
 class Apart(unittest.TestCase):
-    """Whether register 10 is the list's alone, and the list's only one."""
+    """With a requirement a verdict is a match only if register 10 is the list's alone, and the list's only one."""
 
-    ENTRIES = read_list(LIST)
+    BOOT, ENTRIES = read_log(LOG), read_list(LIST)
+
+    def check(self, log, entries, *wanted, has_aggregate=True):
+        """What the verdicts on log and list, and on the list alone, say with a requirement. The expected registers are those after them."""
+        after_both, after_list = (inputs.expected_text(inputs.expected_after(log._replace(events=events), entries)) for events in (log.events, []))
+        listed, of_list = list_spelling(entries), tuple(stray for stray in wanted if stray.event is None)
+        for function, given, matches, extends in (
+            (ima_verify.verify, (log.spelling(), listed, after_both), has_aggregate, wanted),
+            (ima_verify.report, (log.spelling(), listed, after_both), has_aggregate, wanted),
+            (ima_verify.replay, (listed, after_list), bool(entries), of_list),
+        ):
+            without, verdict = (function(*given, require=require) for require in (NOTHING, f"{log.algorithms[0].name}:0-10"))
+            self.assertEqual((without.extends, without.matches), ((), matches))
+            self.assertEqual((verdict.extends, verdict.matches, bool(verdict)), (extends, *2 * (matches and not extends,)))
+
+    def with_event(self, log, register, kind=inputs.EV_EVENT_TAG):
+        """The log, and then an event of this register in its banks."""
+        return log._replace(events=[*log.events, LogEvent(register, kind, {bank.identifier: bytes(bank.size) for bank in log.algorithms}, b"")])
 
     def test_sample_is_apart_and_so_is_each_part_of_its_list(self):
         for count in (0, 1, 50, 99):
-            for part in (self.ENTRIES[:count], self.ENTRIES[count:]):
-                self.assertTrue(ima_verify.are_apart(LOG, list_spelling(part)))
+            self.check(self.BOOT, self.ENTRIES[:count], has_aggregate=count > 0)
+            self.check(self.BOOT, self.ENTRIES[count:], has_aggregate=count == 0)
 
     def test_entry_of_another_register_is_found(self):
         for place in (0, 1, 50, 93, 98):  # (93 is a violation)
             for register in (0, 9, 11, 17, 23):
                 entry = self.ENTRIES[place]._replace(register=register)
-                listed = list_spelling([*self.ENTRIES[:place], entry, *self.ENTRIES[place + 1:]])
-                self.assertIs(ima_verify.are_apart(LOG, listed), False)
-        listed = list_spelling([entry._replace(register=11) for entry in self.ENTRIES])
-        self.assertIs(ima_verify.are_apart(LOG, listed), False)
+                self.check(self.BOOT, [*self.ENTRIES[:place], entry, *self.ENTRIES[place + 1:]], Stray(register, entry=place))
+        self.check(self.BOOT, [entry._replace(register=11) for entry in self.ENTRIES], Stray(11, entry=0))
 
-    def test_event_moved_into_the_list_matches_but_is_found(self):
+    def test_event_of_register_10_is_found(self):
+        for register in range(24):
+            wanted = [Stray(10, event=25)] if register == 10 else []
+            self.check(self.with_event(self.BOOT, register), self.ENTRIES, *wanted, has_aggregate=register > 9)
+        self.check(self.with_event(self.with_event(self.BOOT, 10), 10), self.ENTRIES, Stray(10, event=25))
+        self.check(self.with_event(self.BOOT, 10, EV_NO_ACTION), self.ENTRIES)
+        self.check(self.BOOT._replace(events=[]), self.ENTRIES, has_aggregate=False)
+
+    def test_log_of_any_one_bank_may_extend_register_10(self):
+        for bank in ALGORITHMS:
+            log = inputs.made_log([bank], 12)
+            aggregate = entry_of(IMA_NG, bank, log.registers().boot_aggregate(bank), BOOT_AGGREGATE)
+            self.check(log, [aggregate, *self.ENTRIES[1:]])
+            self.check(self.with_event(log, 10), [aggregate, *self.ENTRIES[1:]], Stray(10, event=13))
+
+    def test_event_moved_into_the_list_is_found(self):
         log = inputs.made_log([SHA256], 12)
         moved, left = log.events[-1], log._replace(events=log.events[:-1])
         entries = inputs.made_entries(left, inputs.made_measurements(5))
+        self.check(log, entries, has_aggregate=False)
         entries.append(ListEntry(moved.register, hashlib.sha1(moved.data).digest(), b"x", moved.data))
-        expected = inputs.expected_text(inputs.expected_after(left, entries))
-        self.assertTrue(ima_verify.verify(left.spelling(), list_spelling(entries), expected, require="sha256:0-10"))
-        self.assertFalse(ima_verify.are_apart(left.spelling(), list_spelling(entries)))
-        self.assertTrue(ima_verify.are_apart(log.spelling(), list_spelling(entries[:-1])))
+        self.check(left, entries, Stray(moved.register, entry=6))
+        self.check(self.with_event(left, 10), entries, Stray(10, event=12), Stray(moved.register, entry=6))
 
-    def test_inputs_are_refused(self):
-        for log, listed, line in ((LOG[:-1], LIST, "log fault 1 at event 24"), (LOG, LIST[:-1], "list fault 1 at entry 98"),
-                                  (LOG, CHANGED, "replay fault 1 at entry 5")):
-            with self.assertRaisesRegex(ima_verify.Refused, f"^refused: {line}$"):
-                ima_verify.are_apart(log, listed)
+    def test_entries_moved_into_the_log_are_found(self):
+        log = inputs.made_log([SHA256], 12)
+        aggregate, *moved = inputs.made_entries(log, inputs.made_measurements(5))
+        hiding = [LogEvent(10, inputs.EV_EVENT_TAG, {SHA256.identifier: entry.digest_of(SHA256)}, b"") for entry in moved]
+        self.check(log._replace(events=[*log.events, *hiding]), [aggregate], Stray(10, event=13))
 
 
 FUNCTIONS = ima_verify.verify, ima_verify.report, ima_verify.locate
@@ -201,10 +207,11 @@ FUNCTIONS = ima_verify.verify, ima_verify.report, ima_verify.locate
 class Required(unittest.TestCase):
     """Registers that a verdict must cover."""
 
-    WRONG = ("", "sha256", "sha256:24", "sha256:10-0", "sha256:0-10,", "sha256: 0", "none", "None", "none ", "0-10", "sha3:0", "\u00e4", "\ud800")
+    WRONG = ("", "sha256", "sha256:10,sha256:24", "sha256:10-0,sha256:10", "sha256:0-10,", "sha256: 10", "none", "None", "none ", "0-10",
+             "sha3:10", "\u00e4", "\ud800", "sha256:0-9", "sha1:11-23,sha256:0")
 
     def test_all_registers_are_expected(self):
-        for require in ("sha256:0-10", "sha256:0-23", "sha256:10,sha256:0-7", "sha256:4"):
+        for require in ("sha256:0-10", "sha256:0-23", "sha256:10,sha256:0-7", "sha256:10"):
             verdict, places = (function(LOG, LIST, EXPECTED, require=require) for function in (ima_verify.verify, ima_verify.locate))
             self.assertEqual((verdict.matches, verdict.compared, verdict.entries), (True, 24, 99))
             self.assertEqual(verdict.rows, ima_verify.verify(LOG, LIST, EXPECTED, require=NOTHING).rows)

@@ -19,9 +19,10 @@ sys.path[:0] = [str(ROOT / "bindings/python"), str(ROOT / "tools/bench")]
 import fake
 import ima_verify
 import inputs
-from ima_verify import NOTHING, Algorithm, BootAggregate, Kind, Row, Session, State, Unconfirmed, _answers, _library
+from ima_verify import NOTHING, Algorithm, BootAggregate, Kind, Row, Session, State, Stray, Unconfirmed, _answers, _library
 from reference.checkpoint import before_a_list
-from reference.log import read_log
+from reference.log import EV_NO_ACTION, read_log
+from reference.log import Event as LogEvent
 from reference.measurement_list import list_spelling, read_list
 from reference.registers import ALGORITHMS, SHA256
 
@@ -255,18 +256,20 @@ class Required(Refusing):
             self.assertEqual((verdict.matches, verdict.compared, verdict.confirmed, session.offset), (False, 23, None, 0))
 
     def test_requirement_of_a_resumed_session_holds(self):
+        eleven = b"".join(EXPECTED.splitlines(True)[:11])
         for cut in (0, 1, 50, 99):
             for prefix in (False, True):
                 given = {"prefix": prefix, "state": state_after(cut)}
-                session = Session(LOG, TEN, require="sha256:0-10", **given)
+                session = Session(LOG, eleven, require="sha256:0-11", **given)
                 for _ in range(2):
                     verdict = session.more(LIST[ENDS[cut]:])
-                    self.assertEqual(verdict.rows[10:], (Row(Algorithm.SHA256, 10, State.MISSING),))
+                    self.assertEqual(verdict.rows[11:], (Row(Algorithm.SHA256, 11, State.MISSING),))
                     self.assertEqual((verdict.matches, session.state), (False, given["state"]))
-                self.assertTrue(Session(LOG, TEN, require="sha256:0-9", **given).more(LIST[ENDS[cut]:]))
+                self.assertTrue(Session(LOG, eleven, require="sha256:0-10", **given).more(LIST[ENDS[cut]:]))
 
     def test_requirement_is_given_and_of_its_form(self):
-        for wrong in ("sha256", "sha256:24", "sha256:10-0", "sha256:0-10,", " ", "None", "none ", "\u00e4", "\ud800"):
+        for wrong in ("sha256", "sha256:10,sha256:24", "sha256:10-0,sha256:10", "sha256:0-10,", " ", "None", "none ", "\u00e4", "\ud800",
+                      "sha256:0-9"):
             for log, expected, data in ((b"", "x", b"x"), (LOG, EXPECTED, LIST)):
                 session = Session(log, expected, require=wrong)
                 with self.assertRaises(ima_verify.Misuse) as caught:
@@ -357,6 +360,53 @@ class Front(Refusing):
             self.check_refused(Session(LOG, tenth_after(97), require=NOTHING, prefix=True), changed(place), Kind.REPLAY, 1, place, line)
 
 
+class Apart(Refusing):
+    """A list whose entry 40 is of register 11, and the registers after its first 60 entries."""
+
+    STRAYING = [*ENTRIES[:40], ENTRIES[40]._replace(register=11), *ENTRIES[41:]]
+    AFTER_60 = TEN + register_after(10, [*ENTRIES[:40], *ENTRIES[41:60]]) + register_after(11, ENTRIES[40:41])
+
+    def check(self, data, entries, confirmed, unconfirmed=None, **given):
+        """After these bytes the verdict is a match without a requirement. With one it has the entry, is no match, and gives no state."""
+        self.assertTrue(Session(LOG, self.AFTER_60, require=NOTHING, **given).more(data))
+        session = Session(LOG, self.AFTER_60, require="sha256:0-10", **given)
+        before, verdict = (session.state, session.offset), session.more(data)
+        self.assertEqual((verdict.matches, bool(verdict), verdict.extends), (False, False, (Stray(11, entry=40),)))
+        self.assertEqual((verdict.entries, verdict.confirmed, verdict.unconfirmed), (entries, confirmed, unconfirmed))
+        self.assertEqual({row.state for row in verdict.rows}, {State.MATCH})
+        self.assertEqual((session.state, session.offset), before)
+
+    def test_entry_of_another_register_is_no_match_and_no_state(self):
+        whole, part = list_spelling(self.STRAYING), list_spelling(self.STRAYING[:60])
+        self.check(part, 60, None)
+        self.check(part, 60, 60, prefix=True)
+        self.check(whole, 99, 60, prefix=True)
+        self.check(whole + b"x", 99, 60, Unconfirmed(Kind.LIST, 1, 99), prefix=True)
+
+    def test_entry_before_the_state_counts(self):
+        for cut in (40, 41, 60):
+            state, data = state_after(cut, entries=self.STRAYING), list_spelling(self.STRAYING[cut:60])
+            self.check(data, 60, None, state=state)
+            self.check(data, 60, 60, state=state, prefix=True)
+
+    def test_event_of_register_10_is_no_match_and_no_state(self):
+        for kind, found in ((inputs.EV_EVENT_TAG, (Stray(10, event=25),)), (EV_NO_ACTION, ())):
+            log = read_log(LOG)
+            log.events.append(LogEvent(10, kind, {SHA256.identifier: bytes(32)}, b""))
+            expected = inputs.expected_text(inputs.expected_after(log, ENTRIES))
+            for prefix in (False, True):
+                session = Session(log.spelling(), expected, require="sha256:0-10", prefix=prefix)
+                verdict = session.more(LIST)
+                self.assertEqual((verdict.matches, verdict.extends), (not found, found))
+                self.assertEqual((verdict.confirmed, session.offset), (99 if prefix else None, 0 if found else len(LIST)))
+
+    def test_front_before_the_entry_is_confirmed(self):
+        session = Session(LOG, tenth_after(40), require="sha256:0-10", prefix=True)
+        verdict = session.more(list_spelling(self.STRAYING))
+        self.assertEqual((verdict.matches, verdict.confirmed, verdict.extends), (True, 40, ()))
+        self.assertEqual(session.state, state_after(40))
+
+
 class Page(unittest.TestCase):
     """The function of README.md."""
 
@@ -375,13 +425,9 @@ class Page(unittest.TestCase):
         self.assertEqual(self.judge(EXPECTED, wanted[1], lambda start: LIST[start:ENDS[98]]), (False, wanted[1], ""))
 
     def test_front_that_is_not_apart_from_the_log_is_no_state(self):
-        listed = list_spelling([*ENTRIES[:40], ENTRIES[40]._replace(register=11), *ENTRIES[41:]])
-        expected = TEN + register_after(10, [*ENTRIES[:40], *ENTRIES[41:60]]) + register_after(11, ENTRIES[40:41])
-        verdict = Session(LOG, expected, require="sha256:0-10", prefix=True).more(listed)
-        self.assertEqual((verdict.matches, verdict.confirmed), (True, 60))
+        listed = list_spelling(Apart.STRAYING)
         for state in (None, state_after(30)):
-            with self.assertRaisesRegex(ValueError, "PCR 10"):
-                self.judge(expected, state, lambda start: listed[start:])
+            self.assertEqual(self.judge(Apart.AFTER_60, state, lambda start: listed[start:]), (False, state, ""))
         self.assertTrue(self.judge(tenth_after(40), None, lambda start: listed[start:])[0])
 
 
@@ -538,6 +584,24 @@ class Answers(unittest.TestCase):
         # A report of a whole list that matches has a front, too.
         self.check_wrong(0, REPORT, True)
         self.check_right(0, REPORT.replace(b'"entries":3,', b'"entries":3,"confirmed":3,'), True, True, 3, 3, None)
+
+    def test_front_with_a_stray_is_no_match(self):
+        for strays in (b'{"entry":2,"register":11}', b'{"event":1,"register":10}', b'{"event":1,"register":10},{"entry":0,"register":0}'):
+            extends = b'"extends":[%b],"verdict":"differ"' % strays
+            for front, fault in ((FRONT, None), (FRONT_WITH_FAULT, Unconfirmed(Kind.REPLAY, 1, 4))):
+                text = front.replace(b'"verdict":"match"', extends)
+                self.check_right(1, text, True, False, 5, 3, fault)
+                self.check_wrong(0, text, True)
+                self.check_wrong(1, text, False)
+                self.check_wrong(1, text, True, state=STATE)  # (only a match has one)
+                for old, new in ((extends, b'"verdict":"differ"'), (b'"verdict":"differ"', b'"verdict":"match"'), (b'"good"', b'"wrong"'),
+                                 (b'"state":"match"', b'"state":"missing"'), (b'"entry":2,"register":11', b'"entry":3,"register":11')):
+                    if old in text:
+                        self.check_wrong(1, text.replace(old, new), True)
+            whole = REPORT.replace(b'"verdict":"match"', extends)
+            self.check_right(1, whole, False, False, 3, None, None)
+            self.check_wrong(1, whole, True)  # (all registers match, so there is a front)
+            self.check_right(1, whole.replace(b'"good"', b'"wrong"'), True, False, 3, None, None)
 
     def test_differing_report_has_no_front(self):
         for told in (b'"confirmed":3,', TOLD, TOLD[len(b'"confirmed":3,'):], b'"confirmed":null,', b'"unconfirmed":null,'):

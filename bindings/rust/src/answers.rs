@@ -2,13 +2,15 @@
 
 use crate::library::{Told, DIFFERS, DONE, MORE, OUT_OF_MEMORY, REFUSED};
 use crate::{Algorithm, BootAggregate, Content, Entry, Error, Event, File, Kind, ListVerdict, LogAlgorithm};
-use crate::{Place, PlaceRow, Places, Register, Row, State, Unconfirmed, Verdict};
+use crate::{Place, PlaceRow, Places, Register, Row, State, Stray, Unconfirmed, Verdict};
 use ima_verify_sys as c;
 use serde::de::{DeserializeOwned, Error as _};
 use serde::{Deserialize, Deserializer};
 use std::collections::BTreeMap;
 
 const REGISTERS: u8 = 24;
+/// The PCR that IMA alone extends.
+const LIST_REGISTER: u8 = 10;
 
 /// What the library gives to a call: a result, what it reports of an error, a next checkpoint, and a text.
 #[derive(Debug)]
@@ -55,15 +57,16 @@ impl Answer {
         self.read(|answer| {
             let verdict = answer.report(false)?;
             let (end, confirmed) = (from.bytes.checked_add(size)?, verdict.confirmed);
-            (confirmed.is_some() == (prefix && verdict.matches)).then_some(())?;
             let entries = confirmed.unwrap_or(verdict.entries);
+            let is_right = confirmed.is_some() == (prefix && verdict.has_all_values()) && from.entries <= entries;
+            is_right.then_some(())?;
             if !verdict.matches {
-                return (answer.next.is_empty() && from.entries <= entries).then_some((verdict, None));
+                return answer.next.is_empty().then_some((verdict, None));
             }
             let reached = Checkpoint::of(answer.next.clone())?;
             let is_right_end =
                 if confirmed.is_some() { (from.bytes..=end).contains(&reached.bytes) } else { reached.bytes == end };
-            (is_right_end && from.entries <= entries && entries == reached.entries).then_some((verdict, Some(reached)))
+            (is_right_end && entries == reached.entries).then_some((verdict, Some(reached)))
         })
     }
 
@@ -71,7 +74,8 @@ impl Answer {
     fn report(&self, may_match_nothing: bool) -> Option<Verdict> {
         let Report { events, locality, boot_aggregate, confirmed, unconfirmed, rest } = object(&self.text)?;
         let has_rows = !rest.registers.is_empty();
-        let is_good = boot_aggregate == BootAggregate::Good && (has_rows || may_match_nothing);
+        let extends = rest.strays(events, confirmed.unwrap_or(rest.entries))?;
+        let is_good = boot_aggregate == BootAggregate::Good && (has_rows || may_match_nothing) && extends.is_empty();
         let matches = self.matches(&rest, is_good)? && has_rows;
         let (entries, rows, json) = (rest.entries, rest.registers, self.line()?);
         confirmed.map_or(unconfirmed.is_none(), |confirmed| (1..=entries).contains(&confirmed)).then_some(())?;
@@ -79,15 +83,16 @@ impl Answer {
             Some(fault) => Some(fault.unconfirmed(confirmed?, entries)?),
             None => None,
         };
-        Some(Verdict { events, locality, entries, boot_aggregate, rows, matches, json, confirmed, unconfirmed })
+        Some(Verdict { events, locality, entries, boot_aggregate, rows, matches, json, confirmed, unconfirmed, extends })
     }
 
     /// The verdict on a list alone. On no PCRs it is no match.
     pub(crate) fn list_verdict(self) -> Result<ListVerdict, Error> {
         self.read(|answer| {
             let report: ListReport = object(&answer.text)?;
-            let matches = answer.matches(&report, report.entries > 0 && !report.registers.is_empty())?;
-            Some(ListVerdict { entries: report.entries, rows: report.registers, matches, json: answer.line()? })
+            let (extends, has_rows) = (report.strays(0, report.entries)?, !report.registers.is_empty());
+            let matches = answer.matches(&report, report.entries > 0 && has_rows && extends.is_empty())?;
+            Some(ListVerdict { entries: report.entries, rows: report.registers, matches, json: answer.line()?, extends })
         })
     }
 
@@ -149,6 +154,14 @@ impl Answer {
 
     pub(crate) fn unexpected(&self) -> Error {
         Error::Unexpected { result: self.result, size: self.text.len(), text: self.text.clone() }
+    }
+}
+
+impl Verdict {
+    /// Whether it is a match, apart from `extends`.
+    fn has_all_values(&self) -> bool {
+        let is_good = self.boot_aggregate == BootAggregate::Good && !self.rows.is_empty();
+        is_good && self.rows.iter().all(|row| row.state == State::Match)
     }
 }
 
@@ -215,9 +228,42 @@ fn told<'de, D: Deserializer<'de>, T: Deserialize<'de>>(from: D) -> Result<Optio
 struct ListReport {
     entries: u64,
     registers: Vec<Row>,
+    #[serde(default, deserialize_with = "told")]
+    extends: Option<Vec<Extending>>,
     verdict: Said,
     #[serde(default, rename = "fault")]
     _fault: NoFault,
+}
+
+impl ListReport {
+    /// What extends another's register, of so many events and entries: an event, an entry, or an event and then an entry.
+    fn strays(&self, events: u64, entries: u64) -> Option<Vec<Stray>> {
+        let Some(extends) = &self.extends else { return Some(Vec::new()) };
+        let strays: Vec<_> = extends.iter().map(|extending| extending.stray(events, entries)).collect::<Option<_>>()?;
+        matches!(strays[..], [_] | [Stray::Event { .. }, Stray::Entry { .. }]).then_some(strays)
+    }
+}
+
+/// An event or an entry, and the register that it extends.
+#[derive(Deserialize)]
+struct Extending {
+    #[serde(default, deserialize_with = "told")]
+    event: Option<u64>,
+    #[serde(default, deserialize_with = "told")]
+    entry: Option<u64>,
+    #[serde(deserialize_with = "register")]
+    register: u8,
+}
+
+impl Extending {
+    fn stray(&self, events: u64, entries: u64) -> Option<Stray> {
+        let (register, is_of_list) = (self.register, self.register == LIST_REGISTER);
+        match (self.event, self.entry) {
+            (Some(event), None) if is_of_list && (1..=events).contains(&event) => Some(Stray::Event { event, register }),
+            (None, Some(entry)) if !is_of_list && entry < entries => Some(Stray::Entry { entry, register }),
+            _ => None,
+        }
+    }
 }
 
 #[derive(Deserialize, PartialEq)]

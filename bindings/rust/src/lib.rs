@@ -15,10 +15,10 @@
 //! # }
 //! ```
 //!
-//! A verdict covers only the boot aggregate and the PCRs in the expected text. So each call says which PCRs it must cover, as here;
-//! a requirement that is empty is refused. A match covers only a log and a list that are apart ([`are_apart`]). [`entries`] and
-//! [`events`] go through the inputs themselves. A [`Session`] is for a list that grows, and for one that grew after the expected
-//! PCRs were read.
+//! A verdict covers only the boot aggregate and the PCRs in the expected text. So each call says which PCRs it must cover, as here.
+//! With such a requirement a verdict is a match only if no event of the log extends PCR 10 and each entry of the list names it.
+//! [`entries`] and [`events`] go through the inputs themselves. A [`Session`] is for a list that grows, and for one that grew after
+//! the expected PCRs were read.
 //!
 //! Any number of threads may call at once.
 
@@ -127,6 +127,28 @@ pub struct Row {
     pub state: State,
 }
 
+/// An event of the log that extends PCR 10, or an entry of the list that extends another.
+#[derive(Debug, Clone, Copy, PartialEq, Eq, Hash)]
+#[non_exhaustive]
+pub enum Stray {
+    /// An event of the log.
+    #[non_exhaustive]
+    Event {
+        /// Its number; events count from 1.
+        event: u64,
+        /// The PCR, which is 10.
+        register: u8,
+    },
+    /// An entry of the list.
+    #[non_exhaustive]
+    Entry {
+        /// Its number; entries count from 0.
+        entry: u64,
+        /// The PCR that it extends.
+        register: u8,
+    },
+}
+
 /// The verdict on a log, a list and expected PCRs.
 #[derive(Debug, Clone, PartialEq, Eq, Hash)]
 #[must_use]
@@ -142,16 +164,18 @@ pub struct Verdict {
     pub boot_aggregate: BootAggregate,
     /// A row for each expected PCR, in their order, and then one for each that is missing.
     pub rows: Vec<Row>,
-    /// The boot aggregate is good, each expected PCR has its value, there is one, and no required one is missing. It covers no PCR
-    /// that has no row.
+    /// The boot aggregate is good, each expected PCR has its value, there is one, no required one is missing, and `extends` is
+    /// empty. It covers no PCR that has no row.
     pub matches: bool,
     /// The report as `ima-agent verify --json` prints it, without the line feed.
     pub json: String,
-    /// Only from a [`Session`] with a prefix: the verdict is a match on that many first entries, of all `entries`, and does not
-    /// cover those after them.
+    /// Only from a [`Session`] with a prefix: the verdict is on that many first entries, of all `entries`, with which the PCRs
+    /// match, and does not cover those after them.
     pub confirmed: Option<u64>,
     /// The first error in those after the confirmed ones, if they have one.
     pub unconfirmed: Option<Unconfirmed>,
+    /// The first event that extends PCR 10, and the first entry that extends another, if PCRs are required.
+    pub extends: Vec<Stray>,
 }
 
 /// An error in a list after its confirmed part, for which the list is not refused.
@@ -184,10 +208,12 @@ pub struct ListVerdict {
     pub entries: u64,
     /// A row for each expected PCR, in their order, and then one for each that is missing.
     pub rows: Vec<Row>,
-    /// The list has an entry, each expected PCR has its value, there is one, and no required one is missing.
+    /// The list has an entry, each expected PCR has its value, there is one, no required one is missing, and `extends` is empty.
     pub matches: bool,
     /// The report as `ima-agent replay --json` prints it, without the line feed.
     pub json: String,
+    /// The first entry that extends another PCR than 10, if PCRs are required.
+    pub extends: Vec<Stray>,
 }
 
 impl ListVerdict {
@@ -441,7 +467,7 @@ impl fmt::Display for Error {
     fn fmt(&self, f: &mut fmt::Formatter<'_>) -> fmt::Result {
         match self {
             Self::Refused { line, kind: Kind::Argument, .. } => {
-                write!(f, "{line} (no PCRs are named in the form sha256:0-10 or 0-10)")
+                write!(f, "{line} (PCRs are named as in sha256:0-10, with PCR 10, or as in 0-10)")
             }
             Self::Refused { line, .. } => f.write_str(line),
             Self::OutOfMemory => f.write_str("no memory for libima_verify"),
@@ -467,16 +493,19 @@ pub fn version() -> u32 {
 /// The verdict on a firmware event log, a measurement list and the expected PCRs that a text states.
 ///
 /// `require` names the PCRs that must be among the expected ones, such as `sha256:0-10` or `sha256:0-7,sha1:10`. Each that is not has
-/// a row whose state is [`State::Missing`], and then the verdict is no match. [`NOTHING_REQUIRED`] requires none; an empty text is
-/// refused.
+/// a row whose state is [`State::Missing`], and then the verdict is no match. [`NOTHING_REQUIRED`] requires none; a text without PCR
+/// 10, or an empty one, is refused.
 ///
 /// ```
 /// # fn main() -> Result<(), Box<dyn std::error::Error>> {
 /// # let sample = |name| std::fs::read(format!("samples/{name}"));
-/// # let (log, list, expected) = (sample("firmware.log")?, sample("ima.list")?, sample("expected.txt")?);
+/// # let (log, mut list, expected) = (sample("firmware.log")?, sample("ima.list")?, sample("expected.txt")?);
 /// assert!(ima_verify::verify(&log, &list, &expected, "sha256:0-10")?.matches);
 /// assert!(!ima_verify::verify(&log, &list, b"", "sha256:0-10")?.matches);
 /// assert!(ima_verify::verify(&log, &list, &expected, "").is_err());
+/// list[0] = 9; // (the first entry's PCR)
+/// let found = ima_verify::verify(&log, &list, &expected, "sha256:0-10")?.extends;
+/// assert!(matches!(found[..], [ima_verify::Stray::Entry { entry: 0, register: 9, .. }]));
 /// # Ok(())
 /// # }
 /// ```
@@ -540,34 +569,6 @@ pub fn registers(log: &[u8]) -> Result<Vec<Register>, Error> {
 /// [`Error::Refused`] if the list is damaged, or the template digest of an entry is not valid; otherwise as for [`verify`].
 pub fn list_registers(list: &[u8]) -> Result<Vec<Register>, Error> {
     ask(|out| library::list_registers(list, out))?.registers()
-}
-
-/// The PCR that IMA alone extends.
-const LIST_REGISTER: u8 = 10;
-
-/// Whether no event of the log extends PCR 10, which IMA alone does, and no entry of the list names another PCR.
-///
-/// Otherwise all PCRs can match though entries were moved from the list into the log, or events from the log into the list. Each part
-/// of a list that grows can be asked about by itself.
-///
-/// ```
-/// # fn main() -> Result<(), Box<dyn std::error::Error>> {
-/// # let sample = |name| std::fs::read(format!("samples/{name}"));
-/// # let (log, mut list) = (sample("firmware.log")?, sample("ima.list")?);
-/// assert!(ima_verify::are_apart(&log, &list)?);
-/// list[0] = 9; // (the first entry's PCR)
-/// assert!(!ima_verify::are_apart(&log, &list)?);
-/// # Ok(())
-/// # }
-/// ```
-///
-/// # Errors
-///
-/// As for [`registers`] and [`list_registers`].
-pub fn are_apart(log: &[u8], list: &[u8]) -> Result<bool, Error> {
-    let (of_log, of_list) = (registers(log)?, list_registers(list)?);
-    let in_log = of_log.iter().any(|extended| extended.register == LIST_REGISTER);
-    Ok(!in_log && of_list.iter().all(|extended| extended.register == LIST_REGISTER))
 }
 
 /// The entries of a measurement list, one after another. Each says whether its template digest is valid; no entry says that the list

@@ -12,14 +12,14 @@ use crate::{Error, Verdict};
 /// # let (log, list, expected) = (sample("firmware.log")?, sample("ima.list")?, sample("expected.txt")?);
 /// use ima_verify::Session;
 ///
-/// let of_firmware = expected.split_inclusive(|byte| *byte == b'\n').take(10).collect::<Vec<_>>().concat();
-/// let mut session = Session::new(&log, &of_firmware, "sha256:0-9");
-/// let verdict = session.more(&list[..101])?; // the boot aggregate
-/// assert_eq!((verdict.matches, verdict.entries, session.offset()), (true, 1, 101));
+/// let mut session = Session::new(&log, &expected, "sha256:0-10").prefix();
+/// let verdict = session.more(&[&list[..], b"cut"].concat())?; // more than the PCRs confirm
+/// assert_eq!((verdict.matches, verdict.confirmed, session.offset()), (true, Some(4), list.len() as u64));
+/// assert_eq!(verdict.unconfirmed.unwrap().line, "unconfirmed: list fault 1 at entry 4");
 ///
-/// let mut later = Session::new(&log, &expected, "sha256:0-10").prefix().resume(session.state().unwrap())?;
+/// let mut later = Session::new(&log, &expected, "sha256:0-10").resume(session.state().unwrap())?;
 /// let verdict = later.more(&list[later.offset() as usize..])?;
-/// assert_eq!((verdict.matches, verdict.entries, verdict.confirmed), (true, 4, Some(4)));
+/// assert_eq!((verdict.matches, verdict.entries), (true, 4));
 /// # Ok(())
 /// # }
 /// ```
@@ -41,8 +41,8 @@ impl Session {
         Self { log, expected, require, prefix: false, reached: Checkpoint::default() }
     }
 
-    /// A session whose verdict is on the confirmed part of the list, if there is one: the list's first entries, as few as give a
-    /// match. What comes after them may be new since the PCRs were read, or damaged. [`Verdict::confirmed`] says how many
+    /// A session whose verdict is on the confirmed part of the list, if there is one: the list's first entries, as few as make all
+    /// PCRs match. What comes after them may be new since the PCRs were read, or damaged. [`Verdict::confirmed`] says how many
     /// entries they are, and [`Verdict::unconfirmed`] what is wrong after them.
     pub fn prefix(self) -> Self {
         Self { prefix: true, ..self }

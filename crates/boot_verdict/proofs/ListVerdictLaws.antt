@@ -9,7 +9,9 @@ use Rattle.pcr_banks.specs.Registers.{register_count, extended_by_all, reset_val
 use Rattle.ima_list.specs.ListEntry.{ListEntry}
 use Rattle.ima_list.specs.Replaying.{IsReplayed, digests_of}
 use Rattle.boot_verdict.specs.declared.expected.Expected.{Expected}
+use Rattle.boot_verdict.specs.declared.isolation.Stray.{Stray}
 use Rattle.boot_verdict.specs.declared.report.Row.{Row}
+use Rattle.boot_verdict.specs.Isolation.{first_stray}
 use Rattle.boot_verdict.specs.ListVerdicts.{ListVerdict, list_row_on, list_verdict_on, pcr_after_list}
 use Rattle.boot_verdict.specs.Replays.{IsListStart, every_alg}
 use Rattle.boot_verdict.specs.Verdicts.{row_state}
@@ -55,9 +57,11 @@ list_rows_same start banks entries expected reset replayed =
 
 -- ---- the verdict
 
-pub list_verdict_same : (start banks : Banks) (entries : List ListEntry) (expected : List Expected) (count : ℕ) (rows : List Row)
-    → IsListStart start → IsReplayed start entries banks → count ≡ length entries → rows ≡ map (row_of banks) expected
-    → ◌≡◌ {A = ListVerdict} (record { entries = count; rows = rows }) (list_verdict_on entries expected)
-list_verdict_same start banks entries expected count rows reset replayed counts are =
+pub list_verdict_same : (start banks : Banks) (entries : List ListEntry) (expected : List Expected) (count : ℕ) (stray : Option Stray)
+    (rows : List Row) → IsListStart start → IsReplayed start entries banks → count ≡ length entries → stray ≡ first_stray entries
+    → rows ≡ map (row_of banks) expected
+    → ◌≡◌ {A = ListVerdict} (record { entries = count; strays = record { event = None; entry = stray }; rows = rows })
+    (list_verdict_on entries expected)
+list_verdict_same start banks entries expected count stray rows reset replayed counts first are =
     let same = are ∙ list_rows_same start banks entries expected reset replayed in
-    λ i. record { entries = counts i; rows = same i }
+    λ i. record { entries = counts i; strays = record { event = None; entry = first i }; rows = same i }

@@ -1,13 +1,14 @@
 -- Requirements: what their texts spell, which registers are missing, and the rows of those that are not.
-use Rattle.std.proofs.Common.{rules, ◌≡◌, ℕ, suc, ◌<◌, Bool, true, false, List, [], ◌∷◌, ◌++◌, length, get_or, Option, Some, option_map, Bor, refl, sym, ap, ◌∙◌, inl, inr, arith, append_assoc, ◌==◌, ◌&&◌, ◌||◌}
-use Rattle.std.specs.Prelude.{map, nat_le, not}
+use Rattle.std.proofs.Common.{rules, ◌≡◌, ℕ, suc, ◌<◌, Bool, true, false, List, [], ◌∷◌, ◌++◌, length, get_or, Option, Some, None, option_map, Bor, refl, sym, ap, ◌∙◌, inl, inr, arith, append_assoc, ◌==◌, ◌&&◌, ◌||◌}
+use Rattle.std.specs.Prelude.{is_some, map, nat_le, not}
 use Rattle.std.specs.List.{AllByRecursion, list_all, list_any}
 use Rattle.std.specs.Str.Iter.{LacksByte}
 use Rattle.std.proofs.lemmas.Bool.{and_parts, both_ways, cases_Bool, eqb-true, leb-true, or_cases}
 use Rattle.std.proofs.lemmas.List.Folds.{list_all_at}
 use Rattle.pcr_banks.specs.declared.alg.Alg.{Alg}
+use Rattle.pcr_banks.specs.declared.alg.Alg.TheVariants.{Sha1, Sha256, Sha384, Sha512}
 use Rattle.pcr_banks.specs.declared.sets.AlgSet.{AlgSet}
-use Rattle.pcr_banks.specs.Hashing.{name_of, same_alg}
+use Rattle.pcr_banks.specs.Hashing.{all_algs, name_of, same_alg}
 use Rattle.pcr_banks.specs.Registers.{register_count}
 use Rattle.pcr_banks.proofs.AlgLaws.{every_alg, every_passes, same_alg_is, same_name_is}
 use Rattle.boot_log.specs.Spelling.{LogEvent}
@@ -18,16 +19,17 @@ use Rattle.boot_verdict.specs.declared.report.Row.{Row}
 use Rattle.boot_verdict.specs.declared.report.State.{State}
 use Rattle.boot_verdict.specs.declared.report.State.TheVariants.{Match, Differ, Absent}
 use Rattle.boot_verdict.specs.declared.requirement.BankRange.{BankRange}
-use Rattle.boot_verdict.specs.declared.requirement.RequirementFault.{RequirementFault}
-use Rattle.boot_verdict.specs.declared.requirement.RequirementFault.TheVariants.{Malformed, Memory}
+use Rattle.boot_verdict.specs.declared.isolation.Strays.{Strays}
+use Rattle.boot_verdict.specs.Isolation.{IsListApart, IsLogApart, are_none, first_extending, first_stray, list_register}
 use Rattle.boot_verdict.specs.RegisterRanges.{IsRangeText, is_within}
 use Rattle.boot_verdict.specs.RegisterTexts.{all_registers}
-use Rattle.boot_verdict.specs.Requirements.{AreBankRanges, BeginsWithBankRange, HasMatch, IsBankRangeText, IsRequirementText, expected_of_rows, is_complete, is_complete_in, is_in, is_missing, is_of, names, required_matches, split_at_commas, states}
-use Rattle.boot_verdict.specs.ListVerdicts.{list_verdict_on, required_list_matches}
-use Rattle.boot_verdict.specs.Verdicts.{is_good, is_match, state_matches, verdict_on}
+use Rattle.boot_verdict.specs.Requirements.{AreBankRanges, BeginsWithBankRange, HasMatch, IsBankRangeText, IsRequirementText, SpellsRanges, bind_list, expected_of_rows, is_complete, is_complete_in, is_in, is_missing, is_of, names, required_matches, split_at_commas, states}
+use Rattle.boot_verdict.specs.ListVerdicts.{list_matches, list_verdict_on, required_list_matches}
+use Rattle.boot_verdict.specs.Verdicts.{is_good, is_match, matches, state_matches, verdict_on}
 use Rattle.boot_verdict.specs.Lines.{IsSplitOnce}
 use Rattle.boot_verdict.specs.parts.RequirementParts.{SpellsRange, TakesPart, parts_left}
 use Rattle.boot_verdict.proofs.ExpectedLaws.{Lacks, lacks_from, not_lacked, one_cut}
+use Rattle.boot_verdict.proofs.IsolationLaws.{list_is_apart, log_is_apart}
 use Rattle.boot_verdict.proofs.RangeLaws.{range_once}
 use Rattle.boot_verdict.proofs.RegisterLaws as registers
 
@@ -133,10 +135,10 @@ spelled_among [] others part (bank ∷ ranges) are = (bank, are.0)
 spelled_among (first ∷ before) others part [] are = absurd are
 spelled_among (first ∷ before) others part (bank ∷ ranges) are = spelled_among before others part ranges are.1
 
--- Each part of a text that spells a requirement spells a range of a bank.
+-- Each part of a text that spells ranges of banks spells a range of a bank.
 pub part_spelled : (text part : List ℕ) (earlier ranges : List BankRange) (left : Bor (List ℕ)) (rest : Option (Bor (List ℕ)))
     → ReadsParts text earlier (Some left) → split_at_commas left.now ≡ part ∷ parts_left (option_map (λ r. r.now) rest)
-    → IsRequirementText text ranges → SpellsRange part
+    → SpellsRanges text ranges → SpellsRange part
 part_spelled text part earlier ranges left rest on next is =
     let are : AreBankRanges (on.before ++ part ∷ parts_left (option_map (λ r. r.now) rest)) ranges =
     rw (parts_next text part earlier left rest on next) at is in
@@ -158,11 +160,6 @@ begins_with_range text part ranges left rest on next spells =
     begins_with text part on.before (parts_left (option_map (λ r. r.now) rest)) ranges (parts_next text part ranges left rest on next)
     on.are spells
 
--- There are two faults.
-pub is_memory : (fault : RequirementFault) → (fault ≡ Malformed → ⊥) → fault ≡ Memory
-is_memory Malformed none = absurd (none refl)
-is_memory Memory none = refl
-
 -- ---- one reading
 
 bank_range_once : (part : List ℕ) (first second : BankRange) → IsBankRangeText part first → IsBankRangeText part second → first ≡ second
@@ -182,10 +179,14 @@ are_once (part ∷ parts) (a ∷ first) (b ∷ second) p q =
     let others = are_once parts first second p.1 q.1 in
     λ i. here i ∷ others i
 
--- A text spells one requirement.
-pub requirement_once : (text : List ℕ) (first second : List BankRange) → IsRequirementText text first → IsRequirementText text second
-    → first ≡ second
-requirement_once text first second is another = are_once (split_at_commas text) first second is another
+-- A text spells one list of ranges.
+pub ranges_once : (text : List ℕ) (first second : List BankRange) → SpellsRanges text first → SpellsRanges text second → first ≡ second
+ranges_once text first second is another = are_once (split_at_commas text) first second is another
+
+-- Ranges without the list's register are those of no requirement.
+pub unbound : (text : List ℕ) (ranges other : List BankRange) → SpellsRanges text ranges → bind_list ranges ≡ false
+    → IsRequirementText text other → ⊥
+unbound text ranges other spells lacks is = both_ways (bind_list ranges) lacks (rw (ranges_once text ranges other spells is.0) is.1)
 
 -- ---- rows of what is required
 
@@ -256,7 +257,7 @@ matched_among (row ∷ rows) alg register all some =
     ]
 
 -- Rows that all match, and lack no register that a requirement names, have a match for each of these.
-rows_matched : (rows : List Row) (text : List ℕ) (ranges : List BankRange) (alg : Alg) (register : ℕ) → IsRequirementText text ranges
+rows_matched : (rows : List Row) (text : List ℕ) (ranges : List BankRange) (alg : Alg) (register : ℕ) → SpellsRanges text ranges
     → list_all is_match rows ≡ true → is_complete ranges (expected_of_rows rows) ≡ true → names ranges alg register ≡ true
     → HasMatch rows alg register
 rows_matched rows text ranges alg register is each complete named =
@@ -267,21 +268,86 @@ rows_matched rows text ranges alg register is each complete named =
 
 -- Each register that a requirement names has a row that is a match, where the verdict meets it.
 pub required_matched : (algs : AlgSet) (events : List LogEvent) (entries : List ListEntry) (expected : List Expected) (text : List ℕ)
-    (ranges : List BankRange) (alg : Alg) (register : ℕ) → IsRequirementText text ranges
+    (ranges : List BankRange) (alg : Alg) (register : ℕ) → SpellsRanges text ranges
     → required_matches ranges (verdict_on algs events entries expected) ≡ true → names ranges alg register ≡ true
     → HasMatch (verdict_on algs events entries expected).rows alg register
 required_matched algs events entries expected text ranges alg register is meets named =
     let verdict = verdict_on algs events entries expected in
     let both = and_parts _ (is_complete ranges (expected_of_rows verdict.rows)) meets in
-    let each = (and_parts (is_good verdict.aggregate) (list_all is_match verdict.rows) both.0).1 in
+    let alike = (and_parts (matches verdict) (are_none verdict.strays) both.0).0 in
+    let each = (and_parts (is_good verdict.aggregate) (list_all is_match verdict.rows) alike).1 in
     rows_matched verdict.rows text ranges alg register is each both.1 named
 
 -- Each register that a requirement names has a row that is a match, where the verdict on a list alone meets it.
 pub required_list_matched : (entries : List ListEntry) (expected : List Expected) (text : List ℕ) (ranges : List BankRange) (alg : Alg)
-    (register : ℕ) → IsRequirementText text ranges → required_list_matches ranges (list_verdict_on entries expected) ≡ true
+    (register : ℕ) → SpellsRanges text ranges → required_list_matches ranges (list_verdict_on entries expected) ≡ true
     → names ranges alg register ≡ true → HasMatch (list_verdict_on entries expected).rows alg register
 required_list_matched entries expected text ranges alg register is meets named =
     let verdict = list_verdict_on entries expected in
     let both = and_parts _ (is_complete ranges (expected_of_rows verdict.rows)) meets in
-    let each = (and_parts _ (list_all is_match verdict.rows) both.0).1 in
+    let alike = (and_parts (list_matches verdict) (are_none verdict.strays) both.0).0 in
+    let each = (and_parts _ (list_all is_match verdict.rows) alike).1 in
     rows_matched verdict.rows text ranges alg register is each both.1 named
+
+-- ---- log and list are apart, and register 10 is among what matches
+
+none_is : {A : Type 0} (value : Option A) → not (is_some value) ≡ true → value ≡ None
+none_is None e = refl
+none_is (Some x) e = absurd cc
+
+none_are : (strays : Strays) → are_none strays ≡ true → (strays.event ≡ None) × (strays.entry ≡ None)
+none_are strays none =
+    let both = and_parts (not (is_some strays.event)) (not (is_some strays.entry)) none in
+    (none_is strays.event both.0, none_is strays.entry both.1)
+
+-- Where a verdict meets a requirement, log and list are apart.
+pub required_apart : (algs : AlgSet) (events : List LogEvent) (entries : List ListEntry) (expected : List Expected) (ranges : List BankRange)
+    → required_matches ranges (verdict_on algs events entries expected) ≡ true → IsLogApart events × IsListApart entries
+required_apart algs events entries expected ranges meets =
+    let verdict = verdict_on algs events entries expected in
+    let both = and_parts _ (is_complete ranges (expected_of_rows verdict.rows)) meets in
+    let none = none_are verdict.strays (and_parts (matches verdict) (are_none verdict.strays) both.0).1 in
+    (log_is_apart 1 events none.0, list_is_apart 0 entries none.1)
+
+pub required_list_apart : (entries : List ListEntry) (expected : List Expected) (ranges : List BankRange)
+    → required_list_matches ranges (list_verdict_on entries expected) ≡ true → IsListApart entries
+required_list_apart entries expected ranges meets =
+    let verdict = list_verdict_on entries expected in
+    let both = and_parts _ (is_complete ranges (expected_of_rows verdict.rows)) meets in
+    let none = none_are verdict.strays (and_parts (list_matches verdict) (are_none verdict.strays) both.0).1 in
+    list_is_apart 0 entries none.1
+
+-- One algorithm passes, if any does.
+some_alg : (test : Alg → Bool) → list_any test all_algs ≡ true → (alg : Alg) × (test alg ≡ true)
+some_alg test any =
+    elim (or_cases (test Sha1) _ any) [
+      | inl first ↦ (Sha1, first)
+      | inr after ↦
+          elim (or_cases (test Sha256) _ after) [
+            | inl second ↦ (Sha256, second)
+            | inr others ↦
+                elim (or_cases (test Sha384) _ others) [
+                  | inl third ↦ (Sha384, third)
+                  | inr last ↦
+                      elim (or_cases (test Sha512) false last) [
+                        | inl fourth ↦ (Sha512, fourth)
+                        | inr none ↦ absurd cc
+                      ]
+                ]
+          ]
+    ]
+
+-- Where a verdict meets what a text requires, the list's register matches in some bank.
+pub required_bound : (algs : AlgSet) (events : List LogEvent) (entries : List ListEntry) (expected : List Expected) (text : List ℕ)
+    (ranges : List BankRange) → IsRequirementText text ranges → required_matches ranges (verdict_on algs events entries expected) ≡ true
+    → (alg : Alg) × HasMatch (verdict_on algs events entries expected).rows alg list_register
+required_bound algs events entries expected text ranges is meets =
+    let bound = some_alg (λ alg. names ranges alg list_register) is.1 in
+    (bound.0, required_matched algs events entries expected text ranges bound.0 list_register is.0 meets bound.1)
+
+pub required_list_bound : (entries : List ListEntry) (expected : List Expected) (text : List ℕ) (ranges : List BankRange)
+    → IsRequirementText text ranges → required_list_matches ranges (list_verdict_on entries expected) ≡ true
+    → (alg : Alg) × HasMatch (list_verdict_on entries expected).rows alg list_register
+required_list_bound entries expected text ranges is meets =
+    let bound = some_alg (λ alg. names ranges alg list_register) is.1 in
+    (bound.0, required_list_matched entries expected text ranges bound.0 list_register is.0 meets bound.1)

@@ -1,10 +1,11 @@
 -- That a log and a list extend different registers, so that each register's value is by one of the two alone. This is this project's choice.
-use Rattle.std.specs.Prelude.{◌≡◌, ℕ, ◌+◌, ◌==◌, false, if◌then◌else◌, List, [], ◌∷◌, Option, Some, None}
+use Rattle.std.specs.Prelude.{◌≡◌, ℕ, ◌+◌, ◌==◌, ◌&&◌, not, Bool, false, if◌then◌else◌, List, [], ◌∷◌, Option, Some, None, is_some}
 use Rattle.std.specs.List.{AllByRecursion}
 use Rattle.boot_log.specs.Spelling.{LogEvent}
 use Rattle.boot_log.specs.Replaying.{is_extended_into}
 use Rattle.ima_list.specs.ListEntry.{ListEntry}
 use Rattle.boot_verdict.specs.declared.isolation.Stray.{Stray}
+use Rattle.boot_verdict.specs.declared.isolation.Strays.{Strays}
 
 -- The register that IMA extends, and nothing else does (Linux, security/integrity/ima/Kconfig, IMA_MEASURE_PCR_IDX, whose default is 10).
 abbrev pub list_register : ℕ
@@ -35,3 +36,11 @@ stray_from n (entry ∷ entries) =
 -- The first such entry of a list: entries count from 0.
 abbrev pub first_stray : List ListEntry → Option Stray
 first_stray entries = stray_from 0 entries
+
+-- What of a log and a list extends a register that is the other's.
+abbrev pub strays_of : List LogEvent → List ListEntry → Strays
+strays_of events entries = record { event = first_extending events; entry = first_stray entries }
+
+-- Whether nothing does: log and list are apart.
+abbrev pub are_none : Strays → Bool
+are_none strays = not (is_some strays.event) && not (is_some strays.entry)

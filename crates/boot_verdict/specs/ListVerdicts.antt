@@ -1,5 +1,5 @@
 -- The verdict on a measurement list alone and expected registers. How entries change the registers is defined in ima_list.
-use Rattle.std.specs.Prelude.{◌≡◌, ℕ, ◌&&◌, ◌==◌, nat_lt, not, Bool, if◌then◌else◌, List, length, map, Option, Some, None, Ok}
+use Rattle.std.specs.Prelude.{◌≡◌, ℕ, ◌&&◌, ◌==◌, nat_lt, not, Bool, if◌then◌else◌, List, [], length, map, Option, Some, None, Ok}
 use Rattle.std.specs.List.{list_all}
 use Rattle.pcr_banks.specs.declared.alg.Alg.{Alg}
 use Rattle.pcr_banks.specs.Registers.{register_count, extended_by_all, reset_value}
@@ -7,9 +7,11 @@ use Rattle.ima_list.specs.ListEntry.{ListEntry}
 use Rattle.ima_list.specs.Spelling.{IsReading}
 use Rattle.ima_list.specs.Replaying.{digests_of, AreGenuine}
 use Rattle.boot_verdict.specs.declared.expected.Expected.{Expected}
+use Rattle.boot_verdict.specs.declared.isolation.Strays.{Strays}
 use Rattle.boot_verdict.specs.declared.list_verifier.ListReport.{ListReport}
 use Rattle.boot_verdict.specs.declared.report.Row.{Row}
 use Rattle.boot_verdict.specs.declared.requirement.BankRange.{BankRange}
+use Rattle.boot_verdict.specs.Isolation.{are_none, strays_of}
 use Rattle.boot_verdict.specs.ListSources.{CameWhole}
 use Rattle.boot_verdict.specs.Requirements.{expected_of_rows, is_complete}
 use Rattle.boot_verdict.specs.Verdicts.{is_match, row_state}
@@ -31,19 +33,21 @@ list_row_on entries expected =
 
 pub record ListVerdict : Type 0 where
   pub entries : ℕ
+  pub strays : Strays
   pub rows : List Row
 
 -- The verdict on the entries of a list and expected registers.
 abbrev pub list_verdict_on : List ListEntry → List Expected → ListVerdict
-list_verdict_on entries expected = record { entries = length entries; rows = map (list_row_on entries) expected }
+list_verdict_on entries expected =
+    record { entries = length entries; strays = strays_of [] entries; rows = map (list_row_on entries) expected }
 
 -- The verdict is 'match': the list has an entry, some register is expected, and each expected register has its value.
 abbrev pub list_matches : ListVerdict → Bool
 list_matches verdict = (not (verdict.entries == 0) && not (length verdict.rows == 0)) && list_all is_match verdict.rows
 
--- The verdict is 'match', and no register is missing.
+-- The verdict is 'match', each entry extends the list's register, and no register is missing.
 abbrev pub required_list_matches : List BankRange → ListVerdict → Bool
-required_list_matches ranges verdict = list_matches verdict && is_complete ranges (expected_of_rows verdict.rows)
+required_list_matches ranges verdict = (list_matches verdict && are_none verdict.strays) && is_complete ranges (expected_of_rows verdict.rows)
 
 -- The bytes are a list, each entry is genuine, and this is the verdict on it.
 pub record IsListVerdict (list : List ℕ) (expected : List Expected) (verdict : ListVerdict) : Type 0 where
@@ -61,4 +65,4 @@ pub record IsListVerdictFrom (old new : Option (List ℕ)) (limit : ℕ) (expect
 -- ---- what contracts see of a report
 
 abbrev pub list_verdict_of : ListReport → ListVerdict
-list_verdict_of report = record { entries = report.entries; rows = report.rows.items }
+list_verdict_of report = record { entries = report.entries; strays = report.strays; rows = report.rows.items }

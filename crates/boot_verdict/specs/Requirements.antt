@@ -1,5 +1,5 @@
 -- Registers that must be among the expected ones, and how a text spells them.
-use Rattle.std.specs.Prelude.{◌≡◌, ℕ, ◌&&◌, ◌==◌, not, Bool, if◌then◌else◌, List, [], ◌∷◌, ◌++◌, map, codes}
+use Rattle.std.specs.Prelude.{◌≡◌, ℕ, ◌&&◌, ◌==◌, not, Bool, true, if◌then◌else◌, List, [], ◌∷◌, ◌++◌, map, codes}
 use Rattle.std.specs.List.{Contains, list_all, list_any}
 use Rattle.pcr_banks.specs.declared.alg.Alg.{Alg}
 use Rattle.pcr_banks.specs.Hashing.{all_algs, name_of, same_alg}
@@ -8,6 +8,7 @@ use Rattle.boot_verdict.specs.declared.positions.Located.{Located}
 use Rattle.boot_verdict.specs.declared.report.Row.{Row}
 use Rattle.boot_verdict.specs.declared.report.State.TheVariants.{Match}
 use Rattle.boot_verdict.specs.declared.requirement.BankRange.{BankRange}
+use Rattle.boot_verdict.specs.Isolation.{are_none, list_register}
 use Rattle.boot_verdict.specs.StatedRegisters.{onto_first}
 use Rattle.boot_verdict.specs.Positions.{all_found}
 use Rattle.boot_verdict.specs.RegisterRanges.{IsRangeText, is_within}
@@ -34,8 +35,8 @@ AreBankRanges (part ∷ parts) [] = ⊥
 AreBankRanges (part ∷ parts) (first ∷ ranges) = IsBankRangeText part first × AreBankRanges parts ranges
 
 -- The text spells these ranges, with a comma between them: at least one, since no part of a text may be empty.
-abbrev pub IsRequirementText : List ℕ → List BankRange → Type 0
-IsRequirementText text ranges = AreBankRanges (split_at_commas text) ranges
+abbrev pub SpellsRanges : List ℕ → List BankRange → Type 0
+SpellsRanges text ranges = AreBankRanges (split_at_commas text) ranges
 
 -- The first part of the text spells a range of a bank.
 pub record BeginsWithBankRange (text : List ℕ) : Type 0 where
@@ -54,6 +55,14 @@ is_in bank alg register = same_alg bank.alg alg && is_within bank.range register
 -- Whether one of the ranges names the register.
 abbrev pub names : List BankRange → Alg → ℕ → Bool
 names ranges alg register = list_any (λ bank. is_in bank alg register) ranges
+
+-- Whether they name the list's register in some bank: without it nothing that is required tells of the list.
+abbrev pub bind_list : List BankRange → Bool
+bind_list ranges = list_any (λ alg. names ranges alg list_register) all_algs
+
+-- The text spells these ranges, and the list's register is among theirs.
+abbrev pub IsRequirementText : List ℕ → List BankRange → Type 0
+IsRequirementText text ranges = SpellsRanges text ranges × (bind_list ranges ≡ true)
 
 -- Whether this is the expected value of the register.
 abbrev pub is_of : Expected → Alg → ℕ → Bool
@@ -84,9 +93,9 @@ expected_of_rows rows = map (λ row. row.expected) rows
 abbrev pub expected_of_located : List Located → List Expected
 expected_of_located located = map (λ row. row.expected) located
 
--- The verdict is 'match', and no register is missing.
+-- The verdict is 'match', log and list are apart, and no register is missing.
 abbrev pub required_matches : List BankRange → Verdict → Bool
-required_matches ranges verdict = matches verdict && is_complete ranges (expected_of_rows verdict.rows)
+required_matches ranges verdict = (matches verdict && are_none verdict.strays) && is_complete ranges (expected_of_rows verdict.rows)
 
 -- Some register is expected, each value was reached at some position, and no register is missing.
 abbrev pub required_found : List BankRange → List Located → Bool

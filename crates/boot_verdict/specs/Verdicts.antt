@@ -27,6 +27,7 @@ use Rattle.ima_list.specs.Fields.{fields_of}
 use Rattle.ima_list.specs.Aggregates.{aggregate_register_count, boot_aggregate_path, joined_values}
 use Rattle.ima_list.specs.Replaying.{digests_of, AreGenuine, IsReplayFault}
 use Rattle.boot_verdict.specs.declared.expected.Expected.{Expected}
+use Rattle.boot_verdict.specs.declared.isolation.Strays.{Strays}
 use Rattle.boot_verdict.specs.declared.report.Row.{Row}
 use Rattle.boot_verdict.specs.declared.report.State.{State}
 use Rattle.boot_verdict.specs.declared.report.State.TheVariants.{Match, Differ, Absent}
@@ -35,6 +36,7 @@ use Rattle.boot_verdict.specs.declared.report.Aggregate.TheVariants.{Good, Wrong
 use Rattle.boot_verdict.specs.declared.report.Report.{Report}
 use Rattle.boot_verdict.specs.declared.verifier.VerifyFault.{VerifyFault}
 use Rattle.boot_verdict.specs.declared.verifier.VerifyFault.TheVariants as faults
+use Rattle.boot_verdict.specs.Isolation.{strays_of}
 use Rattle.boot_verdict.specs.ListSources.{CameWhole, IsListFault}
 
 -- ---- registers
@@ -97,6 +99,7 @@ pub record Verdict : Type 0 where
   pub locality : ℕ
   pub entries : ℕ
   pub aggregate : Aggregate
+  pub strays : Strays
   pub rows : List Row
 
 -- The verdict on the events of a log with these algorithms, the entries of a list, and expected registers.
@@ -106,6 +109,7 @@ verdict_on algs events entries expected = record {
   locality = startup_locality events;
   entries = length entries;
   aggregate = aggregate_of algs events (recorded_aggregate entries);
+  strays = strays_of events entries;
   rows = map (row_on algs events entries) expected;
 }
 
@@ -210,5 +214,6 @@ verdict_of report = record {
   locality = report.locality;
   entries = report.entries;
   aggregate = report.aggregate;
+  strays = report.strays;
   rows = report.rows.items;
 }

@@ -6,7 +6,7 @@ ghost use Rattle.boot_log.specs.LogViews.{log_bytes};
 ghost use Rattle.boot_log.specs.Spelling.{LogEvent, IsLog, log_event_of};
 ghost use Rattle.boot_log.specs.Replaying.{is_extended_into};
 ghost use Rattle.ima_list.specs.ListEntry.{ListEntry};
-ghost use Rattle.boot_verdict.specs.Isolation.{first_extending, first_stray, list_register};
+ghost use Rattle.boot_verdict.specs.Isolation.{are_none, first_extending, first_stray, list_register};
 
 use boot_log::{Event, LogView};
 use ima_list::EntryRef;
@@ -24,6 +24,24 @@ pub struct Stray {
     pub entry: usize,
     /// The register.
     pub register: u32,
+}
+
+/// What of a log and a list extends a register that is the other's: its value then tells nothing of one of them alone.
+#[derive(Clone, Copy, PartialEq, Eq)]
+pub struct Strays {
+    /// The number of the log's first event that extends [`LIST_REGISTER`], counted from 1.
+    pub event: Option<usize>,
+    /// The list's first entry that extends another.
+    pub entry: Option<Stray>,
+}
+
+impl Strays {
+    /// Whether nothing does.
+    pub fn are_none(&self) -> bool
+        ensures { result ≡ are_none self.now }
+    {
+        self.event.is_none() && self.entry.is_none()
+    }
 }
 
 // Whether the event extends the list's register.

@@ -14,7 +14,8 @@ ghost use Rattle.boot_verdict.specs.declared.requirement.BankRange.{BankRange};
 ghost use Rattle.boot_verdict.specs.ExpectedTexts.{IsExpectedText};
 ghost use Rattle.boot_verdict.specs.PrintedTexts.{IsPrintedText};
 ghost use Rattle.boot_verdict.specs.RegisterRanges.{IsRangeText};
-ghost use Rattle.boot_verdict.specs.Requirements.{HasMatch, IsRequirementText, names, required_matches};
+ghost use Rattle.boot_verdict.specs.Isolation.{IsListApart, IsLogApart, list_register};
+ghost use Rattle.boot_verdict.specs.Requirements.{HasMatch, IsRequirementText, SpellsRanges, names, required_matches};
 ghost use Rattle.boot_verdict.specs.ListVerdicts.{list_verdict_on, required_list_matches};
 ghost use Rattle.boot_verdict.specs.WrittenTexts.{expected_text, those_within};
 ghost use Rattle.boot_verdict.specs.Verdicts.{pcr_after_log_and_list, row_on, verdict_on};
@@ -39,7 +40,7 @@ pub fn position_is_where_the_value_is_first()
 {}
 
 /// A text has one reading: it states one list of registers at most, whether it is one that [`crate::read_expected`] reads
-/// (`expected`) or one that tpm2-tools printed (`printed`); and it spells one range of registers (`range`) and one requirement
+/// (`expected`) or one that tpm2-tools printed (`printed`); and it spells one range of registers (`range`) and one list of ranges of banks
 /// (`requirement`) at most.
 pub fn texts_have_one_reading()
     ensures expected { (text : List ℕ) (first second : List Expected)
@@ -49,23 +50,36 @@ pub fn texts_have_one_reading()
     ensures range { (text : List ℕ) (first second : RegisterRange)
         → IsRangeText text first → IsRangeText text second → first ≡ second }
     ensures requirement { (text : List ℕ) (first second : List BankRange)
-        → IsRequirementText text first → IsRequirementText text second → first ≡ second }
+        → SpellsRanges text first → SpellsRanges text second → first ≡ second }
 {}
 
-/// A verdict that meets a requirement has a `match` for each register that the requirement names. The requirement is one that a
-/// text spells, such as [`crate::Requirement::from_text`] reads.
+/// A verdict that meets a requirement has a `match` for each register that the requirement names (`matched`), in some bank for the list's
+/// register (`bound`); and it is on a log and a list that are apart (`apart`). The requirement is one that a text spells, such as
+/// [`crate::Requirement::from_text`] reads.
 pub fn met_requirement_is_matched()
-    ensures { (algs : AlgSet) (events : List LogEvent) (entries : List ListEntry) (expected : List Expected)
-        (text : List ℕ) (ranges : List BankRange) (alg : Alg) (register : ℕ) → IsRequirementText text ranges
+    ensures matched { (algs : AlgSet) (events : List LogEvent) (entries : List ListEntry) (expected : List Expected)
+        (text : List ℕ) (ranges : List BankRange) (alg : Alg) (register : ℕ) → SpellsRanges text ranges
         → required_matches ranges (verdict_on algs events entries expected) ≡ true → names ranges alg register ≡ true
         → HasMatch (verdict_on algs events entries expected).rows alg register }
+    ensures bound { (algs : AlgSet) (events : List LogEvent) (entries : List ListEntry) (expected : List Expected)
+        (text : List ℕ) (ranges : List BankRange) → IsRequirementText text ranges
+        → required_matches ranges (verdict_on algs events entries expected) ≡ true
+        → (alg : Alg) × HasMatch (verdict_on algs events entries expected).rows alg list_register }
+    ensures apart { (algs : AlgSet) (events : List LogEvent) (entries : List ListEntry) (expected : List Expected)
+        (ranges : List BankRange) → required_matches ranges (verdict_on algs events entries expected) ≡ true
+        → IsLogApart events × IsListApart entries }
 {}
 
-/// A verdict on a list alone that meets a requirement has a `match` for each register that the requirement names.
+/// So it is with a verdict on a list alone, each entry of which extends the list's register.
 pub fn met_requirement_of_a_list_is_matched()
-    ensures { (entries : List ListEntry) (expected : List Expected) (text : List ℕ) (ranges : List BankRange) (alg : Alg)
-        (register : ℕ) → IsRequirementText text ranges → required_list_matches ranges (list_verdict_on entries expected) ≡ true
+    ensures matched { (entries : List ListEntry) (expected : List Expected) (text : List ℕ) (ranges : List BankRange) (alg : Alg)
+        (register : ℕ) → SpellsRanges text ranges → required_list_matches ranges (list_verdict_on entries expected) ≡ true
         → names ranges alg register ≡ true → HasMatch (list_verdict_on entries expected).rows alg register }
+    ensures bound { (entries : List ListEntry) (expected : List Expected) (text : List ℕ) (ranges : List BankRange)
+        → IsRequirementText text ranges → required_list_matches ranges (list_verdict_on entries expected) ≡ true
+        → (alg : Alg) × HasMatch (list_verdict_on entries expected).rows alg list_register }
+    ensures apart { (entries : List ListEntry) (expected : List Expected) (ranges : List BankRange)
+        → required_list_matches ranges (list_verdict_on entries expected) ≡ true → IsListApart entries }
 {}
 
 /// What [`crate::read_printed`] read and [`crate::write_expected`] wrote, [`crate::read_expected`] reads back: if a text that

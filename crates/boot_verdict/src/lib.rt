@@ -31,7 +31,7 @@ pub use all_registers::{ALL_REGISTERS, register_numbered};
 pub use checkpoint::Checkpoint;
 pub use checkpoint_fault::{CheckpointFault, ResumeFault};
 pub use expected::{ExpectFault, Expected, read_expected, register_on};
-pub use isolation::{LIST_REGISTER, Stray, first_extending};
+pub use isolation::{LIST_REGISTER, Stray, Strays, first_extending};
 pub use lines::{after_prefix, split_once};
 pub use list_registers::{list_start, replay_from};
 pub use list_replay::ListReplay;

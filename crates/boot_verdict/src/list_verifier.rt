@@ -10,6 +10,7 @@ ghost use Rattle.boot_verdict.specs.Replays.{IsListReplayFault};
 
 use crate::checkpoint::Checkpoint;
 use crate::expected::Expected;
+use crate::isolation::Strays;
 use crate::list_registers::list_start;
 use crate::report::{Row, all_match};
 use crate::requirement::Requirement;
@@ -22,6 +23,8 @@ use std::alloc::Global;
 pub struct ListReport {
     /// How many entries the list has.
     pub entries: usize,
+    /// What of the list extends a register that is not its own.
+    pub strays: Strays,
     /// The expected registers and how they compare, in their order.
     pub rows: Vec<Row>,
 }
@@ -34,11 +37,11 @@ impl ListReport {
         self.entries != 0 && !self.rows.is_empty() && all_match(&self.rows)
     }
 
-    /// Whether the report matches, and has a row for each required register.
+    /// Whether the report matches, each entry extends the list's register, and there is a row for each required register.
     pub fn meets(&self, requirement: &Requirement) -> bool
         ensures { result ≡ required_list_matches requirement.now (list_verdict_of self.now) }
     {
-        self.matches() && requirement.is_met_by(&self.rows)
+        self.matches() && self.strays.are_none() && requirement.is_met_by(&self.rows)
     }
 }
 
@@ -70,6 +73,10 @@ pub fn verify_list_from<R: Source>(
     let known = Checkpoint::before_list(list_start()).go_on(alloc, list, limit)?;
     Ok(ListReport {
         entries: known.entries,
+        strays: Strays {
+            event: None,
+            entry: known.stray,
+        },
         rows: rows_on(alloc, &known.after, expected)?,
     })
 }

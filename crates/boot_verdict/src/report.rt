@@ -7,6 +7,7 @@ ghost use Rattle.boot_verdict.specs.Verdicts.{is_match, matches, verdict_of};
 ghost use Rattle.boot_verdict.specs.Words.{aggregate_word};
 
 use crate::expected::Expected;
+use crate::isolation::Strays;
 use crate::requirement::Requirement;
 use pcr_banks::Digest;
 
@@ -67,6 +68,8 @@ pub struct Report {
     pub entries: usize,
     /// Whether the list records the log's boot aggregate.
     pub aggregate: Aggregate,
+    /// What of log and list extends a register that is the other's.
+    pub strays: Strays,
     /// The expected registers and how they compare, in their order.
     pub rows: Vec<Row>,
 }
@@ -79,11 +82,12 @@ impl Report {
         matches!(self.aggregate, Aggregate::Good) && all_match(&self.rows)
     }
 
-    /// Whether the report matches, and has a row for each required register.
+    /// Whether the report matches, nothing of log or list extends a register that is the other's, and there is a row for each required
+    /// register.
     pub fn meets(&self, requirement: &Requirement) -> bool
         ensures { result ≡ required_matches requirement.now (verdict_of self.now) }
     {
-        self.matches() && requirement.is_met_by(&self.rows)
+        self.matches() && self.strays.are_none() && requirement.is_met_by(&self.rows)
     }
 }
 

@@ -1,13 +1,14 @@
 //! Registers that must be among the expected ones.
 
-ghost use Rattle.std.specs.Prelude.{◌≡◌, ◌<◌, List, ◌∷◌, length, map, option_map, IfSome, IfNone, IfOk, IfErr, IsErrOf, OnOk};
+ghost use Rattle.std.specs.Prelude.{◌≡◌, ◌⊎◌, ◌<◌, List, ◌∷◌, length, map, option_map, IfSome, IfNone, IfOk, IfErr, IsErrOf, OnOk, false};
 ghost use Rattle.boot_verdict.specs.declared.expected.Expected.{Expected};
 ghost use Rattle.boot_verdict.specs.declared.requirement.BankRange.{BankRange};
-ghost use Rattle.boot_verdict.specs.declared.requirement.RequirementFault.TheVariants.{Malformed, Memory};
-ghost use Rattle.boot_verdict.specs.Requirements.{BeginsWithBankRange, IsBankRangeText, IsRequirementText, is_complete, is_complete_in, is_in, is_missing, is_of, names, split_at_commas, states};
+ghost use Rattle.boot_verdict.specs.declared.requirement.RequirementFault.TheVariants.{Malformed, Memory, Unbound};
+ghost use Rattle.boot_verdict.specs.Requirements.{BeginsWithBankRange, IsBankRangeText, IsRequirementText, SpellsRanges, bind_list, is_complete, is_complete_in, is_in, is_missing, is_of, names, split_at_commas, states};
 ghost use Rattle.boot_verdict.specs.parts.RequirementParts.{SpellsRange, TakesPart, parts_left};
 
 use crate::expected::Expected;
+use crate::isolation::LIST_REGISTER;
 use crate::lines::split_once;
 use crate::positions::Located;
 use crate::register_range::RegisterRange;
@@ -52,6 +53,9 @@ pub enum RequirementFault {
     /// The text is not of the form.
     #[error("not of the form BANK:A-B[,BANK:C-D..]")]
     Malformed,
+    /// The text names register 10 of no bank, so nothing that is required would tell of the list.
+    #[error("register 10 is named of no bank, so nothing of the list would be required")]
+    Unbound,
     /// Out of memory.
     #[error("out of memory")]
     Memory,
@@ -83,10 +87,10 @@ impl Model for Requirement {
 impl Requirement {
     /// The requirement that the text spells: ranges of banks with a comma between them, as in `sha256:0-10` or
     /// `sha256:0-7,sha1:10`. A range of a bank is the algorithm's name, a colon and a range of registers
-    /// ([`RegisterRange::from_text`]). A register may be named twice.
+    /// ([`RegisterRange::from_text`]). A register may be named twice, and register 10 must be named of some bank.
     ///
-    /// Fails with [`RequirementFault::Malformed`] if the text is not of this form, or with [`RequirementFault::Memory`], which is
-    /// possible only if the text begins with a range of a bank.
+    /// Fails with [`RequirementFault::Malformed`] if the text is not of this form; else with [`RequirementFault::Unbound`] if register 10
+    /// is named of no bank; or with [`RequirementFault::Memory`], which is possible only if the text begins with a range of a bank.
     pub fn from_text(alloc: Global, text: &[u8]) -> Result<Self, RequirementFault>
         // The result is what the text spells.
         ensures found { IfOk result (IsRequirementText text.now) }
@@ -94,7 +98,24 @@ impl Requirement {
         ensures only { (ranges : List BankRange) → IsRequirementText text.now ranges
             → IfErr result (λ fault. fault ≡ RequirementFault.Memory) }
         ensures fault { IsErrOf result RequirementFault.Malformed
-            → (ranges : List BankRange) → IsRequirementText text.now ranges → ⊥ }
+            → (ranges : List BankRange) → SpellsRanges text.now ranges → ⊥ }
+        ensures unbound { IsErrOf result RequirementFault.Unbound
+            → (ranges : List BankRange) × SpellsRanges text.now ranges × (bind_list ranges ≡ false) }
+        ensures memory { IsErrOf result RequirementFault.Memory → BeginsWithBankRange text.now }
+    {
+        let requirement = Requirement::of_ranges(alloc, text)?;
+        if !requirement.binds_list() {
+            return Err(RequirementFault::Unbound);
+        }
+        Ok(requirement)
+    }
+
+    // The ranges that the text spells.
+    fn of_ranges(alloc: Global, text: &[u8]) -> Result<Self, RequirementFault>
+        ensures found { IfOk result (SpellsRanges text.now) }
+        ensures only { (ranges : List BankRange) → SpellsRanges text.now ranges
+            → IfErr result (λ fault. fault ≡ RequirementFault.Memory) }
+        ensures fault { IfErr result (λ fault. (fault ≡ Memory) ⊎ ((fault ≡ Malformed) × ((ranges : List BankRange) → SpellsRanges text.now ranges → ⊥))) }
         ensures memory { IsErrOf result RequirementFault.Memory → BeginsWithBankRange text.now }
     {
         let mut ranges = Vec::new(alloc);
@@ -105,6 +126,13 @@ impl Requirement {
             rest = after;
         }
         Ok(Requirement { ranges })
+    }
+
+    // Whether the list's register is named of some bank.
+    fn binds_list(&self) -> bool
+        ensures { result ≡ bind_list self.now }
+    {
+        Alg::ALL.iter().any(|alg| self.names(*alg, LIST_REGISTER))
     }
 
     /// Whether each required register is among these.
@@ -204,7 +232,7 @@ fn part_at(text: &[u8]) -> (&[u8], Option<&[u8]>)
 // Appends the range that this part spells.
 fn take_part(ranges: &mut Vec<BankRange>, part: &[u8]) -> Result<(), RequirementFault>
     ensures taken { OnOk result (TakesPart part.now ranges.old.items ranges.new.items) }
-    ensures fault { IsErrOf result RequirementFault.Malformed → SpellsRange part.now → ⊥ }
+    ensures fault { IfErr result (λ fault. (fault ≡ Memory) ⊎ ((fault ≡ Malformed) × (SpellsRange part.now → ⊥))) }
     ensures memory { IsErrOf result RequirementFault.Memory → SpellsRange part.now }
 {
     let Some(bank) = BankRange::from_text(part) else {

@@ -20,6 +20,7 @@ ghost use Rattle.boot_verdict.specs.Checkpoints.{IsCheckpoint};
 
 use crate::checkpoint::Checkpoint;
 use crate::expected::Expected;
+use crate::isolation::{Strays, first_extending};
 use crate::report::{Aggregate, Report, Row, State};
 use boot_log::{LogFault, LogView};
 use byte_streams::{ReadFault, Source};
@@ -180,6 +181,10 @@ pub fn report_on(
         locality: log.locality(),
         entries: known.entries,
         aggregate: aggregate_of(&known.before, known.recorded),
+        strays: Strays {
+            event: first_extending(log),
+            entry: known.stray,
+        },
         rows: rows_on(alloc, &known.after, expected)?,
     })
 }

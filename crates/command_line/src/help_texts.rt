@@ -16,7 +16,9 @@ Exit status:
      with --prefix, --save or --resume: no register is expected;
      for replay with EXPECTED: an expected register does not match;
      for locate: a register's value was not reached, or none is expected;
-     for each of these: EXPECTED lacks a register that --require names
+     for each of these: EXPECTED lacks a register that --require names;
+     for verify and replay with --require: an event extends register 10, or
+     an entry extends another
   2  the arguments or an input were refused
   3  out of memory, an input could not be read, or the output failed;
      for verify: the checkpoint of --save could not be written;
@@ -44,8 +46,8 @@ macro_rules! require_help {
         concat!(
             "\
 Registers that EXPECTED has to name, for example sha256:0-10 or
-sha256:0-7,sha1:10. Each that it lacks is a row `missing`, and the
-",
+sha256:0-7,sha1:10; register 10 must be among them. Each that EXPECTED
+lacks is a row `missing`, and the ",
             $more
         )
     };

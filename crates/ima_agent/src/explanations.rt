@@ -7,6 +7,7 @@ ghost use Rattle.ima_agent.specs.Escaping.{is_shown};
 use crate::escapes::{escape_each, shown_line, shown_lines};
 use agent_inputs::RunFault;
 use agent_plans::{Judge, Judged, Measurement, Question, Task};
+use boot_verdict::Requirement;
 use command_line::refusal_of;
 use measure_book::BookFault;
 use std::alloc::{AllocError, Global};
@@ -115,23 +116,33 @@ fn of_refusal(alloc: Global, fault: &RunFault, arguments: &[String]) -> Result<S
 fn of_value_in(alloc: Global, task: &Task) -> Result<String, AllocError>
     ensures { IfOk result (λ text. list_all is_shown (string_bytes text) ≡ true) }
 {
-    let (value, option) = match task {
-        Task::Answer(Question::Judge(judge)) => {
-            (
-                judge.required.as_deref(),
-                "--require <BANK:A-B[,BANK:C-D..]>",
-            )
-        }
-        Task::Answer(Question::Expected { registers, .. }) => {
-            (registers.as_deref(), "--registers <A-B>")
-        }
-        _ => (None, ""),
+    let text = match task {
+        Task::Answer(
+            Question::Judge(
+                Judge {
+                    required: Some(text),
+                    ..
+                },
+            ),
+        ) => of_requirement(alloc, text)?,
+        Task::Answer(
+            Question::Expected {
+                registers: Some(range),
+                ..
+            },
+        ) => format!(in alloc; "error: invalid value '{range}' for '--registers <A-B>'")?,
+        _ => String::from_str(alloc, TOO_MANY_FILES)?,
     };
-    let Some(value) = value else {
-        return shown_line(alloc, TOO_MANY_FILES);
-    };
-    let text = format!(in alloc; "error: invalid value '{value}' for '{option}'")?;
     shown_line(alloc, &text)
+}
+
+// Why this text spells no requirement.
+fn of_requirement(alloc: Global, text: &str) -> Result<String, AllocError> {
+    let option = "--require <BANK:A-B[,BANK:C-D..]>";
+    match Requirement::from_text(alloc, text.as_bytes()) {
+        Ok(_) => Err(AllocError),
+        Err(fault) => { format!(in alloc; "error: invalid value '{text}' for '{option}': {fault}") }
+    }
 }
 
 // That the input could not be read, and the system's reason, if it is known.

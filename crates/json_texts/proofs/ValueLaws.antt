@@ -1,6 +1,6 @@
 -- Each value is one line.
 use Rattle.std.proofs.Common.{ℕ, zero, suc, refl, ◌+◌, ◌≤◌, Bool, true, false, cond, List, [], ◌∷◌, ◌++◌, map, Option, Some, None, codes, arith}
-use Rattle.std.specs.Prelude.{flat_map, option_map, IfSome}
+use Rattle.std.specs.Prelude.{flat_map, if◌then◌else◌, option_map, IfSome}
 use Rattle.std.specs.List.{AllByRecursion, range_with_len}
 use Rattle.std.proofs.lemmas.List.Concat.{flat_map-append}
 use Rattle.json.specs.Json.{Json, string}
@@ -15,6 +15,9 @@ use Rattle.pcr_banks.specs.Digests.{bytes_of}
 use Rattle.ima_list.specs.declared.fault.ListFault.TheVariants as lists
 use Rattle.ima_list.specs.declared.list_replay.ReplayFault.TheVariants as replays
 use Rattle.boot_verdict.specs.declared.expected.Expected.{Expected}
+use Rattle.boot_verdict.specs.declared.isolation.Stray.{Stray}
+use Rattle.boot_verdict.specs.declared.isolation.Strays.{Strays}
+use Rattle.boot_verdict.specs.Isolation.{are_none}
 use Rattle.boot_verdict.specs.declared.prefix_report.Unconfirmed.{Unconfirmed}
 use Rattle.boot_verdict.specs.declared.prefix_report.Unconfirmed.TheVariants as faults
 use Rattle.boot_verdict.specs.declared.positions.Position.{Position}
@@ -34,7 +37,7 @@ use Rattle.json_texts.specs.JsonValues.{IsCount, Member, hex_json, items_of, num
 use Rattle.json_texts.specs.EventJson.{algorithm_json}
 use Rattle.json_texts.specs.FaultJson.{fault_members, number_at, place_members}
 use Rattle.json_texts.specs.ReportJson as position
-use Rattle.json_texts.specs.ReportJson.{IsCountedPosition, change_values, missing_among, register_json, row_json, rows_values, value_if_missing, value_within, report_rows, state_members, unconfirmed_members}
+use Rattle.json_texts.specs.ReportJson.{AreCounted, IsCountedPosition, change_values, missing_among, register_json, row_json, rows_values, value_if_missing, value_within, report_rows, state_members, stray_entry_values, stray_event_values, stray_members, unconfirmed_members}
 use Rattle.json_texts.proofs.LineLaws.{ArePlain, IsPlain, ItemsArePlain, members_joined}
 
 -- ---- lists of values
@@ -166,6 +169,26 @@ unconfirmed_plain (Some fault) fits = (
       (unconfirmed_message fault) (number_after fault) (place_after (unconfirmed_entry fault) fits),
   tt,
 )
+
+-- ---- what extends a register that is not its own
+
+event_plain : (event : Option ℕ) → IfSome event IsCount → AreRows (stray_event_values event)
+event_plain None fits = tt
+event_plain (Some event) fits = (((event, fits, refl), ((10, omega arith, refl), tt)), tt)
+
+entry_plain : (entry : Option Stray) → IfSome entry (λ stray. IsCount stray.entry × IsCount stray.register) → AreRows (stray_entry_values entry)
+entry_plain None fits = tt
+entry_plain (Some stray) fits = (((stray.entry, fits.0, refl), ((stray.register, fits.1, refl), tt)), tt)
+
+unless_none : (b : Bool) (ms : List Member) → ArePlain ms 2 → ArePlain (if b then [] else ms) 2
+unless_none true ms plain = tt
+unless_none false ms plain = plain
+
+pub strays_plain : (required : Option (List BankRange)) (strays : Strays) → AreCounted strays → ArePlain (stray_members required strays) 2
+strays_plain None strays fits = tt
+strays_plain (Some ranges) strays fits =
+    unless_none (are_none strays) _
+    (rows_joined (stray_event_values strays.event) _ (event_plain strays.event fits.0) (entry_plain strays.entry fits.1), tt)
 
 -- ---- places
 

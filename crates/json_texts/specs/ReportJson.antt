@@ -1,5 +1,5 @@
 -- Registers, reports and positions as JSON. The members and their order are this project's choice.
-use Rattle.std.specs.Prelude.{ℕ, List, [], ◌∷◌, ◌++◌, codes, flat_map, map, if◌then◌else◌, Option, Some, None, Bool, true, false, option_map, ⊤}
+use Rattle.std.specs.Prelude.{ℕ, List, [], ◌∷◌, ◌++◌, codes, flat_map, map, if◌then◌else◌, Option, Some, None, IfSome, Bool, true, false, option_map, ⊤}
 use Rattle.json.specs.Json.{Json, string, boolean}
 use Rattle.pcr_banks.specs.declared.alg.Alg.{Alg}
 use Rattle.pcr_banks.specs.declared.banks.Banks.{Banks}
@@ -7,8 +7,11 @@ use Rattle.pcr_banks.specs.Hashing.{name_of}
 use Rattle.pcr_banks.specs.Registers.{value_at}
 use Rattle.pcr_banks.specs.Digests.{bytes_of}
 use Rattle.boot_verdict.specs.declared.expected.Expected.{Expected}
+use Rattle.boot_verdict.specs.declared.isolation.Stray.{Stray}
+use Rattle.boot_verdict.specs.declared.isolation.Strays.{Strays}
 use Rattle.boot_verdict.specs.declared.requirement.BankRange.{BankRange}
 use Rattle.boot_verdict.specs.declared.register_range.RegisterRange.{RegisterRange}
+use Rattle.boot_verdict.specs.Isolation.{are_none, list_register}
 use Rattle.boot_verdict.specs.RegisterRanges.{is_within}
 use Rattle.boot_verdict.specs.RegisterTexts.{differs, every_register}
 use Rattle.boot_verdict.specs.Requirements.{is_missing, required_matches, required_found}
@@ -94,13 +97,37 @@ state_members Absent = (codes "state", string (codes "absent")) ∷ []
 abbrev pub report_rows : Option (List BankRange) → List Row → Json
 report_rows required rows = array_of (rows_values (codes "state") (λ row. row.expected) (λ row. state_members row.state) required rows)
 
+-- What extends a register that is not its own: an event or an entry, by this word, and the register.
+abbrev pub stray_json : List ℕ → ℕ → ℕ → Json
+stray_json word number register = object_of ((word, number_json number) ∷ (codes "register", number_json register) ∷ [])
+
+abbrev pub stray_event_values : Option ℕ → List Json
+stray_event_values None = []
+stray_event_values (Some event) = stray_json (codes "event") event list_register ∷ []
+
+abbrev pub stray_entry_values : Option Stray → List Json
+stray_entry_values None = []
+stray_entry_values (Some stray) = stray_json (codes "entry") stray.entry stray.register ∷ []
+
+-- The numbers of both, if there are such, and the register fit.
+abbrev pub AreCounted : Strays → Type 0
+AreCounted strays = IfSome strays.event IsCount × IfSome strays.entry (λ stray. IsCount stray.entry × IsCount stray.register)
+
+-- The first event and the first entry that do, if any, where registers are required.
+abbrev pub stray_members : Option (List BankRange) → Strays → List Member
+stray_members None strays = []
+stray_members (Some ranges) strays =
+    if are_none strays
+    then []
+    else (codes "extends", array_of (stray_event_values strays.event ++ stray_entry_values strays.entry)) ∷ []
+
 abbrev pub verdict_word : Bool → List ℕ
 verdict_word true = codes "match"
 verdict_word false = codes "differ"
 
 -- ---- a report on a log, a list and expected registers
 
--- Whether the verdict is 'match', and no register is missing.
+-- Whether the verdict is 'match', and all that is required holds.
 abbrev pub meets : Option (List BankRange) → Verdict → Bool
 meets None verdict = matches verdict
 meets (Some ranges) verdict = required_matches ranges verdict
@@ -117,8 +144,7 @@ abbrev pub outcome_members : Option (List BankRange) → Bool → Verdict → Li
 outcome_members required is_match verdict =
     (codes "boot_aggregate", string (aggregate_word verdict.aggregate))
     ∷ (codes "registers", report_rows required verdict.rows)
-    ∷ (codes "verdict", string (verdict_word is_match))
-    ∷ []
+    ∷ (stray_members required verdict.strays ++ (codes "verdict", string (verdict_word is_match)) ∷ [])
 
 abbrev pub report_json : Option (List BankRange) → Bool → Verdict → Json
 report_json required is_match verdict =
@@ -153,8 +179,7 @@ abbrev pub list_report_json : Option (List BankRange) → ListVerdict → Json
 list_report_json required verdict = object_of (
     (codes "entries", number_json verdict.entries)
     ∷ (codes "registers", report_rows required verdict.rows)
-    ∷ (codes "verdict", string (verdict_word (list_meets required verdict)))
-    ∷ [])
+    ∷ (stray_members required verdict.strays ++ (codes "verdict", string (verdict_word (list_meets required verdict))) ∷ []))
 
 -- ---- positions
 

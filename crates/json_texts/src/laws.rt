@@ -24,7 +24,7 @@ ghost use Rattle.json_texts.specs.JsonValues.{IsCount, IsOneLine, line_of, objec
 ghost use Rattle.json_texts.specs.EntryJson.{HasBytes, IsKnown, entry_json, is_genuine};
 ghost use Rattle.json_texts.specs.EventJson.{algorithms_json, event_json};
 ghost use Rattle.json_texts.specs.FaultJson.{fault_json, fault_members, number_at};
-ghost use Rattle.json_texts.specs.ReportJson.{IsCountedPosition, positions_json, expected_json, registers_json, prefix_report_json, list_report_json, report_json};
+ghost use Rattle.json_texts.specs.ReportJson.{AreCounted, IsCountedPosition, positions_json, expected_json, registers_json, prefix_report_json, list_report_json, report_json};
 
 use ima_list::EntryRef;
 
@@ -38,14 +38,14 @@ pub fn each_value_is_one_line()
     ensures expected { (range : RegisterRange) (expected : List Expected) → AllByRecursion (λ e. IsCount e.register) expected
         → IsOneLine (expected_json range expected) }
     ensures report { (required : Option (List BankRange)) (is_match : Bool) (verdict : Verdict)
-        → IsCount verdict.events → IsCount verdict.locality → IsCount verdict.entries
+        → IsCount verdict.events → IsCount verdict.locality → IsCount verdict.entries → AreCounted verdict.strays
         → AllByRecursion (λ row. IsCount row.expected.register) verdict.rows → IsOneLine (report_json required is_match verdict) }
     ensures prefix_report { (required : Option (List BankRange)) (prefix : Verdict) (entries : ℕ) (unconfirmed : Option Unconfirmed)
         → IsCount prefix.events → IsCount prefix.locality → IsCount prefix.entries → IsCount entries
-        → IfSome unconfirmed (λ fault. IfSome (unconfirmed_entry fault) IsCount)
+        → IfSome unconfirmed (λ fault. IfSome (unconfirmed_entry fault) IsCount) → AreCounted prefix.strays
         → AllByRecursion (λ row. IsCount row.expected.register) prefix.rows
         → IsOneLine (prefix_report_json required prefix entries unconfirmed) }
-    ensures list_report { (required : Option (List BankRange)) (verdict : ListVerdict) → IsCount verdict.entries
+    ensures list_report { (required : Option (List BankRange)) (verdict : ListVerdict) → IsCount verdict.entries → AreCounted verdict.strays
         → AllByRecursion (λ row. IsCount row.expected.register) verdict.rows → IsOneLine (list_report_json required verdict) }
     ensures positions { (required : Option (List BankRange)) (located : List Located)
         → AllByRecursion (λ row. IsCount row.expected.register × IsCountedPosition row.position) located

@@ -1,21 +1,22 @@
 //! The lines of reports.
 
-ghost use Rattle.std.specs.Prelude.{◌≡◌, option_copied, option_map};
+ghost use Rattle.std.specs.Prelude.{◌≡◌, [], ◌∷◌, option_copied, option_map};
 ghost use Rattle.boot_verdict.specs.Words.{unconfirmed_entry};
 ghost use Rattle.boot_verdict.specs.declared.report.State.TheVariants.{Differ};
 ghost use Rattle.boot_verdict.specs.ListVerdicts.{list_verdict_of};
 ghost use Rattle.boot_verdict.specs.Verdicts.{verdict_of};
 ghost use Rattle.json_texts.specs.declared.faults.FaultPlace.TheVariants.{Entry};
 ghost use Rattle.json_texts.specs.JsonValues.{AppendsLine};
-ghost use Rattle.json_texts.specs.ReportJson.{count_members, prefix_report_json, list_meets, list_report_json, meets, outcome_members, report_json, state_members, unconfirmed_members, verdict_word};
-ghost use Rattle.json_texts.specs.parts.WrittenParts.{WritesMembers, WritesValue};
+ghost use Rattle.json_texts.specs.ReportJson.{count_members, prefix_report_json, list_meets, list_report_json, meets, outcome_members, report_json, state_members, stray_entry_values, stray_event_values, stray_json, stray_members, unconfirmed_members, verdict_word};
+ghost use Rattle.json_texts.specs.parts.WrittenParts.{WritesItems, WritesMembers, WritesValue};
 
 use crate::faults::{FaultPlace, FaultText, write_fault_member};
 use crate::lines::{Written, begin_line, end_line};
 use crate::members::{write_hex, write_number, write_text};
 use crate::rows::{Says, write_rows};
 use boot_verdict::{
-    ListReport, PrefixReport, Report, Requirement, Row, State, Unconfirmed, aggregate_word,
+    LIST_REGISTER, ListReport, PrefixReport, Report, Requirement, Row, State, Stray, Strays,
+    Unconfirmed, aggregate_word,
 };
 use json::Writer;
 use pcr_banks::Digest;
@@ -27,7 +28,9 @@ use std::alloc::Global;
 /// Its members are `events`, the number of events; `locality`; `entries`, the number of entries; `boot_aggregate`, one of `good`, `wrong`,
 /// `nobank` and `missing`; `registers`, an array; and `verdict`, which is `match` or `differ`. Each expected register has `bank`,
 /// `register` and `state`, one of `match`, `differ` and `absent`, and where it differs `value`. After them each required register that is
-/// not among them has the state `missing`.
+/// not among them has the state `missing`. Where registers are required and something of log or list extends a register that is the
+/// other's, `extends` comes before the verdict: an array with `event` of the first event that does, or `entry` of the first entry, or both,
+/// each with the `register`.
 ///
 /// Fails only if memory runs out; the vector then is as before.
 pub fn append_report(
@@ -45,7 +48,7 @@ pub fn append_report(
     end_line(written, writer, start, line)
 }
 
-/// Appends the line of a report on a list alone: as [`append_report`], with the members `entries`, `registers` and `verdict` alone.
+/// Appends the line of a report on a list alone: as [`append_report`], without the members of a log.
 ///
 /// Fails only if memory runs out; the vector then is as before.
 pub fn append_list_report(
@@ -123,11 +126,58 @@ fn write_outcome(
 {
     write_text("boot_aggregate", aggregate_word(report.aggregate), writer)?;
     write_rows(alloc, "state", &report.rows, requirement, writer)?;
+    write_strays(report.strays, requirement, writer)?;
     write_text("verdict", verdict_word(is_match), writer)?;
     Ok(())
 }
 
-/// Whether the report matches and no required register is missing.
+// Writes the member of what extends a register that is not its own, if anything does, where registers are required.
+fn write_strays(strays: Strays, requirement: Option<&Requirement>, writer: &mut Writer) -> Written
+    ensures { WritesMembers result writer.old writer.new (stray_members (option_copied requirement.entry) strays) }
+{
+    let Some(_) = requirement else {
+        return Ok(());
+    };
+    if strays.are_none() {
+        return Ok(());
+    }
+    writer.key("extends")?;
+    writer.begin_array()?;
+    write_stray_event(strays.event, writer)?;
+    write_stray_entry(strays.entry, writer)?;
+    writer.end_array()?;
+    Ok(())
+}
+
+fn write_stray_event(event: Option<usize>, writer: &mut Writer) -> Written
+    ensures { WritesItems result writer.old writer.new (stray_event_values event) }
+{
+    match event {
+        None => Ok(()),
+        Some(event) => write_stray("event", event, LIST_REGISTER, writer),
+    }
+}
+
+fn write_stray_entry(entry: Option<Stray>, writer: &mut Writer) -> Written
+    ensures { WritesItems result writer.old writer.new (stray_entry_values entry) }
+{
+    match entry {
+        None => Ok(()),
+        Some(stray) => write_stray("entry", stray.entry, stray.register, writer),
+    }
+}
+
+fn write_stray(word: &str, number: usize, register: u32, writer: &mut Writer) -> Written
+    ensures { WritesItems result writer.old writer.new (stray_json word.now number register ∷ []) }
+{
+    writer.begin_object()?;
+    write_number(word, number as u64, writer)?;
+    write_number("register", register as u64, writer)?;
+    writer.end_object()?;
+    Ok(())
+}
+
+/// Whether the report matches, and all that is required holds.
 pub fn meets(report: &Report, requirement: Option<&Requirement>) -> bool
     ensures { result ≡ meets (option_copied requirement.entry) (verdict_of report.now) }
 {
@@ -149,6 +199,7 @@ fn write_list_report(
     writer.begin_object()?;
     write_number("entries", report.entries as u64, writer)?;
     write_rows(alloc, "state", &report.rows, requirement, writer)?;
+    write_strays(report.strays, requirement, writer)?;
     write_text("verdict", word, writer)?;
     writer.end_object()?;
     Ok(())
@@ -199,7 +250,7 @@ fn place_of(fault: Unconfirmed) -> Option<FaultPlace>
     }
 }
 
-/// Whether the report on a list alone matches and no required register is missing.
+/// Whether the report on a list alone matches, and all that is required holds.
 pub fn list_meets(report: &ListReport, requirement: Option<&Requirement>) -> bool
     ensures { result ≡ list_meets (option_copied requirement.entry) (list_verdict_of report.now) }
 {

@@ -64,7 +64,7 @@ fn required_in(alloc: Global, required: Required<'_>) -> Result<Option<Requireme
         Required::Nothing | Required::Any => Ok(None),
         Required::These(text) => match Requirement::from_text(alloc, text) {
             Ok(requirement) => Ok(Some(requirement)),
-            Err(RequirementFault::Malformed) => Err(RunFault::Usage),
+            Err(RequirementFault::Malformed | RequirementFault::Unbound) => Err(RunFault::Usage),
             Err(RequirementFault::Memory) => Err(RunFault::Memory),
         },
     }

@@ -2,9 +2,8 @@
 use Rattle.std.specs.Prelude.{ℕ, List, ◌++◌, length, codes, decimal, flat_map}
 use Rattle.boot_verdict.specs.declared.requirement.BankRange.{BankRange}
 use Rattle.boot_verdict.specs.ListVerdicts.{ListVerdict, list_matches, required_list_matches}
-use Rattle.boot_verdict.specs.Requirements.{expected_of_rows}
 use Rattle.verdict_texts.specs.ReportTexts.{row_text, verdict_text}
-use Rattle.verdict_texts.specs.RequiredTexts.{missing_text}
+use Rattle.verdict_texts.specs.RequiredTexts.{required_rows_text}
 
 -- The report: a line with the number of entries, one for each expected register, and the verdict.
 abbrev pub list_report_text : ListVerdict → List ℕ
@@ -17,10 +16,8 @@ abbrev pub list_counts_text : ℕ → ℕ → List ℕ
 list_counts_text entries compared =
     codes "entries " ++ (decimal entries ++ (codes "\ncompared " ++ (decimal compared ++ codes "\n")))
 
--- The report where registers are required: its counts, a line for each expected register, one for each that is missing, and the
--- verdict.
+-- The report where registers are required: its counts, and what comes of the registers.
 abbrev pub required_list_report_text : List BankRange → ListVerdict → List ℕ
 required_list_report_text ranges verdict =
     list_counts_text verdict.entries (length verdict.rows)
-    ++ (flat_map row_text verdict.rows
-    ++ (missing_text ranges (expected_of_rows verdict.rows) ++ verdict_text (required_list_matches ranges verdict)))
+    ++ required_rows_text ranges verdict.rows verdict.strays (required_list_matches ranges verdict)

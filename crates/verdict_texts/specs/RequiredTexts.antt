@@ -1,10 +1,14 @@
 -- The texts of a report and of positions where registers are required.
-use Rattle.std.specs.Prelude.{ℕ, if◌then◌else◌, List, [], ◌++◌, length, codes, decimal, flat_map}
+use Rattle.std.specs.Prelude.{ℕ, Bool, if◌then◌else◌, List, [], ◌++◌, length, Option, Some, None, codes, decimal, flat_map}
 use Rattle.pcr_banks.specs.declared.alg.Alg.{Alg}
 use Rattle.pcr_banks.specs.Hashing.{name_of}
 use Rattle.boot_verdict.specs.declared.expected.Expected.{Expected}
+use Rattle.boot_verdict.specs.declared.isolation.Stray.{Stray}
+use Rattle.boot_verdict.specs.declared.isolation.Strays.{Strays}
 use Rattle.boot_verdict.specs.declared.positions.Located.{Located}
+use Rattle.boot_verdict.specs.declared.report.Row.{Row}
 use Rattle.boot_verdict.specs.declared.requirement.BankRange.{BankRange}
+use Rattle.boot_verdict.specs.Isolation.{list_register}
 use Rattle.verdict_texts.specs.PositionTexts.{found_text, located_text}
 use Rattle.boot_verdict.specs.RegisterTexts.{every_register}
 use Rattle.verdict_texts.specs.ReportTexts.{aggregate_text, counts_text, row_text, verdict_text}
@@ -23,16 +27,36 @@ line_if_missing ranges expected alg register = if is_missing ranges expected alg
 abbrev pub missing_text : List BankRange → List Expected → List ℕ
 missing_text ranges expected = flat_map (λ register. line_if_missing ranges expected register.0 register.1) every_register
 
+-- The line of what extends a register that is not its own, as `entry 17 extends 11`.
+abbrev pub stray_line : List ℕ → ℕ → ℕ → List ℕ
+stray_line word number register = word ++ (decimal number ++ (codes " extends " ++ (decimal register ++ codes "\n")))
+
+abbrev pub stray_event_text : Option ℕ → List ℕ
+stray_event_text None = []
+stray_event_text (Some event) = stray_line (codes "event ") event list_register
+
+abbrev pub stray_entry_text : Option Stray → List ℕ
+stray_entry_text None = []
+stray_entry_text (Some stray) = stray_line (codes "entry ") stray.entry stray.register
+
+-- The lines of the first event and of the first entry that do, if any.
+abbrev pub strays_text : Strays → List ℕ
+strays_text strays = stray_event_text strays.event ++ stray_entry_text strays.entry
+
+-- A line for each expected register, one for each that is missing, those of what extends a register that is not its own, and the verdict.
+abbrev pub required_rows_text : List BankRange → List Row → Strays → Bool → List ℕ
+required_rows_text ranges rows strays is_match =
+    flat_map row_text rows ++ (missing_text ranges (expected_of_rows rows) ++ (strays_text strays ++ verdict_text is_match))
+
 -- The line of how many registers were compared.
 abbrev pub compared_text : ℕ → List ℕ
 compared_text compared = codes "compared " ++ (decimal compared ++ codes "\n")
 
--- What comes after the counts: how many registers were compared, the boot aggregate, a line for each expected register, one for each
--- that is missing, and the verdict.
+-- What comes after the counts: how many registers were compared, the boot aggregate, and what comes of the registers.
 abbrev pub required_outcome_text : List BankRange → Verdict → List ℕ
 required_outcome_text ranges verdict =
-    compared_text (length verdict.rows) ++ (aggregate_text verdict.aggregate ++ (flat_map row_text verdict.rows
-    ++ (missing_text ranges (expected_of_rows verdict.rows) ++ verdict_text (required_matches ranges verdict))))
+    compared_text (length verdict.rows)
+    ++ (aggregate_text verdict.aggregate ++ required_rows_text ranges verdict.rows verdict.strays (required_matches ranges verdict))
 
 -- The report: its counts, and what comes after them.
 abbrev pub required_report_text : List BankRange → Verdict → List ℕ

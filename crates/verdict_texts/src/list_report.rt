@@ -6,7 +6,7 @@ ghost use Rattle.boot_verdict.specs.ListVerdicts.{list_verdict_of};
 ghost use Rattle.verdict_texts.specs.ListReportTexts.{list_counts_text, list_report_text, required_list_report_text};
 
 use crate::report::{verdict_line, write_rows};
-use crate::required::write_missing;
+use crate::required::write_required_rows;
 use boot_verdict::{ListReport, Requirement};
 use byte_streams::{Failed, Sink, send, send_pieces};
 use itoa::Buffer;
@@ -21,8 +21,8 @@ pub fn write_list_report<S: Sink>(report: &ListReport, sink: &mut S) -> Result<(
     send(verdict_line(report.matches()), sink)
 }
 
-/// Writes the report on a list alone where registers are required: with a line `compared 24` after the number of entries, and one for
-/// each required register that is not among the expected ones, both as [`crate::write_required_report`] writes them.
+/// Writes the report on a list alone where registers are required: with a line `compared 24` after the number of entries, and what comes of
+/// the registers as [`crate::write_required_report`] writes it.
 pub fn write_required_list_report<S: Sink>(
     report: &ListReport,
     requirement: &Requirement,
@@ -32,9 +32,8 @@ pub fn write_required_list_report<S: Sink>(
         (required_list_report_text requirement.now (list_verdict_of report.now)) }
 {
     write_counts(report, sink)?;
-    write_rows(&report.rows, sink)?;
-    write_missing(requirement, &report.rows, sink)?;
-    send(verdict_line(report.meets(requirement)), sink)
+    let is_match = report.meets(requirement);
+    write_required_rows(&report.rows, requirement, report.strays, is_match, sink)
 }
 
 fn write_entries<S: Sink>(entries: usize, sink: &mut S) -> Result<(), Failed>

@@ -2,21 +2,23 @@
 
 ghost use Rattle.std.specs.Prelude.{map};
 ghost use Rattle.byte_streams.specs.Streams.{Sends};
-ghost use Rattle.verdict_texts.specs.RequiredTexts.{compared_text, line_if_missing, missing_line, missing_text, required_outcome_text, required_positions_text, required_report_text};
+ghost use Rattle.verdict_texts.specs.RequiredTexts.{compared_text, line_if_missing, missing_line, missing_text, required_outcome_text, required_positions_text, required_report_text, required_rows_text, stray_entry_text, stray_event_text, stray_line, strays_text};
 ghost use Rattle.boot_verdict.specs.Verdicts.{verdict_of};
 
 use crate::positions::{found_line, write_all};
 use crate::report::{verdict_line, write_aggregate, write_counts, write_rows};
 use boot_verdict::{
-    ALL_REGISTERS, HasExpected, Located, Report, Requirement, register_numbered, required_found,
+    ALL_REGISTERS, HasExpected, LIST_REGISTER, Located, Report, Requirement, Row, Stray, Strays,
+    register_numbered, required_found,
 };
 use byte_streams::{Failed, Sink, send, send_pieces};
 use itoa::Buffer;
 use pcr_banks::Alg;
 
-/// Writes a report as [`crate::write_report`] does, with two differences. After the line with the number of entries is one with
+/// Writes a report as [`crate::write_report`] does, with these differences. After the line with the number of entries is one with
 /// the number of expected registers, `compared 24`. And after the lines of these is one for each required register that is not
-/// among them, `sha256 4 missing`, by bank in the order of [`Alg::ALL`], then by register; the verdict then is `differ`.
+/// among them, `sha256 4 missing`, by bank in the order of [`Alg::ALL`], then by register; one for the first event that extends register 10,
+/// `event 31 extends 10`; and one for the first entry that extends another, `entry 17 extends 11`. With any of them the verdict is `differ`.
 pub fn write_required_report<S: Sink>(
     report: &Report,
     requirement: &Requirement,
@@ -29,8 +31,8 @@ pub fn write_required_report<S: Sink>(
     write_required_outcome(report, requirement, sink)
 }
 
-/// Writes what comes after the counts: how many registers were compared, the boot aggregate, the expected registers, those that are
-/// missing, and the verdict. After `Err` the sink has taken a prefix of it.
+/// Writes what comes after the counts: how many registers were compared, the boot aggregate, and what comes of the registers. After `Err`
+/// the sink has taken a prefix of it.
 pub fn write_required_outcome<S: Sink>(
     report: &Report,
     requirement: &Requirement,
@@ -41,9 +43,66 @@ pub fn write_required_outcome<S: Sink>(
 {
     write_compared(report.rows.len(), sink)?;
     write_aggregate(report.aggregate, sink)?;
-    write_rows(&report.rows, sink)?;
-    write_missing(requirement, &report.rows, sink)?;
-    send(verdict_line(report.meets(requirement)), sink)
+    let is_match = report.meets(requirement);
+    write_required_rows(&report.rows, requirement, report.strays, is_match, sink)
+}
+
+/// Writes the lines of the expected registers and of those that are missing, of what extends a register that is not its own, and the
+/// verdict.
+pub(crate) fn write_required_rows<S: Sink>(
+    rows: &[Row],
+    requirement: &Requirement,
+    strays: Strays,
+    is_match: bool,
+    sink: &mut S,
+) -> Result<(), Failed>
+    ensures { Sends (S.state sink.old) (S.state sink.new) result (required_rows_text requirement.now rows.now strays is_match) }
+{
+    write_rows(rows, sink)?;
+    write_missing(requirement, rows, sink)?;
+    write_strays(strays, sink)?;
+    send(verdict_line(is_match), sink)
+}
+
+// Writes the lines of the first event and of the first entry that extend a register that is not their own.
+fn write_strays<S: Sink>(strays: Strays, sink: &mut S) -> Result<(), Failed>
+    ensures { Sends (S.state sink.old) (S.state sink.new) result (strays_text strays) }
+{
+    write_event(strays.event, sink)?;
+    write_entry(strays.entry, sink)
+}
+
+fn write_event<S: Sink>(event: Option<usize>, sink: &mut S) -> Result<(), Failed>
+    ensures { Sends (S.state sink.old) (S.state sink.new) result (stray_event_text event) }
+{
+    match event {
+        None => Ok(()),
+        Some(event) => write_stray(b"event ", event, LIST_REGISTER, sink),
+    }
+}
+
+fn write_entry<S: Sink>(entry: Option<Stray>, sink: &mut S) -> Result<(), Failed>
+    ensures { Sends (S.state sink.old) (S.state sink.new) result (stray_entry_text entry) }
+{
+    match entry {
+        None => Ok(()),
+        Some(stray) => write_stray(b"entry ", stray.entry, stray.register, sink),
+    }
+}
+
+fn write_stray<S: Sink>(
+    word: &[u8],
+    number: usize,
+    register: u32,
+    sink: &mut S,
+) -> Result<(), Failed>
+    ensures { Sends (S.state sink.old) (S.state sink.new) result (stray_line word.now number register) }
+{
+    let mut first = Buffer::new();
+    let mut second = Buffer::new();
+    let number = first.format(number).as_bytes();
+    let register = second.format(register).as_bytes();
+    send_pieces(&[word, number, b" extends ", register, b"\n"], sink)
 }
 
 fn write_compared<S: Sink>(compared: usize, sink: &mut S) -> Result<(), Failed>

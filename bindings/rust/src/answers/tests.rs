@@ -4,7 +4,7 @@ use super::Answer;
 use crate::library::{ask, entries as list_entries, log_registers, zeros, Position, Told};
 use crate::library::{DIFFERS, DONE, MORE, OUT_OF_MEMORY, REFUSED, ROOM, TOO_SHORT};
 use crate::lines::{Lines, Source};
-use crate::{Algorithm, Content, Entry, Error, Event, File, Kind, LogAlgorithm, Place};
+use crate::{Algorithm, Content, Entry, Error, Event, File, Kind, LogAlgorithm, Place, Stray};
 use ima_verify_sys as c;
 use std::collections::VecDeque;
 
@@ -16,6 +16,8 @@ const REPORT: &str = concat!(
 const ROW: &str = r#"{"bank":"sha256","register":10,"state":"match"}"#;
 const MATCH: &str = r#""state":"match""#;
 const MISSING: &str = r#"{"bank":"sha1","register":4,"state":"missing"}"#;
+const STRAY_EVENT: &str = r#"{"event":1,"register":10}"#;
+const STRAY_ENTRY: &str = r#"{"entry":2,"register":11}"#;
 const MISSING_PLACE: &str = r#"{"bank":"sha1","register":4,"place":"missing"}"#;
 const PLACES: &str = concat!(
     r#"{"registers":[{"bank":"sha256","register":8,"place":"reset"},{"bank":"sha256","register":4,"place":"event","number":18},"#,
@@ -43,6 +45,11 @@ fn differing_state() -> String {
 
 fn differing() -> String {
     REPORT.replace(MATCH, &differing_state()).replace(r#""verdict":"match""#, r#""verdict":"differ""#)
+}
+
+/// The report with these strays, which is no match.
+fn strayed(report: &str, strays: &str) -> String {
+    report.replace(r#""verdict":"match""#, &format!(r#""extends":[{strays}],"verdict":"differ""#))
 }
 
 /// A report and places, each with a row of a missing register.
@@ -321,6 +328,74 @@ fn wrong_reports_on_a_list_alone_are_no_verdicts() {
     ];
     check_changes(Answer::list_verdict, DONE, LIST_REPORT, &changes);
     assert!(is_unexpected(answer(DIFFERS, LIST_REPORT).list_verdict()));
+}
+
+#[test]
+fn right_reports_with_strays_are_read() {
+    let (event, entry) = (Stray::Event { event: 1, register: 10 }, Stray::Entry { entry: 2, register: 11 });
+    for (strays, wanted) in [
+        (STRAY_EVENT, vec![event]),
+        (STRAY_ENTRY, vec![entry]),
+        (&format!("{STRAY_EVENT},{STRAY_ENTRY}"), vec![event, entry]),
+        (r#"{"x":[null],"register":23,"entry":0}"#, vec![Stray::Entry { entry: 0, register: 23 }]),
+    ] {
+        let text = strayed(REPORT, strays);
+        for text in [&text, &text.replace(MATCH, &differing_state())] {
+            let verdict = answer(DIFFERS, text).verdict().unwrap();
+            assert_eq!((verdict.matches, &verdict.extends, verdict.compared()), (false, &wanted, 1));
+        }
+    }
+    let alone = answer(DIFFERS, strayed(LIST_REPORT, STRAY_ENTRY)).list_verdict().unwrap();
+    assert_eq!((alone.matches, alone.extends), (false, vec![entry]));
+    assert_eq!(answer(DONE, REPORT).verdict().unwrap().extends, []);
+    assert_eq!(answer(DONE, LIST_REPORT).list_verdict().unwrap().extends, []);
+}
+
+#[test]
+fn wrong_reports_with_strays_are_no_verdicts() {
+    let both = format!("{STRAY_EVENT},{STRAY_ENTRY}");
+    let turned = format!("{STRAY_ENTRY},{STRAY_EVENT}");
+    let (events, entries) = (format!("{STRAY_EVENT},{STRAY_EVENT}"), format!("{STRAY_ENTRY},{STRAY_ENTRY}"));
+    let of_events = [
+        (r#""event":1,"#, r#""event":0,"#),
+        (r#""event":1,"#, r#""event":2,"#),
+        (r#""event":1,"#, r#""event":"1","#),
+        (r#""event":1,"#, r#""event":null,"#),
+        (r#""event":1,"#, r#""event":true,"#),
+        (r#"{"event":1,"#, r#"{"event":1.0,"#),
+        (r#"{"event":1,"#, "{"),
+        (r#"{"event":1,"#, r#"{"event":1,"entry":2,"#),
+        (r#"{"event":1,"#, r#"{"event":1,"entry":null,"#),
+        (r#"1,"register":10}"#, r#"1,"register":11}"#),
+        (STRAY_EVENT, &events),
+        (&both, &turned),
+        (&both, ""),
+        (STRAY_EVENT, "1"),
+        (STRAY_EVENT, "null"),
+        (STRAY_EVENT, r#""event""#),
+    ];
+    let of_entries = [
+        (r#""entry":2,"#, r#""entry":3,"#),
+        (r#""entry":2,"#, r#""entry":-1,"#),
+        (r#""entry":2,"#, r#""line":2,"#),
+        (r#"2,"register":11"#, r#"2,"register":10"#),
+        (r#"2,"register":11"#, r#"2,"register":24"#),
+        (r#"2,"register":11"#, "2"),
+        (STRAY_ENTRY, &entries),
+        (r#""extends""#, r#""extend""#),
+        (r#""extends":"#, r#""extends":null,"x":"#),
+        (r#""extends":"#, r#""extends":{},"x":"#),
+        (r#""verdict":"differ""#, r#""verdict":"match""#),
+    ];
+    check_changes(Answer::verdict, DIFFERS, &strayed(REPORT, &both), &of_events);
+    check_changes(Answer::verdict, DIFFERS, &strayed(REPORT, &both), &of_entries);
+    assert!(is_unexpected(answer(DONE, strayed(REPORT, &both)).verdict()));
+    assert!(is_unexpected(answer(DIFFERS, differing().replace(r#""verdict""#, r#""extends":[],"verdict""#)).verdict()));
+    check_changes(Answer::list_verdict, DIFFERS, &strayed(LIST_REPORT, STRAY_ENTRY), &of_entries);
+    for strays in [STRAY_EVENT, &both] {
+        // (there is no log)
+        assert!(is_unexpected(answer(DIFFERS, strayed(LIST_REPORT, strays)).list_verdict()));
+    }
 }
 
 #[test]

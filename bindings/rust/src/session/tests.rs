@@ -172,6 +172,44 @@ fn front_that_cannot_be_is_none() {
     }
 }
 
+/// The report with this member, which is no match.
+fn strayed(report: &str, extends: &str) -> String {
+    report.replace(r#""verdict":"match""#, &format!(r#"{extends},"verdict":"differ""#))
+}
+
+#[test]
+fn front_with_a_stray_is_no_match() {
+    let entry = r#""extends":[{"entry":2,"register":11}]"#;
+    let both = r#""extends":[{"event":1,"register":10},{"entry":0,"register":0}]"#;
+    for extends in [entry, r#""extends":[{"event":1,"register":10}]"#, both] {
+        for (text, is_told) in [(front(), false), (front_and(REPLAY), true)] {
+            let text = strayed(&text, extends);
+            let verdict = session(None, true).given(300, DIFFERS, "", &text).unwrap();
+            let found = (verdict.matches, verdict.confirmed, verdict.unconfirmed.is_some(), verdict.extends.is_empty());
+            assert_eq!(found, (false, Some(3), is_told, false));
+            for (old, new) in [
+                (&format!("{extends},")[..], ""),
+                (r#""verdict":"differ""#, r#""verdict":"match""#),
+                (r#""good""#, r#""wrong""#),
+                (r#""state":"match""#, r#""state":"missing""#),
+            ] {
+                let changed = text.replace(old, new);
+                assert_ne!(changed, text);
+                check_unexpected(DIFFERS, "", &changed, true);
+            }
+            check_unexpected(DONE, STATE, &text, true);
+            check_unexpected(DIFFERS, STATE, &text, true); // (only a match has one)
+            check_unexpected(DIFFERS, "", &text, false);
+            assert!(!is_whole(DIFFERS, &text));
+        }
+        let whole = strayed(REPORT, extends);
+        check_unexpected(DIFFERS, "", &whole, true); // (all registers match, so there is a front)
+        assert!(!session(None, false).given(300, DIFFERS, "", &whole).unwrap().matches);
+    }
+    let after = strayed(&front(), entry).replace(r#""entry":2"#, r#""entry":3"#);
+    check_unexpected(DIFFERS, "", &after, true); // (it is after the front)
+}
+
 #[test]
 fn fault_after_the_front_that_cannot_be_is_none() {
     check_changes(

@@ -1,8 +1,8 @@
 //! What the crate answers about the sample, one boot whose registers were read from the TPM after the list, and about changes
 //! of it.
 
-use crate::{are_apart, expected as expected_from, list_registers, locate, registers, replay, show, verify, version};
-use crate::{Algorithm, BootAggregate, Error, Kind, Place, PlaceRow, Register, Row, State, Verdict, NOTHING_REQUIRED};
+use crate::{expected as expected_from, list_registers, locate, registers, replay, show, verify, version};
+use crate::{Algorithm, BootAggregate, Error, Kind, Place, PlaceRow, Register, Row, State, Stray, Verdict, NOTHING_REQUIRED};
 use std::sync::Barrier;
 use std::thread;
 
@@ -79,6 +79,7 @@ fn verdict_on_the_sample_is_a_match() {
         json,
         confirmed: None,
         unconfirmed: None,
+        extends: Vec::new(),
     };
     assert_eq!(verify(&log(), &list(), &expected(), NOTHING_REQUIRED).unwrap(), wanted);
 }
@@ -226,8 +227,8 @@ fn check_argument<T: std::fmt::Debug>(result: Result<T, Error>, text: &str) {
 
 #[test]
 fn wrong_requirement_or_range_is_refused() {
-    let wrong = ["", "sha256", "sha256:24", "sha256:10-0", "sha256:0-10,", "sha256: 0", "None", "none ", "none,sha256:0", "0-10"];
-    for require in wrong.into_iter().chain(["\u{e4}"]) {
+    let wrong = ["", "sha256", "sha256:10,sha256:24", "sha256:10-0,sha256:10", "sha256:0-10,", "sha256: 10", "None", "none "];
+    for require in wrong.into_iter().chain(["none,sha256:10", "0-10", "\u{e4}", "sha256:0-9", "sha1:11-23,sha256:0"]) {
         check_argument(verify(&[], &[], &[], require), require);
         check_argument(locate(&[], &[], &[], require), require);
         check_argument(replay(&[], &[], require), require);
@@ -249,10 +250,16 @@ fn list_alone_may_require_nothing() {
 #[test]
 fn inputs_are_refused_as_without_a_requirement() {
     let (log, list, expected) = (log(), list(), expected());
-    for (log, list, expected) in [(&log[..], &changed()[..], &expected[..]), (&log[..31], &list, &expected), (&log, &list, b"x")]
-    {
-        assert_eq!(verify(log, list, expected, "sha256:0"), verify(log, list, expected, NOTHING_REQUIRED));
-        assert_eq!(locate(log, list, expected, "sha256:0"), locate(log, list, expected, NOTHING_REQUIRED));
+    for (log, list, expected) in [
+        (&log[..], &changed()[..], &expected[..]),
+        (&log[..31], &list, &expected),
+        (&log[..log.len() - 1], &list, &expected),
+        (&log, &list[..list.len() - 1], &expected),
+        (&log, &list, b"x"),
+    ] {
+        assert!(verify(log, list, expected, NOTHING_REQUIRED).is_err());
+        assert_eq!(verify(log, list, expected, "sha256:10"), verify(log, list, expected, NOTHING_REQUIRED));
+        assert_eq!(locate(log, list, expected, "sha256:10"), locate(log, list, expected, NOTHING_REQUIRED));
     }
 }
 
@@ -322,7 +329,7 @@ fn errors_say_what_is_wrong() {
         (refused("refused: log fault 2", Kind::Log, 2, None), "refused: log fault 2"),
         (
             refused("refused: command line", Kind::Argument, 0, None),
-            "refused: command line (no PCRs are named in the form sha256:0-10 or 0-10)",
+            "refused: command line (PCRs are named as in sha256:0-10, with PCR 10, or as in 0-10)",
         ),
         (Error::OutOfMemory, "no memory for libima_verify"),
         (Error::Unexpected { result: 5, size: 10, text: Vec::new() }, "libima_verify gave the result 5 and the size 10"),
@@ -385,43 +392,89 @@ fn registers_after_the_list_alone() {
     assert_eq!(list_registers(&changed()).unwrap_err(), wanted);
 }
 
-#[test]
-fn log_and_list_are_apart() {
-    let mut ends = vec![0]; // (by the sizes of names and payloads)
-    let number = |at: usize| u32::from_le_bytes(list()[at..at + 4].try_into().unwrap()) as usize;
-    while let Some(&at) = ends.last().filter(|at| **at < list().len()) {
+/// Where each entry of the sample's list starts, and where the last ends, by the sizes of names and payloads.
+fn ends() -> Vec<usize> {
+    let (list, mut ends) = (list(), vec![0]);
+    let number = |at: usize| u32::from_le_bytes(list[at..at + 4].try_into().unwrap()) as usize;
+    while let Some(&at) = ends.last().filter(|at| **at < list.len()) {
         let name = number(at + 24);
         ends.push(at + 32 + name + number(at + 28 + name));
     }
+    ends
+}
+
+/// An event of register 10 that extends the SHA-256 bank with these 32 bytes, or of the type 3 nothing.
+fn event_of_10(kind: u8, digest: &[u8]) -> Vec<u8> {
+    [&[10, 0, 0, 0, kind, 0, 0, 0, 1, 0, 0, 0, 0x0b, 0][..], digest, &[0; 4]].concat()
+}
+
+/// The first so many expected registers.
+fn first(count: usize) -> Vec<u8> {
+    expected().split_inclusive(|byte| *byte == b'\n').take(count).collect::<Vec<_>>().concat()
+}
+
+/// The first ten, and this value of register 10.
+fn ten_and(value: &str) -> Vec<u8> {
+    [first(10), format!("sha256 10 {value}\n").into_bytes()].concat()
+}
+
+/// The registers are as expected. With a requirement this is a match unless these extend another's register.
+#[track_caller]
+fn check_apart(log: &[u8], list: &[u8], expected: &[u8], wanted: &[Stray]) {
+    let (without, verdict) =
+        (verify(log, list, expected, NOTHING_REQUIRED).unwrap(), verify(log, list, expected, "sha256:0-10").unwrap());
+    assert_eq!((without.matches, without.extends), (true, vec![]));
+    assert_eq!((verdict.matches, &verdict.extends[..], verdict.rows), (wanted.is_empty(), wanted, without.rows));
+}
+
+#[test]
+fn match_needs_a_log_and_a_list_that_are_apart() {
+    let (log, list, expected, ends) = (log(), list(), expected(), ends());
+    check_apart(&log, &list, &expected, &[]);
     for cut in [0, 1, 50, 99] {
-        assert_eq!(are_apart(&log(), &list()[..ends[cut]]), Ok(true));
-        assert_eq!(are_apart(&log(), &list()[ends[cut]..]), Ok(true));
+        for part in [&list[..ends[cut]], &list[ends[cut]..]] {
+            assert_eq!(verify(&log, part, &expected, "sha256:10").unwrap().extends, []);
+        }
     }
     for register in [0, 9, 11, 17, 23] {
         for place in [0, 1, 50, 93, 98] {
-            let mut list = list(); // (93 is a violation)
+            let mut list = list.clone(); // (93 is a violation)
             list[ends[place]] = register;
-            assert_eq!(are_apart(&log(), &list), Ok(false));
+            let verdict = verify(&log, &list, &expected, "sha256:10").unwrap();
+            assert_eq!((verdict.matches, verdict.extends), (false, vec![Stray::Entry { entry: place as u64, register }]));
         }
     }
-    // (an event of register 10, and one that extends nothing)
-    let event = |kind| [&[10, 0, 0, 0, kind, 0, 0, 0, 1, 0, 0, 0, 0x0b, 0][..], &[1; 32], &[0; 4]].concat();
-    assert_eq!(are_apart(&[log(), event(13)].concat(), &list()), Ok(false));
-    assert_eq!(are_apart(&[log(), event(3)].concat(), &list()), Ok(true));
-    assert_eq!(are_apart(&log(), &changed()), Err(refused("refused: replay fault 1 at entry 5", Kind::Replay, 1, Some(5))));
-    let cut = refused("refused: log fault 1 at event 24", Kind::Log, 1, Some(24));
-    assert_eq!(are_apart(&log()[..log().len() - 1], &list()), Err(cut));
+    // (register 10, by Python's hashlib: after the event and the list, and after entry 5 as an event and the list without it)
+    let (after_event, after_hidden) = (
+        "44c94d432d9d0c4a4d23cb443dc033e9dbfee95ab439adfeef358307f3afbfa3",
+        "ae57dc9ebd82f4ca1bc04f0ff1541eeaf9c05148411e42d7a7084bf299d9362c",
+    );
+    let stray = Stray::Event { event: 25, register: 10 };
+    check_apart(&[&log[..], &event_of_10(13, &[1; 32])].concat(), &list, &ten_and(after_event), &[stray]);
+    check_apart(&[&log[..], &event_of_10(3, &[1; 32])].concat(), &list, &expected, &[]);
+    let hidden = from_hex("ac59525d5bd859ad9f128045ffb61fbcc944ce5f2cf3c75200f9d185d676ef8b");
+    let hiding = [&log[..], &event_of_10(13, &hidden)].concat();
+    check_apart(&hiding, &[&list[..ends[5]], &list[ends[6]..]].concat(), &ten_and(after_hidden), &[stray]);
+    // (another entry, of register 11)
+    let mut entry = list[ends[98]..].to_vec();
+    entry[0] = 11;
+    let straying = [&list[..ends[98]], &entry, &list[ends[98]..]].concat();
+    let entry = Stray::Entry { entry: 98, register: 11 };
+    check_apart(&log, &straying, &first(11), &[entry]);
+    let alone = |require| replay(&straying, &tenth(), require).map(|verdict| (verdict.matches, verdict.extends));
+    assert_eq!((alone("sha256:10"), alone(NOTHING_REQUIRED)), (Ok((false, vec![entry])), Ok((true, vec![]))));
 }
 
 #[test]
 fn log_of_any_one_bank_may_extend_register_10() {
     // (a header of one algorithm, and an event of register 10; by the specification of logs)
-    for (id, size) in [(4, 20), (11, 32), (12, 48), (13, 64)] {
+    for (name, id, size) in [("sha1", 4, 20), ("sha256", 11, 32), ("sha384", 12, 48), ("sha512", 13, 64)] {
         let spec = [&b"Spec ID Event03\0"[..], &[0; 4], &[0, 2, 0, 2, 1, 0, 0, 0, id, 0, size, 0, 0]].concat();
         let header = [&[0, 0, 0, 0, 3, 0, 0, 0][..], &[0; 20], &[spec.len() as u8, 0, 0, 0], &spec].concat();
         let event = [&[10, 0, 0, 0, 13, 0, 0, 0, 1, 0, 0, 0, id, 0][..], &vec![0; size.into()], &[0; 4]].concat();
-        assert_eq!(are_apart(&header, &list()), Ok(true));
-        assert_eq!(are_apart(&[header, event].concat(), &list()), Ok(false));
+        let extends = |log: &[u8]| verify(log, &list(), b"", &format!("{name}:10")).unwrap().extends;
+        assert_eq!(extends(&header), []);
+        assert_eq!(extends(&[header, event].concat()), [Stray::Event { event: 1, register: 10 }]);
     }
 }
 

@@ -1,6 +1,6 @@
 //! Sessions on the sample's list as it grows.
 
-use crate::{verify, Algorithm, BootAggregate, Error, Kind, Row, Session, State, Unconfirmed, Verdict, NOTHING_REQUIRED};
+use crate::{verify, Algorithm, BootAggregate, Error, Kind, Row, Session, State, Stray, Unconfirmed, Verdict, NOTHING_REQUIRED};
 
 /// Register 10 after so many entries of the list, by Python's hashlib.
 const TENTHS: [(usize, &str); 5] = [
@@ -14,6 +14,8 @@ const CUTS: [usize; 7] = [0, 1, 2, 50, 97, 98, 99];
 /// Register 10 after the first 60 entries but the fiftieth, and the hash that ends the state after none, by Python's hashlib.
 const FOREIGN_TENTH: &str = "91ee775cae5dee03c7218c11fa254f17575b5bf0d36775f71dc974968209ce24";
 const HASH_OF_NONE: &str = "ddf3fbba98d33327336e7fe2534822e76067e1218ce732d9853e4db5495dfa04";
+/// Register 10 after an event that extends it with bytes of 1, and the list, by Python's hashlib.
+const AFTER_EVENT: &str = "44c94d432d9d0c4a4d23cb443dc033e9dbfee95ab439adfeef358307f3afbfa3";
 
 fn sample(name: &str) -> Vec<u8> {
     std::fs::read(format!("{}/../../samples/real-boot/{name}", env!("CARGO_MANIFEST_DIR"))).unwrap()
@@ -157,7 +159,7 @@ fn only_a_match_moves_the_session() {
 #[test]
 fn list_in_many_parts() {
     let boot = Sample::new();
-    let mut session = Session::new(&boot.log, &boot.first(10), "sha256:0-9"); // (of which each front is a match)
+    let mut session = Session::new(&boot.log, &boot.first(10), NOTHING_REQUIRED); // (of which each front is a match)
     for (start, end) in boot.ends.iter().zip(&boot.ends[1..]) {
         let verdict = session.more(&boot.list[*start..*end]).unwrap();
         assert_eq!((verdict.matches, session.offset()), (true, *end as u64));
@@ -251,7 +253,8 @@ fn required_registers_of_a_session() {
         assert_eq!(verdict.rows[23..], [(Algorithm::Sha1, 10), (Algorithm::Sha256, 23)].map(missing));
         assert_eq!((verdict.matches, verdict.compared(), verdict.confirmed), (false, 23, None));
     }
-    for wrong in ["", "sha256", "sha256:24", "sha256:10-0", "sha256:0-10,", " ", "None", "none ", "\u{e4}"] {
+    let wrong = ["", "sha256", "sha256:10,sha256:24", "sha256:10-0,sha256:10", "sha256:0-10,", " ", "None", "none ", "\u{e4}"];
+    for wrong in wrong.into_iter().chain(["sha256:0-9"]) {
         check_argument(&mut Session::new(b"", b"x", wrong), b"");
         check_argument(&mut Session::new(&boot.log, &boot.expected, wrong), &boot.list);
     }
@@ -266,25 +269,79 @@ fn required_registers_of_a_session() {
 #[test]
 fn requirement_of_a_resumed_session_holds() {
     let boot = Sample::new();
-    let ten = boot.first(10);
+    let eleven = boot.first(11);
     for cut in [0, 1, 50, 99] {
         let state = boot.state_after(cut);
-        let new = |require| Session::new(&boot.log, &ten, require);
+        let new = |require| Session::new(&boot.log, &eleven, require);
         for mut session in [
-            new("sha256:0-10").resume(&state).unwrap(),
-            new("sha256:0-10").prefix().resume(&state).unwrap(),
-            new("sha256:0-10").resume(&state).unwrap().prefix(),
+            new("sha256:0-11").resume(&state).unwrap(),
+            new("sha256:0-11").prefix().resume(&state).unwrap(),
+            new("sha256:0-11").resume(&state).unwrap().prefix(),
         ] {
             assert_eq!((session.state(), session.offset()), (Some(&state[..]), boot.ends[cut] as u64));
             for _ in 0..2 {
                 let verdict = session.more(boot.from(cut)).unwrap();
-                let missing = Row { algorithm: Algorithm::Sha256, register: 10, state: State::Missing };
-                assert_eq!((verdict.matches, &verdict.rows[10..]), (false, &[missing][..]));
+                let missing = Row { algorithm: Algorithm::Sha256, register: 11, state: State::Missing };
+                assert_eq!((verdict.matches, &verdict.rows[11..]), (false, &[missing][..]));
             }
         }
-        for require in ["sha256:0-9", NOTHING_REQUIRED, "none"] {
+        for require in ["sha256:0-10", NOTHING_REQUIRED, "none"] {
             assert!(new(require).resume(&state).unwrap().more(boot.from(cut)).unwrap().matches);
         }
+    }
+}
+
+#[test]
+fn entry_of_another_register_is_no_match_and_no_state() {
+    let boot = Sample::new();
+    // (the last entry once more, before the last, as of register 11)
+    let straying = [boot.until(98), &[11], &boot.from(98)[1..], boot.from(98)].concat();
+    let damaged = [&straying[..], b"x"].concat();
+    let fault = || {
+        let line = "unconfirmed: list fault 1 at entry 100".to_owned();
+        Unconfirmed { line, kind: Kind::List, number: 1, entry: 100 }
+    };
+    let new = |require| Session::new(&boot.log, &boot.first(11), require);
+    // (an entry before the state counts)
+    let mut earlier = Session::new(&boot.log, &boot.first(10), NOTHING_REQUIRED);
+    assert!(earlier.more(&straying[..straying.len() - boot.from(98).len()]).unwrap().matches);
+    let extends = [Stray::Entry { entry: 98, register: 11 }];
+    for state in [boot.state_after(0), boot.state_after(98), earlier.state().unwrap().to_vec()] {
+        for (list, prefix, confirmed, unconfirmed) in
+            [(&straying, false, None, None), (&straying, true, Some(100), None), (&damaged, true, Some(100), Some(fault()))]
+        {
+            let new = |require| {
+                let session = new(require).resume(&state).unwrap();
+                if prefix {
+                    session.prefix()
+                } else {
+                    session
+                }
+            };
+            let (mut without, mut session) = (new(NOTHING_REQUIRED), new("sha256:0-10"));
+            let (offset, data) = (session.offset(), &list[session.offset() as usize..]);
+            assert!(without.more(data).unwrap().matches);
+            let verdict = session.more(data).unwrap();
+            assert_eq!((verdict.matches, &verdict.extends[..]), (false, &extends[..]));
+            assert_eq!((verdict.entries, verdict.confirmed, verdict.unconfirmed), (100, confirmed, unconfirmed));
+            assert_eq!((session.state(), session.offset()), (Some(&state[..]), offset));
+        }
+    }
+    let mut before = Session::new(&boot.log, &boot.tenth_after(97), "sha256:0-10").prefix();
+    check_front(before.more(&straying).unwrap(), 100, 97, None);
+}
+
+#[test]
+fn event_of_register_10_is_no_match_and_no_state() {
+    let boot = Sample::new();
+    let event = [&[10, 0, 0, 0, 13, 0, 0, 0, 1, 0, 0, 0, 0x0b, 0][..], &[1; 32], &[0; 4]].concat();
+    let log = [&boot.log[..], &event].concat();
+    let expected = [boot.first(10), format!("sha256 10 {AFTER_EVENT}\n").into_bytes()].concat();
+    for mut session in [Session::new(&log, &expected, "sha256:10"), Session::new(&log, &expected, "sha256:10").prefix()] {
+        let verdict = session.more(&boot.list).unwrap();
+        assert!(verdict.rows.iter().all(|row| row.state == State::Match));
+        assert_eq!((verdict.matches, verdict.extends), (false, vec![Stray::Event { event: 25, register: 10 }]));
+        assert_eq!(session.state(), None);
     }
 }
 

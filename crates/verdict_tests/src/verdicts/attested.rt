@@ -51,9 +51,9 @@ fn real_boot_is_attested(rt: HostRuntime) -> Result<(), Fail> {
 /// Texts of registers, whether one may be required in the SHA-1 bank alone, and what is wrong with the policy, or else with the quote.
 const POLICIES: [(&[u8], bool, AttestFault); 8] = [
     (
-        b"sha256:0-9",
+        b"sha256:0-8,sha256:10",
         false,
-        AttestFault::Policy(PolicyFault::NotRequired { register: 10 }),
+        AttestFault::Policy(PolicyFault::NotRequired { register: 9 }),
     ),
     (
         b"sha256:10",
@@ -103,6 +103,8 @@ const POLICIES: [(&[u8], bool, AttestFault); 8] = [
 
 #[test]
 fn policies_that_the_quote_does_not_meet(rt: HostRuntime) -> Result<(), Fail> {
+    let unbound = required(rt.alloc(), b"sha256:0-9").err();
+    assert_eq!(rt; unbound, Some(RequirementFault::Unbound));
     for (text, takes_sha1, fault) in POLICIES {
         let required = required(rt.alloc(), text)?;
         let policy = Policy {

@@ -42,7 +42,7 @@ returns-clause-report g c =
         entries = is.entries;
         list_is = is.list_is;
         genuine = is.genuine;
-        verdict_is = list_verdict_same c.in_ok-known.known.before c.in_ok-known.known.after is.entries c.args.expected.now _ _ start is.replayed is.count
+        verdict_is = list_verdict_same c.in_ok-known.known.before c.in_ok-known.known.after is.entries c.args.expected.now _ _ _ start is.replayed is.count is.stray
             c.in_ok-rows_on.ensures;
       };
     }
@@ -55,5 +55,5 @@ returns-clause-only g c =
     λ entries holds.
     let same = same_entries _ holds goes.more is.entries goes.came is.list_is in
     inr (ap Ok (ap (λ (l : List ListEntry). list_verdict_on l c.args.expected.now) same
-    ∙ sym (list_verdict_same c.in_ok-known.known.before c.in_ok-known.known.after is.entries c.args.expected.now _ _ start is.replayed is.count
+    ∙ sym (list_verdict_same c.in_ok-known.known.before c.in_ok-known.known.after is.entries c.args.expected.now _ _ _ start is.replayed is.count is.stray
     c.in_ok-rows_on.ensures)))

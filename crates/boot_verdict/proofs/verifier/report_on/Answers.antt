@@ -12,5 +12,7 @@ returns c =
     let locality = c.locality.ensures table events is in
     let entries = checkpoint.count in
     let aggregate = c.aggregate_of.ensures algs events firmware ∙ ap (aggregate_of algs events) checkpoint.recorded in
+    let event = c.first_extending.ensures table events is in
+    let entry = checkpoint.stray in
     let rows = c.in_ok-rows_on.ensures ∙ rows_same algs events checkpoint.entries c.args.known.now.before c.args.known.now.after c.args.expected.now firmware checkpoint.replayed in
-    λ i. record { events = count i; locality = locality i; entries = entries i; aggregate = aggregate i; rows = rows i }
+    λ i. record { events = count i; locality = locality i; entries = entries i; aggregate = aggregate i; strays = record { event = event i; entry = entry i }; rows = rows i }

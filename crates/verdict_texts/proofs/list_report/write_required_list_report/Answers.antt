@@ -1,28 +1,10 @@
-use Rattle.std.proofs.Common.{ap, ◌∙◌}
-use Rattle.byte_streams.proofs.SinkLaws.{Sends-same, Sends-then, Sends-stops}
-use Rattle.verdict_texts.specs.ReportTexts.{verdict_text}
+use Rattle.byte_streams.proofs.SinkLaws.{Sends-then, Sends-stops}
 use Rattle.verdict_texts.proofs.list_report.write_required_list_report.Goals as goal
 
 pub returns-in_err-write_counts : goal.returns-in_err-write_counts
 returns-in_err-write_counts g c = Sends-stops _ _ _ _ _ _ _ c.from_residual.ensures.1 c.in_err-write_counts.ensures
 
-pub returns-in_err-write_rows : goal.returns-in_err-write_rows
-returns-in_err-write_rows g c =
-    let stopped = rw c.deref.ensures.value at c.in_err-write_rows.ensures in
-    Sends-then _ _ _ tt _ _ _ c.in_ok-write_counts.ensures
-    (Sends-stops _ _ _ _ _ _ _ c.from_residual-in_err-write_rows.ensures.1 stopped)
-
-pub returns-in_err-write_missing : goal.returns-in_err-write_missing
-returns-in_err-write_missing g c =
-    let rows = rw c.deref.ensures.value at c.in_ok-write_rows.ensures in
-    let stopped = rw c.deref-2.ensures.value at c.in_err-write_missing.ensures in
-    Sends-then _ _ _ tt _ _ _ c.in_ok-write_counts.ensures
-    (Sends-then _ _ _ tt _ _ _ rows (Sends-stops _ _ _ _ _ _ _ c.from_residual-in_err-write_missing.ensures.1 stopped))
-
 pub returns : goal.returns
 returns g c =
-    let rows = rw c.deref.ensures.value at c.in_ok-write_rows.ensures in
-    let missing = rw c.deref-2.ensures.value at c.in_ok-write_missing.ensures in
-    let line = c.verdict_line.ensures ∙ ap verdict_text c.meets.ensures in
-    Sends-then _ _ _ tt _ _ _ c.in_ok-write_counts.ensures
-    (Sends-then _ _ _ tt _ _ _ rows (Sends-then _ _ _ tt _ _ _ missing (Sends-same _ _ _ _ _ line c.send.ensures)))
+    let rows = rw (c.deref.ensures.value, c.meets-is_match.ensures) at c.write_required_rows.ensures in
+    Sends-then _ _ _ tt _ _ _ c.in_ok-write_counts.ensures rows

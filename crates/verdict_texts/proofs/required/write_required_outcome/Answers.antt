@@ -1,6 +1,5 @@
-use Rattle.std.proofs.Common.{◌≡◌, ap, ◌∙◌, length, arith}
+use Rattle.std.proofs.Common.{◌≡◌, ◌∙◌, length, arith}
 use Rattle.byte_streams.proofs.SinkLaws.{Sends-same, Sends-then, Sends-stops}
-use Rattle.verdict_texts.specs.ReportTexts.{verdict_text}
 use Rattle.verdict_texts.proofs.required.write_required_outcome.Goals as goal
 
 pub returns-in_err-write_compared : goal.returns-in_err-write_compared
@@ -14,29 +13,8 @@ returns-in_err-write_aggregate g c =
     Sends-then _ _ _ tt _ _ _ (rw many at c.in_ok-write_compared.ensures)
     (Sends-stops _ _ _ _ _ _ _ c.from_residual-in_err-write_aggregate.ensures.1 c.in_err-write_aggregate.ensures)
 
-pub returns-in_err-write_rows : goal.returns-in_err-write_rows
-returns-in_err-write_rows g c =
-    let many : c.len.result ≡ length c.args.report.now.rows.items = omega (arith, c.len.ensures) in
-    let stopped = rw c.deref.ensures.value at c.in_err-write_rows.ensures in
-    Sends-then _ _ _ tt _ _ _ (rw many at c.in_ok-write_compared.ensures)
-    (Sends-then _ _ _ tt _ _ _ c.in_ok-write_aggregate.ensures
-    (Sends-stops _ _ _ _ _ _ _ c.from_residual-in_err-write_rows.ensures.1 stopped))
-
-pub returns-in_err-write_missing : goal.returns-in_err-write_missing
-returns-in_err-write_missing g c =
-    let many : c.len.result ≡ length c.args.report.now.rows.items = omega (arith, c.len.ensures) in
-    let rows = rw c.deref.ensures.value at c.in_ok-write_rows.ensures in
-    let stopped = rw c.deref-2.ensures.value at c.in_err-write_missing.ensures in
-    Sends-then _ _ _ tt _ _ _ (rw many at c.in_ok-write_compared.ensures)
-    (Sends-then _ _ _ tt _ _ _ c.in_ok-write_aggregate.ensures
-    (Sends-then _ _ _ tt _ _ _ rows (Sends-stops _ _ _ _ _ _ _ c.from_residual-in_err-write_missing.ensures.1 stopped)))
-
 pub returns : goal.returns
 returns g c =
     let many : c.len.result ≡ length c.args.report.now.rows.items = omega (arith, c.len.ensures) in
-    let rows = rw c.deref.ensures.value at c.in_ok-write_rows.ensures in
-    let missing = rw c.deref-2.ensures.value at c.in_ok-write_missing.ensures in
-    let line = c.verdict_line.ensures ∙ ap verdict_text c.meets.ensures in
-    Sends-then _ _ _ tt _ _ _ (rw many at c.in_ok-write_compared.ensures)
-    (Sends-then _ _ _ tt _ _ _ c.in_ok-write_aggregate.ensures
-    (Sends-then _ _ _ tt _ _ _ rows (Sends-then _ _ _ tt _ _ _ missing (Sends-same _ _ _ _ _ line c.send.ensures))))
+    let rows = rw (c.deref.ensures.value, c.meets-is_match.ensures) at c.write_required_rows.ensures in
+    Sends-then _ _ _ tt _ _ _ (rw many at c.in_ok-write_compared.ensures) (Sends-then _ _ _ tt _ _ _ c.in_ok-write_aggregate.ensures rows)

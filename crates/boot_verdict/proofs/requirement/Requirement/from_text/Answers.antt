@@ -1,46 +1,8 @@
-use Rattle.std.proofs.Common.{Err, ap}
-use Rattle.std.proofs.lemmas.Result.{err_from_is_err_and}
-use Rattle.byte_fields.proofs.Steps.{fault_is}
-use Rattle.boot_verdict.specs.declared.requirement.RequirementFault.{RequirementFault}
-use Rattle.boot_verdict.specs.declared.requirement.RequirementFault.TheVariants.{Malformed, Memory}
-use Rattle.boot_verdict.proofs.RequirementLaws.{begins_with_range, is_memory, part_spelled, reads_more, reads_none}
+use Rattle.std.proofs.Common.{sym}
+use Rattle.boot_verdict.proofs.RequirementLaws.{unbound}
 use Rattle.boot_verdict.proofs.requirement.Requirement.from_text.Goals as goal
 
-pub returns-in_err-take_part-clause-found : goal.returns-in_err-take_part-clause-found
-returns-in_err-take_part-clause-found c =
-    let p = err_from_is_err_and c.from_residual.result c.from_residual.ensures.1 in rw p.1 tt
-
-pub loop-rest-init : goal.loop-rest-init
-loop-rest-init c = rw c.new-ranges.ensures.items (reads_none c.args.text)
-
-pub returns-in_err-take_part-clause-only : goal.returns-in_err-take_part-clause-only
-returns-in_err-take_part-clause-only c =
-    let p = err_from_is_err_and c.from_residual.result c.from_residual.ensures.1 in
+pub returns-then-not-binds_list-clause-only : goal.returns-then-not-binds_list-clause-only
+returns-then-not-binds_list-clause-only c =
     λ ranges is.
-    rw (p.1, p.2) (is_memory c.in_err-take_part.field-0.0 (λ malformed.
-    c.in_err-take_part.ensures.fault (ap (λ (f : RequirementFault). Err f) malformed)
-    (part_spelled c.args.text.now c.part_at.result.0.now c.loop-rest.ranges.items ranges c.in-Some.text c.part_at.result.1
-    (rw c.in-Some.is at c.loop-rest.invariant) c.part_at.ensures.part is)))
-
-pub returns-in_err-take_part-clause-fault : goal.returns-in_err-take_part-clause-fault
-returns-in_err-take_part-clause-fault c =
-    let p = err_from_is_err_and c.from_residual.result c.from_residual.ensures.1 in
-    λ malformed ranges is.
-    let same = fault_is c.from_residual.result p.0 c.in_err-take_part.field-0.0 Malformed p.1 p.2 malformed in
-    c.in_err-take_part.ensures.fault (ap (λ (f : RequirementFault). Err f) same)
-    (part_spelled c.args.text.now c.part_at.result.0.now c.loop-rest.ranges.items ranges c.in-Some.text c.part_at.result.1
-    (rw c.in-Some.is at c.loop-rest.invariant) c.part_at.ensures.part is)
-
-pub returns-in_err-take_part-clause-memory : goal.returns-in_err-take_part-clause-memory
-returns-in_err-take_part-clause-memory c =
-    let p = err_from_is_err_and c.from_residual.result c.from_residual.ensures.1 in
-    λ memory.
-    let same = fault_is c.from_residual.result p.0 c.in_err-take_part.field-0.0 Memory p.1 p.2 memory in
-    begins_with_range c.args.text.now c.part_at.result.0.now c.loop-rest.ranges.items c.in-Some.text c.part_at.result.1
-    (rw c.in-Some.is at c.loop-rest.invariant) c.part_at.ensures.part
-    (c.in_err-take_part.ensures.memory (ap (λ (f : RequirementFault). Err f) same))
-
-pub loop-rest-preserved : goal.loop-rest-preserved
-loop-rest-preserved c =
-    reads_more c.args.text.now c.part_at.result.0.now c.loop-rest.ranges.items c.take_part.new.ranges.items c.in-Some.text c.part_at.result.1
-    (rw c.in-Some.is at c.loop-rest.invariant) c.part_at.ensures.part c.in_ok-take_part.ensures.taken
+    absurd (unbound c.args.text.now c.in_ok-requirement.requirement ranges c.in_ok-requirement.ensures.found (sym c.if-not-binds_list.ensures) is)
