@@ -14,8 +14,9 @@
  *     if (ima_verify_verdict(&evidence, IMA_VERIFY_TEXT, &output) == IMA_VERIFY_DONE) ..
  *
  * What a function gives is the text that the program `ima-agent` prints for the command of the same name, or with
- * IMA_VERIFY_JSON the lines that it prints with --json, except that inputs may also be longer than 64 MiB. The page
- * formats.md has the formats, and what each fault number means; ima-agent(1) has the faults, too.
+ * IMA_VERIFY_JSON the lines that it prints with --json, except that inputs may also be longer than 64 MiB. (For
+ * ima_verify_attest the program has no command.) The page formats.md has the formats, and what each fault number
+ * means; ima-agent(1) has the faults, too.
  *
  * A verdict speaks of the registers that are expected, and of no others: so say in `require` which registers it
  * must cover. With it a verdict is `match` only if no event of the log extends register 10 and each entry of the
@@ -57,11 +58,11 @@ extern "C" {
 
 /* What a function returns. */
 enum ima_verify_result {
-    /* The text is complete. A verdict is `match`; of places, some register is expected, every value was reached,
-     * and none is missing. Of entries or events, these are the last. */
+    /* The text is complete. A verdict is `match`, and with a quote its signature was checked; of places, some
+     * register is expected, every value was reached, and none is missing. Of entries or events, these are the last. */
     IMA_VERIFY_DONE = 0,
-    /* The text is complete. A verdict is `differ`; of places, no register is expected, a value was not reached, or
-     * one is missing. */
+    /* The text is complete. A verdict is `differ`, or a quote's signature was not checked; of places, no register is
+     * expected, a value was not reached, or one is missing. */
     IMA_VERIFY_DIFFERS = 1,
     /* An input is refused: `fault` says why, and the text is the line that says so, as
      * `refused: log fault 1 at event 0`. As JSON it is an object whose one member is `fault`; no other line has
@@ -90,7 +91,8 @@ enum ima_verify_form {
 /* Why an input was refused. */
 enum ima_verify_fault_kind {
     IMA_VERIFY_NO_FAULT = 0,
-    /* `require` or `registers` is not of its form. */
+    /* `require` or `registers` is not of its form; with a quote also if `require` leaves out one of the registers 0 to
+     * 10 or names one of SHA-1 alone, or the nonce is too short. */
     IMA_VERIFY_ARGUMENT = 1,
     /* The firmware event log: its place is that of an event; the header is event 0. */
     IMA_VERIFY_LOG = 2,
@@ -103,7 +105,10 @@ enum ima_verify_fault_kind {
     /* The checkpoint. */
     IMA_VERIFY_CHECKPOINT = 6,
     /* Memory ran out. */
-    IMA_VERIFY_MEMORY = 7
+    IMA_VERIFY_MEMORY = 7,
+    /* The message of the quote: it is none, or has another nonce (11), or does not select a register that is required
+     * (12). */
+    IMA_VERIFY_QUOTE = 8
 };
 
 /* The place of a fault that names none. */
@@ -149,6 +154,26 @@ struct ima_verify_evidence {
     struct ima_verify_bytes require;
 };
 
+/* What a quote is judged by. No file of register values is needed: the message has a digest of them. */
+struct ima_verify_quoted {
+    /* The firmware event log. */
+    struct ima_verify_bytes log;
+    /* The measurement list. */
+    struct ima_verify_bytes list;
+    /* The message that the TPM signed, a TPMS_ATTEST: the file that `tpm2_quote -m` writes. */
+    struct ima_verify_bytes message;
+    /* The verifier's own nonce for this quote, used once: 16 bytes or more, and not their hexadecimal digits. */
+    struct ima_verify_bytes nonce;
+    /* The registers that must be quoted, at least 0 to 10, as `sha256:0-10`. */
+    struct ima_verify_bytes require;
+    /* Whether a register may be required in the bank of SHA-1 alone. */
+    bool takes_sha1;
+    /* Whether the caller has verified the message's signature with the machine's attestation key, which must be a
+     * restricted one. With `false`, which is what a member that is left out has, nothing is attested, and the report
+     * ends in `signature not checked`. */
+    bool signature_checked;
+};
+
 /* The bytes of a text that ends with a zero byte, without that. */
 static inline struct ima_verify_bytes ima_verify_text(const char *text) {
     struct ima_verify_bytes bytes = {(const uint8_t *)text, strlen(text)};
@@ -191,6 +216,10 @@ int32_t ima_verify_raw_more(const uint8_t *log, size_t log_size, const uint8_t *
                             size_t expected_size, const uint8_t *require, size_t require_size, bool prefix,
                             bool json, uint8_t *next, size_t next_room, size_t *next_size, uint8_t *out,
                             size_t room, struct ima_verify_told *told);
+int32_t ima_verify_raw_attest(const uint8_t *log, size_t log_size, const uint8_t *list, size_t list_size,
+                              const uint8_t *message, size_t message_size, const uint8_t *nonce, size_t nonce_size,
+                              const uint8_t *require, size_t require_size, bool takes_sha1, bool is_signed, bool json,
+                              uint8_t *out, size_t room, struct ima_verify_told *told);
 int32_t ima_verify_raw_expected(const uint8_t *printed, size_t printed_size, const uint8_t *registers,
                                 size_t registers_size, bool json, uint8_t *out, size_t room,
                                 struct ima_verify_told *told);
@@ -219,6 +248,12 @@ static inline bool ima_verify_is_output(enum ima_verify_form form, const struct 
 static inline bool ima_verify_is_evidence(const struct ima_verify_evidence *evidence) {
     return evidence && ima_verify_is_given(evidence->log) && ima_verify_is_given(evidence->list)
            && ima_verify_is_given(evidence->expected) && ima_verify_is_given(evidence->require);
+}
+
+static inline bool ima_verify_is_quoted(const struct ima_verify_quoted *quoted) {
+    return quoted && ima_verify_is_given(quoted->log) && ima_verify_is_given(quoted->list)
+           && ima_verify_is_given(quoted->message) && ima_verify_is_given(quoted->nonce)
+           && ima_verify_is_given(quoted->require);
 }
 
 static inline uint8_t *ima_verify_room(struct ima_verify_output *output, uint8_t *none) {
@@ -327,6 +362,33 @@ ima_verify_more(const struct ima_verify_evidence *evidence, struct ima_verify_by
         ima_verify_room(output, &none), output->room, &told);
     (void)ima_verify_tell(next, result, &told_next);
     return ima_verify_tell(output, result, &told);
+}
+
+/* The verdict on a log and a list by a quote. The message must have the nonce, and select each register that `require`
+ * names. IMA_VERIFY_DONE if its digest is that of the values to which log and list replay, the boot aggregate is good,
+ * no event of the log extends register 10, each entry of the list names it, and the signature was checked, else
+ * IMA_VERIFY_DIFFERS; the text is the report. The verdict covers the registers that the quote selects, and the report
+ * names them.
+ *
+ * This function verifies no signature: the caller does, before the call. A key that is not restricted also signs
+ * messages that no TPM made.
+ *
+ * The first fault is reported, in this order: `require` and the nonce, the message (`refused: quote fault 1` to `12`),
+ * the log, the list, whether each entry is genuine. */
+IMA_VERIFY_USE_RESULT static inline enum ima_verify_result
+ima_verify_attest(const struct ima_verify_quoted *quoted, enum ima_verify_form form,
+                  struct ima_verify_output *output) {
+    uint8_t none;
+    struct ima_verify_told told;
+    if (!ima_verify_is_quoted(quoted) || !ima_verify_is_output(form, output)) return IMA_VERIFY_MISUSED;
+    return ima_verify_tell(
+        output,
+        ima_verify_raw_attest(ima_verify_data(quoted->log), quoted->log.size, ima_verify_data(quoted->list),
+                              quoted->list.size, ima_verify_data(quoted->message), quoted->message.size,
+                              ima_verify_data(quoted->nonce), quoted->nonce.size, ima_verify_data(quoted->require),
+                              quoted->require.size, quoted->takes_sha1, quoted->signature_checked,
+                              form == IMA_VERIFY_JSON, ima_verify_room(output, &none), output->room, &told),
+        &told);
 }
 
 /* The expected registers that a text which tpm2_pcrread or tpm2_checkquote printed states, of those in the range

@@ -203,6 +203,37 @@ func (a answer) listVerdict() (ListVerdict, error) {
 	})
 }
 
+// attestation reads the verdict by a quote, where the caller has checked its signature, or has not.
+func (a answer) attestation(signatureChecked bool) (Attestation, error) {
+	return read(a, func(r *reader, o object) Attestation {
+		v := Attestation{Quoted: r.quoted(o), Signer: r.bytes(o, "signer"), Clock: r.clock(member[object](r, o, "clock")),
+			Firmware: r.number(o, "firmware", math.MaxUint64), Events: r.number(o, "events", math.MaxUint64),
+			Locality: uint8(r.number(o, "locality", math.MaxUint8)), Entries: r.number(o, "entries", math.MaxUint64),
+			SignatureChecked: signatureChecked, JSON: a.line()}
+		r.require(!has(o, "confirmed") && !has(o, "unconfirmed"))
+		v.BootAggregate = oneOf(r, o, "boot_aggregate", BootAggregateGood, BootAggregateWrong, BootAggregateNoBank, BootAggregateMissing)
+		v.Extends = r.strays(o, v.Events, v.Entries)
+		v.QuoteMatches = oneOf(r, o, "quote", "match", "differ") == "match"
+		isAttested := v.QuoteMatches && v.BootAggregate == BootAggregateGood && v.Extends == nil
+		v.Matches = isAttested && signatureChecked
+		r.require((oneOf(r, o, "signature", "checked", "not checked") == "checked") == signatureChecked)
+		r.require(member[string](r, o, "verdict") == conclusion(isAttested, signatureChecked) && a.result == resultOf(v.Matches))
+		return v
+	})
+}
+
+// conclusion is the verdict of a report by a quote.
+func conclusion(isAttested, signatureChecked bool) string {
+	switch {
+	case !signatureChecked:
+		return "signature not checked"
+	case isAttested:
+		return "match"
+	default:
+		return "differ"
+	}
+}
+
 func (a answer) places() (Places, error) {
 	return read(a, func(r *reader, o object) Places {
 		rows := member[[]object](r, o, "registers")

@@ -586,6 +586,7 @@ func TestRefusalsAreWhatIsReported(t *testing.T) {
 		{"refused: expected fault 1 at line 2", faultOf(KindExpected, 1, 2), RefusedError{Kind: KindExpected, Number: 1, Place: 2, HasPlace: true}},
 		{"refused: expected fault 6", faultOf(KindExpected, 6, noPlace), RefusedError{Kind: KindExpected, Number: 6}},
 		{"refused: checkpoint fault 3", faultOf(KindCheckpoint, 3, noPlace), RefusedError{Kind: KindCheckpoint, Number: 3}},
+		{"refused: quote fault 11", faultOf(KindQuote, 11, noPlace), RefusedError{Kind: KindQuote, Number: 11}},
 		{"refused: list fault 1 at entry 18446744073709551614", faultOf(KindList, 1, noPlace-1),
 			RefusedError{Kind: KindList, Number: 1, Place: noPlace - 1, HasPlace: true}},
 		{"refused: command line", faultOf(KindArgument, 0, noPlace), RefusedError{Kind: KindArgument}},
@@ -640,14 +641,15 @@ func TestReportedErrorIsOfTheResult(t *testing.T) {
 			checkUnexpected(t, found, report)
 		}
 	}
-	equal(t, len(kinds), 6)
+	equal(t, len(kinds), 7)
 }
 
 func TestErrorsSayWhatIsWrong(t *testing.T) {
 	equal(t, ErrOutOfMemory.Error(), "libima_verify got no memory")
 	equal(t, (&RefusedError{Line: "refused: log fault 2", Kind: KindLog, Number: 2}).Error(), "refused: log fault 2")
 	equal(t, (&RefusedError{Line: "refused: command line", Kind: KindArgument}).Error(),
-		"refused: command line (PCRs are named as in sha256:0-10, with PCR 10, or as in 0-10)")
+		"refused: command line (PCRs are named as in sha256:0-10, with PCR 10, or as in 0-10; "+
+			"a quote needs PCRs 0 to 10, and a nonce of at least 16 bytes)")
 	equal(t, (&UnexpectedError{5, 10, []byte("text\n")}).Error(),
 		`libima_verify gave the result 5 and the size 10, with a text that begins "text\n"`)
 }

@@ -29,6 +29,22 @@ func ExampleVerify() {
 	// Output: true 99 24
 }
 
+func ExampleAttest() {
+	quoted := filepath.Join("..", "quoted")
+	nonce, err := hex.DecodeString(string(bytes.TrimSpace(read(filepath.Join(quoted, "nonce")))))
+	if err != nil {
+		log.Fatal(err)
+	}
+	// (first verify the signature of the message with the machine's own restricted key)
+	quote := imaverify.Quote{Message: read(filepath.Join(quoted, "quote.msg")), Nonce: nonce, Require: "sha256:0-10", SignatureChecked: true}
+	verdict, err := imaverify.Attest(read("firmware.log"), read("ima.list"), quote)
+	if err != nil {
+		log.Fatal(err) // such as "refused: quote fault 11", if the nonce is another
+	}
+	fmt.Println(verdict.Matches, verdict.Entries, verdict.Quoted[imaverify.AlgorithmSHA256])
+	// Output: true 99 [0 1 2 3 4 5 6 7 8 9 10]
+}
+
 func ExampleLocate() {
 	places, err := imaverify.Locate(read("firmware.log"), read("ima.list"), read("expected.txt"), "sha256:0-10")
 	if err != nil {

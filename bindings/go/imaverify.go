@@ -8,7 +8,8 @@
 // A verdict covers only the boot aggregate and the PCRs in the expected text. So each call says which PCRs it must cover:
 // Verify(log, list, expected, "sha256:0-10"). With such a requirement a verdict is a match only if no event of the log extends PCR
 // 10 and each entry of the list names it. Entries and Events go through the inputs themselves. A Session is for a list that grows,
-// and for one that grew after the expected PCRs were read.
+// and for one that grew after the expected PCRs were read. Attest compares a log and a list with a quote in place of expected PCRs,
+// after the caller has verified its signature.
 //
 // If an input, a requirement or a range is refused, the error is a *RefusedError. If memory runs out, it is ErrOutOfMemory. If the
 // library's answer is not as its header describes, it is an *UnexpectedError. With any error the result is the zero value, whose
@@ -105,6 +106,56 @@ func (v Verdict) Compared() int {
 	return compared(v.Rows)
 }
 
+// Quote is the message of a quote, and what a verdict by it needs.
+//
+// Message is what the TPM signed, a TPMS_ATTEST: the file that `tpm2_quote -m` writes. Nonce is the verifier's own for this quote,
+// used once: 16 bytes or more. Require names the PCRs that must be quoted, at least 0 to 10, such as "sha256:0-10"; one of the SHA-1
+// bank alone is refused unless TakesSHA1. SignatureChecked says that the caller has verified the message's signature with the
+// machine's attestation key, which must be a restricted one. If it is false there is no match.
+type Quote struct {
+	Message          []byte
+	Nonce            []byte
+	Require          string
+	TakesSHA1        bool
+	SignatureChecked bool
+}
+
+// Clock is a TPM's clock and its counts when it made a quote. Milliseconds says how long the TPM has had power since it was last
+// cleared, and Resets how often it was reset since then: each boot is one reset. Restarts says how often it was restarted or resumed
+// since its last reset. Safe says that the clock never had a later value.
+//
+// If the key is neither in the endorsement nor in the platform hierarchy, the TPM adds a constant to Resets, to Restarts and to the
+// version of its firmware. Then only differences between two quotes by one key mean something.
+type Clock struct {
+	Milliseconds uint64
+	Resets       uint32
+	Restarts     uint32
+	Safe         bool
+}
+
+// Attestation is the verdict on a log and a list by a quote.
+//
+// Matches says that QuoteMatches, that the boot aggregate is good, that Extends is empty, and that the caller has checked the
+// signature. It covers the PCRs in Quoted, and no others. QuoteMatches says that the quote is of the values to which log and list
+// replay. Quoted has the numbers of the PCRs that the quote selects, ascending, for each bank of which it selects any. Signer is the
+// qualified name of the key that signed, and Firmware the version of the TPM's firmware, as the quote states them. JSON is the
+// report, without the line feed. Extends has the first event that extends PCR 10, and the first entry that extends another.
+type Attestation struct {
+	Quoted           map[Algorithm][]int
+	Signer           []byte
+	Clock            Clock
+	Firmware         uint64
+	Events           uint64
+	Locality         uint8
+	Entries          uint64
+	BootAggregate    BootAggregate
+	QuoteMatches     bool
+	SignatureChecked bool
+	Matches          bool
+	JSON             string
+	Extends          []Stray
+}
+
 // ListVerdict is the verdict on a list without a log, and expected PCRs.
 //
 // Matches says that the list has an entry, that each expected PCR has its value, that there is one, that no required one is
@@ -181,7 +232,9 @@ type Register struct {
 type Kind string
 
 const (
-	KindArgument Kind = "argument" // the requirement, or the range of PCRs, is not of its form; it has no number
+	// The requirement, or the range of PCRs, is not of its form, or does not suit a quote; or a nonce is too short. It has no number.
+	KindArgument Kind = "argument"
+
 	KindLog      Kind = "log"
 	KindList     Kind = "list"
 	KindReplay   Kind = "replay" // the template digest of an entry is not valid
@@ -189,6 +242,9 @@ const (
 
 	// The state of a session is damaged (1), of another version (2), or of another boot (3).
 	KindCheckpoint Kind = "checkpoint"
+
+	// The message of a quote: it is none (1 to 10), has another nonce (11), or does not select a required PCR (12).
+	KindQuote Kind = "quote"
 )
 
 // RefusedError is the error of an input that is refused. Kind, Number and Place are as the library reports them; Place is the
@@ -204,7 +260,8 @@ type RefusedError struct {
 
 func (r *RefusedError) Error() string {
 	if r.Kind == KindArgument {
-		return r.Line + " (PCRs are named as in sha256:0-10, with PCR 10, or as in 0-10)"
+		return r.Line + " (PCRs are named as in sha256:0-10, with PCR 10, or as in 0-10; " +
+			"a quote needs PCRs 0 to 10, and a nonce of at least 16 bytes)"
 	}
 	return r.Line
 }
@@ -282,6 +339,16 @@ func Version() uint32 {
 // empty one, is refused.
 func Verify(log, list, expected []byte, require string) (Verdict, error) {
 	return askFor(answer.verdict, func(out []byte) (int32, told) { return callVerdict(log, list, expected, []byte(require), out) })
+}
+
+// Attest gives the verdict on a firmware event log and a measurement list by a quote. No file of PCR values is needed. It verifies
+// no signature: do that first.
+//
+// A message that is no quote, has another nonce, or does not select a required PCR is refused with KindQuote; a requirement that is
+// not of its form or leaves out one of the PCRs 0 to 10, and a nonce that is too short, with KindArgument.
+func Attest(log, list []byte, quote Quote) (Attestation, error) {
+	read := func(a answer) (Attestation, error) { return a.attestation(quote.SignatureChecked) }
+	return askFor(read, func(out []byte) (int32, told) { return callAttest(log, list, quote, out) })
 }
 
 // Locate says where each expected PCR first has its value. The arguments and the errors are those of Verify.

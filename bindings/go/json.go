@@ -157,6 +157,31 @@ func (r *reader) stray(o object, events, entries uint64) Stray {
 	return s
 }
 
+// quoted are the PCRs that a quote selects, some of each bank, and at least of one.
+func (r *reader) quoted(o object) map[Algorithm][]int {
+	banks, quoted := member[[]object](r, o, "quoted"), map[Algorithm][]int{}
+	for _, bank := range banks {
+		registers := member[[]*uint64](r, bank, "registers")
+		algorithm, numbers, next := r.algorithm(bank, "bank"), []int{}, uint64(0)
+		for _, register := range registers {
+			if register == nil || *register < next || *register >= registersOfBank {
+				r.wrong = true
+				return nil
+			}
+			numbers, next = append(numbers, int(*register)), *register+1
+		}
+		r.require(len(numbers) > 0)
+		quoted[algorithm] = numbers
+	}
+	r.require(len(banks) > 0 && len(quoted) == len(banks))
+	return quoted
+}
+
+func (r *reader) clock(o object) Clock {
+	return Clock{r.number(o, "milliseconds", math.MaxUint64), uint32(r.number(o, "resets", math.MaxUint32)),
+		uint32(r.number(o, "restarts", math.MaxUint32)), member[bool](r, o, "safe")}
+}
+
 func (r *reader) placeRow(o object) PlaceRow {
 	row := PlaceRow{Algorithm: r.algorithm(o, "bank"), Register: r.register(o)}
 	row.Place.Kind = oneOf(r, o, "place", PlaceReset, PlaceEvent, PlaceEntry, PlaceNowhere, PlaceAbsent, PlaceMissing)

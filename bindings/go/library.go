@@ -45,6 +45,7 @@ var kinds = map[uint32]Kind{
 	C.IMA_VERIFY_REPLAY:     KindReplay,
 	C.IMA_VERIFY_EXPECTED:   KindExpected,
 	C.IMA_VERIFY_CHECKPOINT: KindCheckpoint,
+	C.IMA_VERIFY_QUOTE:      KindQuote,
 }
 
 // told is what a call reports of its text: the size, and the error that the text is the line of.
@@ -108,6 +109,14 @@ func callMore(log, state, data, expected, require []byte, prefix bool, next, out
 		start(expected), size(expected), start(require), size(require), C.bool(prefix), true,
 		start(next), size(next), &nextSize, start(out), size(out), &t), &t)
 	return result, uint64(nextSize), given
+}
+
+func callAttest(log, list []byte, quote Quote, out []byte) (int32, told) {
+	var t C.struct_ima_verify_told
+	require := []byte(quote.Require)
+	return givenBy(C.ima_verify_raw_attest(start(log), size(log), start(list), size(list), start(quote.Message), size(quote.Message),
+		start(quote.Nonce), size(quote.Nonce), start(require), size(require), C.bool(quote.TakesSHA1), C.bool(quote.SignatureChecked),
+		true, start(out), size(out), &t), &t)
 }
 
 func callExpected(printed, registers, out []byte) (int32, told) {

@@ -1,10 +1,11 @@
-/* Holds the library to what ima_verify.h promises of wrong calls, room, faults, requirements, pieces and the stack.
+/* Holds the library to what ima_verify.h promises of wrong calls, room, faults, requirements, quotes, pieces and the stack.
  *
- *     header LOG LIST EXPECTED PRINTED [STACK]
+ *     header LOG LIST EXPECTED PRINTED MESSAGE NONCE [STACK]
  *
- * The files are those of the sample boot; PRINTED is what tpm2_pcrread printed. Each function is called in a thread with so many bytes of
- * stack, by default the 512 KiB of the header. Prints a line for each check that fails, how much stack was used at most, and last 'N
- * passed, M failed'. The status is 1 if one failed. */
+ * The files are those of the sample boot; PRINTED is what tpm2_pcrread printed, MESSAGE is the message of a quote of registers 0 to 10 in
+ * the SHA-256 bank, and NONCE has its nonce in hexadecimal. Each function is called in a thread with so many bytes of stack, by default
+ * the 512 KiB of the header. Prints a line for each check that fails, how much stack was used at most, and last 'N passed, M failed'. The
+ * status is 1 if one failed. */
 #define _GNU_SOURCE
 #include <ima_verify.h>
 
@@ -29,10 +30,10 @@ enum {
 /* All that a function may be given. */
 struct given {
     struct ima_verify_evidence evidence;
-    struct ima_verify_bytes state, printed, registers;
+    struct ima_verify_bytes state, printed, registers, message, nonce;
     enum ima_verify_origin origin;
     struct ima_verify_position position;
-    bool prefix;
+    bool prefix, takes_sha1, signature_checked;
 };
 
 /* The sample with another member. */
@@ -73,6 +74,16 @@ static enum ima_verify_result call_more(const struct given *given, enum ima_veri
     return ima_verify_more(&given->evidence, given->state, given->prefix, form, to_next, to);
 }
 
+static enum ima_verify_result call_attest(const struct given *given, enum ima_verify_form form) {
+    const struct ima_verify_evidence *evidence = &given->evidence;
+    struct ima_verify_quoted quoted = {
+        .log = evidence->log,         .list = evidence->list,       .message = given->message,
+        .nonce = given->nonce,        .require = evidence->require, .takes_sha1 = given->takes_sha1,
+        .signature_checked = given->signature_checked,
+    };
+    return ima_verify_attest(&quoted, form, to);
+}
+
 static enum ima_verify_result call_expected(const struct given *given, enum ima_verify_form form) {
     return ima_verify_expected(given->printed, given->registers, form, to);
 }
@@ -99,8 +110,10 @@ enum inputs {
     OF_STATE = 16,
     OF_PRINTED = 32,
     OF_REGISTERS = 64,
+    OF_MESSAGE = 128,
+    OF_NONCE = 256,
     ALL = 15,
-    INPUTS = 7
+    INPUTS = 9
 };
 
 /* Each function, and which inputs it looks at. */
@@ -113,19 +126,20 @@ static const struct function {
     {"locate", call_locate, ALL},
     {"replay", call_replay, ALL},
     {"more", call_more, ALL | OF_STATE},
+    {"attest", call_attest, OF_LOG | OF_LIST | OF_REQUIRE | OF_MESSAGE | OF_NONCE},
     {"expected", call_expected, OF_PRINTED | OF_REGISTERS},
     {"registers", call_registers, OF_LOG},
     {"entries", call_entries, OF_LIST},
     {"events", call_events, OF_LOG},
 };
 enum { FUNCTIONS = sizeof functions / sizeof functions[0] };
-static const struct function *const more = &functions[3], *const expecting = &functions[4], *const registers = &functions[5];
-static const struct function *const entries = &functions[6], *const events = &functions[7];
+static const struct function *const more = &functions[3], *const attest = &functions[4], *const expecting = &functions[5];
+static const struct function *const registers = &functions[6], *const entries = &functions[7], *const events = &functions[8];
 
 static struct ima_verify_bytes *input(struct given *given, int number) {
     struct ima_verify_bytes *inputs[INPUTS] = {
-        &given->evidence.log, &given->evidence.list, &given->evidence.expected, &given->evidence.require,
-        &given->state,        &given->printed,       &given->registers,
+        &given->evidence.log, &given->evidence.list, &given->evidence.expected, &given->evidence.require, &given->state,
+        &given->printed,      &given->registers,     &given->message,           &given->nonce,
     };
     return inputs[number];
 }
@@ -236,6 +250,7 @@ static void check_wrong_outputs(const struct given *sample) {
     check_misused(ima_verify_locate(NULL, IMA_VERIFY_TEXT, to), "locate", "no evidence");
     check_misused(ima_verify_replay(NULL, IMA_VERIFY_TEXT, to), "replay", "no evidence");
     check_misused(ima_verify_more(NULL, sample->state, false, IMA_VERIFY_TEXT, to_next, to), "more", "no evidence");
+    check_misused(ima_verify_attest(NULL, IMA_VERIFY_TEXT, to), "attest", "no evidence");
 }
 
 /* With too little room nothing is written, and with what the call asks for there is enough. */
@@ -339,6 +354,106 @@ static bool has_line(const char *line) {
     return memmem(text, out.size, line, strlen(line)) != NULL;
 }
 
+static bool ends_with(const char *words) {
+    size_t size = strlen(words);
+    return out.size >= size && memcmp(text + out.size - size, words, size) == 0;
+}
+
+static void check_quote_refusals(const struct given *sample) {
+    static const char *const arguments[] = {"sha256:0-9", "sha256:1-10", "sha1:0-10", "sha256:0-9,sha1:10", "none", "", "sha256:0-24"};
+    static uint8_t changed[ROOM];
+    const char *argument = "refused: command line\n", *lacks = "refused: quote fault 12\n";
+    struct given given;
+    struct ima_verify_bytes nonce = sample->nonce, message = sample->message, log = sample->evidence.log, list = sample->evidence.list;
+
+    for (size_t i = 0; i < sizeof arguments / sizeof arguments[0]; i++)
+        check_refusal(attest, WITH(evidence.require, ima_verify_text(arguments[i])), argument, IMA_VERIFY_ARGUMENT, 0, IMA_VERIFY_NO_PLACE);
+    nonce.size = 15;
+    check_refusal(attest, WITH(nonce, nonce), argument, IMA_VERIFY_ARGUMENT, 0, IMA_VERIFY_NO_PLACE);
+    nonce.size = 16;
+    check_refusal(attest, WITH(nonce, nonce), "refused: quote fault 11\n", IMA_VERIFY_QUOTE, 11, IMA_VERIFY_NO_PLACE);
+    memcpy(changed, sample->nonce.data, sample->nonce.size);
+    changed[0] ^= 1;
+    nonce = (struct ima_verify_bytes){changed, sample->nonce.size};
+    check_refusal(attest, WITH(nonce, nonce), "refused: quote fault 11\n", IMA_VERIFY_QUOTE, 11, IMA_VERIFY_NO_PLACE);
+    check_refusal(attest, WITH(evidence.require, ima_verify_text("sha256:0-11")), lacks, IMA_VERIFY_QUOTE, 12, IMA_VERIFY_NO_PLACE);
+    given = *sample;
+    given.takes_sha1 = true;
+    given.evidence.require = ima_verify_text("sha1:0-10");
+    check_refusal(attest, &given, lacks, IMA_VERIFY_QUOTE, 12, IMA_VERIFY_NO_PLACE);
+    for (message.size = 0; message.size < sample->message.size; message.size++)
+        check_refusal(attest, WITH(message, message), "refused: quote fault 1\n", IMA_VERIFY_QUOTE, 1, IMA_VERIFY_NO_PLACE);
+    check_refusal(attest, WITH(message, log), "refused: quote fault 2\n", IMA_VERIFY_QUOTE, 2, IMA_VERIFY_NO_PLACE);
+    /* (the message is refused before the log, and the log before the list) */
+    list.size--;
+    check_refusal(attest, WITH(evidence.list, list), "refused: list fault 1 at entry 98\n", IMA_VERIFY_LIST, 1, 98);
+    given.evidence.log = ima_verify_none();
+    check_refusal(attest, &given, "refused: log fault 1 at event 0\n", IMA_VERIFY_LOG, 1, 0);
+    given.message = ima_verify_text("");
+    check_refusal(attest, &given, "refused: quote fault 1\n", IMA_VERIFY_QUOTE, 1, IMA_VERIFY_NO_PLACE);
+    memcpy(changed, sample->evidence.list.data, sample->evidence.list.size);
+    changed[4] ^= 1;
+    list = (struct ima_verify_bytes){changed, sample->evidence.list.size};
+    check_refusal(attest, WITH(evidence.list, list), "refused: replay fault 1 at entry 0\n", IMA_VERIFY_REPLAY, 1, 0);
+}
+
+/* Whether a report in both forms says how the quote compares, and ends so. */
+static void check_conclusion(const struct given *given, bool is_quoted, const char *words, const char *members, const char *what) {
+    enum ima_verify_result wanted = strcmp(words, "\nverdict match\n") == 0 ? IMA_VERIFY_DONE : IMA_VERIFY_DIFFERS;
+    ask(attest, given, IMA_VERIFY_TEXT, ROOM);
+    bool is_told = has_line(is_quoted ? "\nquote match\n" : "\nquote differ\n");
+    check(result == wanted && has_no_fault() && is_told && ends_with(words), "attest", what);
+    ask(attest, given, IMA_VERIFY_JSON, ROOM);
+    is_told = has_line(is_quoted ? ",\"quote\":\"match\"," : ",\"quote\":\"differ\",");
+    check(result == wanted && has_no_fault() && is_told && ends_with(members), "attest as JSON", what);
+}
+
+/* Checks the verdict by a quote, and that there is none without its signature. */
+static void check_quoted(const struct given *given, bool is_quoted, bool is_match, const char *what) {
+    struct given unsigned_one = *given;
+    unsigned_one.signature_checked = false;
+    if (is_match)
+        check_conclusion(given, is_quoted, "\nverdict match\n", ",\"signature\":\"checked\",\"verdict\":\"match\"}\n", what);
+    else
+        check_conclusion(given, is_quoted, "\nverdict differ\n", ",\"signature\":\"checked\",\"verdict\":\"differ\"}\n", what);
+    check_conclusion(&unsigned_one, is_quoted, "\nsignature not checked\n",
+                     ",\"signature\":\"not checked\",\"verdict\":\"signature not checked\"}\n", what);
+    check(!has_line("\"verdict\":\"match\""), "attest without a signature", what);
+}
+
+/* The sample's quote is of its log and its list, and of no other ones. */
+static void check_quote(const struct given *sample) {
+    enum { LAST = 95 };
+    static const uint8_t event[50] = {9, 0, 0, 0, 13, 0, 0, 0, 1, 0, 0, 0, 0x0b};
+    static uint8_t longer[ROOM], changed[ROOM];
+    struct ima_verify_bytes list = sample->evidence.list, log = sample->evidence.log, message = sample->message;
+    struct given given;
+
+    check_quoted(sample, true, true, "the sample");
+    ask(attest, sample, IMA_VERIFY_TEXT, ROOM);
+    check(has_line("quoted sha256 0 1 2 3 4 5 6 7 8 9 10\nsigner 000b"), "attest", "what the quote states");
+    check(has_line("\nevents 24 locality 0\nentries 99\nboot_aggregate good\n"), "attest", "what log and list have");
+    check_quoted(WITH(takes_sha1, true), true, true, "SHA-1 alone may be required");
+    list.size -= LAST;
+    check_quoted(WITH(evidence.list, list), false, false, "a list that is cut by an entry");
+    list = sample->evidence.list;
+    memcpy(longer, list.data, list.size);
+    memcpy(longer + list.size, list.data + list.size - LAST, LAST);
+    check_quoted(WITH(evidence.list, ((struct ima_verify_bytes){longer, list.size + LAST})), false, false, "a list that went on");
+    longer[list.size - LAST] = 11;
+    check_quoted(WITH(evidence.list, ((struct ima_verify_bytes){longer, list.size + LAST})), true, false, "an entry of register 11");
+    ask(attest, &given, IMA_VERIFY_TEXT, ROOM);
+    check(has_line("\nentry 98 extends 11\nquote match\n"), "attest", "an entry of register 11");
+    memcpy(longer, log.data, log.size);
+    memcpy(longer + log.size, event, sizeof event);
+    check_quoted(WITH(evidence.log, ((struct ima_verify_bytes){longer, log.size + sizeof event})), false, false, "a log of another boot");
+    longer[log.size] = 10;
+    check_quoted(&given, false, false, "an event of register 10");
+    memcpy(changed, message.data, message.size);
+    changed[message.size - 1] ^= 1;
+    check_quoted(WITH(message, ((struct ima_verify_bytes){changed, message.size})), false, false, "another digest");
+}
+
 /* The line of register 10, which the sample's list alone extends. */
 static struct ima_verify_bytes tenth_of(struct ima_verify_bytes expected) {
     const uint8_t *line = memmem(expected.data, expected.size, "sha256 10 ", 10), *next = line;
@@ -390,7 +505,7 @@ static void check_strays(const struct given *sample) {
 /* Lines one by one, and all at once; and there is nothing after the last. */
 static void check_pieces(const struct given *sample) {
     static uint8_t whole[ROOM];
-    for (int i = 6 * 2; i < FUNCTIONS * 2; i++) {
+    for (int i = 7 * 2; i < FUNCTIONS * 2; i++) {
         const struct function *function = &functions[i / 2];
         enum ima_verify_form form = i % 2 ? IMA_VERIFY_JSON : IMA_VERIFY_TEXT;
         struct given given = *sample;
@@ -524,14 +639,28 @@ static struct ima_verify_bytes load(const char *name) {
     return (struct ima_verify_bytes){bytes, size};
 }
 
+/* The bytes that a text spells in hexadecimal. */
+static struct ima_verify_bytes spelled(struct ima_verify_bytes digits) {
+    static uint8_t bytes[ROOM];
+    struct ima_verify_bytes found = {bytes, 0};
+    for (size_t i = 0; i + 1 < digits.size; i += 2) {
+        char pair[] = {(char)digits.data[i], (char)digits.data[i + 1], 0};
+        bytes[found.size++] = (uint8_t)strtoul(pair, NULL, 16);
+    }
+    return found;
+}
+
 int main(int count, char **words) {
-    if (count < 5)
+    if (count < 7)
         return 2;
     struct given sample = {
         .evidence = {load(words[1]), load(words[2]), load(words[3]), ima_verify_text("sha256:0-10")},
         .state = {NULL, 0},
         .printed = load(words[4]),
         .registers = ima_verify_text("0-10"),
+        .message = load(words[5]),
+        .nonce = spelled(load(words[6])),
+        .signature_checked = true,
     };
     check(ima_verify_version() >= IMA_VERIFY_VERSION, "version", "older than the header");
     check_wrong_calls(&sample);
@@ -540,9 +669,11 @@ int main(int count, char **words) {
     check_faults(&sample);
     check_requirements(&sample);
     check_strays(&sample);
+    check_quote_refusals(&sample);
+    check_quote(&sample);
     check_pieces(&sample);
     fflush(stdout);
-    check_stack(&sample, count > 5 ? strtoul(words[5], NULL, 10) : STACK);
+    check_stack(&sample, count > 7 ? strtoul(words[7], NULL, 10) : STACK);
     printf("%ld passed, %ld failed\n", passed, failed);
     return failed != 0;
 }

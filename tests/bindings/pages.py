@@ -39,10 +39,15 @@ PCR 9 has its value after event 22, EV_EVENT_TAG
 
 
 def page_of(language):
-    """The program of a language's page, and after it the function of a list that grows."""
+    """The program of a language's page, and after it the function of a list that grows. (Python's page has one more, of a quote.)"""
     page = (ROOT / "bindings" / language / "README.md").read_text()
-    program, function = re.findall(rf"^```{language}(?:,no_run)?\n(.*?)^```", page, re.MULTILINE | re.DOTALL)
+    program, function, *_ = re.findall(rf"^```{language}(?:,no_run)?\n(.*?)^```", page, re.MULTILINE | re.DOTALL)
     return f"{program}\n{function}"
+
+
+def quote_example():
+    """The function of a quote that Python's page has."""
+    return re.findall(r"^```python\n(.*?)^```", (ROOT / "bindings/python/README.md").read_text(), re.MULTILINE | re.DOTALL)[2]
 
 
 def page_inputs(folder):

@@ -49,7 +49,7 @@ DONE, REFUSED, OUT_OF_MEMORY, TOO_SHORT, MORE = (
     CONSTANTS[name] for name in ("DONE", "REFUSED", "OUT_OF_MEMORY", "TOO_SHORT", "MORE")
 )
 NO_FAULT, NO_PLACE = (CONSTANTS["NO_FAULT"], 0, (1 << 64) - 1), (1 << 64) - 1
-KINDS = {"command line": "ARGUMENT", **{name.lower(): name for name in ("LOG", "LIST", "REPLAY", "EXPECTED", "CHECKPOINT")}}
+KINDS = {"command line": "ARGUMENT", **{name.lower(): name for name in ("LOG", "LIST", "REPLAY", "EXPECTED", "CHECKPOINT", "QUOTE")}}
 FAULT = re.compile(r"refused: (command line|\w+)(?: fault (\d+))?(?: at \w+ (\d+))?")
 
 

@@ -151,7 +151,7 @@ def fault_table(name, line):
 
 def sentences_of(name):
     """The sentences of the table of faults of docs/formats.md that begins with this word, by the faults' numbers."""
-    rows = re.findall(r"^  (\d+)  (.*)$", fault_table(TABLES + name, 0).decode(), re.MULTILINE)
+    rows = re.findall(r"^ +(\d+)  (.*)$", fault_table(TABLES + name, 0).decode(), re.MULTILINE)
     return {int(number): sentence for number, sentence in rows}
 
 

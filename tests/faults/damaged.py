@@ -1,6 +1,6 @@
 #!/usr/bin/env python3
-"""Compares what the library for C and `tests/reference/` answer on damaged inputs: each prefix of the sample's log and of its list, and each
-of the two with the lowest bit of one byte turned.
+"""Compares what the library for C and `tests/reference/` answer on damaged inputs: each prefix of the sample's log, of its list and of the
+message of its quote, and each of the three with the lowest bit of one byte turned.
 
 tests/faults/damaged.py [LIBRARY]: a libima_verify.so; without it `dist/library` makes one, which builds what is not up to date.
 
@@ -19,6 +19,7 @@ sys.path[:0] = [str(Path(__file__).resolve().parents[1]), str(Path(__file__).res
 import harness  # noqa: E402
 from c_library import Call, Library, Unlike  # noqa: E402
 from harness import ROOT  # noqa: E402
+from reference.attestations import attest_report  # noqa: E402
 from reference.faults import Fault  # noqa: E402
 from reference.log import read_log  # noqa: E402
 from reference.measurement_list import read_list  # noqa: E402
@@ -28,6 +29,8 @@ from reference.verdict import verdict  # noqa: E402
 BOOT = ROOT / "samples/real-boot"
 LOG, LIST = ((BOOT / name).read_bytes() for name in ("firmware.log", "ima.list"))
 FIRST_ENTRY = LIST[:101]
+MESSAGE = (ROOT / "samples/quoted/quote.msg").read_bytes()
+NONCE = bytes.fromhex((ROOT / "samples/quoted/nonce").read_text())
 TENTH = next(line for line in (BOOT / "expected.txt").read_bytes().splitlines() if line.startswith(b"sha256 10 "))
 ROOM = 65536
 
@@ -46,6 +49,11 @@ def judged(log, listed, expected):
     return verdict(read_log(log), read_list(listed), expected)
 
 
+def attested(log, listed, message, nonce, require):
+    report = attest_report(log, listed, message, nonce, require.decode())
+    return report.text(), report.matches
+
+
 def registers(log):
     return read_log(log).registers().text(), True
 
@@ -60,9 +68,11 @@ KINDS = {
     "verdict on the log and the first entry": (LOG, "verdict", lambda log: [log, FIRST_ENTRY, b""], judged),
     "entries of the list": (LIST, "entries", lambda listed: [listed], shown),
     "verdict on the log and the list": (LIST, "verdict", lambda listed: [LOG, listed, TENTH], judged),
+    "verdict by a quote": (MESSAGE, "attest", lambda message: [LOG, LIST, message, NONCE, b"sha256:0-10"], attested),
 }
 # What a function takes beside the inputs: a requirement, and its form.
 NOTHING_REQUIRED, AS_TEXT, OF_LOG = b"none", False, False
+SHA1_IS_NOT_TAKEN, IS_SIGNED = False, True
 ENTRIES = Call("entries", [], None, AS_TEXT, False)
 DAMAGES = {
     "fronts": (lambda data: range(len(data) + 1), lambda data, place: data[:place]),
@@ -75,6 +85,8 @@ def library_answer(library, function, inputs):
     try:
         if function == "entries":
             return entries_answer(library, *inputs)
+        if function == "attest":
+            return library.ask(function, inputs, [SHA1_IS_NOT_TAKEN, IS_SIGNED, AS_TEXT], ROOM)[:2]
         if function == "registers":
             return library.ask(function, inputs, [OF_LOG, AS_TEXT], ROOM)[:2]
         return library.ask(function, [*inputs, NOTHING_REQUIRED], [AS_TEXT], ROOM)[:2]

@@ -3,11 +3,11 @@
  *     library FUNCTION RESULT TEXT ROOM NEXT NEXT_ROOM INPUT..
  *
  * FUNCTION is the name of a function without ima_verify_. After it can stand :json for that form, :prefix if the confirmed front is asked
- * for, and :list for the registers of a list. INPUT are its files, and ROOM is the size of its buffer. RESULT and the file TEXT are the
- * answer that it has with ample memory, and the file NEXT is the checkpoint that it gives in a buffer of NEXT_ROOM bytes; a function that
- * gives none has no such buffer. In the Nth turn the Nth allocation is refused, until a turn ends with none refused. Each turn calls twice:
- * the call whose allocation is refused has the answer, or says that memory ran out, and then leaves the checkpoint's buffer as it was; the
- * next one has the answer. The fault that a call tells must be that of its text.
+ * for, :list for the registers of a list, and :signed if a quote's signature was checked. INPUT are its files, and ROOM is the size of its
+ * buffer. RESULT and the file TEXT are the answer that it has with ample memory, and the file NEXT is the checkpoint that it gives in a
+ * buffer of NEXT_ROOM bytes; a function that gives none has no such buffer. In the Nth turn the Nth allocation is refused, until a turn ends
+ * with none refused. Each turn calls twice: the call whose allocation is refused has the answer, or says that memory ran out, and then leaves
+ * the checkpoint's buffer as it was; the next one has the answer. The fault that a call tells must be that of its text.
  *
  * Of entries and events a turn calls until the last line has come: by pieces for which there is ROOM, or, if that is too short for a line,
  * by single lines. What comes must be TEXT, also where a call in between says that memory ran out.
@@ -185,7 +185,7 @@ static int inputs_of(const char *function) {
     static const struct {
         const char *name;
         int inputs;
-    } functions[] = {{"verdict", 4},  {"locate", 4},    {"replay", 3},  {"more", 5},
+    } functions[] = {{"verdict", 4},  {"locate", 4},    {"replay", 3},  {"more", 5},  {"attest", 5},
                      {"expected", 2}, {"registers", 1}, {"entries", 1}, {"events", 1}};
     for (size_t i = 0; i < sizeof functions / sizeof functions[0]; i++)
         if (is(function, functions[i].name))
@@ -215,6 +215,11 @@ static enum ima_verify_result call(const char *function, const struct ima_verify
     if (is(function, "more")) {
         struct ima_verify_evidence evidence = {.log = in[0], .list = in[2], .expected = in[3], .require = in[4]};
         return ima_verify_more(&evidence, in[1], has(function, ":prefix"), form, next, out);
+    }
+    if (is(function, "attest")) {
+        struct ima_verify_quoted quoted = {.log = in[0], .list = in[1], .message = in[2], .nonce = in[3], .require = in[4]};
+        quoted.signature_checked = has(function, ":signed");
+        return ima_verify_attest(&quoted, form, out);
     }
     struct ima_verify_evidence evidence = {.log = in[0], .list = in[1], .expected = in[2], .require = in[3]};
     return is(function, "verdict") ? ima_verify_verdict(&evidence, form, out) : ima_verify_locate(&evidence, form, out);
@@ -248,7 +253,7 @@ static bool has_text(struct ima_verify_bytes text, const struct room *room, bool
 
 /* The fault that a line says. */
 static struct ima_verify_fault fault_in(struct ima_verify_bytes line) {
-    static const char *const kinds[] = {"", "command", "log", "list", "replay", "expected", "checkpoint"};
+    static const char *const kinds[] = {"", "command", "log", "list", "replay", "expected", "checkpoint", "", "quote"};
     struct ima_verify_fault fault = {IMA_VERIFY_NO_FAULT, 0, IMA_VERIFY_NO_PLACE};
     char text[LINE] = "", kind[LINE] = "";
     unsigned number = 0;

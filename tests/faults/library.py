@@ -4,13 +4,15 @@
 tests/faults/library.py [PROGRAM ARCHIVE]: the program and the static library that the toolchain made; without them, those of this tree,
 which `dist/library` builds first if they are not there or are older than a source.
 
-The answers that are wanted, and the checkpoints, are those of the program to the same files. Each function of the header is called with each
+The answers that are wanted, and the checkpoints, are those of the program to the same files, and for a quote, of which the program has no
+command, those of `tests/reference/`. Each function of the header is called with each
 input, in both forms, and with buffers that have room to spare, just enough, and too little; entries and events come by pieces. In the Nth
 turn the Nth allocation is refused (tests/faults/library.c, which gives the library its memory), until a turn ends with none refused. A call
 must have the answer, or say that memory ran out. It must tell the fault of its text, and write nothing but that, and nothing to a
 checkpoint's buffer if memory ran out. It must give back, once, all memory that it took, and have the answer when it is made again. A function
 that takes no memory at all fails, and so does one that takes it elsewhere, a crash, and a run of more than a minute. Needs cc and nm."""
 
+import json
 import re
 import subprocess
 import sys
@@ -22,6 +24,8 @@ sys.path[:0] = [str(Path(__file__).resolve().parents[1]), str(Path(__file__).res
 import harness  # noqa: E402
 from harness import PROGRAM, ROOT  # noqa: E402
 from header import VERSION, functions_of  # noqa: E402
+from reference.attestations import attest_report  # noqa: E402
+from reference.faults import Fault  # noqa: E402
 from sweep import check_runs  # noqa: E402
 
 SECONDS = 60
@@ -113,6 +117,8 @@ def made_files(folder, program):
     """The sample's files, and files made of them, by name. The program makes the checkpoint."""
     boot = ROOT / "samples/real-boot"
     log, listed, expected = ((boot / name).read_bytes() for name in ("firmware.log", "ima.list", "expected.txt"))
+    message, nonce = ((ROOT / "samples/quoted" / name).read_bytes() for name in ("quote.msg", "nonce"))
+    nonce = bytes.fromhex(nonce.decode())
     made = {
         "log": log,
         "one event": bytes.fromhex((ROOT / "samples/one-event.hex").read_text()),
@@ -134,6 +140,12 @@ def made_files(folder, program):
         "other bank": b"sha1 10 " + 40 * b"0",
         "wrong line": expected + b"sha256 24 00\n",
         "printed": (boot / "tpm2_pcrread.txt").read_bytes(),
+        "message": message,
+        "cut message": message[:-1],
+        "nonce": nonce,
+        "another nonce": nonce[::-1],
+        "short nonce": nonce[:15],
+        "low": b"sha256:0-10",
         "all": b"sha256:0-23",
         "ten": b"sha256:10",
         "more": b"sha1:10,sha256:0-10,sha512:0",
@@ -191,6 +203,24 @@ CASES = (
         ("an empty requirement", "log", "damaged", "cut rest", "wrong line", "empty"),
         ("a requirement that names none", "log", "checkpoint", "rest", "expected", "no registers"),
     )),
+    (("attest:signed",), BOTH, (
+        ("the real boot", "log", "list", "message", "nonce", "low"),
+        ("a longer list", "log", "longer list", "message", "nonce", "low"),
+        ("a changed list", "log", "changed list", "message", "nonce", "low"),
+        ("an empty list", "log", "empty", "message", "nonce", "low"),
+        ("one event", "one event", "list", "message", "nonce", "low"),
+        ("a log that is cut short", "cut log", "list", "message", "nonce", "low"),
+        ("a list that is cut short", "log", "cut list", "message", "nonce", "low"),
+        ("a message that is cut short", "log", "list", "cut message", "nonce", "low"),
+        ("another nonce", "log", "list", "message", "another nonce", "low"),
+        ("a nonce that is too short", "log", "list", "message", "short nonce", "low"),
+        ("registers that are not quoted", "log", "list", "message", "nonce", "all"),
+        ("a requirement that names none", "log", "list", "message", "nonce", "no registers"),
+    )),
+    (("attest",), BOTH, (
+        ("the real boot", "log", "list", "message", "nonce", "low"),
+        ("a longer list", "log", "longer list", "message", "nonce", "low"),
+    )),
     (("replay",), BOTH, (
         ("the real boot", "list", "tenth", "ten"),
         ("the real boot, and nothing required", "list", "tenth", "none"),
@@ -231,8 +261,24 @@ def cases(files):
             yield Case(function + form, title, [files[name] for name in names])
 
 
+def quote_answer(case):
+    """The reference's answer by a quote."""
+    *given, require = (file.read_bytes() for file in case.inputs)
+    try:
+        report = attest_report(*given, require.decode(), is_signed=":signed" in case.function)
+    except Fault as fault:
+        return fault.status, as_line(fault.as_json()) if case.is_json() else f"{fault.line}\n".encode()
+    return 0 if report.matches else 1, as_line(report.as_json()) if case.is_json() else report.text().encode()
+
+
+def as_line(value):
+    return json.dumps(value, separators=(",", ":")).encode() + b"\n"
+
+
 def answer_to(case, program, following, files):
     """The program's answer. It prints no entries of a damaged list without --json: those before the fault are the sample's."""
+    if case.name.startswith("attest"):
+        return quote_answer(case)
     answer = subprocess.run([program, *case.words(following)], capture_output=True, timeout=SECONDS)
     if answer.returncode not in (0, 1, 2):
         raise RuntimeError(f"{program} {case.function} of {case.title}: status {answer.returncode}, {answer.stderr[-500:]!r}")

@@ -18,17 +18,20 @@ sys.path[:0] = [str(HERE.parent), str(HERE.parent / "cases")]
 import harness  # noqa: E402
 from form import sentences_of  # noqa: E402
 
-# The table of each type of faults with numbers, and the place that its rows call 'it'.
+# The table of each type of faults with numbers, and the place that its rows call 'it'. Two types may share a table.
 NUMBERED = {
     "boot_log LogFault": ("Log", "event"),
     "ima_list ListFault": ("List", "entry"),
     "ima_list ReplayFault": ("Replay", "entry"),
     "boot_verdict ExpectFault": ("Expected", "line"),
+    "tpm_quotes QuoteFault": ("Quote", None),
+    "attestations QuoteRefusal": ("Quote", None),
     "agent_inputs NotResumed": ("Checkpoint", None),
     "measure_book BookFault": ("Book", None),
     "measure_book GatherFault": ("Gather", None),
 }
 MEMORY = "out of memory"  # (which no table has)
+ANOTHER = "{0}"  # the sentence of a fault that holds one of another type
 FAULT = re.compile(
     r"pub enum (?P<type>\w+)"
     r'|(?:/// (?P<number>\d+): .*\n(?:\s+///.*\n)*\s+)?#\[error\((?:"\{\}", (?P<other>\w+::\w+)|"(?P<words>[^"]*)")\)\]\s+'
@@ -38,7 +41,7 @@ FAULT = re.compile(
 TEXT = re.compile(r'(?:const|fn) (?P<function>\w+)|^ +(?P<fault>RunFault::\w+)[^=\n]*=>|"(?P<words>[^"]*)"', re.MULTILINE)
 NOT_READ = "its sentence is not read"
 # What stands in a table for a number that a sentence has.
-NUMBERS = {"{index}": "I", "{group}": "G", "{place}": "R"}
+NUMBERS = {"{index}": "I", "{group}": "G", "{place}": "R", "{register}": "R"}
 
 
 def texts_in(file):
@@ -96,16 +99,17 @@ class Words(harness.TestCase):
     root = Path(sys.argv[1]).resolve() if len(sys.argv) > 1 else harness.ROOT
 
     def test_numbered_faults(self):
-        found = {kind: {} for kind in NUMBERED}
+        found = {table: {} for table, _ in NUMBERED.values()}
         for name, (number, sentence) in faults_in(self.root).items():
             if is_numbered(name) and name.endswith("::Memory"):
                 self.check(name, sentence, MEMORY)
-            elif is_numbered(name):
-                found[kind_of(name)].setdefault(int(number or 0), []).append(in_table(sentence))
-        for kind, (table, place) in NUMBERED.items():
+            elif is_numbered(name) and sentence != ANOTHER:
+                table, _ = NUMBERED[kind_of(name)]
+                found[table].setdefault(int(number or 0), []).append(in_table(sentence))
+        for table, place in dict(NUMBERED.values()).items():
             wanted = {number: [of_row(row, place)] for number, row in sentences_of(table).items()}
-            for number in sorted({*found[kind], *wanted}):
-                self.check(f"{kind}, {number}", found[kind].get(number), wanted.get(number))
+            for number in sorted({*found[table], *wanted}):
+                self.check(f"{table}, {number}", found[table].get(number), wanted.get(number))
 
     def test_other_words(self):
         found = {name: sentence for name, (_, sentence) in faults_in(self.root).items() if not is_numbered(name)}

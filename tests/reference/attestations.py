@@ -3,11 +3,13 @@
 from typing import NamedTuple
 
 from .checkpoint import before_a_list
+from .faults import USAGE, quote_fault
 from .log import read_log
 from .measurement_list import IMA_REGISTER, read_list
-from .quotes import Quote, read_quote
+from .quotes import Quote, QuoteFault, read_quote
 from .registers import ALGORITHMS, REGISTERS, SHA1
-from .verdict import boot_aggregate_state, strays_in
+from .texts import read_requirement
+from .verdict import Report, boot_aggregate_state, report_at, strays_in
 
 LEAST_NONCE = 16
 
@@ -70,3 +72,62 @@ def attest(log, measurements, message, nonce, required, takes_sha1=False):
     if not quote.is_of(end.after.value):
         raise NotAttested("Differs")
     return Attestation(len(boot.events), boot.locality, len(entries), quote)
+
+
+class AttestReport(NamedTuple):
+    """What a quote states, the report on log and list without rows, how the quote compares, and whether its signature was checked."""
+
+    quote: Quote
+    report: Report
+    is_quoted: bool
+    is_signed: bool
+
+    @property
+    def matches(self):
+        return self.report.matches and self.is_signed
+
+    def banks(self):
+        """The registers that are selected, by bank, in the quote's order."""
+        banks = {}
+        for algorithm, register in self.quote.selected:
+            banks.setdefault(algorithm.name, []).append(register)
+        return banks
+
+    def text(self):
+        quote, word = self.quote, "match" if self.is_quoted else "differ"
+        *lines, verdict = self.report.text().splitlines()
+        stated = [f"quoted {bank} {' '.join(map(str, registers))}" for bank, registers in self.banks().items()]
+        stated += [f"signer {quote.signer.hex()}"]
+        stated += [f"clock {quote.clock} resets {quote.resets} restarts {quote.restarts} {'safe' if quote.is_safe else 'unsafe'}"]
+        stated += [f"firmware {quote.firmware}"]
+        last = verdict if self.is_signed else "signature not checked"
+        return "".join(f"{line}\n" for line in [*stated, *lines, f"quote {word}", last])
+
+    def as_json(self):
+        """The report as JSON."""
+        quote, report = self.quote, self.report.as_json()
+        clock = {"milliseconds": quote.clock, "resets": quote.resets, "restarts": quote.restarts, "safe": quote.is_safe}
+        stated = {"quoted": [{"bank": bank, "registers": registers} for bank, registers in self.banks().items()],
+                  "signer": quote.signer.hex(), "clock": clock, "firmware": quote.firmware}
+        judged = {name: value for name, value in report.items() if name not in ("registers", "verdict")}
+        concluded = {"quote": "match" if self.is_quoted else "differ", "signature": "checked" if self.is_signed else "not checked",
+                     "verdict": report["verdict"] if self.is_signed else "signature not checked"}
+        return {**stated, **judged, **concluded}
+
+
+def attest_report(log, measurements, message, nonce, require, takes_sha1=False, is_signed=True):
+    """The report by a quote on the bytes of a log and a list, where `require` is a text; or the fault that comes first."""
+    required = read_requirement(require)
+    try:
+        require_sound(nonce, required or set(), takes_sha1)
+    except NotAttested:
+        raise USAGE from None
+    try:
+        quote = read_quote(message)
+        require_asked_for(quote, nonce, required)
+    except (QuoteFault, NotAttested) as cause:
+        raise quote_fault(cause.args[0]) from None
+    boot, entries = read_log(log), read_list(measurements)
+    end = before_a_list(boot.registers()).following(entries)
+    report, strays, is_quoted = report_at(boot, end, []), strays_in(boot.events, end.stray), quote.is_of(end.after.value)
+    return AttestReport(quote, report._replace(strays=strays, matches=report.matches and not strays and is_quoted), is_quoted, is_signed)

@@ -51,6 +51,16 @@ class ListFault(IntEnum):
         return Fault(f"refused: list fault {self.value} at entry {entry}", "list", number=self.value, entry=entry)
 
 
+# The faults of a quote by name, from 1 on: those of a message from left to right, and then those of a message that is not asked for.
+QUOTE_FAULTS = ("Truncated", "NotQuote", "BadClock", "UnknownBank", "BankTwice", "ManyBanks", "BadRegister", "NothingSelected", "DigestSize",
+                "Trailing", "OtherNonce", "NotSelected")
+
+
+def quote_fault(name):
+    number = QUOTE_FAULTS.index(name) + 1
+    return Fault(f"refused: quote fault {number}", "quote", number=number)
+
+
 class ReplayFault(IntEnum):
     BAD_TEMPLATE_DIGEST = 1
 

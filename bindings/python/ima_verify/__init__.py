@@ -18,6 +18,8 @@ Each verdict takes `require`: the registers that must be among the expected ones
 none, and then a verdict covers only the registers that `expected` names. A verdict on no registers is no match. With `require` a verdict is a
 match only if no event of the log extends register 10 and each entry of the list names it.
 
+`attest` compares a log and a list with a quote in place of expected registers, after the caller has verified its signature.
+
 `entries(measurements)` and `events(log)` go through the inputs themselves. A `Session` is for a list that grows, and for one that grew after
 the expected registers were read.
 
@@ -40,17 +42,17 @@ from ._errors import Error, Kind, LibraryError, LoadError, Misuse, OutOfMemory, 
 from ._library import JSON, TEXT, BytesLike
 from ._listings import Entries, Events
 from ._results import (
-    Algorithm, BootAggregate, Entry, Event, ListVerdict, LogAlgorithm, Place, PlaceRow, Places, Register, Report, Row, State, Stray,
-    Unconfirmed, Verdict,
+    Algorithm, Attestation, BootAggregate, Clock, Entry, Event, ListVerdict, LogAlgorithm, Place, PlaceRow, Places, Register, Report, Row,
+    State, Stray, Unconfirmed, Verdict,
 )
 
 __version__ = "1.0.0"
 
 __all__ = [
-    "Algorithm", "BootAggregate", "BytesLike", "Entries", "Entry", "Error", "Event", "Events", "Kind", "LibraryError", "ListVerdict",
-    "LoadError", "LogAlgorithm", "Misuse", "NOTHING", "Nothing", "OutOfMemory", "Place", "PlaceRow", "Places", "Refused", "Register", "Report",
-    "Row", "Session", "State", "Stray", "Unconfirmed", "Verdict", "VersionError", "entries", "events", "expected", "list_registers", "locate",
-    "registers", "replay", "report", "show", "verify", "version",
+    "Algorithm", "Attestation", "BootAggregate", "BytesLike", "Clock", "Entries", "Entry", "Error", "Event", "Events", "Kind", "LibraryError",
+    "ListVerdict", "LoadError", "LogAlgorithm", "Misuse", "NOTHING", "Nothing", "OutOfMemory", "Place", "PlaceRow", "Places", "Refused",
+    "Register", "Report", "Row", "Session", "State", "Stray", "Unconfirmed", "Verdict", "VersionError", "attest", "entries", "events",
+    "expected", "list_registers", "locate", "registers", "replay", "report", "show", "verify", "version",
 ]
 
 
@@ -70,6 +72,7 @@ Text = Union[BytesLike, str]
 Required = Union[str, Nothing]
 
 _OF_LOG, _OF_LIST = False, True
+_NONCE_BYTES = 16
 
 
 def version() -> int:
@@ -177,6 +180,49 @@ class Session:
     def offset(self) -> int:
         """How many bytes of the list the state covers: `more` takes those that follow."""
         return self._reached.bytes
+
+
+def attest(
+    log: BytesLike, measurements: BytesLike, message: BytesLike, *,
+    nonce: BytesLike, require: str, signature_checked: bool, takes_sha1: bool = False,
+) -> Attestation:
+    """The verdict on a firmware event log and a measurement list by a quote. No file of register values is needed.
+
+    This verifies no signature: do that first.
+
+    Args:
+        message: What the TPM signed, a TPMS_ATTEST: the file that `tpm2_quote -m` writes.
+        nonce: The verifier's own nonce for this quote, used once: 16 bytes or more.
+        require: The registers that must be quoted, at least 0 to 10, such as `sha256:0-10`.
+        signature_checked: Whether the caller has verified the message's signature with the machine's attestation key, which must be a
+            restricted one. There is no default; if it is False, there is no match.
+        takes_sha1: Whether a register may be required in the SHA-1 bank alone.
+
+    Raises:
+        Refused: The message is no quote, has another nonce, or does not select a required register; the log or the list is not of its form,
+            or the template digest of an entry does not match.
+        Misuse: `require` is not of its form, leaves out one of the registers 0 to 10, or names one of the SHA-1 bank alone; or the nonce is
+            too short.
+
+    >>> message, nonce = Path("../quoted/quote.msg").read_bytes(), bytes.fromhex(Path("../quoted/nonce").read_text())
+    >>> found = ima_verify.attest(log, measurements, message, nonce=nonce, require="sha256:0-10", signature_checked=True)
+    >>> found.matches, found.entries, found.quoted[ima_verify.Algorithm.SHA256][-1], found.clock.resets
+    (True, 99, 10, 1)
+    >>> ima_verify.attest(log, measurements, message, nonce=nonce, require="sha256:0-10", signature_checked=False).matches
+    False
+    """
+    for name, value in (("signature_checked", signature_checked), ("takes_sha1", takes_sha1)):
+        if not isinstance(value, bool):
+            raise TypeError(f"{name} is True or False, and not {value!r}")
+    if not isinstance(require, str):
+        raise TypeError(f"require is a text, and not {require!r}")
+    inputs = log, measurements, message, nonce, _required(require)
+    size = memoryview(nonce).nbytes
+    if size < _NONCE_BYTES:
+        raise Misuse(f"a nonce has {_NONCE_BYTES} bytes or more, and not {size}")
+    return _answers.read_attestation(
+        *_library.call("attest", inputs, (takes_sha1, signature_checked, JSON), argument=require), signature_checked
+    )
 
 
 def locate(log: BytesLike, measurements: BytesLike, expected: Text, *, require: Required) -> Places:

@@ -8,8 +8,8 @@ from typing import Any, Dict, Iterator, List, NamedTuple, Optional, Tuple, Type,
 from ._errors import Kind, Refused
 from ._library import DIFFERS, DONE, unexpected
 from ._results import (
-    Algorithm, BootAggregate, Entry, Event, ListVerdict, LogAlgorithm, Place, PlaceRow, Places, Register, Report, Row, State, Stray,
-    Unconfirmed, Verdict,
+    Algorithm, Attestation, BootAggregate, Clock, Entry, Event, ListVerdict, LogAlgorithm, Place, PlaceRow, Places, Register, Report, Row,
+    State, Stray, Unconfirmed, Verdict,
 )
 
 REGISTERS, LIST_REGISTER = 24, 10
@@ -117,6 +117,27 @@ def read_list_verdict(result: int, text: bytes) -> ListVerdict:
         return ListVerdict(entries, rows, matches, text[:-1].decode(), extends)
 
 
+def read_attestation(result: int, text: bytes, signature_checked: bool) -> Attestation:
+    """The verdict by a quote that a report states, where the caller has checked the signature, or has not."""
+    with _reading(result, text):
+        report = _object_of(text)
+        _require("confirmed" not in report and "unconfirmed" not in report)
+        aggregate, events, entries = BootAggregate(report["boot_aggregate"]), _number(report, "events"), _number(report, "entries")
+        extends, quote_matches = _strays_of(report, events, entries), report["quote"] == "match"
+        is_attested = quote_matches and aggregate is BootAggregate.GOOD and not extends
+        matches = is_attested and signature_checked
+        verdict = ("match" if is_attested else "differ") if signature_checked else "signature not checked"
+        _require((report["quote"], report["signature"]) == (
+            "match" if quote_matches else "differ", "checked" if signature_checked else "not checked"
+        ))
+        _require((result, report["verdict"]) == (DONE if matches else DIFFERS, verdict))
+        return Attestation(
+            _quoted_of(_member(report, "quoted", list)), _bytes(report, "signer"), _clock_of(_member(report, "clock", dict)),
+            _number(report, "firmware"), events, _number(report, "locality", 255), entries, aggregate, quote_matches, signature_checked,
+            matches, text[:-1].decode(), extends,
+        )
+
+
 def read_places(result: int, text: bytes) -> Places:
     """The places that an answer states."""
     with _reading(result, text):
@@ -221,6 +242,21 @@ def _unconfirmed_of(fault: Object) -> Unconfirmed:
     found = Unconfirmed(Kind(_member(fault, "kind", str)), _number(fault, "number", UINT32), _number(fault, "entry"))
     _require(found.kind in (Kind.LIST, Kind.REPLAY) and _member(fault, "message", str) == found.message)
     return found
+
+
+def _quoted_of(banks: List[Any]) -> Dict[Algorithm, Tuple[int, ...]]:
+    """The registers that a quote selects, of each bank some, and at least of one."""
+    quoted = {Algorithm(bank["bank"]): tuple(_member(bank, "registers", list)) for bank in banks}
+    _require(0 < len(quoted) == len(banks))
+    for registers in quoted.values():
+        _require(bool(registers) and all(type(register) is int and 0 <= register < REGISTERS for register in registers))
+        _require(all(one < next_one for one, next_one in zip(registers, registers[1:])))
+    return quoted
+
+
+def _clock_of(clock: Object) -> Clock:
+    resets, restarts = _number(clock, "resets", UINT32), _number(clock, "restarts", UINT32)
+    return Clock(_number(clock, "milliseconds"), resets, restarts, _member(clock, "safe", bool))
 
 
 def _rows_of(report: Object) -> Tuple[Row, ...]:

@@ -14,6 +14,7 @@ class Kind(str, enum.Enum):
     REPLAY = "replay"  # the template digest of an entry of the list does not match
     EXPECTED = "expected"  # the expected registers, or what tpm2-tools printed
     CHECKPOINT = "checkpoint"  # a session's state: it is damaged (1), of another version (2), or of another boot (3)
+    QUOTE = "quote"  # the message of a quote: it is none (1 to 10), has another nonce (11), or lacks a required register (12)
 
 
 class Error(Exception):

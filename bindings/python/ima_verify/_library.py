@@ -22,7 +22,8 @@ TEXT, JSON = False, True
 
 # The kinds of faults, by their numbers; `NO_PLACE` is the place of a fault that has none.
 NO_FAULT, ARGUMENT, MEMORY = 0, 1, 7
-KINDS = {2: Kind.LOG, 3: Kind.LIST, 4: Kind.REPLAY, 5: Kind.EXPECTED, 6: Kind.CHECKPOINT}
+KINDS = {2: Kind.LOG, 3: Kind.LIST, 4: Kind.REPLAY, 5: Kind.EXPECTED, 6: Kind.CHECKPOINT, 8: Kind.QUOTE}
+WITHOUT_PLACES = Kind.CHECKPOINT, Kind.QUOTE
 NO_PLACE = c_uint64(-1).value
 
 # 4 banks have 96 registers, and no row of these has more than 256 bytes.
@@ -49,6 +50,7 @@ FUNCTIONS = {
     "locate": (4, (c_bool,)),
     "replay": (3, (c_bool,)),
     "more": (5, (c_bool, c_bool, c_void_p, c_size_t, _SIZE)),
+    "attest": (5, (c_bool, c_bool, c_bool)),
     "expected": (2, (c_bool,)),
     "registers": (1, (c_bool, c_bool)),
     "events": (1, (_SIZE, _SIZE)),
@@ -147,7 +149,7 @@ def _raise_fault(result: int, told: Told, argument: Optional[object]) -> None:
     kind, number, place = told.fault_kind, told.fault_number, told.fault_place
     if result == REFUSED and kind == ARGUMENT and isinstance(argument, str):
         raise Misuse(f"not of its form: {argument!r}")
-    if result == REFUSED and kind in KINDS and number and (place == NO_PLACE or KINDS[kind] is not Kind.CHECKPOINT):
+    if result == REFUSED and kind in KINDS and number and (place == NO_PLACE or KINDS[kind] not in WITHOUT_PLACES):
         raise Refused(KINDS[kind], number, None if place == NO_PLACE else place)
     if result == OUT_OF_MEMORY and kind == MEMORY:
         raise OutOfMemory("libima_verify got no memory")

@@ -197,6 +197,65 @@ class ListVerdict(_Judged):
 
 
 @dataclass(frozen=True)
+class Clock:
+    """The clock of a TPM and its counts when it made a quote.
+
+    If the key is neither in the endorsement nor in the platform hierarchy, the TPM adds a constant to `resets`, to `restarts` and to the version
+    of its firmware. Then only differences between two quotes by one key mean something.
+
+    Attributes:
+        milliseconds: How long the TPM has had power since it was last cleared.
+        resets: How often it was reset since it was last cleared; each boot is one reset.
+        restarts: How often it was restarted or resumed since its last reset.
+        safe: Whether its clock never had a later value.
+    """
+
+    milliseconds: int
+    resets: int
+    restarts: int
+    safe: bool
+
+
+@dataclass(frozen=True)
+class Attestation:
+    """The verdict on a log and a list by a quote. As a condition, it is true exactly if it is a match.
+
+    Attributes:
+        quoted: The numbers of the registers that the quote selects, ascending, for each bank of which it selects any.
+        signer: The qualified name of the key that signed, as the quote states it.
+        clock: The TPM's clock when it made the quote.
+        firmware: The version of the TPM's firmware.
+        events: How many events the log has.
+        locality: The locality from which the TPM was started.
+        entries: How many entries the list has.
+        boot_aggregate: How the list's first entry compares with the log.
+        quote_matches: Whether the quote is of the values to which log and list replay.
+        signature_checked: What the caller said.
+        matches: Whether `quote_matches`, the boot aggregate is good, `extends` is empty, and the caller checked the signature. It covers the
+            registers in `quoted`, and no others.
+        json: The report as JSON, without the line feed.
+        extends: The first event that extends register 10, and the first entry that extends another.
+    """
+
+    quoted: Dict[Algorithm, Tuple[int, ...]]
+    signer: bytes
+    clock: Clock
+    firmware: int
+    events: int
+    locality: int
+    entries: int
+    boot_aggregate: BootAggregate
+    quote_matches: bool
+    signature_checked: bool
+    matches: bool
+    json: str
+    extends: Tuple[Stray, ...] = ()
+
+    def __bool__(self) -> bool:
+        return self.matches
+
+
+@dataclass(frozen=True)
 class PlaceRow:
     """Where an expected register first has its value, or that a required one is missing.
 

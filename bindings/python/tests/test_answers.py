@@ -34,6 +34,10 @@ NOT_LOCATED = (b'{"registers":[{"bank":"sha256","register":8,"place":"reset"},{"
 LIST_REPORT = b'{"entries":3,"registers":[{"bank":"sha256","register":10,"state":"match"}],"verdict":"match"}\n'
 EXTENDS = b'"extends":[{"event":1,"register":10},{"entry":2,"register":11}],"verdict":"differ"'
 STRAYING = REPORT.replace(b'"verdict":"match"', EXTENDS)
+ATTESTED = (b'{"quoted":[{"bank":"sha1","registers":[10]},{"bank":"sha256","registers":[0,1,10]}],"signer":"000b' + 64 * b"a" + b'",'
+            b'"clock":{"milliseconds":5,"resets":1,"restarts":0,"safe":true},"firmware":7,"events":1,"locality":0,"entries":3,'
+            b'"boot_aggregate":"good","quote":"match","signature":"checked","verdict":"match"}\n')
+UNSIGNED = b'"signature":"checked","verdict":"match"', b'"signature":"not checked","verdict":"signature not checked"'
 MISSING = b'{"bank":"sha1","register":4,"state":"missing"}'
 LACKING = REPORT.replace(b'}],"verdict":"match"', b"}," + MISSING + b'],"verdict":"differ"')
 LACKING_PLACES = PLACES.replace(b'}],"located":true', b'},{"bank":"sha1","register":4,"place":"missing"}],"located":false')
@@ -201,6 +205,51 @@ class Answers(unittest.TestCase):
                 self.check_wrong(read, 0, REPORT[:size])
             for value in (63 * b"0" + b"A", 62 * b"0", 66 * b"0", b"", 62 * b"0" + b" 0", 63 * b"0" + b"g"):
                 self.check_wrong(read, 1, DIFFERING.replace(64 * b"0", value))
+
+    def test_right_reports_by_a_quote_are_read(self):
+        found = _answers.read_attestation(0, ATTESTED, True)
+        quoted = {ima_verify.Algorithm.SHA1: (10,), ima_verify.Algorithm.SHA256: (0, 1, 10)}
+        self.assertEqual((found.quoted, found.signer.hex(), found.firmware), (quoted, "000b" + 64 * "a", 7))
+        self.assertEqual((found.clock, found.events, found.locality, found.entries), (ima_verify.Clock(5, 1, 0, True), 1, 0, 3))
+        self.assertEqual((found.boot_aggregate, found.extends), (ima_verify.BootAggregate.GOOD, ()))
+        self.assertEqual((found.quote_matches, found.signature_checked, found.matches, bool(found)), (True, True, True, True))
+        self.assertEqual(found.json, ATTESTED[:-1].decode())
+        for old, new in ((b'"quote":"match"', b'"quote":"differ"'), (b'"good"', b'"wrong"'),
+                         (b'"quote"', b'"extends":[{"entry":2,"register":11}],"quote"')):
+            text = ATTESTED.replace(old, new)
+            differing = _answers.read_attestation(1, text.replace(b'"verdict":"match"', b'"verdict":"differ"'), True)
+            self.assertEqual((differing.matches, differing.signature_checked, bool(differing)), (False, True, False))
+        unsigned = ATTESTED.replace(*UNSIGNED)
+        for text in (unsigned, unsigned.replace(b'"quote":"match"', b'"quote":"differ"')):
+            found = _answers.read_attestation(1, text, False)
+            self.assertEqual((found.matches, found.signature_checked, bool(found)), (False, False, False))
+
+    def test_wrong_reports_by_a_quote_are_no_verdicts(self):
+        self.check_changes(_answers.read_attestation, 0, ATTESTED, (
+            (b'"quoted":[', b'"quoted":[1,'), (b'"quoted":[', b'"quoted":[{},'), (b'"quoted"', b'"selected"'), (b'"sha1"', b'"md5"'),
+            (b'"sha1"', b'"sha256"'), (b'{"bank":"sha1","registers":[10]},{"bank":"sha256","registers":[0,1,10]}', b""),
+            (b"[10]", b"[]"), (b"[10]", b"[24]"), (b"[10]", b"[-1]"), (b"[10]", b"[true]"), (b"[10]", b"[1.0]"), (b"[10]", b"10"),
+            (b"[0,1,10]", b"[1,0,10]"), (b"[0,1,10]", b"[0,1,1,10]"), (b'"signer":"00', b'"signer":"0'), (b'"signer":"000b', b'"signer":"000B'),
+            (b'"signer"', b'"key"'), (b'"milliseconds":5', b'"milliseconds":18446744073709551616'), (b'"milliseconds":5,', b""),
+            (b'"resets":1', b'"resets":4294967296'), (b'"restarts":0', b'"restarts":-1'), (b'"safe":true', b'"safe":1'), (b',"safe":true', b""),
+            (b'"firmware":7', b'"firmware":18446744073709551616'), (b'"firmware":7,', b""), (b'"events":1,', b""), (b'"entries":3,', b""),
+            (b'"locality":0', b'"locality":256'), (b'"good"', b'"wrong"'), (b'"good"', b'"fine"'), (b'"boot_aggregate":"good",', b""),
+            (b'"quote":"match"', b'"quote":"differ"'), (b'"quote":"match"', b'"quote":"Match"'), (b'"quote":"match",', b""),
+            (b'"signature":"checked"', b'"signature":"not checked"'), (b'"signature":"checked",', b""),
+            (b'"signature":"checked"', b'"signature":true'),
+            (b'"verdict":"match"', b'"verdict":"differ"'), (b'"verdict":"match"', b'"verdict":"signature not checked"'),
+            (b',"verdict":"match"', b""), (b'"entries":3', b'"entries":3,"confirmed":2'),
+            (b'"quote"', b'"extends":[{"entry":2,"register":11}],"quote"'), (b'"quote"', b'"extends":[],"quote"'), (ATTESTED, FAULT),
+        ), True)
+        unsigned = ATTESTED.replace(*UNSIGNED)
+        for status, text, is_checked in (
+            (1, ATTESTED, True), (0, ATTESTED, False), (1, ATTESTED, False), (0, unsigned, True), (1, unsigned, True), (0, unsigned, False),
+            (1, unsigned.replace(b'"verdict":"signature not checked"', b'"verdict":"differ"'), False),
+            (1, unsigned.replace(b'"verdict":"signature not checked"', b'"verdict":"match"'), False),
+        ):
+            self.check_wrong(_answers.read_attestation, status, text, is_checked)
+        for size in range(len(ATTESTED)):
+            self.check_wrong(_answers.read_attestation, 0, ATTESTED[:size], True)
 
     def test_wrong_reports_with_missing_registers_are_no_verdicts(self):
         self.check_changes(_answers.read_verdict, 1, LACKING, (
@@ -576,7 +625,8 @@ class Failures(unittest.TestCase):
             (Kind.LOG, 2, NONE, "refused: log fault 2"), (Kind.LOG, 1, 2, "refused: log fault 1 at event 2"),
             (Kind.LIST, 1, 2, "refused: list fault 1 at entry 2"), (Kind.REPLAY, 1, 2, "refused: replay fault 1 at entry 2"),
             (Kind.EXPECTED, 1, 2, "refused: expected fault 1 at line 2"), (Kind.EXPECTED, 6, NONE, "refused: expected fault 6"),
-            (Kind.CHECKPOINT, 3, NONE, "refused: checkpoint fault 3"), (Kind.LIST, 1, 0, "refused: list fault 1 at entry 0"),
+            (Kind.CHECKPOINT, 3, NONE, "refused: checkpoint fault 3"), (Kind.QUOTE, 11, NONE, "refused: quote fault 11"),
+            (Kind.LIST, 1, 0, "refused: list fault 1 at entry 0"),
             (Kind.LIST, 2**32 - 1, 2**64 - 2, "refused: list fault 4294967295 at entry 18446744073709551614"),
         ):
             for text in (FAULT, b"", b"anything"):  # (what the line says is not looked at)
@@ -591,9 +641,9 @@ class Failures(unittest.TestCase):
         for name, inputs in (
             ("registers", (b"",)), ("registers", (bytes(32),)), ("registers", (LOG[:-1],)), ("verdict", (LOG, LIST[:-1], EXPECTED, b"none")),
             ("verdict", (LOG, LIST.replace(b"/bin/helper", b"/bin/helpex"), EXPECTED, b"none")), ("verdict", (LOG, LIST, b"x", b"none")),
-            ("expected", (b"", b"")), ("expected", (b"sha256:\n  0 : x\n", b"")),
+            ("expected", (b"", b"")), ("expected", (b"sha256:\n  0 : x\n", b"")), ("attest", (LOG, LIST, b"", bytes(16), b"sha256:0-10")),
         ):
-            options, line = (False, False) if name == "registers" else (False,), []
+            options, line = {"registers": (False, False), "attest": (False, True, False)}.get(name, (False,)), []
             answered = _library.answered
 
             def noted(*words):
@@ -606,9 +656,9 @@ class Failures(unittest.TestCase):
             self.assertEqual([f"{caught.exception}\n"], line)
 
     def test_wrong_refusals_are_no_refusals(self):
-        for fault in (fake.NO_FAULT, (8, 1, 2), (99, 1, NONE), (_library.MEMORY, 0, NONE), (_library.ARGUMENT, 0, NONE),
+        for fault in (fake.NO_FAULT, (8, 1, 2), (9, 1, NONE), (99, 1, NONE), (_library.MEMORY, 0, NONE), (_library.ARGUMENT, 0, NONE),
                       fake.fault_of(Kind.LIST, 0, 2), fake.fault_of(Kind.LOG, 0), fake.fault_of(Kind.CHECKPOINT, 3, 3),
-                      fake.fault_of(Kind.CHECKPOINT, 0)):
+                      fake.fault_of(Kind.CHECKPOINT, 0), fake.fault_of(Kind.QUOTE, 11, 3), fake.fault_of(Kind.QUOTE, 0)):
             self.check_wrong(REFUSED, fault)
         for result in (-1, TOO_SHORT, MISUSED, 7, 1 << 30):
             self.check_wrong(result)

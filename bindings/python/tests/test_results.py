@@ -33,7 +33,8 @@ LOG, LIST, EXPECTED, ASCII, REGISTERS, PRINTED = (
     (SAMPLE / name).read_bytes()
     for name in ("firmware.log", "ima.list", "expected.txt", "ima.ascii", "registers.txt", "tpm2_pcrread.txt")
 )
-QUOTED = (ROOT / "samples/quoted/sha256.txt").read_bytes()
+QUOTED, MESSAGE = ((ROOT / "samples/quoted" / name).read_bytes() for name in ("sha256.txt", "quote.msg"))
+NONCE = bytes.fromhex((ROOT / "samples/quoted/nonce").read_text())
 LAST_ENTRY_SIZE = 95
 LONGER = LIST + LIST[-LAST_ENTRY_SIZE:]
 CHANGED = LIST.replace(b"/bin/helper", b"/bin/helpex")
@@ -271,6 +272,94 @@ class Required(unittest.TestCase):
     def test_nothing_has_a_name(self):
         self.assertEqual(repr(NOTHING), "ima_verify.NOTHING")
         self.assertIs(ima_verify.Nothing.NOTHING, NOTHING)
+
+
+class Quoted(unittest.TestCase):
+    """A quote of the sample's registers 0 to 10 in the SHA-256 bank."""
+
+    def attest(self, log=LOG, measurements=LIST, message=MESSAGE, *, nonce=NONCE, require="sha256:0-10", signature_checked=True, **more):
+        return ima_verify.attest(log, measurements, message, nonce=nonce, require=require, signature_checked=signature_checked, **more)
+
+    def check_refused(self, number, **given):
+        with self.assertRaisesRegex(ima_verify.Refused, f"^refused: quote fault {number}$") as caught:
+            self.attest(**given)
+        self.assertEqual((caught.exception.kind, caught.exception.number, caught.exception.place), (Kind.QUOTE, number, None))
+
+    def test_sample_is_attested(self):
+        found = self.attest()
+        self.assertEqual((found.matches, bool(found), found.quote_matches, found.signature_checked), (True, True, True, True))
+        self.assertEqual((found.events, found.locality, found.entries), (24, 0, 99))
+        self.assertEqual((found.boot_aggregate, found.extends), (BootAggregate.GOOD, ()))
+        self.assertEqual(found.quoted, {Algorithm.SHA256: tuple(range(11))})
+        self.assertEqual(found.signer, MESSAGE[8:42])  # (a hash and its algorithm)
+        at = MESSAGE.index(NONCE) + len(NONCE)
+        clock = [int.from_bytes(MESSAGE[at + start:at + end], "big") for start, end in ((0, 8), (8, 12), (12, 16))]
+        self.assertEqual(found.clock, ima_verify.Clock(*clock, safe=True))
+        self.assertEqual(found.firmware, int.from_bytes(MESSAGE[at + 17:at + 25], "big"))
+        self.assertTrue(found.json.endswith('"quote":"match","signature":"checked","verdict":"match"}'))
+        for given in (bytearray(NONCE), memoryview(NONCE)):
+            self.assertEqual(self.attest(nonce=given), found)
+
+    def test_without_a_checked_signature_nothing_is_attested(self):
+        found = self.attest(signature_checked=False)
+        self.assertEqual((found.matches, bool(found), found.quote_matches, found.signature_checked), (False, False, True, False))
+        self.assertTrue(found.json.endswith('"quote":"match","signature":"not checked","verdict":"signature not checked"}'))
+        self.assertFalse(self.attest(measurements=LONGER, signature_checked=False))
+
+    def test_other_logs_and_lists_differ(self):
+        later = read_log(LOG)
+        later = later._replace(events=[*later.events, LogEvent(9, inputs.EV_EVENT_TAG, {SHA256.identifier: bytes(32)}, b"")])
+        for log, measurements in ((LOG, LONGER), (LOG, LIST[:-LAST_ENTRY_SIZE]), (LOG, b""), (later.spelling(), LIST)):
+            found = self.attest(log, measurements)
+            self.assertEqual((found.matches, bool(found), found.quote_matches), (False, False, False))
+        found = self.attest(message=MESSAGE[:-1] + bytes([MESSAGE[-1] ^ 1]))
+        self.assertEqual((found.matches, found.quote_matches, found.boot_aggregate), (False, False, BootAggregate.GOOD))
+
+    def test_entry_of_another_register_is_no_match(self):
+        entries = read_list(LIST)
+        entries.insert(98, entries[98]._replace(register=11))
+        found = self.attest(measurements=list_spelling(entries))
+        self.assertEqual((found.matches, bool(found), found.quote_matches, found.extends), (False, False, True, (Stray(11, entry=98),)))
+
+    def test_other_quotes_are_refused(self):
+        for size in range(len(MESSAGE)):
+            self.check_refused(1, message=MESSAGE[:size])
+        self.check_refused(2, message=b"x" + MESSAGE[1:])
+        self.check_refused(10, message=MESSAGE + b"x")
+        for nonce in (bytes([NONCE[0] ^ 1]) + NONCE[1:], NONCE[:16], NONCE[:-1], NONCE + b"x", bytes(16)):
+            self.check_refused(11, nonce=nonce)
+        for require in ("sha256:0-11", "sha256:0-10,sha384:10", "sha256:0-10,sha1:23"):
+            self.check_refused(12, require=require, takes_sha1=True)
+        self.check_refused(12, require="sha1:0-10", takes_sha1=True)
+
+    def test_log_and_list_are_refused_as_ever(self):
+        for log, measurements, line in (
+            (LOG[:-1], LIST, "log fault 1 at event 24"), (LOG, LIST[:-1], "list fault 1 at entry 98"), (LOG, CHANGED, "replay fault 1 at entry 5"),
+        ):
+            with self.assertRaisesRegex(ima_verify.Refused, f"^refused: {line}$"):
+                self.attest(log, measurements)
+
+    def test_wrong_arguments_are_misuses(self):
+        for require in ("", "none", "sha256", "sha256:0-9", "sha256:1-10", "sha1:0-10", "sha256:0-9,sha1:10", "sha256:0-24", "\ud800"):
+            with self.assertRaisesRegex(ima_verify.Misuse, f"^not of its form: {re.escape(repr(require))}$"):
+                self.attest(require=require)
+        for size in (0, 1, 15):
+            with self.assertRaisesRegex(ima_verify.Misuse, f"^a nonce has 16 bytes or more, and not {size}$"):
+                self.attest(nonce=NONCE[:size])
+
+    def test_arguments_of_other_types(self):
+        for wrong in (None, 1, 0, "yes", b""):
+            self.assertRaisesRegex(TypeError, "^signature_checked is True or False", self.attest, signature_checked=wrong)
+            self.assertRaisesRegex(TypeError, "^takes_sha1 is True or False", self.attest, takes_sha1=wrong)
+        for wrong in (None, NOTHING, 5, b"sha256:0-10"):
+            self.assertRaisesRegex(TypeError, "^require is a text", self.attest, require=wrong)
+        for name in ("log", "measurements", "message", "nonce"):
+            for wrong in (None, 5, "a text of twenty bytes"):
+                self.assertRaises(TypeError, self.attest, **{name: wrong})
+        given = {"nonce": NONCE, "require": "sha256:0-10", "signature_checked": True}
+        for name in given:
+            self.assertRaises(TypeError, ima_verify.attest, LOG, LIST, MESSAGE, **{key: value for key, value in given.items() if key != name})
+        self.assertRaises(TypeError, ima_verify.attest, LOG, LIST, MESSAGE, NONCE, "sha256:0-10", True)
 
 
 class NothingRequired(unittest.TestCase):

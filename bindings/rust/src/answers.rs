@@ -1,7 +1,7 @@
 //! Reads the library's answers. What is not as `docs/formats.md` says is an `Unexpected`.
 
 use crate::library::{Told, DIFFERS, DONE, MORE, OUT_OF_MEMORY, REFUSED};
-use crate::{Algorithm, BootAggregate, Content, Entry, Error, Event, File, Kind, ListVerdict, LogAlgorithm};
+use crate::{Algorithm, Attestation, BootAggregate, Clock, Content, Entry, Error, Event, File, Kind, ListVerdict, LogAlgorithm};
 use crate::{Place, PlaceRow, Places, Register, Row, State, Stray, Unconfirmed, Verdict};
 use ima_verify_sys as c;
 use serde::de::{DeserializeOwned, Error as _};
@@ -40,6 +40,7 @@ impl Answer {
             c::IMA_VERIFY_REPLAY => Kind::Replay,
             c::IMA_VERIFY_EXPECTED => Kind::Expected,
             c::IMA_VERIFY_CHECKPOINT => Kind::Checkpoint,
+            c::IMA_VERIFY_QUOTE => Kind::Quote,
             _ => return None,
         };
         let place = Some(self.told.fault_place).filter(|place| *place != c::IMA_VERIFY_NO_PLACE);
@@ -93,6 +94,38 @@ impl Answer {
             let (extends, has_rows) = (report.strays(0, report.entries)?, !report.registers.is_empty());
             let matches = answer.matches(&report, report.entries > 0 && has_rows && extends.is_empty())?;
             Some(ListVerdict { entries: report.entries, rows: report.registers, matches, json: answer.line()?, extends })
+        })
+    }
+
+    /// The verdict by a quote, where the caller has checked its signature, or has not.
+    pub(crate) fn attestation(self, signature_checked: bool) -> Result<Attestation, Error> {
+        self.read(|answer| {
+            let report: QuoteReport = object(&answer.text)?;
+            let extends = strays_of(&report.extends, report.events, report.entries)?;
+            let quote_matches = report.quote == Said::Match;
+            let is_attested = quote_matches && report.boot_aggregate == BootAggregate::Good && extends.is_empty();
+            let matches = is_attested && signature_checked;
+            let (signature, verdict) = match (signature_checked, is_attested) {
+                (false, _) => ("not checked", "signature not checked"),
+                (true, true) => ("checked", "match"),
+                (true, false) => ("checked", "differ"),
+            };
+            (report.signature == signature && report.verdict == verdict && answer.says(matches)).then_some(())?;
+            Some(Attestation {
+                quoted: quoted_of(report.quoted)?,
+                signer: report.signer.0,
+                clock: report.clock,
+                firmware: report.firmware,
+                events: report.events,
+                locality: report.locality,
+                entries: report.entries,
+                boot_aggregate: report.boot_aggregate,
+                quote_matches,
+                signature_checked,
+                matches,
+                json: answer.line()?,
+                extends,
+            })
         })
     }
 
@@ -195,7 +228,7 @@ impl Checkpoint {
     }
 }
 
-/// The member `fault` of a result, which has none: it cannot be read.
+/// The member `fault` of a result, or another that it does not have: it cannot be read.
 #[derive(Default)]
 struct NoFault;
 
@@ -238,10 +271,55 @@ struct ListReport {
 impl ListReport {
     /// What extends another's register, of so many events and entries: an event, an entry, or an event and then an entry.
     fn strays(&self, events: u64, entries: u64) -> Option<Vec<Stray>> {
-        let Some(extends) = &self.extends else { return Some(Vec::new()) };
-        let strays: Vec<_> = extends.iter().map(|extending| extending.stray(events, entries)).collect::<Option<_>>()?;
-        matches!(strays[..], [_] | [Stray::Event { .. }, Stray::Entry { .. }]).then_some(strays)
+        strays_of(&self.extends, events, entries)
     }
+}
+
+fn strays_of(extends: &Option<Vec<Extending>>, events: u64, entries: u64) -> Option<Vec<Stray>> {
+    let Some(extends) = extends else { return Some(Vec::new()) };
+    let strays: Vec<_> = extends.iter().map(|extending| extending.stray(events, entries)).collect::<Option<_>>()?;
+    matches!(strays[..], [_] | [Stray::Event { .. }, Stray::Entry { .. }]).then_some(strays)
+}
+
+/// A report by a quote.
+#[derive(Deserialize)]
+struct QuoteReport {
+    quoted: Vec<Selected>,
+    signer: Bytes,
+    clock: Clock,
+    firmware: u64,
+    events: u64,
+    locality: u8,
+    entries: u64,
+    boot_aggregate: BootAggregate,
+    #[serde(default, deserialize_with = "told")]
+    extends: Option<Vec<Extending>>,
+    quote: Said,
+    signature: String,
+    verdict: String,
+    #[serde(default, rename = "confirmed")]
+    _confirmed: NoFault,
+    #[serde(default, rename = "unconfirmed")]
+    _unconfirmed: NoFault,
+    #[serde(default, rename = "fault")]
+    _fault: NoFault,
+}
+
+/// A bank, and the PCRs that a quote selects of it.
+#[derive(Deserialize)]
+struct Selected {
+    bank: Algorithm,
+    registers: Vec<u8>,
+}
+
+/// The PCRs that a quote selects, some of each bank, and at least of one.
+fn quoted_of(banks: Vec<Selected>) -> Option<BTreeMap<Algorithm, Vec<u8>>> {
+    let mut quoted = BTreeMap::new();
+    for Selected { bank, registers } in banks {
+        let are_ascending = registers.windows(2).all(|two| two[0] < two[1]);
+        (are_ascending && *registers.last()? < REGISTERS && quoted.insert(bank, registers).is_none()).then_some(())?;
+    }
+    (!quoted.is_empty()).then_some(quoted)
 }
 
 /// An event or an entry, and the register that it extends.

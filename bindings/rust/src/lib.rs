@@ -18,7 +18,8 @@
 //! A verdict covers only the boot aggregate and the PCRs in the expected text. So each call says which PCRs it must cover, as here.
 //! With such a requirement a verdict is a match only if no event of the log extends PCR 10 and each entry of the list names it.
 //! [`entries`] and [`events`] go through the inputs themselves. A [`Session`] is for a list that grows, and for one that grew after
-//! the expected PCRs were read.
+//! the expected PCRs were read. [`attest`] compares a log and a list with a quote in place of expected PCRs, after the caller has
+//! verified its signature.
 //!
 //! Any number of threads may call at once.
 
@@ -197,6 +198,73 @@ impl Verdict {
     pub fn compared(&self) -> usize {
         compared(&self.rows)
     }
+}
+
+/// The message of a quote, and what a verdict by it needs.
+#[derive(Debug, Clone, Copy)]
+pub struct Quote<'a> {
+    /// What the TPM signed, a TPMS_ATTEST: the file that `tpm2_quote -m` writes.
+    pub message: &'a [u8],
+    /// The verifier's own nonce for this quote, used once: 16 bytes or more.
+    pub nonce: &'a [u8],
+    /// The PCRs that must be quoted, at least 0 to 10, such as `sha256:0-10`.
+    pub require: &'a str,
+    /// Whether a PCR may be required in the SHA-1 bank alone.
+    pub takes_sha1: bool,
+    /// Whether the caller has verified the message's signature with the machine's attestation key, which must be a restricted one.
+    /// If it is false there is no match.
+    pub signature_checked: bool,
+}
+
+/// A TPM's clock and its counts when it made a quote.
+///
+/// If the key is neither in the endorsement nor in the platform hierarchy, the TPM adds a constant to `resets`, to `restarts` and to
+/// the version of its firmware. Then only differences between two quotes by one key mean something.
+#[derive(Debug, Clone, Copy, PartialEq, Eq, Hash, Deserialize)]
+#[non_exhaustive]
+pub struct Clock {
+    /// For how many milliseconds the TPM has had power since it was last cleared.
+    pub milliseconds: u64,
+    /// How often it was reset since it was last cleared: each boot is one reset.
+    pub resets: u32,
+    /// How often it was restarted or resumed since its last reset.
+    pub restarts: u32,
+    /// Whether the clock never had a later value.
+    pub safe: bool,
+}
+
+/// The verdict on a log and a list by a quote.
+#[derive(Debug, Clone, PartialEq, Eq, Hash)]
+#[must_use]
+#[non_exhaustive]
+pub struct Attestation {
+    /// The numbers of the PCRs that the quote selects, ascending, for each bank of which it selects any.
+    pub quoted: BTreeMap<Algorithm, Vec<u8>>,
+    /// The qualified name of the key that signed, as the quote states it.
+    pub signer: Vec<u8>,
+    /// The TPM's clock when it made the quote.
+    pub clock: Clock,
+    /// The version of the TPM's firmware.
+    pub firmware: u64,
+    /// How many events the log has after its header.
+    pub events: u64,
+    /// The startup locality that the log states, otherwise 0.
+    pub locality: u8,
+    /// How many entries the list has.
+    pub entries: u64,
+    /// How its first entry compares with the PCRs after the log.
+    pub boot_aggregate: BootAggregate,
+    /// The quote is of the values to which log and list replay.
+    pub quote_matches: bool,
+    /// What the caller said.
+    pub signature_checked: bool,
+    /// `quote_matches`, the boot aggregate is good, `extends` is empty, and the caller has checked the signature. It covers the PCRs
+    /// in `quoted`, and no others.
+    pub matches: bool,
+    /// The report as JSON, without the line feed.
+    pub json: String,
+    /// The first event that extends PCR 10, and the first entry that extends another.
+    pub extends: Vec<Stray>,
 }
 
 /// The verdict on a list without a log, and expected PCRs.
@@ -417,7 +485,8 @@ impl FusedIterator for Events<'_> {}
 #[derive(Debug, Clone, Copy, PartialEq, Eq, Hash)]
 #[non_exhaustive]
 pub enum Kind {
-    /// The requirement, or the range of PCRs, is not of its form. It has no number.
+    /// The requirement, or the range of PCRs, is not of its form, or does not suit a quote; or a nonce is too short. It has no
+    /// number.
     Argument,
     /// The firmware event log.
     Log,
@@ -429,6 +498,8 @@ pub enum Kind {
     Expected,
     /// The state of a session is damaged (1), of another version (2), or of another boot (3).
     Checkpoint,
+    /// The message of a quote: it is none (1 to 10), has another nonce (11), or does not select a required PCR (12).
+    Quote,
 }
 
 /// Why there is no result.
@@ -467,7 +538,8 @@ impl fmt::Display for Error {
     fn fmt(&self, f: &mut fmt::Formatter<'_>) -> fmt::Result {
         match self {
             Self::Refused { line, kind: Kind::Argument, .. } => {
-                write!(f, "{line} (PCRs are named as in sha256:0-10, with PCR 10, or as in 0-10)")
+                let names = "PCRs are named as in sha256:0-10, with PCR 10, or as in 0-10";
+                write!(f, "{line} ({names}; a quote needs PCRs 0 to 10, and a nonce of at least 16 bytes)")
             }
             Self::Refused { line, .. } => f.write_str(line),
             Self::OutOfMemory => f.write_str("no memory for libima_verify"),
@@ -516,6 +588,29 @@ pub fn version() -> u32 {
 /// [`Error::Unexpected`] or [`Error::Version`] if the library is not as its header describes.
 pub fn verify(log: &[u8], list: &[u8], expected: &[u8], require: &str) -> Result<Verdict, Error> {
     ask(|out| library::verdict(log, list, expected, require.as_bytes(), out))?.verdict()
+}
+
+/// The verdict on a firmware event log and a measurement list by a quote. No file of PCR values is needed.
+///
+/// This verifies no signature: do that first.
+///
+/// ```no_run
+/// # fn judge(log: &[u8], list: &[u8], message: &[u8], nonce: &[u8]) -> Result<(), ima_verify::Error> {
+/// // (the signature of the message was verified with the machine's own restricted key)
+/// let quote = ima_verify::Quote { message, nonce, require: "sha256:0-10", takes_sha1: false, signature_checked: true };
+/// let verdict = ima_verify::attest(log, list, &quote)?;
+/// println!("{} {}", verdict.matches, verdict.entries);
+/// # Ok(())
+/// # }
+/// ```
+///
+/// # Errors
+///
+/// [`Error::Refused`] with [`Kind::Quote`] if the message is no quote, has another nonce, or does not select a required PCR; with
+/// [`Kind::Argument`] if the requirement is not of its form, leaves out one of the PCRs 0 to 10, or names one of the SHA-1 bank
+/// alone, or if the nonce is too short; otherwise as for [`verify`].
+pub fn attest(log: &[u8], list: &[u8], quote: &Quote<'_>) -> Result<Attestation, Error> {
+    ask(|out| library::attest(log, list, quote, out))?.attestation(quote.signature_checked)
 }
 
 /// Where each expected PCR first has its value. The arguments are as in [`verify`].

@@ -1,7 +1,7 @@
 //! Calls the C library, as `bindings/c/ima_verify.h` describes it.
 
 use crate::answers::Answer;
-use crate::Error;
+use crate::{Error, Quote};
 use ima_verify_sys as c;
 
 pub(crate) use c::{
@@ -70,6 +70,21 @@ pub(crate) fn verify_more(inputs: &More, next: &mut [u8], out: &mut [u8]) -> (i3
         )
     };
     (result, next_size, told)
+}
+
+/// The call of a quote.
+#[rustfmt::skip]
+pub(crate) fn attest(log: &[u8], list: &[u8], quote: &Quote<'_>, out: &mut [u8]) -> (i32, Told) {
+    let &Quote { message, nonce, require, takes_sha1, signature_checked } = quote;
+    let mut told = NOTHING_TOLD;
+    // SAFETY: as of the calls above.
+    let result = unsafe {
+        c::ima_verify_raw_attest(
+            log.as_ptr(), log.len(), list.as_ptr(), list.len(), message.as_ptr(), message.len(), nonce.as_ptr(), nonce.len(),
+            require.as_ptr(), require.len(), takes_sha1, signature_checked, true, out.as_mut_ptr(), out.len(), &mut told,
+        )
+    };
+    (result, told)
 }
 
 /// Where the lines of entries or events continue.

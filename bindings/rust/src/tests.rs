@@ -1,5 +1,6 @@
 //! What the crate answers, by the library.
 
 mod listing;
+mod quoted;
 mod sample;
 mod session;

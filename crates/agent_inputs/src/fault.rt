@@ -2,9 +2,10 @@
 
 ghost use Rattle.std.specs.Prelude.{◌≡◌};
 ghost use Rattle.agent_inputs.specs.Faults.{fault_head, fault_of_expected, fault_of_list, fault_of_log, fault_of_arguments, not_resumed_number};
-ghost use Rattle.agent_inputs.specs.declared.fault.RunFault.TheVariants.{Memory};
+ghost use Rattle.agent_inputs.specs.declared.fault.RunFault.TheVariants.{Memory, Quote};
 
 use agent_plans::ArgumentsFault;
+use attestations::QuoteRefusal;
 use boot_log::LogFault;
 use boot_verdict::{CheckpointFault, ExpectFault, ResumeFault};
 use ima_list::{ListFault, ReplayFault};
@@ -55,6 +56,8 @@ pub enum RunFault {
     Replay(ReplayFault),
     /// An input does not state expected registers, or was not printed by tpm2-tools as one that states some.
     Expect(ExpectFault),
+    /// An input is not the quote that is asked for.
+    Quote(QuoteRefusal),
     /// There is no going on from a checkpoint.
     Checkpoint(NotResumed),
     /// The book could not be opened.
@@ -89,6 +92,7 @@ pub enum FaultKind {
     List,
     Replay,
     Expect,
+    Quote,
     Checkpoint,
     Book,
     Outcome,
@@ -135,6 +139,7 @@ impl RunFault {
                 (FaultKind::Replay, Some(fault.number()), Some(fault.entry()))
             }
             RunFault::Expect(fault) => (FaultKind::Expect, Some(fault.number()), fault.line()),
+            RunFault::Quote(refusal) => (FaultKind::Quote, Some(refusal.number()), None),
             RunFault::Checkpoint(fault) => (FaultKind::Checkpoint, Some(fault.number()), None),
             RunFault::Book(fault) => (FaultKind::Book, Some(fault.number()), None),
             RunFault::Outcome { job, fault } => {
@@ -168,6 +173,7 @@ impl fmt::Display for RunFault {
             RunFault::List(fault) => say_fault("", fault, f),
             RunFault::Replay(fault) => say_fault("", fault, f),
             RunFault::Expect(fault) => say_fault("", fault, f),
+            RunFault::Quote(refusal) => say_fault("", refusal, f),
             RunFault::Checkpoint(fault) => say_fault("", fault, f),
             RunFault::Book(fault) => say_fault("", fault, f),
             RunFault::Outcome { job, fault } => say_outcome(*job, *fault, f),
@@ -252,6 +258,14 @@ impl From<ExpectFault> for RunFault {
             ExpectFault::Memory => RunFault::Memory,
             other => RunFault::Expect(other),
         }
+    }
+}
+
+impl From<QuoteRefusal> for RunFault {
+    ghost from_gives = { λ refusal fault. fault ≡ Quote refusal };
+
+    fn from(refusal: QuoteRefusal) -> Self {
+        RunFault::Quote(refusal)
     }
 }
 

@@ -28,16 +28,16 @@ use Rattle.boot_verdict.specs.Requirements.{names}
 use Rattle.boot_verdict.specs.Verdicts.{IsVerifyFault, aggregate_of, is_good, pcr_after_log_and_list, recorded_aggregate}
 use Rattle.tpm_quotes.specs.Spelling.{BankSelection, IsQuote, TpmQuote, all_registers, selects}
 use Rattle.tpm_quotes.specs.Quoting.{confirms}
-use Rattle.attestations.specs.declared.attested.AttestFault.{AttestFault}
-use Rattle.attestations.specs.declared.attested.AttestFault.TheVariants as faults
-use Rattle.attestations.specs.declared.attested.AttestFault.TheVariants.{OtherNonce, NotSelected}
 use Rattle.attestations.specs.declared.cause.Cause.TheVariants.{BadAggregate, Differs}
 use Rattle.attestations.specs.declared.policy.PolicyFault.{PolicyFault}
 use Rattle.attestations.specs.declared.policy.PolicyFault.TheVariants.{ShortNonce, NotRequired, OnlySha1}
+use Rattle.attestations.specs.declared.refusal.QuoteRefusal.{QuoteRefusal}
+use Rattle.attestations.specs.declared.refusal.QuoteRefusal.TheVariants as refusals
+use Rattle.attestations.specs.declared.refusal.QuoteRefusal.TheVariants.{OtherNonce, NotSelected}
 use Rattle.boot_verdict.specs.Isolation.{first_extending, first_stray}
 use Rattle.attestations.specs.Policies.{AreSound, Terms, first_unnamed, first_unselected, first_weak, is_named, is_named_beside_sha1, policy_fault, unselected_in}
 use Rattle.attestations.specs.Judging.{Attestation, attestation_on, cause_against, cause_in_extends, cause_in_registers, quote_refusal}
-use Rattle.attestations.specs.Attesting.{IsAttested, IsAttestFault, IsBootFault, IsRefusedFor}
+use Rattle.attestations.specs.Attesting.{IsAttested, IsBootFault, IsQuoteRefusal, IsRefusedFor}
 use Rattle.boot_verdict.proofs.IsolationLaws.{list_is_apart, log_is_apart}
 
 -- ---- options that are none
@@ -186,34 +186,31 @@ pub found_next : {A B : Type 0} (f : A → B) (found : Option A) (rest result : 
     → result ≡ option_or (option_map f found) rest
 found_next f found rest result none is = is ∙ ap (λ o. option_or (option_map f o) rest) none
 
--- A fault of the quote that is not the one that is asked for.
-abbrev IsOwn : AttestFault → Type 0
-IsOwn faults.OtherNonce = Unit {0}
-IsOwn (faults.NotSelected alg register) = Unit {0}
-IsOwn fault = ⊥
+-- A refusal of a quote that is not the one that is asked for.
+abbrev IsOwn : QuoteRefusal → Type 0
+IsOwn refusals.OtherNonce = Unit {0}
+IsOwn (refusals.NotSelected alg register) = Unit {0}
+IsOwn (refusals.Message fault) = ⊥
 
-same_fault : (first second : AttestFault) → Some first ≡ Some second → first ≡ second
-same_fault first second e = cc
+same_refusal : (first second : QuoteRefusal) → Some first ≡ Some second → first ≡ second
+same_refusal first second e = cc
 
-own : (fresh : Bool) (chosen : Option (Alg × ℕ)) (fault : AttestFault)
-    → cond (not fresh) (Some OtherNonce) (option_map (λ at. NotSelected at.0 at.1) chosen) ≡ Some fault → IsOwn fault
-own false chosen fault e = subst IsOwn (same_fault OtherNonce fault e) tt
-own true (Some at) fault e = subst IsOwn (same_fault (NotSelected at.0 at.1) fault e) tt
-own true None fault e = absurd cc
+own : (fresh : Bool) (chosen : Option (Alg × ℕ)) (refusal : QuoteRefusal)
+    → cond (not fresh) (Some OtherNonce) (option_map (λ at. NotSelected at.0 at.1) chosen) ≡ Some refusal → IsOwn refusal
+own false chosen refusal e = subst IsOwn (same_refusal OtherNonce refusal e) tt
+own true (Some at) refusal e = subst IsOwn (same_refusal (NotSelected at.0 at.1) refusal e) tt
+own true None refusal e = absurd cc
 
-pub refused_by : (log list message : List ℕ) (terms : Terms) (quote : TpmQuote) (fault : AttestFault) → policy_fault terms ≡ None
-    → IsQuote message quote → quote_refusal quote terms ≡ Some fault → IsAttestFault log list message terms fault
-refused_by log list message terms quote fault sound message_is refused =
-    by fault (own (bytes_eq quote.nonce terms.nonce) (first_unselected terms.required quote.selections) fault refused)
+pub refused_by : (message : List ℕ) (terms : Terms) (quote : TpmQuote) (refusal : QuoteRefusal) → IsQuote message quote
+    → quote_refusal quote terms ≡ Some refusal → IsQuoteRefusal message terms refusal
+refused_by message terms quote refusal message_is refused =
+    by refusal (own (bytes_eq quote.nonce terms.nonce) (first_unselected terms.required quote.selections) refusal refused)
     (record { quote = quote; message_is = message_is; refused = refused })
   where
-    by : (fault : AttestFault) → IsOwn fault → IsRefusedFor message terms fault → IsAttestFault log list message terms fault
-    by (faults.Policy why) own for_this = absurd own
-    by (faults.Quote why) own for_this = absurd own
-    by (faults.Boot why) own for_this = absurd own
-    by (faults.Against why) own for_this = absurd own
-    by faults.OtherNonce own for_this = (sound, for_this)
-    by (faults.NotSelected alg register) own for_this = (sound, for_this)
+    by : (refusal : QuoteRefusal) → IsOwn refusal → IsRefusedFor message terms refusal → IsQuoteRefusal message terms refusal
+    by (refusals.Message why) own for_this = absurd own
+    by refusals.OtherNonce own for_this = for_this
+    by (refusals.NotSelected alg register) own for_this = for_this
 
 pub boot_refused : (log list : List ℕ) (fault : VerifyFault) → IsVerifyFault log list fault → (fault ≡ verdicts.Memory → ⊥) → IsBootFault log list fault
 boot_refused log list (verdicts.Log why) is other = is

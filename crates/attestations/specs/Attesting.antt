@@ -19,6 +19,8 @@ use Rattle.tpm_quotes.specs.Quoting.{confirms}
 use Rattle.attestations.specs.declared.attested.AttestFault.{AttestFault}
 use Rattle.attestations.specs.declared.attested.AttestFault.TheVariants as faults
 use Rattle.attestations.specs.declared.cause.Cause.{Cause}
+use Rattle.attestations.specs.declared.refusal.QuoteRefusal.{QuoteRefusal}
+use Rattle.attestations.specs.declared.refusal.QuoteRefusal.TheVariants as refusals
 use Rattle.boot_verdict.specs.Isolation.{IsListApart, IsLogApart}
 use Rattle.attestations.specs.Judging.{Attestation, attestation_on, cause_against, quote_refusal}
 use Rattle.attestations.specs.Policies.{AreSound, Terms, policy_fault}
@@ -54,10 +56,15 @@ pub record IsAskedFor (message : List ℕ) (terms : Terms) : Type 0 where
   pub taken : quote_refusal quote terms ≡ None
 
 -- The message is a quote, and it is refused for this.
-pub record IsRefusedFor (message : List ℕ) (terms : Terms) (fault : AttestFault) : Type 0 where
+pub record IsRefusedFor (message : List ℕ) (terms : Terms) (refusal : QuoteRefusal) : Type 0 where
   pub quote : TpmQuote
   pub message_is : IsQuote message quote
-  pub refused : quote_refusal quote terms ≡ Some fault
+  pub refused : quote_refusal quote terms ≡ Some refusal
+
+-- The first reason: the message is no quote; else it is not the one that is asked for.
+abbrev pub IsQuoteRefusal : List ℕ → Terms → QuoteRefusal → Type 0
+IsQuoteRefusal message terms (refusals.Message fault) = quote_fault message ≡ Some fault
+IsQuoteRefusal message terms refusal = IsRefusedFor message terms refusal
 
 -- Log or list are refused. No memory is needed, so none runs out.
 abbrev pub IsBootFault : List ℕ → List ℕ → VerifyFault → Type 0
@@ -75,11 +82,10 @@ pub record IsAgainst (log list message : List ℕ) (terms : Terms) (cause : Caus
   pub genuine : AreGenuine entries
   pub cause_is : cause_against (algs_in table) events entries asked.quote ≡ Some cause
 
--- The first reason: the policy is refused; else the message is no quote; else it is not the one that is asked for; else log or list are
--- refused; else something is against them.
+-- The first reason: the policy is refused; else the quote is, since the message is none or not the one that is asked for; else log or list
+-- are refused; else something is against them.
 abbrev pub IsAttestFault : List ℕ → List ℕ → List ℕ → Terms → AttestFault → Type 0
 IsAttestFault log list message terms (faults.Policy fault) = policy_fault terms ≡ Some fault
-IsAttestFault log list message terms (faults.Quote fault) = (policy_fault terms ≡ None) × (quote_fault message ≡ Some fault)
+IsAttestFault log list message terms (faults.Quote refusal) = (policy_fault terms ≡ None) × IsQuoteRefusal message terms refusal
 IsAttestFault log list message terms (faults.Boot fault) = (policy_fault terms ≡ None) × IsAskedFor message terms × IsBootFault log list fault
 IsAttestFault log list message terms (faults.Against cause) = (policy_fault terms ≡ None) × IsAgainst log list message terms cause
-IsAttestFault log list message terms fault = (policy_fault terms ≡ None) × IsRefusedFor message terms fault

@@ -8,11 +8,12 @@ use Rattle.ima_list.specs.ListEntry.{ListEntry}
 use Rattle.boot_verdict.specs.Verdicts.{aggregate_of, is_good, pcr_after_log_and_list, recorded_aggregate}
 use Rattle.tpm_quotes.specs.Spelling.{TpmQuote, quote_of}
 use Rattle.tpm_quotes.specs.Quoting.{confirms}
-use Rattle.attestations.specs.declared.attested.AttestFault.{AttestFault}
-use Rattle.attestations.specs.declared.attested.AttestFault.TheVariants.{OtherNonce, NotSelected}
+use Rattle.tpm_quotes.specs.Faults.{quote_fault_number}
 use Rattle.attestations.specs.declared.attested.Attested.{Attested}
 use Rattle.attestations.specs.declared.cause.Cause.{Cause}
 use Rattle.attestations.specs.declared.cause.Cause.TheVariants.{LogExtends, ListExtends, BadAggregate, Differs}
+use Rattle.attestations.specs.declared.refusal.QuoteRefusal.{QuoteRefusal}
+use Rattle.attestations.specs.declared.refusal.QuoteRefusal.TheVariants.{Message, OtherNonce, NotSelected}
 use Rattle.boot_verdict.specs.Isolation.{first_extending, first_stray}
 use Rattle.attestations.specs.Policies.{Terms, first_unselected}
 
@@ -32,10 +33,16 @@ attestation_on events entries quote = record {
 }
 
 -- Why the quote is not the one that is asked for: it has another nonce; or it does not select a register that is required.
-abbrev pub quote_refusal : TpmQuote → Terms → Option AttestFault
+abbrev pub quote_refusal : TpmQuote → Terms → Option QuoteRefusal
 quote_refusal quote terms =
     if not (bytes_eq quote.nonce terms.nonce) then Some OtherNonce
     else option_map (λ at. NotSelected at.0 at.1) (first_unselected terms.required quote.selections)
+
+-- The number of a refusal: of a message that is no quote that of its fault, 1 to 10.
+abbrev pub quote_refusal_number : QuoteRefusal → ℕ
+quote_refusal_number (Message fault) = quote_fault_number fault
+quote_refusal_number OtherNonce = 11
+quote_refusal_number (NotSelected alg register) = 12
 
 -- The first cause in which registers log and list extend.
 abbrev pub cause_in_extends : List LogEvent → List ListEntry → Option Cause

@@ -1,3 +1,5 @@
 pub mod Policies
 pub mod Judging
 pub mod Attesting
+pub mod Quoted
+pub mod Reports

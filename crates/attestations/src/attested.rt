@@ -1,6 +1,6 @@
 //! The judgement.
 
-ghost use Rattle.std.specs.Prelude.{◌≡◌, List, ℕ, None, Ok, IsOk, IfOk, IfErr, bytes_eq};
+ghost use Rattle.std.specs.Prelude.{◌≡◌, List, ℕ, None, Ok, IsOk, IfOk, IfErr};
 ghost use Rattle.boot_log.specs.declared.header.Row.{Row as TableRow};
 ghost use Rattle.boot_log.specs.LogViews.{log_bytes};
 ghost use Rattle.boot_log.specs.Replaying.{IsFirmware};
@@ -11,18 +11,18 @@ ghost use Rattle.ima_list.specs.Spelling.{IsReading};
 ghost use Rattle.boot_verdict.specs.Checkpoints.{IsCheckpoint};
 ghost use Rattle.boot_verdict.specs.Verdicts.{fault_of_log, is_good};
 ghost use Rattle.tpm_quotes.specs.Spelling.{IsQuote, TpmQuote, quote_of};
-ghost use Rattle.attestations.specs.declared.attested.AttestFault.TheVariants.{Boot, Quote as NoQuote};
+ghost use Rattle.attestations.specs.declared.attested.AttestFault.TheVariants.{Boot, Quote as NotTaken};
 ghost use Rattle.attestations.specs.Policies.{policy_fault, terms_of};
 ghost use Rattle.attestations.specs.Judging.{attestation_of, attestation_on, cause_against, cause_in_extends, cause_in_registers, quote_refusal};
 ghost use Rattle.attestations.specs.Attesting.{IsAttested, IsAttestFault};
 
 use crate::cause::Cause;
-use crate::policy::{Policy, PolicyFault, first_unselected};
+use crate::policy::{Policy, PolicyFault};
+use crate::refusal::{QuoteRefusal, quote_for};
 use boot_log::{LogFault, LogView};
 use boot_verdict::{Aggregate, Checkpoint, VerifyFault, aggregate_of, first_extending};
-use pcr_banks::Alg;
 use thiserror::Error;
-use tpm_quotes::{Quote, QuoteFault, read_quote};
+use tpm_quotes::Quote;
 
 /// What is known of a log and a list that a quote confirms.
 ///
@@ -45,20 +45,9 @@ pub enum AttestFault {
     /// The policy is refused.
     #[error("the policy is refused: {0}")]
     Policy(PolicyFault),
-    /// The message is no quote that is taken.
+    /// The message is not the quote that is asked for.
     #[error("the quote is refused: {0}")]
-    Quote(QuoteFault),
-    /// The quote has another nonce than the verifier gave out.
-    #[error("the quote has another nonce")]
-    OtherNonce,
-    /// The quote does not select a register that is required: the first one, by its bank, and then by its number.
-    #[error("the quote does not select register {register} of a bank in which it is required")]
-    NotSelected {
-        /// The bank.
-        alg: Alg,
-        /// The register.
-        register: u32,
-    },
+    Quote(QuoteRefusal),
     /// The log or the list is refused.
     #[error("{0}")]
     Boot(VerifyFault),
@@ -67,11 +56,11 @@ pub enum AttestFault {
     Against(Cause),
 }
 
-impl From<QuoteFault> for AttestFault {
-    ghost from_gives = { λ quote_fault fault. fault ≡ NoQuote quote_fault };
+impl From<QuoteRefusal> for AttestFault {
+    ghost from_gives = { λ refusal fault. fault ≡ NotTaken refusal };
 
-    fn from(fault: QuoteFault) -> Self {
-        AttestFault::Quote(fault)
+    fn from(refusal: QuoteRefusal) -> Self {
+        AttestFault::Quote(refusal)
     }
 }
 
@@ -115,10 +104,7 @@ pub fn attest<'a>(
     if let Some(fault) = policy.fault() {
         return Err(AttestFault::Policy(fault));
     }
-    let quote = read_quote(message)?;
-    if let Some(fault) = refusal_of(&quote, policy) {
-        return Err(fault);
-    }
+    let quote = quote_for(message, policy)?;
     let view = LogView::new(log)?;
     let known = Checkpoint::of_list(view.registers(), list)?;
     match cause_against(&view, &known, &quote) {
@@ -138,24 +124,6 @@ fn confirmed<'a>(log: &LogView<'_>, known: &Checkpoint, quote: Quote<'a>) -> Att
         entries: known.entries,
         quote,
     }
-}
-
-// Why the quote is not the one that is asked for, if it is not.
-fn refusal_of(quote: &Quote<'_>, policy: &Policy<'_>) -> Option<AttestFault>
-    ensures { result ≡ quote_refusal (quote_of quote.now) (terms_of policy.now) }
-{
-    if !is_fresh(quote, policy.nonce) {
-        return Some(AttestFault::OtherNonce);
-    }
-    let (alg, register) = first_unselected(policy.required, quote)?;
-    Some(AttestFault::NotSelected { alg, register })
-}
-
-// Whether the quote has this nonce.
-fn is_fresh(quote: &Quote<'_>, nonce: &[u8]) -> bool
-    ensures { result ≡ bytes_eq (quote_of quote.now).nonce nonce.now }
-{
-    quote.nonce == nonce
 }
 
 // The first cause against log and list, if there is one.

@@ -56,6 +56,24 @@ Checkpoint faults (refused: checkpoint fault N):
   3  the checkpoint is of another boot: the log's registers are not those it began from
 " "\n"; $($more)*; $end)
     };
+    // The faults of a quote.
+    ($($begun:literal)*; quote $($more:ident)*; $end:literal) => {
+        with_fault_tables!($($begun)* "\
+Quote faults (refused: quote fault N):
+  1  the message is cut short
+  2  the message is not a quote that a TPM made
+  3  the flag of the quote's clock is neither 0 nor 1
+  4  the quote selects registers of a bank that is not known
+  5  the quote selects registers of a bank twice
+  6  the quote has more selections than there are known banks
+  7  the quote selects a register of 24 or more
+  8  the quote selects no register
+  9  the quote's digest is not by SHA-256, SHA-384 or SHA-512
+ 10  the message goes on after the quote
+ 11  the quote has another nonce
+ 12  the quote does not select register R of a bank in which it is required
+" "\n"; $($more)*; $end)
+    };
     // The faults of a book.
     ($($begun:literal)*; book $($more:ident)*; $end:literal) => {
         with_fault_tables!($($begun)* "\

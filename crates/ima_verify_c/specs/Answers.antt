@@ -3,7 +3,7 @@ use Rattle.std.specs.Prelude.{ℕ, ◌==◌, if◌then◌else◌, Bool, List, by
 use Rattle.agent_plans.specs.declared.plan.Scope.TheVariants.{Prefix, Whole}
 use Rattle.agent_plans.specs.declared.plan.Form.{Form}
 use Rattle.agent_plans.specs.declared.plan.Form.TheVariants.{Json, Text}
-use Rattle.judging.specs.Requests.{Any, Requested, Compares, Judgement, ListRegistersOf, ListVerdictOf, LogRegistersOf, Nothing, PositionsOf, Requires, These, VerdictOf}
+use Rattle.judging.specs.Requests.{Any, Attests, Requested, Compares, Judgement, ListRegistersOf, ListVerdictOf, LogRegistersOf, Nothing, PositionsOf, Requires, These, VerdictOf}
 use Rattle.judging.specs.Inputs.{BytesOf}
 use Rattle.agent_inputs.specs.declared.fault.FaultKind.{FaultKind}
 use Rattle.agent_inputs.specs.declared.fault.FaultKind.TheVariants as kinds
@@ -17,7 +17,7 @@ use Rattle.pieces.specs.declared.piece.End.TheVariants.{Last, Longer, More}
 use Rattle.pieces.specs.declared.piece.Piece.{Piece}
 use Rattle.pieces.specs.declared.piece.Position.{Position}
 use Rattle.pieces.specs.Pieces.{AreEntriesBefore, FailsAfterEntries, IsEntryPiece, AreEventsBefore, FailsAfterEvents, IsEventPiece, is_within}
-use Rattle.rendering.specs.FaultTexts.{fault_line, fault_status, IsReportedAsJson}
+use Rattle.rendering.specs.FaultTexts.{fault_line, said_of, IsFaultAsJson}
 use Rattle.ima_verify_c.specs.declared.told.Told.{Told}
 
 abbrev pub interface_version : ℕ
@@ -63,6 +63,20 @@ requested_of_list list expected require = requested_by Nothing ListVerdictOf lis
 abbrev pub requested_of_more : List ℕ → List ℕ → List ℕ → List ℕ → List ℕ → Bool → Requested
 requested_of_more log state more expected require prefix = requested_by Any (verdict_of log state prefix) more expected require
 
+-- Whether a quote is of a log and a list.
+abbrev pub requested_of_attestation : List ℕ → List ℕ → List ℕ → List ℕ → List ℕ → Bool → Bool → Requested
+requested_of_attestation log list message nonce require takes_sha1 is_signed = Attests (record {
+  log = BytesOf log;
+  list = BytesOf list;
+  message = BytesOf message;
+  nonce = nonce;
+  required = require;
+  takes_sha1 = takes_sha1;
+  is_signed = is_signed;
+  scope = Whole;
+  resume = None;
+})
+
 -- The registers after a list alone, or after a log.
 abbrev pub requested_of_registers : Bool → List ℕ → Requested
 requested_of_registers of_list bytes = if of_list then ListRegistersOf (BytesOf bytes) else LogRegistersOf (BytesOf bytes)
@@ -87,6 +101,7 @@ head_told size kinds.Replay number place = told_with size 4 number place
 head_told size kinds.Expect number place = told_with size 5 number place
 head_told size kinds.Checkpoint number place = told_with size 6 number place
 head_told size kinds.Memory number place = told_with size 7 number place
+head_told size kinds.Quote number place = told_with size 8 number place
 head_told size kind number place = told_with size 0 None None
 
 -- What is told of a text of this size, which is the line of the fault, if there is one.
@@ -142,10 +157,19 @@ pub record AnswersMore (IsAnswer : List ℕ → ℕ → Option RunFault → List
 
 -- ---- answers
 
--- The text is the line of the fault in this form, and the status is that of the fault: 2 if an input is refused, or 3 if memory ran out.
+-- What a call returns after a fault of this kind: as the program's exit status 2 if an input is refused, and 3 if memory ran out; but 2 also of
+-- a refused quote, where the program has 4, since a call returns that where there is too little room.
+abbrev pub kind_answer : FaultKind → ℕ
+kind_answer kinds.Quote = 2
+kind_answer kind = (said_of kind).2
+
+abbrev pub fault_answer : RunFault → ℕ
+fault_answer fault = kind_answer (fault_head fault).kind
+
+-- The text is the line of the fault in this form, and the status is what a call returns after it.
 abbrev pub IsLineOf : Form → RunFault → List ℕ → ℕ → Type 0
-IsLineOf Text fault text status = (text ≡ fault_line fault) × (status ≡ fault_status fault)
-IsLineOf Json fault text status = IsReportedAsJson fault text status
+IsLineOf Text fault text status = (text ≡ fault_line fault) × (status ≡ fault_answer fault)
+IsLineOf Json fault text status = IsFaultAsJson fault text × (status ≡ fault_answer fault)
 
 -- It is that of a fault with this reason, which is told.
 abbrev pub IsRefusal : (RunFault → Type 0) → Form → List ℕ → ℕ → Option RunFault → Type 0

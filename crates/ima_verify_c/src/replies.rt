@@ -2,18 +2,20 @@
 
 ghost use Rattle.std.specs.Prelude.{◌≡◌, ◌≤◌, ◌⊎◌, None, length, option_map, IfOk, IfSome};
 ghost use Rattle.agent_inputs.specs.declared.fault.RunFault.TheVariants.{Memory};
-ghost use Rattle.rendering.specs.FaultTexts.{fault_status};
 ghost use Rattle.judging.specs.Requests.{requested_of};
-ghost use Rattle.ima_verify_c.specs.Answers.{Answers, AnswersMore, AreGiven, GivesFound, GivesPiece, IsAnswerAndNext, IsAnswerTo, IsGiven, IsLineOf, IsRefusal};
+ghost use Rattle.ima_verify_c.specs.Answers.{Answers, AnswersMore, AreGiven, fault_answer, GivesFound, GivesPiece, IsAnswerAndNext, IsAnswerTo, IsGiven, IsLineOf, IsRefusal};
 
 use crate::told::Told;
-use agent_inputs::RunFault;
+use agent_inputs::{FaultKind, RunFault};
 use agent_plans::Form;
 use byte_streams::{Failed, VecSink};
 use judging::Request;
 use pieces::{End, Piece, Position};
 use rendering::{Given, json_fault_line, json_memory_line, output_on, status_of, write_fault};
 use std::alloc::{AllocError, Global};
+
+/// What a call returns if an input is refused.
+const REFUSED: u8 = 2;
 
 /// What a call returns if memory ran out.
 const OUT_OF_MEMORY: u8 = 3;
@@ -121,7 +123,7 @@ fn give_fault(alloc: Global, form: Form, fault: &RunFault, out: &mut [u8], told:
     ensures { Answers (IsRefusal (λ reason. (reason ≡ fault.now) ⊎ (reason ≡ Memory)) form) result told.new out.old out.new }
 {
     match line_in(alloc, form, fault) {
-        Ok(line) => put(&line, status_of(fault), Some(fault), out, told),
+        Ok(line) => put(&line, answer_after(fault), Some(fault), out, told),
         Err(AllocError) => {
             let fault = RunFault::Memory;
             put(memory_line(form), OUT_OF_MEMORY, Some(&fault), out, told)
@@ -129,9 +131,19 @@ fn give_fault(alloc: Global, form: Form, fault: &RunFault, out: &mut [u8], told:
     }
 }
 
+// What a call returns after a fault: the program's exit status, but that of a refused quote, which would say that there is too little room.
+fn answer_after(fault: &RunFault) -> u8
+    ensures { result ≡ fault_answer fault.now }
+{
+    match fault.head().kind {
+        FaultKind::Quote => REFUSED,
+        _ => status_of(fault),
+    }
+}
+
 // The line of a fault, in this form.
 fn line_in(alloc: Global, form: Form, fault: &RunFault) -> Result<Vec<u8>, AllocError>
-    ensures { IfOk result (λ line. IsLineOf form fault.now line.items (fault_status fault.now)) }
+    ensures { IfOk result (λ line. IsLineOf form fault.now line.items (fault_answer fault.now)) }
 {
     if let Form::Json = form {
         return json_fault_line(alloc, fault);

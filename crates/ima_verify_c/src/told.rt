@@ -41,6 +41,7 @@ impl Told {
             FaultKind::Expect => 5,
             FaultKind::Checkpoint => 6,
             FaultKind::Memory => 7,
+            FaultKind::Quote => 8,
             _ => return Told::with(size, 0, None, None),
         };
         Told::with(size, kind, head.number, head.place)

@@ -1,5 +1,5 @@
 -- Only a fault's value has a member `fault`.
-use Rattle.std.proofs.Common.{◌≡◌, ℕ, Bool, true, false, cond, List, Option, Some, None, refl, codes}
+use Rattle.std.proofs.Common.{◌≡◌, ℕ, Bool, true, false, cond, List, [], ◌∷◌, ◌++◌, Option, Some, None, refl, codes}
 use Rattle.std.specs.Prelude.{⊤}
 use Rattle.std.specs.Str.{bytes_eq, is_utf8}
 use Rattle.json.specs.Json.{Json, object, Members, no_members, member}
@@ -10,14 +10,14 @@ use Rattle.ima_list.specs.ListEntry.{ListEntry}
 use Rattle.ima_list.specs.FieldKinds.{FileFields}
 use Rattle.ima_list.specs.Fields.{fields_of}
 use Rattle.ima_list.specs.Templates.{template_named}
-use Rattle.json_texts.specs.JsonValues.{members_of}
+use Rattle.json_texts.specs.JsonValues.{Member, members_of}
 use Rattle.json_texts.specs.EntryJson.{content_members, entry_json, signature_members}
 
 abbrev the_name : List ℕ
 the_name = codes "fault"
 
 -- None of the members has the name.
-abbrev AreOther : Members → Type 0
+abbrev pub AreOther : Members → Type 0
 AreOther no_members = ⊤
 AreOther (member name value members) = (bytes_eq name the_name ≡ false) × AreOther members
 
@@ -25,8 +25,12 @@ no_member : (members : Members) → AreOther members → get_member the_name mem
 no_member no_members other = refl
 no_member (member name value members) other = rw (no_member members other.1, other.0) refl
 
-lacks : {members : Members} (value : Json) → value ≡ object members → AreOther members → get the_name value ≡ None
+pub lacks : {members : Members} (value : Json) → value ≡ object members → AreOther members → get the_name value ≡ None
 lacks {members} value is other = rw is (no_member members other)
+
+pub others_joined : (ms ns : List Member) → AreOther (members_of ms) → AreOther (members_of ns) → AreOther (members_of (ms ++ ns))
+others_joined [] ns first second = second
+others_joined (m ∷ ms) ns first second = (first.0, others_joined ms ns first.1 second)
 
 -- A name that depends on the bytes that are shown.
 either : (is : Bool) (name hex_name : List ℕ) → bytes_eq name the_name ≡ false → bytes_eq hex_name the_name ≡ false

@@ -4,5 +4,6 @@ pub mod EntryLaws
 pub mod SameEntryLaws
 pub mod ValueLaws
 pub mod FaultMemberLaws
+pub mod AttestLaws
 pub mod SentLaws
 pub mod SentEventLaws

@@ -112,6 +112,26 @@ pub members_joined : (most : ℕ) (ms ns : List Member) → ArePlain ms most →
 members_joined most [] ns first second = second
 members_joined most (m ∷ ms) ns first second = (first.0, members_joined most ms ns first.1 second)
 
+-- What nests little nests no deeper than one more.
+mutual
+  deeper : (j : Json) (most : ℕ) → IsPlain j most → IsPlain j (suc most)
+  deeper null most is = tt
+  deeper (boolean b) most is = tt
+  deeper (number s) most is = is
+  deeper (string s) most is = tt
+  deeper (array js) zero is = absurd is
+  deeper (array js) (suc most) is = items_deeper js most is
+  deeper (object ms) zero is = absurd is
+  deeper (object ms) (suc most) is = members_deeper ms most is
+
+  items_deeper : (js : Items) (most : ℕ) → ItemsArePlain js most → ItemsArePlain js (suc most)
+  items_deeper no_items most is = tt
+  items_deeper (item j js) most is = (deeper j most is.0, items_deeper js most is.1)
+
+  pub members_deeper : (ms : Members) (most : ℕ) → MembersArePlain ms most → MembersArePlain ms (suc most)
+  members_deeper no_members most is = tt
+  members_deeper (member k j ms) most is = (deeper j most is.0, members_deeper ms most is.1)
+
 mutual
   unfolding InLine
 
@@ -148,10 +168,13 @@ mutual
         (joined (quoted k) (58 ∷ []) (quoted_in_line k) refl, All-append InLine (json_tokens j) (members_tokens ms) first.2 rest.2),
       )
 
+pub line_within : (most : ℕ) (j : Json) → most ≤ 4 → IsPlain j most → IsOneLine j
+line_within most j few is =
+    let parts = tokens j most is in
+    record { reads_back = document-print j parts.0 (omega (arith, parts.1, few)); in_line = printed false (json_tokens j) parts.2 }
+
 pub one_line : (j : Json) → IsPlain j 3 → IsOneLine j
-one_line j is =
-    let parts = tokens j 3 is in
-    record { reads_back = document-print j parts.0 (omega (arith, parts.1)); in_line = printed false (json_tokens j) parts.2 }
+one_line j is = line_within 3 j (omega arith) is
 
 -- ---- two lines
 

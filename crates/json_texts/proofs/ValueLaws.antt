@@ -37,18 +37,22 @@ use Rattle.json_texts.specs.JsonValues.{IsCount, Member, hex_json, items_of, num
 use Rattle.json_texts.specs.EventJson.{algorithm_json}
 use Rattle.json_texts.specs.FaultJson.{fault_members, number_at, place_members}
 use Rattle.json_texts.specs.ReportJson as position
-use Rattle.json_texts.specs.ReportJson.{AreCounted, IsCountedPosition, change_values, missing_among, register_json, row_json, rows_values, value_if_missing, value_within, report_rows, state_members, stray_entry_values, stray_event_values, stray_members, unconfirmed_members}
+use Rattle.json_texts.specs.ReportJson.{AreCounted, IsCountedPosition, change_values, extends_members, missing_among, register_json, row_json, rows_values, value_if_missing, value_within, report_rows, state_members, stray_entry_values, stray_event_values, stray_members, unconfirmed_members}
 use Rattle.json_texts.proofs.LineLaws.{ArePlain, IsPlain, ItemsArePlain, members_joined}
 
 -- ---- lists of values
+
+pub values_joined : (most : ℕ) (js ks : List Json) → ItemsArePlain (items_of js) most → ItemsArePlain (items_of ks) most
+    → ItemsArePlain (items_of (js ++ ks)) most
+values_joined most [] ks first second = second
+values_joined most (j ∷ js) ks first second = (first.0, values_joined most js ks first.1 second)
 
 -- Values in an array that a member of a line has.
 abbrev AreRows : List Json → Type 0
 AreRows js = ItemsArePlain (items_of js) 1
 
 rows_joined : (js ks : List Json) → AreRows js → AreRows ks → AreRows (js ++ ks)
-rows_joined [] ks first second = second
-rows_joined (j ∷ js) ks first second = (first.0, rows_joined js ks first.1 second)
+rows_joined js ks first second = values_joined 1 js ks first second
 
 pub each_plain : {A : Type 0} (Q : A → Type 0) (f : A → List Json) → ((x : A) → Q x → AreRows (f x)) → (xs : List A) → AllByRecursion Q xs
     → AreRows (flat_map f xs)
@@ -184,11 +188,14 @@ unless_none : (b : Bool) (ms : List Member) → ArePlain ms 2 → ArePlain (if b
 unless_none true ms plain = tt
 unless_none false ms plain = plain
 
-pub strays_plain : (required : Option (List BankRange)) (strays : Strays) → AreCounted strays → ArePlain (stray_members required strays) 2
-strays_plain None strays fits = tt
-strays_plain (Some ranges) strays fits =
+pub extends_plain : (strays : Strays) → AreCounted strays → ArePlain (extends_members strays) 2
+extends_plain strays fits =
     unless_none (are_none strays) _
     (rows_joined (stray_event_values strays.event) _ (event_plain strays.event fits.0) (entry_plain strays.entry fits.1), tt)
+
+pub strays_plain : (required : Option (List BankRange)) (strays : Strays) → AreCounted strays → ArePlain (stray_members required strays) 2
+strays_plain None strays fits = tt
+strays_plain (Some ranges) strays fits = extends_plain strays fits
 
 -- ---- places
 

@@ -6,4 +6,5 @@ pub mod EventJson
 pub mod ItemLines
 pub mod SentEntries
 pub mod SentEvents
+pub mod AttestJson
 pub mod parts

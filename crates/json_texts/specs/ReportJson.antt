@@ -113,13 +113,17 @@ stray_entry_values (Some stray) = stray_json (codes "entry") stray.entry stray.r
 abbrev pub AreCounted : Strays → Type 0
 AreCounted strays = IfSome strays.event IsCount × IfSome strays.entry (λ stray. IsCount stray.entry × IsCount stray.register)
 
--- The first event and the first entry that do, if any, where registers are required.
-abbrev pub stray_members : Option (List BankRange) → Strays → List Member
-stray_members None strays = []
-stray_members (Some ranges) strays =
+-- The first event and the first entry that do, if any.
+abbrev pub extends_members : Strays → List Member
+extends_members strays =
     if are_none strays
     then []
     else (codes "extends", array_of (stray_event_values strays.event ++ stray_entry_values strays.entry)) ∷ []
+
+-- The member where registers are required.
+abbrev pub stray_members : Option (List BankRange) → Strays → List Member
+stray_members None strays = []
+stray_members (Some ranges) strays = extends_members strays
 
 abbrev pub verdict_word : Bool → List ℕ
 verdict_word true = codes "match"
@@ -162,12 +166,15 @@ unconfirmed_members (Some fault) = (
 )
     ∷ []
 
--- The counts of the whole list, of which the prefix has the verdict; how much of it is confirmed, and what is wrong after that; then what
--- comes after the counts of a report on the prefix.
+-- The counts of the whole list, of which the prefix has the verdict; how much of it is confirmed, and what is wrong after that.
+abbrev pub prefix_count_members : Verdict → ℕ → Option Unconfirmed → List Member
+prefix_count_members prefix entries unconfirmed =
+    count_members prefix.events prefix.locality entries ++ (codes "confirmed", number_json prefix.entries) ∷ unconfirmed_members unconfirmed
+
+-- These counts, and then what comes after the counts of a report on the prefix.
 abbrev pub prefix_report_json : Option (List BankRange) → Verdict → ℕ → Option Unconfirmed → Json
 prefix_report_json required prefix entries unconfirmed =
-    object_of (count_members prefix.events prefix.locality entries ++ (codes "confirmed", number_json prefix.entries)
-    ∷ (unconfirmed_members unconfirmed ++ outcome_members required (meets required prefix) prefix))
+    object_of (prefix_count_members prefix entries unconfirmed ++ outcome_members required (meets required prefix) prefix)
 
 -- ---- a report on a list alone
 

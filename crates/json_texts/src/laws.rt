@@ -18,12 +18,14 @@ ghost use Rattle.boot_verdict.specs.declared.requirement.BankRange.{BankRange};
 ghost use Rattle.boot_verdict.specs.Words.{unconfirmed_entry};
 ghost use Rattle.boot_verdict.specs.ListVerdicts.{ListVerdict};
 ghost use Rattle.boot_verdict.specs.Verdicts.{Verdict};
+ghost use Rattle.attestations.specs.Reports.{AttestVerdict};
 ghost use Rattle.json.specs.Find.{get};
 ghost use Rattle.json_texts.specs.declared.faults.FaultPlace.{FaultPlace};
 ghost use Rattle.json_texts.specs.JsonValues.{IsCount, IsOneLine, line_of, object_of};
 ghost use Rattle.json_texts.specs.EntryJson.{HasBytes, IsKnown, entry_json, is_genuine};
 ghost use Rattle.json_texts.specs.EventJson.{algorithms_json, event_json};
 ghost use Rattle.json_texts.specs.FaultJson.{fault_json, fault_members, number_at};
+ghost use Rattle.json_texts.specs.AttestJson.{IsCountedClock, IsCountedWhole, attest_json};
 ghost use Rattle.json_texts.specs.ReportJson.{AreCounted, IsCountedPosition, positions_json, expected_json, registers_json, prefix_report_json, list_report_json, report_json};
 
 use ima_list::EntryRef;
@@ -47,6 +49,9 @@ pub fn each_value_is_one_line()
         → IsOneLine (prefix_report_json required prefix entries unconfirmed) }
     ensures list_report { (required : Option (List BankRange)) (verdict : ListVerdict) → IsCount verdict.entries → AreCounted verdict.strays
         → AllByRecursion (λ row. IsCount row.expected.register) verdict.rows → IsOneLine (list_report_json required verdict) }
+    ensures attestation { (report : AttestVerdict) → IsCountedClock report.quoted.clock → IsCount report.quoted.firmware
+        → IsCount report.verdict.events → IsCount report.verdict.locality → IsCount report.verdict.entries
+        → IfSome report.prefix IsCountedWhole → AreCounted report.verdict.strays → IsOneLine (attest_json report) }
     ensures positions { (required : Option (List BankRange)) (located : List Located)
         → AllByRecursion (λ row. IsCount row.expected.register × IsCountedPosition row.position) located
         → IsOneLine (positions_json required located) }
@@ -69,6 +74,7 @@ pub fn only_faults_have_a_fault()
         → get (codes "fault") (prefix_report_json required prefix entries unconfirmed) ≡ None }
     ensures list_report { (required : Option (List BankRange)) (verdict : ListVerdict)
         → get (codes "fault") (list_report_json required verdict) ≡ None }
+    ensures attestation { (report : AttestVerdict) → get (codes "fault") (attest_json report) ≡ None }
     ensures positions { (required : Option (List BankRange)) (located : List Located)
         → get (codes "fault") (positions_json required located) ≡ None }
 {}

@@ -1,10 +1,11 @@
-//! What this project tells, as lines of JSON (RFC 8259): reports, positions, registers, a log's events, a list's entries, and faults.
+//! What this project tells, as lines of JSON (RFC 8259): reports, also by a quote, positions, registers, a log's events, a list's entries, and faults.
 //!
 //! Each value is an object on one line, in UTF-8. Its members have a fixed order. Numbers are JSON numbers; digests and data are strings
 //! of lower case hexadecimal digits. A line is appended to a vector of the caller's; [`send_entries`] sends the lines of a list to a sink,
 //! and [`send_events`] those of a log, while it is read.
 #![tactic(auto)]
 
+mod attestation;
 mod entries;
 mod entry_lines;
 mod event_lines;
@@ -18,6 +19,7 @@ mod registers;
 mod reports;
 mod rows;
 
+pub use attestation::append_attestation;
 pub use entries::append_entry;
 pub use entry_lines::{EntriesFault, send_entries};
 pub use event_lines::{EventsFault, send_events};

@@ -7,7 +7,7 @@ ghost use Rattle.boot_verdict.specs.ListVerdicts.{list_verdict_of};
 ghost use Rattle.boot_verdict.specs.Verdicts.{verdict_of};
 ghost use Rattle.json_texts.specs.declared.faults.FaultPlace.TheVariants.{Entry};
 ghost use Rattle.json_texts.specs.JsonValues.{AppendsLine};
-ghost use Rattle.json_texts.specs.ReportJson.{count_members, prefix_report_json, list_meets, list_report_json, meets, outcome_members, report_json, state_members, stray_entry_values, stray_event_values, stray_json, stray_members, unconfirmed_members, verdict_word};
+ghost use Rattle.json_texts.specs.ReportJson.{count_members, extends_members, prefix_count_members, prefix_report_json, list_meets, list_report_json, meets, outcome_members, report_json, state_members, stray_entry_values, stray_event_values, stray_json, stray_members, unconfirmed_members, verdict_word};
 ghost use Rattle.json_texts.specs.parts.WrittenParts.{WritesItems, WritesMembers, WritesValue};
 
 use crate::faults::{FaultPlace, FaultText, write_fault_member};
@@ -103,8 +103,13 @@ fn write_report(
     Ok(())
 }
 
-// Writes the members of events, locality and entries.
-fn write_counts(events: usize, locality: u8, entries: usize, writer: &mut Writer) -> Written
+/// Writes the members of events, locality and entries.
+pub(crate) fn write_counts(
+    events: usize,
+    locality: u8,
+    entries: usize,
+    writer: &mut Writer,
+) -> Written
     ensures { WritesMembers result writer.old writer.new (count_members events locality entries) }
 {
     write_number("events", events as u64, writer)?;
@@ -135,9 +140,16 @@ fn write_outcome(
 fn write_strays(strays: Strays, requirement: Option<&Requirement>, writer: &mut Writer) -> Written
     ensures { WritesMembers result writer.old writer.new (stray_members (option_copied requirement.entry) strays) }
 {
-    let Some(_) = requirement else {
-        return Ok(());
-    };
+    match requirement {
+        None => Ok(()),
+        Some(_) => write_extends(strays, writer),
+    }
+}
+
+/// Writes the member of what extends a register that is not its own, if anything does.
+pub(crate) fn write_extends(strays: Strays, writer: &mut Writer) -> Written
+    ensures { WritesMembers result writer.old writer.new (extends_members strays) }
+{
     if strays.are_none() {
         return Ok(());
     }
@@ -217,11 +229,25 @@ fn write_prefix_report(
     let report = &prefix.report;
     let is_met = meets(report, requirement);
     writer.begin_object()?;
-    write_counts(report.events, report.locality, prefix.entries, writer)?;
-    write_number("confirmed", report.entries as u64, writer)?;
-    write_unconfirmed(alloc, prefix.unconfirmed, writer)?;
+    write_prefix_counts(alloc, report, prefix.entries, prefix.unconfirmed, writer)?;
     write_outcome(alloc, report, requirement, is_met, writer)?;
     writer.end_object()?;
+    Ok(())
+}
+
+/// Writes the counts of the whole list, how many of its entries the prefix has on which the report is, and what is wrong after it.
+pub(crate) fn write_prefix_counts(
+    alloc: Global,
+    report: &Report,
+    entries: usize,
+    unconfirmed: Option<Unconfirmed>,
+    writer: &mut Writer,
+) -> Written
+    ensures { WritesMembers result writer.old writer.new (prefix_count_members (verdict_of report.now) entries unconfirmed) }
+{
+    write_counts(report.events, report.locality, entries, writer)?;
+    write_number("confirmed", report.entries as u64, writer)?;
+    write_unconfirmed(alloc, unconfirmed, writer)?;
     Ok(())
 }
 
@@ -260,7 +286,7 @@ pub fn list_meets(report: &ListReport, requirement: Option<&Requirement>) -> boo
     }
 }
 
-fn verdict_word(is_match: bool) -> &'static str
+pub(crate) fn verdict_word(is_match: bool) -> &'static str
     ensures { result.now ≡ verdict_word is_match }
 {
     if is_match { "match" } else { "differ" }

@@ -25,7 +25,6 @@ use Rattle.boot_verdict.specs.declared.prefix_report.Unconfirmed.TheVariants as 
 use Rattle.growing_lists.specs.declared.session.Session.{Session}
 use Rattle.growing_lists.specs.CheckpointData.{IsPossible}
 use Rattle.growing_lists.specs.declared.confirmation.Confirmed.{Confirmed}
-use Rattle.growing_lists.specs.Goals.{OfExpected}
 use Rattle.growing_lists.specs.Prefixes.{IsPrefixTaken, IsUnconfirmedFault, IsWrongWith, TakesUnconfirmed}
 use Rattle.growing_lists.specs.Sessions.{HasTaken, TakesMore}
 use Rattle.agent_plans.specs.declared.plan.Scope.{Scope}
@@ -34,7 +33,7 @@ use Rattle.agent_inputs.specs.declared.fault.RunFault.TheVariants as runs
 use Rattle.agent_inputs.specs.Faults.{HasLogFault}
 use Rattle.agent_inputs.specs.Loading.{HasFailed, Inputs}
 use Rattle.judging.specs.declared.request.Answer.TheVariants as answers
-use Rattle.judging.specs.Answering.{CanBeReadBack, Evidence, GivesInput, IsJudged, IsNext, IsNotFound, IsRefusedAfter, IsRefusedList, IsStarted, IsUnconfirmedIn, IsWrongIn, seeks_prefix}
+use Rattle.judging.specs.Answering.{CanBeReadBack, Evidence, GivesInput, IsJudged, IsNext, IsNotFound, IsRefusedAfter, IsRefusedList, IsStarted, IsUnconfirmedIn, IsWrongIn, aim_in, seeks_prefix}
 use Rattle.judging.specs.Requests.{VerdictOf}
 use Rattle.judging.specs.Inputs.{Holds, IsFaultAt, OfInput, Where, held_in, limit_of}
 
@@ -164,8 +163,8 @@ module _ {inputs : Inputs} {list : Where} {old new : SourceState} (gives : Gives
     pub whole_found : (after : Session) (report : Report) → CanBeReadBack after.known
         → ((log taken : List ℕ) → HasTaken log taken before
         → TakesMore log taken old.remaining new.remaining (most_after before.known (limit_of list)) after)
-        → (seeks_prefix scope evidence.required evidence.expected ≡ true → (log taken : List ℕ) → HasTaken log taken before
-        → TakesUnconfirmed log taken old.remaining new.remaining (most_after before.known (limit_of list)) (OfExpected evidence.expected)
+        → (seeks_prefix scope evidence ≡ true → (log taken : List ℕ) → HasTaken log taken before
+        → TakesUnconfirmed log taken old.remaining new.remaining (most_after before.known (limit_of list)) (aim_in evidence)
         before.known.entries after)
         → ((log all : List ℕ) → HasTaken log all after → IsVerdict log all evidence.expected (verdict_of report))
         → IsJudged inputs (VerdictOf place scope resume) list evidence (answers.Report report) (Some after.known)
@@ -187,9 +186,9 @@ module _ {inputs : Inputs} {list : Where} {old new : SourceState} (gives : Gives
     )
 
     pub prefix_found : (after : Session) (report : Report) (confirmed : Confirmed) → CanBeReadBack after.known
-        → seeks_prefix scope evidence.required evidence.expected ≡ true
+        → seeks_prefix scope evidence ≡ true
         → ((log taken : List ℕ) → HasTaken log taken before → IsPrefixTaken log taken old.remaining new.remaining
-        (most_after before.known (limit_of list)) (OfExpected evidence.expected) before.known.entries after confirmed)
+        (most_after before.known (limit_of list)) (aim_in evidence) before.known.entries after confirmed)
         → ((log all : List ℕ) → HasTaken log all after → IsVerdict log all evidence.expected (verdict_of report))
         → IsJudged inputs (VerdictOf place scope resume) list evidence
         (answers.Prefix (record { report = report; entries = confirmed.entries; unconfirmed = confirmed.unconfirmed })) (Some after.known)
@@ -220,7 +219,7 @@ module _ {inputs : Inputs} {list : Where} {old new : SourceState} (gives : Gives
     )
 
     unconfirmed_in : (first : VerifyFault) → ((log taken : List ℕ) → HasTaken log taken before → IsUnconfirmedFault log taken old.remaining
-        new.remaining (most_after before.known (limit_of list)) (OfExpected evidence.expected) before.known.entries first)
+        new.remaining (most_after before.known (limit_of list)) (aim_in evidence) before.known.entries first)
         → IsUnconfirmedIn inputs list evidence first
     unconfirmed_in (verdicts.Log first) is = tt
     unconfirmed_in (verdicts.List first) is =
@@ -248,8 +247,8 @@ module _ {inputs : Inputs} {list : Where} {old new : SourceState} (gives : Gives
     pub not_found : (first : VerifyFault) (fault : RunFault) → (first ≡ verdicts.Source → HasFailed old new)
         → ((log taken : List ℕ) → HasTaken log taken before
         → IsMoreFault taken old.remaining new.remaining (most_after before.known (limit_of list)) first)
-        → (seeks_prefix scope evidence.required evidence.expected ≡ true → (log taken : List ℕ) → HasTaken log taken before
-        → IsUnconfirmedFault log taken old.remaining new.remaining (most_after before.known (limit_of list)) (OfExpected evidence.expected)
+        → (seeks_prefix scope evidence ≡ true → (log taken : List ℕ) → HasTaken log taken before
+        → IsUnconfirmedFault log taken old.remaining new.remaining (most_after before.known (limit_of list)) (aim_in evidence)
         before.known.entries first) → IsFaultAt list first fault → IsNotFound inputs (VerdictOf place scope resume) list evidence fault
     not_found first fault failed is unconfirmed says =
         inr (inl (inr (record {

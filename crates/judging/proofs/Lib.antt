@@ -1,3 +1,4 @@
+pub mod AttestLaws
 pub mod InputLaws
 pub mod SessionLaws
 pub mod RegisterLaws

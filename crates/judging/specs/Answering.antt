@@ -1,5 +1,5 @@
 -- The answer to a request, and why there is none.
-use Rattle.std.specs.Prelude.{◌≡◌, ℕ, ◌<◌, ◌≤◌, ◌⊎◌, ◌==◌, not, Bool, true, false, List, [], ◌++◌, length, Option, Some, None, Result, Ok, Err, IfSome, IsSomeAnd, MatchResult, ◌&&◌, nat_lt, if◌then◌else◌, MatchOption}
+use Rattle.std.specs.Prelude.{◌≡◌, ℕ, ◌<◌, ◌≤◌, ◌⊎◌, ◌==◌, not, Bool, true, false, List, [], ◌++◌, length, Option, Some, None, Result, Ok, Err, IfSome, IsSomeAnd, MatchResult, ◌&&◌, nat_lt, if◌then◌else◌, MatchOption, option_map}
 use Rattle.std.specs.Option.{option_map_or}
 use Rattle.byte_streams.specs.Streams.{SourceState}
 use Rattle.boot_log.specs.declared.header.Row.{Row as TableRow, Row}
@@ -22,9 +22,18 @@ use Rattle.boot_verdict.specs.Verdicts.{IsForged, IsSomeLog, IsVerdict, verdict_
 use Rattle.boot_verdict.specs.declared.prefix_report.PrefixReport.{PrefixReport}
 use Rattle.boot_verdict.specs.declared.prefix_report.Unconfirmed.{Unconfirmed}
 use Rattle.boot_verdict.specs.declared.prefix_report.Unconfirmed.TheVariants as unconfirmed
+use Rattle.tpm_quotes.specs.Quoting.{confirms}
+use Rattle.tpm_quotes.specs.Spelling.{IsQuote, TpmQuote, quote_of}
+use Rattle.attestations.specs.declared.report.AttestReport.{AttestReport}
+use Rattle.attestations.specs.declared.refusal.QuoteRefusal.{QuoteRefusal}
+use Rattle.attestations.specs.Attesting.{IsQuoteRefusal}
+use Rattle.attestations.specs.Judging.{quote_refusal}
+use Rattle.attestations.specs.Policies.{Terms, policy_fault}
+use Rattle.attestations.specs.Quoted.{stated_by}
+use Rattle.attestations.specs.Reports.{AttestVerdict, attest_verdict_of, is_attested}
 use Rattle.growing_lists.specs.declared.session.Session.{Session}
 use Rattle.growing_lists.specs.CheckpointData.{IsPossible}
-use Rattle.growing_lists.specs.Goals.{OfExpected}
+use Rattle.growing_lists.specs.Goals.{Aim, OfExpected, OfQuote}
 use Rattle.growing_lists.specs.Prefixes.{AreUnconfirmed, IsConfirmed}
 use Rattle.growing_lists.specs.Sessions.{HasTaken, IsOfBoot}
 use Rattle.agent_plans.specs.declared.plan.Scope.{Scope}
@@ -36,10 +45,10 @@ use Rattle.agent_inputs.specs.Faults.{HasLogFault, fault_of_expected}
 use Rattle.agent_inputs.specs.Loading.{GivesAll, HasFailed, Inputs}
 use Rattle.judging.specs.declared.request.Answer.{Answer}
 use Rattle.judging.specs.declared.request.Answer.TheVariants as answers
-use Rattle.judging.specs.Requests.{Judgement, ListVerdictOf, PositionsOf, VerdictOf, Requested, Compared, Compares, ExpectedOf, ListRegistersOf, LogRegistersOf, Nothing, Requires, These, held_bytes, log_of, resume_of}
+use Rattle.judging.specs.Requests.{Attested, Attests, Judgement, ListVerdictOf, PositionsOf, VerdictOf, Requested, Compared, Compares, ExpectedOf, ListRegistersOf, LogRegistersOf, Nothing, Requires, These, held_bytes, log_of, resume_of}
 use Rattle.judging.specs.Inputs.{IsFaultAt, IsReadFailure, MayFail, OfInput, Where, held_in, limit_of, Holds, IsInputFault}
 use Rattle.pcr_banks.specs.declared.banks.Banks.{Banks}
-use Rattle.pcr_banks.specs.Registers.{IsReset, register_count}
+use Rattle.pcr_banks.specs.Registers.{IsReset, register_count, value_at}
 use Rattle.boot_log.specs.Replaying.{IsFirmware, startup_locality}
 use Rattle.boot_verdict.specs.declared.expected.ExpectFault.{ExpectFault}
 use Rattle.boot_verdict.specs.declared.expected.ExpectFault.TheVariants.{NoRegister}
@@ -54,18 +63,32 @@ use Rattle.judging.specs.declared.request.Answered.{Answered}
 use Rattle.judging.specs.declared.answers.Evidence.{Evidence as HeldEvidence}
 
 -- What a list is judged with: the registers that are required, if a text spells some; the log, no bytes without one; the expected
--- registers; and the checkpoint that is gone on from, if there is one.
+-- registers; the quote, if there is one; and the checkpoint that is gone on from, if there is one.
 pub record Evidence : Type 0 where
   pub required : Option (List BankRange)
   pub log : List ℕ
   pub expected : List Expected
+  pub quote : Option TpmQuote
   pub known : Option Checkpoint
 
--- A prefix is asked for, and one can be confirmed: some register is expected, and all that is required.
-abbrev pub seeks_prefix : Scope → Option (List BankRange) → List Expected → Bool
-seeks_prefix Whole required expected = false
-seeks_prefix Prefix None expected = not (length expected == 0)
-seeks_prefix Prefix (Some ranges) expected = is_complete ranges expected
+-- What a prefix is confirmed by: the quote, if there is one; else the expected registers.
+abbrev pub aim_by : Option TpmQuote → List Expected → Aim
+aim_by (Some quote) expected = OfQuote quote
+aim_by None expected = OfExpected expected
+
+abbrev pub aim_in : Evidence → Aim
+aim_in evidence = aim_by evidence.quote evidence.expected
+
+-- Whether one can be confirmed: there is a quote; or some register is expected, and all that is required.
+abbrev pub can_confirm : Option TpmQuote → Option (List BankRange) → List Expected → Bool
+can_confirm (Some quote) required expected = true
+can_confirm None None expected = not (length expected == 0)
+can_confirm None (Some ranges) expected = is_complete ranges expected
+
+-- A prefix is asked for, and one can be confirmed.
+abbrev pub seeks_prefix : Scope → Evidence → Bool
+seeks_prefix Whole evidence = false
+seeks_prefix Prefix evidence = can_confirm evidence.quote evidence.required evidence.expected
 
 -- ---- what is gone on from
 
@@ -102,7 +125,7 @@ pub record IsNext (log list : List ℕ) (next : Checkpoint) : Type 0 where
 abbrev pub AreUnconfirmedAfter : Evidence → List ListEntry → Type 0
 AreUnconfirmedAfter evidence entries =
     (table : List TableRow) (events : List LogEvent) → IsLog evidence.log table events
-    → AreUnconfirmed (algs_in table) events (OfExpected evidence.expected) (entries_taken evidence.known) entries
+    → AreUnconfirmed (algs_in table) events (aim_in evidence) (entries_taken evidence.known) entries
 
 -- No prefix of the list is confirmed.
 abbrev pub HasNoPrefix : Evidence → List ℕ → Type 0
@@ -124,7 +147,7 @@ pub record IsPrefixOf (evidence : Evidence) (list : List ℕ) (report : PrefixRe
   pub rest : List ℕ
   pub log_is : IsLog evidence.log table events
   pub begins : BeginsWith list prefix rest
-  pub confirmed : IsConfirmed (algs_in table) events (OfExpected evidence.expected) (entries_taken evidence.known) prefix
+  pub confirmed : IsConfirmed (algs_in table) events (aim_in evidence) (entries_taken evidence.known) prefix
   pub verdict_is : verdict_of report.report ≡ verdict_on (algs_in table) events prefix evidence.expected
   pub next_is : IsNext evidence.log (list_spelling prefix) next
 
@@ -143,10 +166,10 @@ IsJudged inputs (VerdictOf place scope resume) list evidence (answers.Report rep
     IfSome evidence.known (IsOfBoot evidence.log)
     × OfMore inputs list evidence.known (λ taken more. (length more ≤ most_more evidence.known list)
     × IsVerdict evidence.log (taken ++ more) evidence.expected (verdict_of report) × IsNext evidence.log (taken ++ more) next)
-    × (seeks_prefix scope evidence.required evidence.expected ≡ true → OfList inputs list evidence.known (HasNoPrefix evidence))
+    × (seeks_prefix scope evidence ≡ true → OfList inputs list evidence.known (HasNoPrefix evidence))
 IsJudged inputs (VerdictOf place scope resume) list evidence (answers.Prefix report) (Some next) =
     IfSome evidence.known (IsOfBoot evidence.log)
-    × (seeks_prefix scope evidence.required evidence.expected ≡ true)
+    × (seeks_prefix scope evidence ≡ true)
     × OfList inputs list evidence.known (λ all. IsPrefixOf evidence all report next)
     × OfList inputs list evidence.known (λ all. IsWrongIn all report.entries report.unconfirmed)
 IsJudged inputs (PositionsOf place) list evidence (answers.Positions located) None =
@@ -184,7 +207,7 @@ pub record IsNotTaken (inputs : Inputs) (scope : Scope) (list : Where) (evidence
   pub log_is : IsSomeLog evidence.log
   pub boot : IfSome evidence.known (IsOfBoot evidence.log)
   pub first_is : (taken : List ℕ) → IsTaken evidence.known taken → IsRefusedAfter inputs list (most_more evidence.known list) taken first
-  pub unconfirmed : seeks_prefix scope evidence.required evidence.expected ≡ true → IsUnconfirmedIn inputs list evidence first
+  pub unconfirmed : seeks_prefix scope evidence ≡ true → IsUnconfirmedIn inputs list evidence first
   pub says : IsFaultAt list first fault
 
 -- Why there is no answer on this evidence and what the list has: the log is refused, or of another boot than the checkpoint; or the list
@@ -267,7 +290,13 @@ pub record IsEvidence (inputs : Inputs) (request : Compared) (evidence : Evidenc
   pub known_is : IsKnown inputs (resume_of request.judgement) evidence.known
 
 abbrev pub evidence_of : HeldEvidence → Evidence
-evidence_of held = record { required = held.requirement; log = held_bytes held.log; expected = held.expected.items; known = held.known }
+evidence_of held = record {
+  required = held.requirement;
+  log = held_bytes held.log;
+  expected = held.expected.items;
+  quote = option_map (λ quote. quote_of quote.now) held.quote;
+  known = held.known;
+}
 
 -- Why a text is not read as a checkpoint: it is of another version; or it is not, and no possible checkpoint's text; or memory ran out.
 abbrev pub IsNoCheckpoint : List ℕ → RunFault → Type 0
@@ -307,6 +336,7 @@ is_well requires None (answers.Positions positions) = all_found positions.items
 is_well requires (Some ranges) (answers.Positions positions) = required_found ranges positions.items
 is_well requires None (answers.ListReport report) = list_matches (list_verdict_of report)
 is_well requires (Some ranges) (answers.ListReport report) = required_list_matches ranges (list_verdict_of report)
+is_well requires ranges (answers.Attestation report) = report.is_signed && is_attested (attest_verdict_of report)
 is_well requires ranges answer = true
 
 -- This is what comes of what is compared, and what it is worth. Nobody goes on from it, unless all is well.
@@ -326,6 +356,82 @@ IsNoComparison inputs request fault =
     IsNotRequired request.required fault
     ⊎ (((required : Option (List BankRange)) × IsRequired request.required required) × HasNoEvidence inputs request fault)
     ⊎ ((evidence : Evidence) × IsEvidence inputs request evidence × IsNotFound inputs request.judgement request.list evidence fault)
+
+-- ---- what is judged by a quote
+
+-- The terms of what is asked, where its text spells these ranges.
+abbrev pub terms_with : Attested → List BankRange → Terms
+terms_with asked ranges = record { nonce = asked.nonce; required = ranges; takes_sha1 = asked.takes_sha1 }
+
+-- The text spells these ranges, and with them the terms are sound.
+abbrev pub AreTaken : Attested → List BankRange → Type 0
+AreTaken asked ranges = IsRequirementText asked.required ranges × (policy_fault (terms_with asked ranges) ≡ None)
+
+-- The message of the input is this quote, and it is the one that is asked for.
+abbrev pub IsAskedFor : Inputs → Attested → List BankRange → TpmQuote → Type 0
+IsAskedFor inputs asked ranges quote =
+    OfInput inputs asked.message (λ message. IsQuote message quote) × (quote_refusal quote (terms_with asked ranges) ≡ None)
+
+-- What a list is judged with where a quote stands in the place of expected registers.
+abbrev pub quoted_evidence : List ℕ → TpmQuote → Option Checkpoint → Evidence
+quoted_evidence log quote known = record { required = None; log = log; expected = []; quote = Some quote; known = known }
+
+-- The report is on what was judged, a whole list or its confirmed prefix, after which this is known: by the registers after it.
+abbrev pub IsReportOn : Answer → Checkpoint → TpmQuote → Bool → AttestVerdict → Type 0
+IsReportOn (answers.Report report) next quote is_signed told = told ≡ record {
+  quoted = stated_by quote;
+  verdict = verdict_of report;
+  prefix = None;
+  is_quoted = confirms quote (value_at next.after);
+  is_signed = is_signed;
+}
+IsReportOn (answers.Prefix prefix) next quote is_signed told = told ≡ record {
+  quoted = stated_by quote;
+  verdict = verdict_of prefix.report;
+  prefix = Some (record { entries = prefix.entries; unconfirmed = prefix.unconfirmed });
+  is_quoted = confirms quote (value_at next.after);
+  is_signed = is_signed;
+}
+IsReportOn answer next quote is_signed told = ⊥
+
+-- This is what comes of a log, a list and a quote, and what it is worth: nobody goes on from it, unless all is well.
+pub record IsAttestation (inputs : Inputs) (asked : Attested) (given : Answered) : Type 0 where
+  pub ranges : List BankRange
+  pub quote : TpmQuote
+  pub log : List ℕ
+  pub known : Option Checkpoint
+  pub judged : Answer
+  pub next : Checkpoint
+  pub report : AttestReport
+  pub taken : AreTaken asked ranges
+  pub asked_for : IsAskedFor inputs asked ranges quote
+  pub log_is : Holds inputs asked.log log
+  pub known_is : IsKnown inputs asked.resume known
+  pub judged_is : IsJudged inputs (VerdictOf asked.log asked.scope asked.resume) asked.list (quoted_evidence log quote known) judged (Some next)
+  pub report_is : IsReportOn judged next quote asked.is_signed (attest_verdict_of report)
+  pub answer_is : given.answer ≡ answers.Attestation report
+  pub none_required : given.requirement ≡ None
+  pub well_is : given.is_well ≡ is_well Nothing None given.answer
+  pub next_is : given.next ≡ (if given.is_well then Some next else None)
+
+-- Why there is no judgement by this quote: the log or the checkpoint is not read; or both are, and nothing is found in the list.
+abbrev pub IsNotJudgedBy : Inputs → Attested → TpmQuote → RunFault → Type 0
+IsNotJudgedBy inputs asked quote fault =
+    IsInputFault inputs asked.log fault
+    ⊎ IsSomeAnd asked.resume (λ place. IsInputFault inputs place fault ⊎ OfInput inputs place (λ text. IsNoCheckpoint text fault))
+    ⊎ ((log : List ℕ) × (known : Option Checkpoint) × Holds inputs asked.log log × IsKnown inputs asked.resume known
+    × IsNotFound inputs (VerdictOf asked.log asked.scope asked.resume) asked.list (quoted_evidence log quote known) fault)
+
+-- Why nothing comes of it: the text spells no registers, or with them a match would say too little; or the message is not read, or not the
+-- quote that is asked for; or the log or the checkpoint is not read; or there is no judgement on them and the list; or memory ran out.
+abbrev pub IsNoAttestation : Inputs → Attested → RunFault → Type 0
+IsNoAttestation inputs asked fault =
+    ((fault ≡ runs.Usage) × ((ranges : List BankRange) → AreTaken asked ranges → ⊥))
+    ⊎ (((ranges : List BankRange) × AreTaken asked ranges
+    × (IsInputFault inputs asked.message fault
+    ⊎ OfInput inputs asked.message (λ message. (first : QuoteRefusal) × IsQuoteRefusal message (terms_with asked ranges) first × (fault ≡ runs.Quote first))
+    ⊎ ((quote : TpmQuote) × IsAskedFor inputs asked ranges quote × IsNotJudgedBy inputs asked quote fault)))
+    ⊎ (fault ≡ runs.Memory))
 
 -- ---- registers
 
@@ -379,12 +485,14 @@ IsAlone inputs request answer = ⊥
 
 -- This is the answer to what is asked for. Where nothing is compared, all is well with any.
 abbrev pub IsAnswer : Inputs → Requested → Answered → Type 0
+IsAnswer inputs (Attests asked) given = IsAttestation inputs asked given
 IsAnswer inputs (Compares compare) given = IsComparison inputs compare given
 IsAnswer inputs request given = (answer : Answer) × IsAlone inputs request answer × (given ≡ alone answer)
 
 -- Why there is no answer: an input was not loaded or read; the bytes are no log; the list is refused; the text spells no range, or the
 -- other states no register within it, as tpm2-tools prints them; or memory ran out.
 abbrev pub IsRefusal : Inputs → Requested → RunFault → Type 0
+IsRefusal inputs (Attests asked) fault = IsNoAttestation inputs asked fault
 IsRefusal inputs (Compares compare) fault = IsNoComparison inputs compare fault
 IsRefusal inputs (LogRegistersOf log) fault =
     IsInputFault inputs log fault ⊎ OfInput inputs log (λ content. HasLogFault content fault) ⊎ (fault ≡ runs.Memory)

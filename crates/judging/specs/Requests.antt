@@ -1,11 +1,12 @@
 -- What is asked for: what is judged, and what the answer says of it.
-use Rattle.std.specs.Prelude.{ℕ, List, Option, None, Some, option_map}
+use Rattle.std.specs.Prelude.{ℕ, Bool, List, Option, None, Some, option_map}
 use Rattle.agent_plans.specs.declared.plan.Scope.{Scope}
 use Rattle.judging.specs.Inputs.{Where, FileOf, BytesOf}
 use Rattle.judging.specs.declared.inputs.Input.{Input}
 use Rattle.judging.specs.declared.inputs.Input.TheVariants as inputs
 use Rattle.judging.specs.declared.inputs.Held.{Held}
 use Rattle.judging.specs.declared.inputs.Held.TheVariants as helds
+use Rattle.judging.specs.declared.request.Attesting.{Attesting}
 use Rattle.judging.specs.declared.request.Comparison.{Comparison}
 use Rattle.judging.specs.declared.request.Request.{Request}
 use Rattle.judging.specs.declared.request.Request.TheVariants as requests
@@ -35,9 +36,24 @@ pub record Compared : Type 0 where
   pub expected : Where
   pub required : Requires
 
--- What is asked for: what a list is worth against expected registers; the registers after a log, or after a list alone; or the expected
+-- What is judged by a quote: where the log is, the list, or what follows the checkpoint, and the quote's message; the nonce, the text of the
+-- registers that must be quoted, and whether one may be in the SHA-1 bank alone; whether the message's signature was verified; which part of
+-- the list; and where the checkpoint is that is gone on from, if there is one.
+pub record Attested : Type 0 where
+  pub log : Where
+  pub list : Where
+  pub message : Where
+  pub nonce : List ℕ
+  pub required : List ℕ
+  pub takes_sha1 : Bool
+  pub is_signed : Bool
+  pub scope : Scope
+  pub resume : Option Where
+
+-- What is asked for: whether a quote is of a log and a list; what a list is worth against expected registers; the registers after a log, or after a list alone; or the expected
 -- registers that a text has, as tpm2-tools printed it, of those within the range that another text spells, if there is one.
 pub data Requested : Type 0 where
+  Attests : Attested → Requested
   Compares : Compared → Requested
   LogRegistersOf : Where → Requested
   ListRegistersOf : Where → Requested
@@ -83,7 +99,21 @@ compared_of comparison = record {
   required = requires_of comparison.required;
 }
 
+abbrev pub attested_of : Attesting → Attested
+attested_of asked = record {
+  log = place_of asked.log;
+  list = place_of asked.list;
+  message = place_of asked.message;
+  nonce = asked.nonce.now;
+  required = asked.required.now;
+  takes_sha1 = asked.takes_sha1;
+  is_signed = asked.is_signed;
+  scope = asked.scope;
+  resume = option_map place_of asked.resume;
+}
+
 abbrev pub requested_of : Request → Requested
+requested_of (requests.Attestation asked) = Attests (attested_of asked)
 requested_of (requests.Comparison comparison) = Compares (compared_of comparison)
 requested_of (requests.LogRegisters log) = LogRegistersOf (place_of log)
 requested_of (requests.ListRegisters list) = ListRegistersOf (place_of list)

@@ -5,6 +5,7 @@ ghost use Rattle.judging.specs.Answering.{HasNoEvidence, IsAnswer, IsComparison,
 ghost use Rattle.judging.specs.Requests.{requested_of, compared_of, held_bytes, judgement_of, log_of, place_of, requires_of, resume_of};
 ghost use Rattle.judging.specs.Inputs.{Holds, IsInputFault, OfInput};
 
+use crate::attesting::attest;
 use crate::inputs::{Held, Input, limit_of, load_at, refusal};
 use crate::printed_registers::printed_within;
 use crate::registers::{after_list, after_log};
@@ -17,6 +18,7 @@ use boot_verdict::{
 };
 use byte_streams::{Failed, SliceSource, Source};
 use std::alloc::Global;
+use tpm_quotes::Quote;
 
 /// The answer to what is asked for. What is compared is read in this order (only in part by the clauses): what is required; the log, which
 /// is loaded; the expected registers; the checkpoint; and then the list is opened, and replayed as it is read, without loading it.
@@ -31,6 +33,7 @@ pub fn answer_request<F: AgentFiles>(
 {
     match request {
         Request::Comparison(request) => compare(alloc, files, request),
+        Request::Attestation(request) => attest(alloc, files, request),
         Request::LogRegisters { log } => after_log(alloc, files, log),
         Request::ListRegisters { list } => after_list(alloc, files, list),
         Request::Expected { printed, range } => printed_within(alloc, files, printed, range),
@@ -79,6 +82,8 @@ pub(crate) struct Evidence<'a> {
     pub log: Held<'a>,
     /// The expected registers.
     pub expected: Vec<Expected>,
+    /// The quote, if there is one.
+    pub quote: Option<&'a Quote<'a>>,
     /// The checkpoint to go on from, if there is one.
     pub known: Option<Checkpoint>,
 }
@@ -104,6 +109,7 @@ fn evidence_of<'a, F: AgentFiles>(
         requirement,
         log,
         expected,
+        quote: None,
         known,
     })
 }
@@ -127,8 +133,8 @@ fn log_in<'a, F: AgentFiles>(
     }
 }
 
-// The checkpoint to go on from, if there is one.
-fn known_in<F: AgentFiles>(
+/// The checkpoint to go on from, if there is one.
+pub(crate) fn known_in<F: AgentFiles>(
     alloc: Global,
     files: &mut F,
     wanted: Wanted<'_>,
@@ -155,8 +161,13 @@ fn known_in<F: AgentFiles>(
 pub(crate) type Finding = Result<(Answer, Option<Checkpoint>), RunFault>;
 
 impl Evidence<'_> {
-    // Opens the list, and finds what is asked for in it.
-    fn find<F: AgentFiles>(&self, alloc: Global, files: &mut F, request: Comparison<'_>) -> Finding
+    /// Opens the list, and finds what is asked for in it.
+    pub(crate) fn find<F: AgentFiles>(
+        &self,
+        alloc: Global,
+        files: &mut F,
+        request: Comparison<'_>,
+    ) -> Finding
         ensures found { Finds (F.known files.old) (judgement_of request.entry.wanted) (place_of request.entry.list) (evidence_of self.now) result }
         ensures saved { F.saved files.new ≡ F.saved files.old }
     {

@@ -2,6 +2,7 @@
 #![tactic(auto)]
 
 mod answers;
+mod attesting;
 mod inputs;
 mod printed_registers;
 mod registers;
@@ -10,4 +11,4 @@ mod sessions;
 
 pub use answers::answer_request;
 pub use inputs::Input;
-pub use request::{Answer, Answered, Comparison, Registers, Request, Required, Wanted};
+pub use request::{Answer, Answered, Attesting, Comparison, Registers, Request, Required, Wanted};

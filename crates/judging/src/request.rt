@@ -8,6 +8,7 @@ ghost use Rattle.judging.specs.Requests.{requires_of};
 use crate::inputs::Input;
 use agent_inputs::RunFault;
 use agent_plans::Scope;
+use attestations::AttestReport;
 use boot_verdict::{
     Checkpoint, Expected, ListReport, Located, PrefixReport, RegisterRange, Report, Requirement,
     all_found, required_found,
@@ -59,9 +60,34 @@ pub struct Comparison<'a> {
     pub required: Required<'a>,
 }
 
+/// What a log and a list are judged by, where the TPM has quoted registers.
+#[derive(Clone, Copy)]
+pub struct Attesting<'a> {
+    /// The firmware event log.
+    pub log: Input<'a>,
+    /// The measurement list; with a checkpoint, what follows it.
+    pub list: Input<'a>,
+    /// The message that the TPM signed.
+    pub message: Input<'a>,
+    /// The nonce that the verifier gave out for it.
+    pub nonce: &'a [u8],
+    /// The text of the registers that must be quoted, as `sha256:0-10`.
+    pub required: &'a [u8],
+    /// Whether a register may be required in the SHA-1 bank alone.
+    pub takes_sha1: bool,
+    /// Whether the caller has verified the message's signature. Without that nothing is attested.
+    pub is_signed: bool,
+    /// Which part of the list is judged.
+    pub scope: Scope,
+    /// The checkpoint to go on from, if there is one.
+    pub resume: Option<Input<'a>>,
+}
+
 /// What is asked for, and of which inputs.
 #[derive(Clone, Copy)]
 pub enum Request<'a> {
+    /// Whether a quote is of a log and a list.
+    Attestation(Attesting<'a>),
     /// What a list is worth against expected registers, or where they have their values.
     Comparison(Comparison<'a>),
     /// The registers after a firmware event log.
@@ -86,6 +112,8 @@ pub enum Request<'a> {
 /// What is answered.
 #[derive(Drop)]
 pub enum Answer {
+    /// A report on a log and a list by a quote.
+    Attestation(AttestReport),
     /// A report on all of a list.
     Report(Report),
     /// A report on its confirmed prefix.
@@ -158,6 +186,7 @@ pub(crate) fn is_well(required: Required<'_>, ranges: Option<&Requirement>, answ
         (Answer::Positions(positions), Some(requirement)) => required_found(positions, requirement),
         (Answer::ListReport(report), None) => report.matches(),
         (Answer::ListReport(report), Some(requirement)) => report.meets(requirement),
+        (Answer::Attestation(report), _) => report.is_signed && report.is_attested(),
         (Answer::Registers(_) | Answer::Expected { .. }, _) => true,
     }
 }

@@ -2,9 +2,10 @@
 
 ghost use Rattle.std.specs.Prelude.{◌≡◌, ℕ, List, Option, option_map, IfOk, IfErr};
 ghost use Rattle.boot_verdict.specs.Verdicts.{IsVerdict, verdict_of};
+ghost use Rattle.growing_lists.specs.Goals.{aim_of};
 ghost use Rattle.growing_lists.specs.Sessions.{HasTaken};
 ghost use Rattle.agent_inputs.specs.declared.fault.RunFault.TheVariants as runs;
-ghost use Rattle.judging.specs.Answering.{IsCheckpointText, IsNoCheckpoint, evidence_of, CanBeReadBack, FindsFrom, IsLogRefused, IsStarted, JudgesFrom, seeks_prefix};
+ghost use Rattle.judging.specs.Answering.{IsCheckpointText, IsNoCheckpoint, aim_in, evidence_of, CanBeReadBack, FindsFrom, IsLogRefused, IsStarted, JudgesFrom, seeks_prefix};
 ghost use Rattle.judging.specs.Requests.{VerdictOf, place_of};
 ghost use Rattle.judging.specs.Inputs.{Where};
 
@@ -13,9 +14,7 @@ use crate::inputs::{Input, limit_of, refusal};
 use crate::request::Answer;
 use agent_inputs::{NotResumed, RunFault};
 use agent_plans::Scope;
-use boot_verdict::{
-    Checkpoint, CheckpointFault, Expected, PrefixReport, Report, Requirement, ResumeFault,
-};
+use boot_verdict::{Checkpoint, CheckpointFault, Expected, PrefixReport, Report, ResumeFault};
 use byte_streams::Source;
 use growing_lists::laws::counted_checkpoint_is_possible;
 use growing_lists::{Goal, Session, leaves_room, read_checkpoint};
@@ -64,13 +63,8 @@ impl Evidence<'_> {
         ensures { JudgesFrom scope (place_of list.entry) (evidence_of self.now) (R.state source.old) (R.state source.new)
             session.old session.new result }
     {
-        if seeks_prefix(scope, self.requirement.as_ref(), &self.expected) {
-            match session.confirm(
-                alloc,
-                source,
-                limit_of(list),
-                Goal::Expected(&self.expected),
-            ) {
+        if self.seeks_prefix(scope) {
+            match session.confirm(alloc, source, limit_of(list), self.goal()) {
                 Ok(Some(confirmed)) => Ok(Answer::Prefix(PrefixReport {
                     report: report(alloc, session, &self.expected)?,
                     entries: confirmed.entries,
@@ -84,6 +78,30 @@ impl Evidence<'_> {
                 Ok(()) => Ok(Answer::Report(report(alloc, session, &self.expected)?)),
                 Err(fault) => Err(refusal(alloc, list, fault)),
             }
+        }
+    }
+}
+
+impl Evidence<'_> {
+    // Whether a prefix is asked for that can be confirmed.
+    fn seeks_prefix(&self, scope: Scope) -> bool
+        ensures { result ≡ seeks_prefix scope (evidence_of self.now) }
+    {
+        match (scope, &self.quote, &self.requirement) {
+            (Scope::Whole, _, _) => false,
+            (Scope::Prefix, Some(_), _) => true,
+            (Scope::Prefix, None, None) => !self.expected.is_empty(),
+            (Scope::Prefix, None, Some(requirement)) => requirement.is_met(&self.expected),
+        }
+    }
+
+    // What a prefix is confirmed by.
+    fn goal(&self) -> Goal<'_>
+        ensures { aim_of result ≡ aim_in (evidence_of self.now) }
+    {
+        match self.quote {
+            Some(quote) => Goal::Quote(quote),
+            None => Goal::Expected(&self.expected),
         }
     }
 }
@@ -105,17 +123,6 @@ fn session_of(log: &[u8], known: Option<Checkpoint>) -> Result<Session<'_>, RunF
             Err(ResumeFault::Log(fault)) => Err(fault.into()),
             Err(ResumeFault::OtherBoot) => Err(RunFault::Checkpoint(NotResumed::OtherBoot)),
         },
-    }
-}
-
-// Whether a prefix is asked for that can be confirmed: some register is expected, and all that is required.
-fn seeks_prefix(scope: Scope, ranges: Option<&Requirement>, expected: &[Expected]) -> bool
-    ensures { result ≡ seeks_prefix scope (option_map (λ ranges. ranges.now) ranges.entry) expected.now }
-{
-    match (scope, ranges) {
-        (Scope::Whole, _) => false,
-        (Scope::Prefix, None) => !expected.is_empty(),
-        (Scope::Prefix, Some(requirement)) => requirement.is_met(expected),
     }
 }
 

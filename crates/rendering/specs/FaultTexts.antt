@@ -13,7 +13,7 @@ use Rattle.agent_plans.specs.declared.plan.Form.{Form}
 use Rattle.agent_plans.specs.declared.plan.Form.TheVariants as forms
 
 -- How a fault of each kind is said: the words that begin its line, its kind in JSON, and the exit status after it: 2 for refused input, 3 if
--- memory ran out, outcomes do not account for the book, or a device failed.
+-- memory ran out, outcomes do not account for the book, or a device failed, and 4 for a refused quote.
 abbrev pub said_of : FaultKind → List ℕ × List ℕ × ℕ
 said_of kinds.Usage = (codes "refused: command line", codes "command_line", 2)
 said_of kinds.NotHex = (codes "refused: not hexadecimal", codes "not_hexadecimal", 2)
@@ -21,6 +21,7 @@ said_of kinds.Log = (codes "refused: log fault ", codes "log", 2)
 said_of kinds.List = (codes "refused: list fault ", codes "list", 2)
 said_of kinds.Replay = (codes "refused: replay fault ", codes "replay", 2)
 said_of kinds.Expect = (codes "refused: expected fault ", codes "expected", 2)
+said_of kinds.Quote = (codes "refused: quote fault ", codes "quote", 4)
 said_of kinds.Checkpoint = (codes "refused: checkpoint fault ", codes "checkpoint", 2)
 said_of kinds.Book = (codes "refused: book fault ", codes "book", 2)
 said_of kinds.Outcome = (codes "refused: job ", codes "job", 2)

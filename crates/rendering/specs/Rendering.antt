@@ -2,6 +2,8 @@
 use Rattle.std.specs.Prelude.{ℕ, Bool, List, ◌++◌, Option, Some, None, flat_map, ◌≡◌, ◌⊎◌, if◌then◌else◌, []}
 use Rattle.boot_verdict.specs.declared.requirement.BankRange.{BankRange}
 use Rattle.boot_verdict.specs.ListVerdicts.{list_verdict_of}
+use Rattle.attestations.specs.Reports.{attest_verdict_of}
+use Rattle.verdict_texts.specs.AttestTexts.{attest_text}
 use Rattle.verdict_texts.specs.ListReportTexts.{list_report_text, required_list_report_text}
 use Rattle.verdict_texts.specs.PositionTexts.{positions_text}
 use Rattle.boot_verdict.specs.RegisterTexts.{registers_text}
@@ -11,10 +13,11 @@ use Rattle.boot_verdict.specs.Verdicts.{verdict_of}
 use Rattle.boot_verdict.specs.WrittenTexts.{expected_text}
 use Rattle.verdict_texts.specs.PrefixTexts.{prefix_report_text, required_prefix_report_text}
 use Rattle.json.specs.Json.{Json}
+use Rattle.json_texts.specs.AttestJson.{attest_json}
 use Rattle.json_texts.specs.JsonValues.{line_of}
 use Rattle.json_texts.specs.ReportJson.{positions_json, expected_json, registers_json, prefix_report_json, list_report_json, report_json}
 use Rattle.judging.specs.declared.request.Answer.{Answer}
-use Rattle.judging.specs.declared.request.Answer.TheVariants.{Report, Prefix, Positions, ListReport, Registers, Expected}
+use Rattle.judging.specs.declared.request.Answer.TheVariants.{Attestation, Report, Prefix, Positions, ListReport, Registers, Expected}
 use Rattle.judging.specs.declared.request.Answered.{Answered}
 use Rattle.agent_plans.specs.declared.plan.Form.{Form}
 use Rattle.agent_plans.specs.declared.plan.Form.TheVariants as forms
@@ -34,6 +37,7 @@ use Rattle.judging.specs.Requests.{Requested}
 
 -- The lines of an answer, where these registers are required, and whether all is well.
 abbrev pub lines_of : Bool → Option (List BankRange) → Answer → List ℕ
+lines_of well required (Attestation report) = attest_text (attest_verdict_of report)
 lines_of well None (Report report) =
     counts_text (verdict_of report).events (verdict_of report).locality (verdict_of report).entries ++ outcome_text (verdict_of report) well
 lines_of well (Some ranges) (Report report) = required_report_text ranges (verdict_of report)
@@ -48,6 +52,7 @@ lines_of well required (Expected expected range) = expected_text range expected.
 
 -- An answer as JSON.
 abbrev pub json_of : Bool → Option (List BankRange) → Answer → Json
+json_of well required (Attestation report) = attest_json (attest_verdict_of report)
 json_of well required (Report report) = report_json required well (verdict_of report)
 json_of well required (Prefix prefix) = prefix_report_json required (verdict_of prefix.report) prefix.entries prefix.unconfirmed
 json_of well required (Positions positions) = positions_json required positions.items

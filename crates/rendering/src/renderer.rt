@@ -10,15 +10,15 @@ use agent_plans::Form;
 use boot_verdict::{Report, write_expected, write_registers};
 use byte_streams::{Failed, Sink, VecSink};
 use json_texts::{
-    append_expected, append_list_report, append_positions, append_prefix_report, append_registers,
-    append_report,
+    append_attestation, append_expected, append_list_report, append_positions,
+    append_prefix_report, append_registers, append_report,
 };
 use judging::{Answer, Answered};
 use std::alloc::{AllocError, Global};
 use verdict_texts::{
-    write_counts, write_list_report, write_outcome, write_positions, write_prefix_report,
-    write_required_list_report, write_required_positions, write_required_prefix_report,
-    write_required_report,
+    write_attestation, write_counts, write_list_report, write_outcome, write_positions,
+    write_prefix_report, write_required_list_report, write_required_positions,
+    write_required_prefix_report, write_required_report,
 };
 
 /// A whole output, before its first byte is written.
@@ -83,6 +83,7 @@ fn write_lines<S: Sink>(given: &Answered, sink: &mut S) -> Result<(), Failed>
     ensures { Sends (S.state sink.old) (S.state sink.new) result (lines_of given.now.is_well given.now.requirement given.now.answer) }
 {
     match (&given.answer, given.requirement.as_ref()) {
+        (Answer::Attestation(report), _) => write_attestation(report, sink),
         (Answer::Report(report), None) => write_report(report, given.is_well, sink),
         (Answer::Report(report), Some(ranges)) => write_required_report(report, ranges, sink),
         (Answer::Prefix(prefix), None) => write_prefix_report(prefix, sink),
@@ -124,6 +125,7 @@ fn append_line(alloc: Global, given: &Answered, line: &mut Vec<u8>) -> Result<()
 {
     let requirement = given.requirement.as_ref();
     match &given.answer {
+        Answer::Attestation(report) => append_attestation(alloc, report, line),
         Answer::Report(report) => append_report(alloc, report, requirement, given.is_well, line),
         Answer::Prefix(prefix) => append_prefix_report(alloc, prefix, requirement, line),
         Answer::Positions(positions) => append_positions(alloc, positions, requirement, line),

@@ -1,3 +1,4 @@
+pub mod Faults
 pub mod Spelling
 pub mod Reading
 pub mod Quoting

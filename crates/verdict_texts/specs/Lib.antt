@@ -5,3 +5,4 @@ pub mod PositionTexts
 pub mod RequiredTexts
 pub mod PrefixTexts
 pub mod ListReportTexts
+pub mod AttestTexts

@@ -1,6 +1,7 @@
-//! The texts of what `boot_verdict` finds, reports and positions, and of a log's events.
+//! The texts of what `boot_verdict` finds, reports and positions, of a report by a quote, and of a log's events.
 #![tactic(auto)]
 
+mod attestation;
 mod events;
 mod list_report;
 mod positions;
@@ -8,6 +9,7 @@ mod prefix_report;
 mod report;
 mod required;
 
+pub use attestation::write_attestation;
 pub use events::{EventData, write_events};
 pub use list_report::{write_list_report, write_required_list_report};
 pub use positions::write_positions;

@@ -7,7 +7,7 @@ ghost use Rattle.boot_verdict.specs.Verdicts.{verdict_of};
 
 use crate::report::{write_counts, write_outcome};
 use crate::required::write_required_outcome;
-use boot_verdict::{PrefixReport, Requirement, Unconfirmed};
+use boot_verdict::{PrefixReport, Report, Requirement, Unconfirmed};
 use byte_streams::{Failed, Sink, send, send_pieces};
 use itoa::Buffer;
 
@@ -18,7 +18,7 @@ pub fn write_prefix_report<S: Sink>(prefix: &PrefixReport, sink: &mut S) -> Resu
     ensures { Sends (S.state sink.old) (S.state sink.new) result
         (prefix_report_text (verdict_of prefix.now.report) prefix.now.entries prefix.now.unconfirmed) }
 {
-    write_prefix_counts(prefix, sink)?;
+    write_prefix_counts(&prefix.report, prefix.entries, prefix.unconfirmed, sink)?;
     write_outcome(&prefix.report, prefix.report.matches(), sink)
 }
 
@@ -31,18 +31,23 @@ pub fn write_required_prefix_report<S: Sink>(
     ensures { Sends (S.state sink.old) (S.state sink.new) result
         (required_prefix_report_text requirement.now (verdict_of prefix.now.report) prefix.now.entries prefix.now.unconfirmed) }
 {
-    write_prefix_counts(prefix, sink)?;
+    write_prefix_counts(&prefix.report, prefix.entries, prefix.unconfirmed, sink)?;
     write_required_outcome(&prefix.report, requirement, sink)
 }
 
-fn write_prefix_counts<S: Sink>(prefix: &PrefixReport, sink: &mut S) -> Result<(), Failed>
+/// Writes the counts of the whole list, how many of its entries the prefix has on which the report is, and what is wrong after it.
+pub(crate) fn write_prefix_counts<S: Sink>(
+    report: &Report,
+    entries: usize,
+    unconfirmed: Option<Unconfirmed>,
+    sink: &mut S,
+) -> Result<(), Failed>
     ensures { Sends (S.state sink.old) (S.state sink.new) result
-        (prefix_counts_text (verdict_of prefix.now.report) prefix.now.entries prefix.now.unconfirmed) }
+        (prefix_counts_text (verdict_of report.now) entries unconfirmed) }
 {
-    let report = &prefix.report;
-    write_counts(report.events, report.locality, prefix.entries, sink)?;
-    write_confirmed(report.entries, prefix.entries, sink)?;
-    write_unconfirmed(prefix.unconfirmed, sink)
+    write_counts(report.events, report.locality, entries, sink)?;
+    write_confirmed(report.entries, entries, sink)?;
+    write_unconfirmed(unconfirmed, sink)
 }
 
 fn write_confirmed<S: Sink>(prefix: usize, entries: usize, sink: &mut S) -> Result<(), Failed>

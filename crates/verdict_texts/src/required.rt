@@ -64,8 +64,8 @@ pub(crate) fn write_required_rows<S: Sink>(
     send(verdict_line(is_match), sink)
 }
 
-// Writes the lines of the first event and of the first entry that extend a register that is not their own.
-fn write_strays<S: Sink>(strays: Strays, sink: &mut S) -> Result<(), Failed>
+/// Writes the lines of the first event and of the first entry that extend a register that is not their own.
+pub(crate) fn write_strays<S: Sink>(strays: Strays, sink: &mut S) -> Result<(), Failed>
     ensures { Sends (S.state sink.old) (S.state sink.new) result (strays_text strays) }
 {
     write_event(strays.event, sink)?;

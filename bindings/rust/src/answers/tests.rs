@@ -4,7 +4,7 @@ use super::Answer;
 use crate::library::{ask, entries as list_entries, log_registers, zeros, Position, Told};
 use crate::library::{DIFFERS, DONE, MORE, OUT_OF_MEMORY, REFUSED, ROOM, TOO_SHORT};
 use crate::lines::{Lines, Source};
-use crate::{Algorithm, Content, Entry, Error, Event, File, Kind, LogAlgorithm, Place, Stray};
+use crate::{Algorithm, BootAggregate, Clock, Content, Entry, Error, Event, File, Kind, LogAlgorithm, Place, Stray};
 use ima_verify_sys as c;
 use std::collections::VecDeque;
 
@@ -773,6 +773,79 @@ fn wrong_answers_are_no_events() {
     check_changes(first_event, DONE, &format!("{ALGORITHMS}{event}"), &changes);
 }
 
+const ATTESTED: &str = concat!(
+    r#"{"quoted":[{"bank":"sha1","registers":[10]},{"bank":"sha256","registers":[0,1,10]}],"signer":"000b","#,
+    r#""clock":{"milliseconds":5,"resets":1,"restarts":0,"safe":true},"firmware":7,"events":1,"locality":0,"entries":3,"#,
+    r#""boot_aggregate":"good","quote":"match","signature":"checked","verdict":"match"}"#,
+    "\n"
+);
+
+#[test]
+fn reports_by_a_quote_are_read() {
+    let found = answer(DONE, ATTESTED).attestation(true).unwrap();
+    let quoted = [(Algorithm::Sha1, vec![10]), (Algorithm::Sha256, vec![0, 1, 10])];
+    assert_eq!((found.quoted, found.signer, found.firmware), (quoted.into_iter().collect(), vec![0, 11], 7));
+    assert_eq!(found.clock, Clock { milliseconds: 5, resets: 1, restarts: 0, safe: true });
+    assert_eq!((found.events, found.locality, found.entries, found.boot_aggregate), (1, 0, 3, BootAggregate::Good));
+    assert!(found.matches && found.quote_matches && found.signature_checked && found.extends.is_empty());
+    assert_eq!(found.json, ATTESTED.trim_end());
+    let unsigned = ATTESTED.replace(r#""checked","verdict":"match""#, r#""not checked","verdict":"signature not checked""#);
+    let found = answer(DIFFERS, &unsigned).attestation(false).unwrap();
+    assert_eq!((found.matches, found.quote_matches, found.signature_checked), (false, true, false));
+    for (result, text, is_checked) in
+        [(DONE, &unsigned[..], false), (DIFFERS, &unsigned, true), (DONE, ATTESTED, false), (DIFFERS, ATTESTED, true)]
+    {
+        assert!(is_unexpected(answer(result, text).attestation(is_checked)), "{result} {text}");
+    }
+}
+
+#[test]
+fn wrong_reports_by_a_quote_are_none() {
+    let stray = format!(r#""extends":[{STRAY_ENTRY}],"quote""#);
+    for (old, new) in [
+        ("[10]", "[]"),
+        ("[10]", "[24]"),
+        ("[10]", "[-1]"),
+        ("[10]", "[null]"),
+        ("[10]", "10"),
+        ("[0,1,10]", "[1,0,10]"),
+        ("[0,1,10]", "[0,1,1]"),
+        (r#""sha1""#, r#""sha256""#),
+        (r#""sha1""#, r#""md5""#),
+        (r#""quoted":["#, r#""quoted":[{},"#),
+        (r#""quoted""#, r#""selected""#),
+        (r#""000b""#, r#""000B""#),
+        (r#""000b""#, r#""000""#),
+        (r#""signer":"000b","#, ""),
+        (r#""milliseconds":5,"#, ""),
+        (r#""resets":1"#, r#""resets":4294967296"#),
+        (r#""restarts":0"#, r#""restarts":-1"#),
+        (r#","safe":true"#, ""),
+        (r#""safe":true"#, r#""safe":1"#),
+        (r#""firmware":7,"#, ""),
+        (r#""events":1,"#, ""),
+        (r#""entries":3,"#, ""),
+        (r#""entries":3"#, r#""entries":3,"confirmed":2"#),
+        (r#""locality":0"#, r#""locality":256"#),
+        (r#""good""#, r#""wrong""#),
+        (r#""quote":"match""#, r#""quote":"differ""#),
+        (r#""quote":"match""#, r#""quote":"Match""#),
+        (r#""quote":"match","#, ""),
+        (r#""signature":"checked""#, r#""signature":"not checked""#),
+        (r#""signature":"checked","#, ""),
+        (r#","verdict":"match""#, ""),
+        (r#""verdict":"match""#, r#""verdict":"differ""#),
+        (r#""verdict":"match""#, r#""verdict":"signature not checked""#),
+        (r#""quote""#, &stray),
+        (r#""quote""#, r#""extends":[],"quote""#),
+        (r#"{"quoted""#, r#"{"fault":1,"quoted""#),
+    ] {
+        let text = ATTESTED.replacen(old, new, 1);
+        assert_ne!(text, ATTESTED, "{old}");
+        assert!(is_unexpected(answer(DONE, &text).attestation(true)), "{text}");
+    }
+}
+
 #[test]
 fn refusals_are_what_is_reported() {
     for (line, told, kind, number, place) in [
@@ -783,6 +856,7 @@ fn refusals_are_what_is_reported() {
         ("refused: expected fault 1 at line 2", fault(c::IMA_VERIFY_EXPECTED, 1, Some(2)), Kind::Expected, 1, Some(2)),
         ("refused: expected fault 6", fault(c::IMA_VERIFY_EXPECTED, 6, None), Kind::Expected, 6, None),
         ("refused: checkpoint fault 3", fault(c::IMA_VERIFY_CHECKPOINT, 3, None), Kind::Checkpoint, 3, None),
+        ("refused: quote fault 11", fault(c::IMA_VERIFY_QUOTE, 11, None), Kind::Quote, 11, None),
         ("refused: list fault 1", fault(c::IMA_VERIFY_LIST, 1, Some(u64::MAX - 1)), Kind::List, 1, Some(u64::MAX - 1)),
         ("refused: command line", fault(c::IMA_VERIFY_ARGUMENT, 0, None), Kind::Argument, 0, None),
         // (kind, number and place are not those that the line spells, but those that are reported)
@@ -832,7 +906,7 @@ fn wrong_refusals_are_no_refusals() {
 fn reported_error_is_of_the_result() {
     for kind in 0..10 {
         let told = |text: &str| Told { size: text.len(), ..fault(kind, 1, Some(2)) };
-        let is_input = (c::IMA_VERIFY_ARGUMENT..=c::IMA_VERIFY_CHECKPOINT).contains(&kind);
+        let is_input = (c::IMA_VERIFY_ARGUMENT..=c::IMA_VERIFY_CHECKPOINT).contains(&kind) || kind == c::IMA_VERIFY_QUOTE;
         let refusal = answered_with(REFUSED, LIST_FAULT, told(LIST_FAULT)).unwrap_err();
         assert_eq!(matches!(refusal, Error::Refused { number: 1, place: Some(2), .. }), is_input, "{kind}");
         assert_eq!(matches!(refusal, Error::Unexpected { .. }), !is_input, "{kind}");

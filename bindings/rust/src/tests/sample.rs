@@ -329,7 +329,8 @@ fn errors_say_what_is_wrong() {
         (refused("refused: log fault 2", Kind::Log, 2, None), "refused: log fault 2"),
         (
             refused("refused: command line", Kind::Argument, 0, None),
-            "refused: command line (PCRs are named as in sha256:0-10, with PCR 10, or as in 0-10)",
+            "refused: command line (PCRs are named as in sha256:0-10, with PCR 10, or as in 0-10; \
+             a quote needs PCRs 0 to 10, and a nonce of at least 16 bytes)",
         ),
         (Error::OutOfMemory, "no memory for libima_verify"),
         (Error::Unexpected { result: 5, size: 10, text: Vec::new() }, "libima_verify gave the result 5 and the size 10"),

@@ -8,10 +8,11 @@
 /// it.
 pub const IMA_VERIFY_VERSION: u32 = 1;
 
-/// The text is complete. A verdict is `match`; for places, every value was reached and none is missing. For entries or events,
-/// these are the last.
+/// The text is complete. A verdict is `match`, and a quote's signature was checked; for places, every value was reached and none
+/// is missing. For entries or events, these are the last.
 pub const IMA_VERIFY_DONE: i32 = 0;
-/// The text is complete. A verdict is `differ`; for places, a value was not reached or one is missing.
+/// The text is complete. A verdict is `differ`, or a quote's signature was not checked; for places, a value was not reached or one
+/// is missing.
 pub const IMA_VERIFY_DIFFERS: i32 = 1;
 /// An input is refused, and the text is the line that says why.
 pub const IMA_VERIFY_REFUSED: i32 = 2;
@@ -26,7 +27,7 @@ pub const IMA_VERIFY_MISUSED: i32 = 6;
 
 /// There is no error.
 pub const IMA_VERIFY_NO_FAULT: u32 = 0;
-/// `require` or `registers` is not of its form.
+/// `require` or `registers` is not of its form, or does not suit a quote, or a nonce is too short.
 pub const IMA_VERIFY_ARGUMENT: u32 = 1;
 /// The firmware event log; the place is an event's.
 pub const IMA_VERIFY_LOG: u32 = 2;
@@ -40,6 +41,8 @@ pub const IMA_VERIFY_EXPECTED: u32 = 5;
 pub const IMA_VERIFY_CHECKPOINT: u32 = 6;
 /// Memory ran out.
 pub const IMA_VERIFY_MEMORY: u32 = 7;
+/// The message of a quote.
+pub const IMA_VERIFY_QUOTE: u32 = 8;
 
 /// The place of an error that names none.
 pub const IMA_VERIFY_NO_PLACE: u64 = u64::MAX;
@@ -126,6 +129,26 @@ extern "C" {
         next: *mut u8,
         next_room: usize,
         next_size: *mut usize,
+        out: *mut u8,
+        room: usize,
+        told: *mut ima_verify_told,
+    ) -> i32;
+
+    /// The verdict on a log and a list by the message of a quote. It verifies no signature: `is_signed` says that the caller has.
+    pub fn ima_verify_raw_attest(
+        log: *const u8,
+        log_size: usize,
+        list: *const u8,
+        list_size: usize,
+        message: *const u8,
+        message_size: usize,
+        nonce: *const u8,
+        nonce_size: usize,
+        require: *const u8,
+        require_size: usize,
+        takes_sha1: bool,
+        is_signed: bool,
+        json: bool,
         out: *mut u8,
         room: usize,
         told: *mut ima_verify_told,

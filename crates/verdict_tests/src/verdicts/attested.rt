@@ -1,7 +1,7 @@
 //! A log and a list, judged by a quote; and what is against others.
 
 use super::real_boot::{FIRMWARE_LOG, IMA_LIST};
-use attestations::{AttestFault, Cause, Policy, PolicyFault, attest};
+use attestations::{AttestFault, Cause, Policy, PolicyFault, QuoteRefusal, attest, quote_for};
 use boot_log::LogFault;
 use boot_verdict::{Requirement, RequirementFault, VerifyFault};
 use ima_list::{ListFault, ReplayFault};
@@ -78,26 +78,26 @@ const POLICIES: [(&[u8], bool, AttestFault); 8] = [
     (
         b"sha256:0-4,sha1:5-10",
         true,
-        AttestFault::NotSelected {
+        AttestFault::Quote(QuoteRefusal::NotSelected {
             alg: Alg::Sha1,
             register: 5,
-        },
+        }),
     ),
     (
         b"sha384:10,sha256:0-11",
         false,
-        AttestFault::NotSelected {
+        AttestFault::Quote(QuoteRefusal::NotSelected {
             alg: Alg::Sha256,
             register: 11,
-        },
+        }),
     ),
     (
         b"sha256:0-10,sha512:2-3",
         false,
-        AttestFault::NotSelected {
+        AttestFault::Quote(QuoteRefusal::NotSelected {
             alg: Alg::Sha512,
             register: 2,
-        },
+        }),
     ),
 ];
 
@@ -116,6 +116,36 @@ fn policies_that_the_quote_does_not_meet(rt: HostRuntime) -> Result<(), Fail> {
             attest(FIRMWARE_LOG, IMA_LIST, QUOTE, &policy).err(),
             Some(fault)
         );
+    }
+    Ok(())
+}
+
+/// By the table of quote faults of docs/formats.md. Where two things are wrong the first is told.
+#[test]
+fn quotes_that_are_not_asked_for(rt: HostRuntime) -> Result<(), Fail> {
+    let alloc = rt.alloc();
+    let (quoted, more) = (
+        required(alloc, b"sha256:0-10")?,
+        required(alloc, b"sha256:0-11")?,
+    );
+    let (other_nonce, cut) = (&QUOTE_NONCE[..19], &QUOTE[..132]);
+    let trailing = joined(alloc, &[QUOTE, b"\0"])?;
+    let cases: [(&[u8], &[u8], &Requirement, Option<u32>); 6] = [
+        (QUOTE, QUOTE_NONCE, &quoted, None),
+        (cut, other_nonce, &more, Some(1)),
+        (b"quoted:", QUOTE_NONCE, &quoted, Some(2)),
+        (trailing.as_slice(), other_nonce, &quoted, Some(10)),
+        (QUOTE, other_nonce, &more, Some(11)),
+        (QUOTE, QUOTE_NONCE, &more, Some(12)),
+    ];
+    for (message, nonce, required, number) in cases {
+        let policy = Policy {
+            nonce,
+            required,
+            takes_sha1: false,
+        };
+        let refusal = quote_for(message, &policy).err();
+        assert_eq!(rt; refusal.map(QuoteRefusal::number), number);
     }
     Ok(())
 }
@@ -149,9 +179,15 @@ fn evidence_that_the_quote_is_not_of(rt: HostRuntime) -> Result<(), Fail> {
             LIST,
             cut,
             other_nonce,
-            AttestFault::Quote(QuoteFault::Truncated),
+            AttestFault::Quote(QuoteRefusal::Message(QuoteFault::Truncated)),
         ),
-        (b"", b"", QUOTE, other_nonce, AttestFault::OtherNonce),
+        (
+            b"",
+            b"",
+            QUOTE,
+            other_nonce,
+            AttestFault::Quote(QuoteRefusal::OtherNonce),
+        ),
         (
             b"",
             b"\x0a",

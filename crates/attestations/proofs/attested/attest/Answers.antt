@@ -8,14 +8,8 @@ use Rattle.boot_verdict.proofs.VerdictLaws.{log_viewed}
 use Rattle.tpm_quotes.specs.Spelling.{quote_of}
 use Rattle.attestations.specs.Judging.{attestation_of, cause_against}
 use Rattle.attestations.specs.Policies.{terms_of}
-use Rattle.attestations.proofs.JudgeLaws.{attested_by, boot_refused, refused_by, some_not_none}
+use Rattle.attestations.proofs.JudgeLaws.{attested_by, boot_refused, some_not_none}
 use Rattle.attestations.proofs.attested.attest.Goals as goal
-
-pub returns-in-Some-refusal_of-clause-fault : goal.returns-in-Some-refusal_of-clause-fault
-returns-in-Some-refusal_of-clause-fault c =
-    refused_by c.args.log.now c.args.list.now c.args.message.now (terms_of c.args.policy.now) (quote_of c.in_ok-quote.quote)
-    c.in-Some-refusal_of.fault (sym c.fault.ensures ∙ c.in_default.is) c.in_ok-quote.ensures.found
-    (sym c.refusal_of.ensures ∙ c.in-Some-refusal_of.is)
 
 pub returns-in_err-view-clause-only : goal.returns-in_err-view-clause-only
 returns-in_err-view-clause-only c =
@@ -32,7 +26,7 @@ returns-in_err-known-clause-fault c =
       record {
         quote = quote_of c.in_ok-quote.quote;
         message_is = c.in_ok-quote.ensures.found;
-        taken = sym c.refusal_of.ensures ∙ c.in_default-refusal_of.is;
+        taken = c.in_ok-quote.ensures.asked;
       },
       boot_refused c.args.log.now c.args.list.now _
           (c.in_err-known.ensures.fault c.args.log.now (record { table = sound.0; events = sound.1; log_is = sound.2 }))
@@ -45,7 +39,7 @@ returns-in-Some-cause_against-clause-only c =
     λ table events entries quote sound message taken log list genuine none.
     let viewed = log_viewed c.in_ok-view.ensures.found log in
     let read = c.cause_against.ensures c.args.list.now table events viewed (rw c.in_ok-known.ensures.before (c.registers.ensures table events viewed)) is in
-    let quoted : quote_of c.in_ok-quote.quote ≡ quote = sym (ok_is quote (quote_of c.in_ok-quote.quote) (c.in_ok-quote.ensures.only quote message)) in
+    let quoted : quote_of c.in_ok-quote.quote ≡ quote = sym (ok_is quote (quote_of c.in_ok-quote.quote) (c.in_ok-quote.ensures.only quote message taken)) in
     let listed = one_list is.list_is list in
     let here : cause_against (algs_in table) events is.entries (quote_of c.in_ok-quote.quote) ≡ None =
     (λ i. cause_against (algs_in table) events (listed i) (quoted i)) ∙ none in
@@ -65,7 +59,7 @@ returns-in-Some-cause_against-clause-fault c =
         asked = record {
           quote = quote_of c.in_ok-quote.quote;
           message_is = c.in_ok-quote.ensures.found;
-          taken = sym c.refusal_of.ensures ∙ c.in_default-refusal_of.is;
+          taken = c.in_ok-quote.ensures.asked;
         };
         log_is = sound.2;
         list_is = is.list_is;
@@ -82,5 +76,5 @@ returns-in-None-clause-attested c =
     let read = c.cause_against.ensures c.args.list.now sound.0 sound.1 viewed (rw c.in_ok-known.ensures.before (c.registers.ensures sound.0 sound.1 viewed)) is in
     attested_by c.args.log.now c.args.list.now c.args.message.now (terms_of c.args.policy.now) sound.0 sound.1 is.entries
     (quote_of c.in_ok-quote.quote) (attestation_of c.confirmed.result) (sym c.fault.ensures ∙ c.in_default.is) c.in_ok-quote.ensures.found
-    (sym c.refusal_of.ensures ∙ c.in_default-refusal_of.is) sound.2 is.list_is is.genuine (sym read ∙ c.in-None.is)
+    c.in_ok-quote.ensures.asked sound.2 is.list_is is.genuine (sym read ∙ c.in-None.is)
     (c.confirmed.ensures c.args.list.now sound.0 sound.1 viewed is)

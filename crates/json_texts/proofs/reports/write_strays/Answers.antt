@@ -1,9 +1,4 @@
-use Rattle.std.proofs.Common.{sym, ◌∙◌}
-use Rattle.json_texts.proofs.WrittenLaws.{in_array, items_joined, named}
 use Rattle.json_texts.proofs.reports.write_strays.Goals as goal
 
-pub returns : goal.returns
-returns c =
-    let values = items_joined c.in_ok-write_stray_event.ensures c.in_ok-write_stray_entry.ensures in
-    rw (c.in-Some.is, sym c.are_none.ensures ∙ c.if-are_none.false)
-    (named c.in_ok-key.ensures (in_array c.in_ok-begin_array.ensures values c.in_ok-end_array.ensures))
+pub returns-in-Some : goal.returns-in-Some
+returns-in-Some c = rw c.in-Some.is c.write_extends.ensures

@@ -1,0 +1,174 @@
+package imaverify
+
+import (
+	"encoding/hex"
+	"errors"
+	"fmt"
+	"os"
+	"path/filepath"
+	"strings"
+	"testing"
+)
+
+// The quote of the sample's registers 0 to 10 in the SHA-256 bank.
+var (
+	quoteMessage = quotedSample("quote.msg")
+	quoteNonce   = spelled(strings.TrimSpace(string(quotedSample("nonce"))))
+)
+
+const attested = `{"quoted":[{"bank":"sha1","registers":[10]},{"bank":"sha256","registers":[0,1,10]}],"signer":"000b",` +
+	`"clock":{"milliseconds":5,"resets":1,"restarts":0,"safe":true},"firmware":7,"events":1,"locality":0,"entries":3,` +
+	`"boot_aggregate":"good","quote":"match","signature":"checked","verdict":"match"}` + "\n"
+
+func quotedSample(name string) []byte {
+	data, err := os.ReadFile(filepath.Join("..", "..", "samples", "quoted", name))
+	if err != nil {
+		panic(err)
+	}
+	return data
+}
+
+func spelled(digits string) []byte {
+	data, err := hex.DecodeString(digits)
+	if err != nil {
+		panic(err)
+	}
+	return data
+}
+
+func quoteOfSample() Quote {
+	return Quote{Message: quoteMessage, Nonce: quoteNonce, Require: "sha256:0-10", SignatureChecked: true}
+}
+
+func attest(t *testing.T, log, list []byte, quote Quote) Attestation {
+	t.Helper()
+	found, err := Attest(log, list, quote)
+	if err != nil {
+		t.Fatal(err)
+	}
+	return found
+}
+
+func checkQuoteRefused(t *testing.T, wanted RefusedError, quote Quote) {
+	t.Helper()
+	found, err := Attest(bootLog, bootList, quote)
+	var refusal *RefusedError
+	if !errors.As(err, &refusal) {
+		t.Fatalf("not refused: %+v, %v", found, err)
+	}
+	equal(t, *refusal, wanted)
+	equal(t, found, Attestation{})
+}
+
+func quoteFault(number uint64) RefusedError {
+	return RefusedError{Line: fmt.Sprintf("refused: quote fault %d", number), Kind: KindQuote, Number: number}
+}
+
+func TestQuoteOfTheSampleMatches(t *testing.T) {
+	found := attest(t, bootLog, bootList, quoteOfSample())
+	equal(t, []interface{}{found.Matches, found.QuoteMatches, found.SignatureChecked, found.BootAggregate, found.Extends == nil},
+		[]interface{}{true, true, true, BootAggregateGood, true})
+	equal(t, []uint64{found.Events, uint64(found.Locality), found.Entries, found.Firmware}, []uint64{24, 0, 99, 2312897626142815798})
+	equal(t, found.Quoted, map[Algorithm][]int{AlgorithmSHA256: {0, 1, 2, 3, 4, 5, 6, 7, 8, 9, 10}})
+	equal(t, found.Signer, quoteMessage[8:42])
+	equal(t, found.Clock, Clock{626, 1, 0, true})
+	equal(t, strings.HasSuffix(found.JSON, `"quote":"match","signature":"checked","verdict":"match"}`), true)
+}
+
+func TestNothingIsAttestedWithoutASignature(t *testing.T) {
+	quote := quoteOfSample()
+	quote.SignatureChecked = false
+	found := attest(t, bootLog, bootList, quote)
+	equal(t, []bool{found.Matches, found.QuoteMatches, found.SignatureChecked}, []bool{false, true, false})
+	equal(t, strings.HasSuffix(found.JSON, `"signature":"not checked","verdict":"signature not checked"}`), true)
+}
+
+func TestQuoteOfAnotherBootDiffers(t *testing.T) {
+	event := append([]byte{9, 0, 0, 0, 13, 0, 0, 0, 1, 0, 0, 0, 0x0b}, make([]byte, 37)...)
+	later := append(bootLog[:len(bootLog):len(bootLog)], event...)
+	for _, inputs := range [][2][]byte{{bootLog, longer}, {bootLog, bootList[:len(bootList)-95]}, {bootLog, nil}, {later, bootList}} {
+		found := attest(t, inputs[0], inputs[1], quoteOfSample())
+		equal(t, []bool{found.Matches, found.QuoteMatches, found.SignatureChecked}, []bool{false, false, true})
+	}
+}
+
+func TestEntryOfAnotherRegisterIsNotAttested(t *testing.T) {
+	last := bootList[len(bootList)-95:]
+	list := append(append(bootList[:len(bootList)-95:len(bootList)-95], 11), append(last[1:95:95], last...)...)
+	found := attest(t, bootLog, list, quoteOfSample())
+	equal(t, []interface{}{found.Matches, found.QuoteMatches, found.Extends}, []interface{}{false, true, []Stray{{Entry: 98, Register: 11}}})
+}
+
+func TestOtherQuotesAreRefused(t *testing.T) {
+	quote := quoteOfSample()
+	for size := 0; size < len(quoteMessage); size++ {
+		quote.Message = quoteMessage[:size]
+		checkQuoteRefused(t, quoteFault(1), quote)
+	}
+	quote = quoteOfSample()
+	for _, nonce := range [][]byte{quoteNonce[:16], make([]byte, 20), append([]byte{quoteNonce[0] ^ 1}, quoteNonce[1:]...)} {
+		quote.Nonce = nonce
+		checkQuoteRefused(t, quoteFault(11), quote)
+	}
+	quote = quoteOfSample()
+	quote.TakesSHA1 = true
+	for _, require := range []string{"sha256:0-11", "sha1:0-10", "sha256:0-10,sha512:10"} {
+		quote.Require = require
+		checkQuoteRefused(t, quoteFault(12), quote)
+	}
+}
+
+func TestArgumentsThatDoNotSuitAQuoteAreRefused(t *testing.T) {
+	wanted, quote := RefusedError{Line: "refused: command line", Kind: KindArgument}, quoteOfSample()
+	for _, require := range []string{"", NothingRequired, "sha256:0-9", "sha256:10", "sha1:0-10", "sha256:0-9,sha1:10", "sha256:0-24"} {
+		quote.Require = require
+		checkQuoteRefused(t, wanted, quote)
+	}
+	quote = quoteOfSample()
+	for _, nonce := range [][]byte{nil, {}, quoteNonce[:15]} {
+		quote.Nonce = nonce
+		checkQuoteRefused(t, wanted, quote)
+	}
+}
+
+func readAttestation(result int32, text string, signatureChecked bool) error {
+	found, err := of(result, text).attestation(signatureChecked)
+	if err != nil && (found.Matches || found.Quoted != nil) {
+		panic("an attestation with an error")
+	}
+	return err
+}
+
+func TestRightReportsByAQuoteAreRead(t *testing.T) {
+	found, err := of(done, attested).attestation(true)
+	equal(t, err, nil)
+	equal(t, found, Attestation{Quoted: map[Algorithm][]int{AlgorithmSHA1: {10}, AlgorithmSHA256: {0, 1, 10}}, Signer: []byte{0, 11},
+		Clock: Clock{5, 1, 0, true}, Firmware: 7, Events: 1, Entries: 3, BootAggregate: BootAggregateGood, QuoteMatches: true,
+		SignatureChecked: true, Matches: true, JSON: strings.TrimSuffix(attested, "\n")})
+}
+
+func TestWrongReportsByAQuoteAreNone(t *testing.T) {
+	for _, change := range [][2]string{
+		{`[10]`, `[]`}, {`[10]`, `[24]`}, {`[10]`, `[-1]`}, {`[10]`, `[null]`}, {`[10]`, `[true]`}, {`[10]`, `10`}, {`[0,1,10]`, `[1,0,10]`},
+		{`[0,1,10]`, `[0,1,1]`}, {`"sha1"`, `"sha256"`}, {`"sha1"`, `"md5"`}, {`"quoted":[`, `"quoted":[{},`}, {`"quoted"`, `"selected"`},
+		{`"000b"`, `"000B"`}, {`"000b"`, `"000"`}, {`"signer":"000b",`, ``}, {`"milliseconds":5,`, ``}, {`"resets":1`, `"resets":4294967296`},
+		{`"restarts":0`, `"restarts":-1`}, {`,"safe":true`, ``}, {`"safe":true`, `"safe":1`}, {`"firmware":7,`, ``}, {`"events":1,`, ``},
+		{`"entries":3,`, ``}, {`"locality":0`, `"locality":256`}, {`"good"`, `"wrong"`}, {`"good"`, `"fine"`},
+		{`"quote":"match"`, `"quote":"differ"`}, {`"quote":"match"`, `"quote":"Match"`}, {`"quote":"match",`, ``},
+		{`"signature":"checked"`, `"signature":"not checked"`}, {`"signature":"checked",`, ``}, {`,"verdict":"match"`, ``},
+		{`"verdict":"match"`, `"verdict":"differ"`}, {`"verdict":"match"`, `"verdict":"signature not checked"`},
+		{`"entries":3`, `"entries":3,"confirmed":2`}, {`"quote"`, `"extends":[` + strayEntry + `],"quote"`}, {`"quote"`, `"extends":[],"quote"`},
+	} {
+		text := strings.Replace(attested, change[0], change[1], 1)
+		if text == attested {
+			t.Fatalf("no change: %q", change[0])
+		}
+		checkUnexpected(t, readAttestation(done, text, true), text)
+	}
+	unsigned := strings.Replace(attested, `"checked","verdict":"match"`, `"not checked","verdict":"signature not checked"`, 1)
+	equal(t, readAttestation(differs, unsigned, false), nil)
+	checkUnexpected(t, readAttestation(done, unsigned, false), unsigned)
+	checkUnexpected(t, readAttestation(differs, unsigned, true), unsigned)
+	checkUnexpected(t, readAttestation(done, attested, false), attested)
+	checkUnexpected(t, readAttestation(differs, attested, true), attested)
+}

@@ -1,0 +1,107 @@
+//! What the crate answers about a quote of the sample's registers 0 to 10 in the SHA-256 bank.
+
+use crate::{attest, Algorithm, BootAggregate, Clock, Error, Kind, Quote, Stray};
+
+const LAST_ENTRY_SIZE: usize = 95;
+
+fn sample(name: &str) -> Vec<u8> {
+    std::fs::read(format!("{}/../../samples/{name}", env!("CARGO_MANIFEST_DIR"))).unwrap()
+}
+
+/// The files of the sample: the log, the list, the message and the nonce.
+struct Files {
+    log: Vec<u8>,
+    list: Vec<u8>,
+    message: Vec<u8>,
+    nonce: Vec<u8>,
+}
+
+fn files() -> Files {
+    let digits = String::from_utf8(sample("quoted/nonce")).unwrap();
+    let digits = digits.trim();
+    Files {
+        log: sample("real-boot/firmware.log"),
+        list: sample("real-boot/ima.list"),
+        message: sample("quoted/quote.msg"),
+        nonce: (0..digits.len()).step_by(2).map(|at| u8::from_str_radix(&digits[at..at + 2], 16).unwrap()).collect(),
+    }
+}
+
+impl Files {
+    fn quote(&self) -> Quote<'_> {
+        let Self { message, nonce, .. } = self;
+        Quote { message, nonce, require: "sha256:0-10", takes_sha1: false, signature_checked: true }
+    }
+
+    #[track_caller]
+    fn check_refused(&self, quote: &Quote<'_>, kind: Kind, number: u64) {
+        let line = if number == 0 { "refused: command line".into() } else { format!("refused: quote fault {number}") };
+        let wanted = Error::Refused { line, kind, number, place: None };
+        assert_eq!(attest(&self.log, &self.list, quote).unwrap_err(), wanted, "{quote:?}");
+    }
+}
+
+#[test]
+fn sample_is_attested() {
+    let files = files();
+    let found = attest(&files.log, &files.list, &files.quote()).unwrap();
+    assert!(found.matches && found.quote_matches && found.signature_checked && found.extends.is_empty());
+    assert_eq!((found.events, found.locality, found.entries), (24, 0, 99));
+    assert_eq!((found.boot_aggregate, found.firmware), (BootAggregate::Good, 2312897626142815798));
+    assert_eq!(found.clock, Clock { milliseconds: 626, resets: 1, restarts: 0, safe: true });
+    assert_eq!(found.signer, files.message[8..42]);
+    assert_eq!(found.quoted.into_iter().collect::<Vec<_>>(), [(Algorithm::Sha256, (0..=10).collect())]);
+    assert!(found.json.ends_with(r#""quote":"match","signature":"checked","verdict":"match"}"#));
+}
+
+#[test]
+fn nothing_is_attested_without_a_signature() {
+    let files = files();
+    let quote = Quote { signature_checked: false, ..files.quote() };
+    let found = attest(&files.log, &files.list, &quote).unwrap();
+    assert_eq!((found.matches, found.quote_matches, found.signature_checked), (false, true, false));
+    assert!(found.json.ends_with(r#""signature":"not checked","verdict":"signature not checked"}"#));
+}
+
+#[test]
+fn other_logs_and_lists_differ() {
+    let files = files();
+    let (front, last) = files.list.split_at(files.list.len() - LAST_ENTRY_SIZE);
+    let event = [&[9, 0, 0, 0, 13, 0, 0, 0, 1, 0, 0, 0, 0x0b][..], &[0; 37]].concat();
+    let (longer, later) = ([&files.list[..], last].concat(), [&files.log[..], &event].concat());
+    for (log, list) in [(&files.log, front), (&files.log, &longer[..]), (&files.log, &[]), (&later, &files.list)] {
+        let found = attest(log, list, &files.quote()).unwrap();
+        assert_eq!((found.matches, found.quote_matches, found.signature_checked), (false, false, true));
+    }
+    let straying = [front, &[11], &last[1..], last].concat();
+    let found = attest(&files.log, &straying, &files.quote()).unwrap();
+    assert_eq!((found.matches, found.quote_matches), (false, true));
+    assert_eq!(found.extends, [Stray::Entry { entry: 98, register: 11 }]);
+}
+
+#[test]
+fn other_quotes_are_refused() {
+    let files = files();
+    for size in 0..files.message.len() {
+        files.check_refused(&Quote { message: &files.message[..size], ..files.quote() }, Kind::Quote, 1);
+    }
+    let mut another = files.nonce.clone();
+    another[0] ^= 1;
+    for nonce in [&files.nonce[..16], &another, &[0; 20]] {
+        files.check_refused(&Quote { nonce, ..files.quote() }, Kind::Quote, 11);
+    }
+    for require in ["sha256:0-11", "sha1:0-10", "sha256:0-10,sha512:10"] {
+        files.check_refused(&Quote { require, takes_sha1: true, ..files.quote() }, Kind::Quote, 12);
+    }
+}
+
+#[test]
+fn arguments_that_do_not_suit_a_quote_are_refused() {
+    let files = files();
+    for require in ["", "none", "sha256:0-9", "sha256:10", "sha1:0-10", "sha256:0-9,sha1:10", "sha256:0-24"] {
+        files.check_refused(&Quote { require, ..files.quote() }, Kind::Argument, 0);
+    }
+    for nonce in [&[][..], &files.nonce[..15]] {
+        files.check_refused(&Quote { nonce, ..files.quote() }, Kind::Argument, 0);
+    }
+}

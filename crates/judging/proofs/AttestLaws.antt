@@ -1,0 +1,37 @@
+-- Attestations.
+use Rattle.std.proofs.Common.{◌≡◌, ◌⊎◌, List, Bool, true, false, Option, None, Some, Ok, Err, refl, sym, ◌∙◌, ap}
+use Rattle.std.specs.Prelude.{IfErr, IfOk, Result, is_some}
+use Rattle.std.proofs.lemmas.Bool.{both_ways}
+use Rattle.boot_verdict.specs.declared.requirement.BankRange.{BankRange}
+use Rattle.boot_verdict.specs.Requirements.{IsRequirementText}
+use Rattle.boot_verdict.proofs.RequirementLaws.{ranges_once}
+use Rattle.attestations.specs.declared.policy.PolicyFault.{PolicyFault}
+use Rattle.attestations.specs.Policies.{policy_fault}
+use Rattle.agent_inputs.specs.declared.fault.RunFault.{RunFault}
+use Rattle.judging.specs.declared.request.Answered.{Answered}
+use Rattle.judging.specs.Answering.{AreTaken, terms_with}
+use Rattle.judging.specs.Requests.{Attested}
+
+-- What holds of an answer, or of a fault, so far as it is one.
+pub of_given : (result : Result Answered RunFault) (P Q : Answered → Type 0) → ((given : Answered) → P given → Q given) → IfOk result P
+    → IfOk result Q
+of_given (Ok given) P Q f is = f given is
+of_given (Err fault) P Q f is = tt
+
+pub of_fault : (result : Result Answered RunFault) (P Q : RunFault → Type 0) → ((fault : RunFault) → P fault → Q fault) → IfErr result P
+    → IfErr result Q
+of_fault (Ok given) P Q f is = tt
+of_fault (Err fault) P Q f is = f fault is
+
+pub none_when : {A : Type 0} (value : Option A) → is_some value ≡ false → value ≡ None
+none_when None e = refl
+none_when (Some x) e = absurd cc
+
+-- If with the ranges that a text spells the terms are refused, no other ranges are taken.
+pub not_taken : (asked : Attested) (ranges other : List BankRange) → AreTaken asked other
+    → IsRequirementText asked.required ranges
+    → is_some (policy_fault (terms_with asked ranges)) ≡ true → ⊥
+not_taken asked ranges other taken spells refused =
+    let same : other ≡ ranges = ranges_once asked.required other ranges taken.0.0 spells.0 in
+    let none : policy_fault (terms_with asked ranges) ≡ None = rw same at taken.1 in
+    both_ways (is_some (policy_fault (terms_with asked ranges))) (ap (λ (f : Option PolicyFault). is_some f) none) refused
