@@ -287,6 +287,7 @@ pub record IsEvidence (inputs : Inputs) (request : Compared) (evidence : Evidenc
   pub required_are : IsRequired request.required evidence.required
   pub log_is : MatchOption (log_of request.judgement) (evidence.log ≡ []) (λ place. Holds inputs place evidence.log)
   pub expected_are : OfInput inputs request.expected (λ text. IsExpectedText text evidence.expected)
+  pub none_quoted : evidence.quote ≡ None
   pub known_is : IsKnown inputs (resume_of request.judgement) evidence.known
 
 abbrev pub evidence_of : HeldEvidence → Evidence
