@@ -4,10 +4,10 @@ import re
 import subprocess
 from typing import Dict, List, NamedTuple, Optional, Tuple
 
-OPTION = re.compile(r"^ {2,6}(?:-(?P<short>\w), )?--(?P<name>[a-z-]+)(?: <(?P<value>\S+)>)?(?: {2,}(?P<help>\S.*))?$")
+OPTION = re.compile(r"^ {2,6}(?:-(?P<short>\w), )?--(?P<name>[a-z0-9-]+)(?: <(?P<value>\S+)>)?(?: {2,}(?P<help>\S.*))?$")
 ARGUMENT = re.compile(r"^  (?P<shown>[<[][A-Z]+[>\]](?:\.\.\.)?)  ")
 COMMAND = re.compile(r"^  (?P<name>[a-z]+)  +(?P<about>\S.*)$")
-ROW = re.compile(r"^  (?P<number>[0-9]+)  (?P<text>\S.*)$")
+ROW = re.compile(r"^ {1,2}(?P<number>[0-9]+)  (?P<text>\S.*)$")
 TABLE = re.compile(r"^(?P<name>[A-Z][a-z]+ faults) \((?P<line>[^;)]*).*\):$")
 NOTE = re.compile(r"\s*\[(default|possible values): ([^]]*)\]")
 

@@ -14,9 +14,8 @@
  *     if (ima_verify_verdict(&evidence, IMA_VERIFY_TEXT, &output) == IMA_VERIFY_DONE) ..
  *
  * What a function gives is the text that the program `ima-agent` prints for the command of the same name, or with
- * IMA_VERIFY_JSON the lines that it prints with --json, except that inputs may also be longer than 64 MiB. (For
- * ima_verify_attest the program has no command.) The page formats.md has the formats, and what each fault number
- * means; ima-agent(1) has the faults, too.
+ * IMA_VERIFY_JSON the lines that it prints with --json, except that inputs may also be longer than 64 MiB. The page
+ * formats.md has the formats, and what each fault number means; ima-agent(1) has the faults, too.
  *
  * A verdict speaks of the registers that are expected, and of no others: so say in `require` which registers it
  * must cover. With it a verdict is `match` only if no event of the log extends register 10 and each entry of the
@@ -114,6 +113,9 @@ enum ima_verify_fault_kind {
 /* The place of a fault that names none. */
 #define IMA_VERIFY_NO_PLACE UINT64_MAX
 
+/* A checkpoint has fewer bytes. */
+#define IMA_VERIFY_CHECKPOINT_ROOM 20000
+
 /* A fault. After IMA_VERIFY_REFUSED and IMA_VERIFY_OUT_OF_MEMORY it is that of the text; else there is none. */
 struct ima_verify_fault {
     /* One of ima_verify_fault_kind. */
@@ -158,7 +160,7 @@ struct ima_verify_evidence {
 struct ima_verify_quoted {
     /* The firmware event log. */
     struct ima_verify_bytes log;
-    /* The measurement list. */
+    /* The measurement list; with a checkpoint, what follows it. */
     struct ima_verify_bytes list;
     /* The message that the TPM signed, a TPMS_ATTEST: the file that `tpm2_quote -m` writes. */
     struct ima_verify_bytes message;
@@ -169,7 +171,7 @@ struct ima_verify_quoted {
     /* Whether a register may be required in the bank of SHA-1 alone. */
     bool takes_sha1;
     /* Whether the caller has verified the message's signature with the machine's attestation key, which must be a
-     * restricted one. With `false`, which is what a member that is left out has, nothing is attested, and the report
+     * restricted one that its TPM made and never gives away. With `false`, which is what a member that is left out has, nothing is attested, and the report
      * ends in `signature not checked`. */
     bool signature_checked;
 };
@@ -216,10 +218,12 @@ int32_t ima_verify_raw_more(const uint8_t *log, size_t log_size, const uint8_t *
                             size_t expected_size, const uint8_t *require, size_t require_size, bool prefix,
                             bool json, uint8_t *next, size_t next_room, size_t *next_size, uint8_t *out,
                             size_t room, struct ima_verify_told *told);
-int32_t ima_verify_raw_attest(const uint8_t *log, size_t log_size, const uint8_t *list, size_t list_size,
-                              const uint8_t *message, size_t message_size, const uint8_t *nonce, size_t nonce_size,
-                              const uint8_t *require, size_t require_size, bool takes_sha1, bool is_signed, bool json,
-                              uint8_t *out, size_t room, struct ima_verify_told *told);
+int32_t ima_verify_raw_attest(const uint8_t *log, size_t log_size, const uint8_t *state, size_t state_size,
+                              const uint8_t *more, size_t more_size, const uint8_t *message, size_t message_size,
+                              const uint8_t *nonce, size_t nonce_size, const uint8_t *require, size_t require_size,
+                              bool takes_sha1, bool is_signed, bool prefix, bool json, uint8_t *next,
+                              size_t next_room, size_t *next_size, uint8_t *out, size_t room,
+                              struct ima_verify_told *told);
 int32_t ima_verify_raw_expected(const uint8_t *printed, size_t printed_size, const uint8_t *registers,
                                 size_t registers_size, bool json, uint8_t *out, size_t room,
                                 struct ima_verify_told *told);
@@ -336,9 +340,9 @@ ima_verify_replay(const struct ima_verify_evidence *evidence, enum ima_verify_fo
  * of `require` is missing. What comes after it is not refused, and the report says how many entries it has.
  *
  * After IMA_VERIFY_DONE `next` has the checkpoint of what the report is on, the whole list or the confirmed front:
- * less than 20000 bytes. If one of both outputs has too little room, the function returns IMA_VERIFY_TOO_SHORT,
- * tells both sizes, and writes to neither. With any other result there is no checkpoint: its size is 0, and the bytes
- * of `next` stay as they were. Keep the checkpoint that you have until a call has given the next one.
+ * less than IMA_VERIFY_CHECKPOINT_ROOM bytes. If one of both outputs has too little room, the function returns
+ * IMA_VERIFY_TOO_SHORT, tells both sizes, and writes to neither. With any other result there is no checkpoint: its size
+ * is 0, and the bytes of `next` stay as they were. Keep the checkpoint that you have until a call has given the next one.
  *
  * The first fault is reported, in this order: `require`, the expected registers, the text of the checkpoint
  * (`refused: checkpoint fault 1` or `2`), the log, whether the checkpoint is of this boot (`refused: checkpoint fault
@@ -364,31 +368,53 @@ ima_verify_more(const struct ima_verify_evidence *evidence, struct ima_verify_by
     return ima_verify_tell(output, result, &told);
 }
 
-/* The verdict on a log and a list by a quote. The message must have the nonce, and select each register that `require`
- * names. IMA_VERIFY_DONE if its digest is that of the values to which log and list replay, the boot aggregate is good,
- * no event of the log extends register 10, each entry of the list names it, and the signature was checked, else
- * IMA_VERIFY_DIFFERS; the text is the report. The verdict covers the registers that the quote selects, and the report
- * names them.
+/* The verdict on a log and a list that grows by a quote, and in `next` where to go on from the next time. `state`,
+ * `prefix` and `next` are as those of ima_verify_more, and the two functions take each other's checkpoints, except
+ * that a checkpoint is gone on from by a quote only if a quote confirmed it, and the TPM's counts of resets and restarts
+ * are those of the new quote: else it is of another boot (`refused: checkpoint fault 4`). A machine that was suspended
+ * has another count of restarts, so begin anew, with the whole list.
  *
- * This function verifies no signature: the caller does, before the call. A key that is not restricted also signs
- * messages that no TPM made.
+ * The message must have the nonce, and select each register that `require` names. IMA_VERIFY_DONE if its digest is that
+ * of the values to which log and list replay, the boot aggregate is good, no event of the log extends register 10, each
+ * entry of the list names it, and the signature was checked, else IMA_VERIFY_DIFFERS; the text is the report. The verdict
+ * covers the registers that the quote selects, and the report names them. With `prefix` it is on the confirmed front, if
+ * there is one: the shortest after which the registers are those of the quote.
+ *
+ * This function verifies no signature: the caller does, before the call. A key that is not restricted, or
+ * that was imported into the TPM, also signs messages that no TPM made.
  *
  * The first fault is reported, in this order: `require` and the nonce, the message (`refused: quote fault 1` to `12`),
- * the log, the list, whether each entry is genuine. */
+ * the text of the checkpoint (`refused: checkpoint fault 1` or `2`), whether it is of the quote's boot (`refused:
+ * checkpoint fault 4`), the log, whether the log is that of the checkpoint (`refused: checkpoint fault 3`), the list,
+ * whether each entry is genuine. */
+IMA_VERIFY_USE_RESULT static inline enum ima_verify_result
+ima_verify_attest_more(const struct ima_verify_quoted *quoted, struct ima_verify_bytes state, bool prefix,
+                       enum ima_verify_form form, struct ima_verify_output *next, struct ima_verify_output *output) {
+    uint8_t none, none_next;
+    struct ima_verify_told told, told_next = {0, IMA_VERIFY_NO_FAULT, 0, IMA_VERIFY_NO_PLACE};
+    int32_t result;
+    if (!ima_verify_is_quoted(quoted) || !ima_verify_is_given(state) || !ima_verify_is_output(form, next)
+        || !ima_verify_is_output(form, output))
+        return IMA_VERIFY_MISUSED;
+    result = ima_verify_raw_attest(
+        ima_verify_data(quoted->log), quoted->log.size, ima_verify_data(state), state.size,
+        ima_verify_data(quoted->list), quoted->list.size, ima_verify_data(quoted->message), quoted->message.size,
+        ima_verify_data(quoted->nonce), quoted->nonce.size, ima_verify_data(quoted->require), quoted->require.size,
+        quoted->takes_sha1, quoted->signature_checked, prefix, form == IMA_VERIFY_JSON,
+        ima_verify_room(next, &none_next), next->room, &told_next.size, ima_verify_room(output, &none), output->room,
+        &told);
+    (void)ima_verify_tell(next, result, &told_next);
+    return ima_verify_tell(output, result, &told);
+}
+
+/* The verdict on a log and a whole list by a quote, as ima_verify_attest_more gives it without a checkpoint. */
 IMA_VERIFY_USE_RESULT static inline enum ima_verify_result
 ima_verify_attest(const struct ima_verify_quoted *quoted, enum ima_verify_form form,
                   struct ima_verify_output *output) {
-    uint8_t none;
-    struct ima_verify_told told;
-    if (!ima_verify_is_quoted(quoted) || !ima_verify_is_output(form, output)) return IMA_VERIFY_MISUSED;
-    return ima_verify_tell(
-        output,
-        ima_verify_raw_attest(ima_verify_data(quoted->log), quoted->log.size, ima_verify_data(quoted->list),
-                              quoted->list.size, ima_verify_data(quoted->message), quoted->message.size,
-                              ima_verify_data(quoted->nonce), quoted->nonce.size, ima_verify_data(quoted->require),
-                              quoted->require.size, quoted->takes_sha1, quoted->signature_checked,
-                              form == IMA_VERIFY_JSON, ima_verify_room(output, &none), output->room, &told),
-        &told);
+    uint8_t checkpoint[IMA_VERIFY_CHECKPOINT_ROOM];
+    struct ima_verify_bytes start = {NULL, 0};
+    struct ima_verify_output next = {checkpoint, sizeof checkpoint, 0, {IMA_VERIFY_NO_FAULT, 0, IMA_VERIFY_NO_PLACE}};
+    return ima_verify_attest_more(quoted, start, false, form, &next, output);
 }
 
 /* The expected registers that a text which tpm2_pcrread or tpm2_checkquote printed states, of those in the range

@@ -152,18 +152,18 @@ func (a answer) verdictIn(r *reader, o object, mayMatchNothing bool) Verdict {
 		Entries: r.number(o, "entries", math.MaxUint64), Rows: r.rows(o), JSON: a.line()}
 	v.BootAggregate = oneOf(r, o, "boot_aggregate", BootAggregateGood, BootAggregateWrong, BootAggregateNoBank, BootAggregateMissing)
 	v.Confirmed, v.Unconfirmed = r.confirmed(o, v.Entries)
-	v.Extends = r.strays(o, v.Events, v.covered())
+	v.Extends = r.strays(o, v.Events, covered(v.Confirmed, v.Entries))
 	isGood := v.BootAggregate == BootAggregateGood && (len(v.Rows) > 0 || mayMatchNothing) && v.Extends == nil
 	v.Matches = r.matches(a.result, o, v.Rows, isGood) && len(v.Rows) > 0
 	return v
 }
 
-// covered is how many entries the verdict is on.
-func (v Verdict) covered() uint64 {
-	if v.Confirmed != 0 {
-		return v.Confirmed
+// covered is how many entries a verdict is on: the confirmed ones, if there are any, or all.
+func covered(confirmed, entries uint64) uint64 {
+	if confirmed != 0 {
+		return confirmed
 	}
-	return v.Entries
+	return entries
 }
 
 // hasAllValues is whether the verdict is a match, apart from Extends.
@@ -174,23 +174,30 @@ func (v Verdict) hasAllValues() bool {
 // more reads the verdict on a list that has so many bytes after a checkpoint, and the next checkpoint. Only a match has one:
 // of the confirmed part, if the call asks for it, or of the whole list. After any other verdict it is the one before.
 func (a answer) more(from checkpoint, size uint64, prefix bool) (Verdict, checkpoint, error) {
-	reached, isState := checkpointIn(a.next)
+	reached := from
 	v, err := read(a, func(r *reader, o object) Verdict {
 		v := a.verdictIn(r, o, false)
-		r.require((v.Confirmed != 0) == (prefix && v.hasAllValues()) && from.entries <= v.covered())
-		if !v.Matches {
-			r.require(len(a.next) == 0)
-			reached = from
-			return v
-		}
-		least, end := from.bytes+size, from.bytes+size
-		if v.Confirmed != 0 {
-			least = from.bytes
-		}
-		r.require(isState && reached.entries == v.covered() && least <= reached.bytes && reached.bytes <= end)
+		r.require((v.Confirmed != 0) == (prefix && v.hasAllValues()))
+		reached = a.reached(r, from, size, covered(v.Confirmed, v.Entries), v.Confirmed != 0, v.Matches)
 		return v
 	})
 	return v, reached, err
+}
+
+// reached is the next checkpoint after a verdict on so many entries of a list that has so many bytes after a checkpoint.
+func (a answer) reached(r *reader, from checkpoint, size, covered uint64, isConfirmed, matches bool) checkpoint {
+	r.require(from.entries <= covered)
+	if !matches {
+		r.require(len(a.next) == 0)
+		return from
+	}
+	reached, isState := checkpointIn(a.next)
+	least, end := from.bytes+size, from.bytes+size
+	if isConfirmed {
+		least = from.bytes
+	}
+	r.require(isState && reached.entries == covered && least <= reached.bytes && reached.bytes <= end)
+	return reached
 }
 
 // listVerdict reads the verdict on a list alone. One on no PCRs is no match.
@@ -203,23 +210,29 @@ func (a answer) listVerdict() (ListVerdict, error) {
 	})
 }
 
-// attestation reads the verdict by a quote, where the caller has checked its signature, or has not.
-func (a answer) attestation(signatureChecked bool) (Attestation, error) {
-	return read(a, func(r *reader, o object) Attestation {
+// attestation reads the verdict by a quote on a list that has so many bytes after a checkpoint, where the caller has checked the
+// quote's signature, or has not; and the next checkpoint, as more does.
+func (a answer) attestation(from checkpoint, size uint64, prefix, signatureChecked bool) (Attestation, checkpoint, error) {
+	reached := from
+	v, err := read(a, func(r *reader, o object) Attestation {
 		v := Attestation{Quoted: r.quoted(o), Signer: r.bytes(o, "signer"), Clock: r.clock(member[object](r, o, "clock")),
 			Firmware: r.number(o, "firmware", math.MaxUint64), Events: r.number(o, "events", math.MaxUint64),
 			Locality: uint8(r.number(o, "locality", math.MaxUint8)), Entries: r.number(o, "entries", math.MaxUint64),
 			SignatureChecked: signatureChecked, JSON: a.line()}
-		r.require(!has(o, "confirmed") && !has(o, "unconfirmed"))
+		v.Confirmed, v.Unconfirmed = r.confirmed(o, v.Entries)
 		v.BootAggregate = oneOf(r, o, "boot_aggregate", BootAggregateGood, BootAggregateWrong, BootAggregateNoBank, BootAggregateMissing)
-		v.Extends = r.strays(o, v.Events, v.Entries)
+		v.Extends = r.strays(o, v.Events, covered(v.Confirmed, v.Entries))
 		v.QuoteMatches = oneOf(r, o, "quote", "match", "differ") == "match"
-		isAttested := v.QuoteMatches && v.BootAggregate == BootAggregateGood && v.Extends == nil
+		isConfirmed := v.QuoteMatches && v.BootAggregate == BootAggregateGood
+		r.require((v.Confirmed != 0) == (prefix && isConfirmed))
+		isAttested := isConfirmed && v.Extends == nil
 		v.Matches = isAttested && signatureChecked
 		r.require((oneOf(r, o, "signature", "checked", "not checked") == "checked") == signatureChecked)
 		r.require(member[string](r, o, "verdict") == conclusion(isAttested, signatureChecked) && a.result == resultOf(v.Matches))
+		reached = a.reached(r, from, size, covered(v.Confirmed, v.Entries), v.Confirmed != 0, v.Matches)
 		return v
 	})
+	return v, reached, err
 }
 
 // conclusion is the verdict of a report by a quote.

@@ -131,8 +131,18 @@ func TestArgumentsThatDoNotSuitAQuoteAreRefused(t *testing.T) {
 	}
 }
 
+// The verdict by a quote on a whole list, with the checkpoint that only a match has.
+func attestationIn(result int32, text string, signatureChecked bool) (Attestation, error) {
+	given := of(result, text)
+	if result == done {
+		given.next = []byte(stateText)
+	}
+	found, _, err := given.attestation(checkpoint{}, 300, false, signatureChecked)
+	return found, err
+}
+
 func readAttestation(result int32, text string, signatureChecked bool) error {
-	found, err := of(result, text).attestation(signatureChecked)
+	found, err := attestationIn(result, text, signatureChecked)
 	if err != nil && (found.Matches || found.Quoted != nil) {
 		panic("an attestation with an error")
 	}
@@ -140,7 +150,7 @@ func readAttestation(result int32, text string, signatureChecked bool) error {
 }
 
 func TestRightReportsByAQuoteAreRead(t *testing.T) {
-	found, err := of(done, attested).attestation(true)
+	found, err := attestationIn(done, attested, true)
 	equal(t, err, nil)
 	equal(t, found, Attestation{Quoted: map[Algorithm][]int{AlgorithmSHA1: {10}, AlgorithmSHA256: {0, 1, 10}}, Signer: []byte{0, 11},
 		Clock: Clock{5, 1, 0, true}, Firmware: 7, Events: 1, Entries: 3, BootAggregate: BootAggregateGood, QuoteMatches: true,
@@ -171,4 +181,125 @@ func TestWrongReportsByAQuoteAreNone(t *testing.T) {
 	checkUnexpected(t, readAttestation(differs, unsigned, true), unsigned)
 	checkUnexpected(t, readAttestation(done, attested, false), attested)
 	checkUnexpected(t, readAttestation(differs, attested, true), attested)
+}
+
+func quoteSession(t *testing.T, log []byte, options ...Option) *Session {
+	t.Helper()
+	s, err := NewQuoteSession(log, options...)
+	if err != nil {
+		t.Fatal(err)
+	}
+	return s
+}
+
+// The state after so many entries that a quote of this boot confirms.
+func quotedStateAfter(t *testing.T, count int, resets, restarts uint32) []byte {
+	t.Helper()
+	counts := fmt.Sprintf("resets %d\nrestarts %d\n", resets, restarts)
+	return sealed([]byte(strings.Replace(string(stateAfter(t, count)), "boot none\n", counts, 1)))
+}
+
+func checkQuotedStateRefused(t *testing.T, log, state []byte, quote Quote, number uint64) {
+	t.Helper()
+	s := quoteSession(t, log, Resume(state))
+	found, err := s.Attest(nil, quote)
+	checkRefused(t, err, RefusedError{Line: fmt.Sprintf("refused: checkpoint fault %d", number), Kind: KindCheckpoint, Number: number})
+	equal(t, []interface{}{found, s.State()}, []interface{}{Attestation{}, state})
+}
+
+func TestListInTwoPartsIsAttestedAsTheWhole(t *testing.T) {
+	whole, wanted := attest(t, bootLog, bootList, quoteOfSample()), quotedStateAfter(t, 99, 1, 0)
+	for _, count := range cuts {
+		s := quoteSession(t, bootLog)
+		if count > 0 {
+			s = quoteSession(t, bootLog, Resume(quotedStateAfter(t, count, 1, 0)))
+		}
+		equal(t, s.Offset(), uint64(ends[count]))
+		found, err := s.Attest(bootList[ends[count]:], quoteOfSample())
+		equal(t, []interface{}{err, found, s.State(), s.Offset()}, []interface{}{nil, whole, wanted, uint64(ends[99])})
+	}
+}
+
+func TestPrefixIsWhatIsQuoted(t *testing.T) {
+	wanted := quotedStateAfter(t, 99, 1, 0)
+	for _, c := range []struct {
+		more    []byte
+		entries uint64
+		line    string
+	}{{nil, 99, ""}, {longer[len(bootList):], 100, ""}, {[]byte("x"), 99, "unconfirmed: list fault 1 at entry 99"},
+		{forged(98)[ends[98]:], 100, "unconfirmed: replay fault 1 at entry 99"}} {
+		for _, options := range [][]Option{{Prefix()}, {Prefix(), Resume(quotedStateAfter(t, 50, 1, 0))}, {Prefix(), Resume(wanted)}} {
+			s := quoteSession(t, bootLog, options...)
+			found, err := s.Attest(joined(bootList, c.more)[s.Offset():], quoteOfSample())
+			equal(t, []interface{}{err, found.Matches, found.Confirmed, found.Entries}, []interface{}{nil, true, uint64(99), c.entries})
+			line := ""
+			if found.Unconfirmed != nil {
+				line = found.Unconfirmed.Line
+			}
+			equal(t, []interface{}{line, s.State()}, []interface{}{c.line, wanted})
+		}
+	}
+}
+
+func TestNoMatchLeavesASessionByQuotesAsItWas(t *testing.T) {
+	state, unsigned := quotedStateAfter(t, 50, 1, 0), quoteOfSample()
+	unsigned.SignatureChecked = false
+	for _, c := range []struct {
+		end   int
+		quote Quote
+	}{{99, unsigned}, {98, quoteOfSample()}} {
+		s := quoteSession(t, bootLog, Resume(state))
+		found, err := s.Attest(bootList[ends[50]:ends[c.end]], c.quote)
+		equal(t, []interface{}{err, found.Matches, s.State()}, []interface{}{nil, false, state})
+	}
+}
+
+func TestStateOfAnotherBootIsNotAttested(t *testing.T) {
+	state, at := quotedStateAfter(t, 99, 1, 0), strings.Index(string(quoteMessage), string(quoteNonce))+len(quoteNonce)+8
+	for _, other := range [][]byte{stateAfter(t, 99), quotedStateAfter(t, 99, 2, 0), quotedStateAfter(t, 99, 1, 1), quotedStateAfter(t, 99, 0, 1)} {
+		checkQuotedStateRefused(t, bootLog, other, quoteOfSample(), 4)
+	}
+	for _, place := range []int{at + 3, at + 7} {
+		quote := quoteOfSample()
+		quote.Message = clone(quoteMessage)
+		quote.Message[place] ^= 1
+		checkQuotedStateRefused(t, bootLog, state, quote, 4)
+	}
+	event := append([]byte{9, 0, 0, 0, 13, 0, 0, 0, 1, 0, 0, 0, 0x0b}, make([]byte, 37)...)
+	checkQuotedStateRefused(t, joined(bootLog, event), state, quoteOfSample(), 3)
+	checkQuotedStateRefused(t, bootLog, state[:len(state)-1], quoteOfSample(), 1)
+}
+
+func TestVerdictsOnRegistersTellNoBoot(t *testing.T) {
+	s := session(t, bootLog, bootTPM, "sha256:0-10", Resume(quotedStateAfter(t, 99, 1, 0)))
+	equal(t, more(t, s, nil).Matches, true)
+	equal(t, s.State(), stateAfter(t, 99))
+	_, err := s.Attest(nil, quoteOfSample())
+	checkRefused(t, err, RefusedError{Line: "refused: checkpoint fault 4", Kind: KindCheckpoint, Number: 4})
+	_, err = quoteSession(t, bootLog).More(bootList)
+	var refusal *RefusedError
+	equal(t, errors.As(err, &refusal) && refusal.Kind == KindArgument, true)
+}
+
+func TestAttestationsWithOtherCheckpointsAreNone(t *testing.T) {
+	front := strings.Replace(attested, `"entries":3`, `"entries":5,"confirmed":3`, 1)
+	for _, c := range []struct {
+		result   int32
+		text     string
+		next     string
+		size     uint64
+		prefix   bool
+		isWanted bool
+	}{
+		{done, attested, stateText, 300, false, true}, {done, attested, "", 300, false, false}, {done, attested, "x", 300, false, false},
+		{done, attested, stateText, 299, false, false}, {done, attested, stateText, 301, false, false},
+		{done, attested, stateText, 300, true, false}, {done, front, stateText, 300, false, false}, {done, front, stateText, 300, true, true},
+		{done, front, stateText, 400, true, true}, {done, front, stateText, 299, true, false},
+		{done, strings.Replace(front, `"confirmed":3`, `"confirmed":4`, 1), stateText, 300, true, false},
+	} {
+		given := of(c.result, c.text)
+		given.next = []byte(c.next)
+		_, reached, err := given.attestation(checkpoint{}, c.size, c.prefix, true)
+		equal(t, []bool{err == nil, string(reached.text) == c.next && c.isWanted}, []bool{c.isWanted, c.isWanted})
+	}
 }

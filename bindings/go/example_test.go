@@ -35,14 +35,30 @@ func ExampleAttest() {
 	if err != nil {
 		log.Fatal(err)
 	}
-	// (first verify the signature of the message with the machine's own restricted key)
-	quote := imaverify.Quote{Message: read(filepath.Join(quoted, "quote.msg")), Nonce: nonce, Require: "sha256:0-10", SignatureChecked: true}
+	message, key := read(filepath.Join(quoted, "quote.msg")), read(filepath.Join(quoted, "AK.pem")) // (the machine's own restricted key)
+	signature := read(filepath.Join(quoted, "quote.sig"))[6:]                                       // (the plain form in a TPMT_SIGNATURE)
+	checked, err := imaverify.VerifyQuote(key, signature, message)
+	if err != nil {
+		log.Fatal(err) // errors.Is(err, imaverify.ErrSignature), if the signature is not the key's
+	}
+	quote := imaverify.Quote{Message: message, Nonce: nonce, Require: "sha256:0-10", SignatureChecked: checked}
 	verdict, err := imaverify.Attest(read("firmware.log"), read("ima.list"), quote)
 	if err != nil {
 		log.Fatal(err) // such as "refused: quote fault 11", if the nonce is another
 	}
 	fmt.Println(verdict.Matches, verdict.Entries, verdict.Quoted[imaverify.AlgorithmSHA256])
 	// Output: true 99 [0 1 2 3 4 5 6 7 8 9 10]
+}
+
+func ExampleVerifyQuote() {
+	quoted := filepath.Join("..", "quoted")
+	key, message, signature := read(filepath.Join(quoted, "AK.pem")), read(filepath.Join(quoted, "quote.msg")), read(filepath.Join(quoted, "quote.sig"))
+	fmt.Println(imaverify.VerifyQuote(key, signature[6:], message)) // the plain form
+	checked, err := imaverify.VerifyQuote(key, signature, message)  // a TPMT_SIGNATURE
+	fmt.Println(checked, errors.Is(err, imaverify.ErrSignature))
+	// Output:
+	// true <nil>
+	// false true
 }
 
 func ExampleLocate() {

@@ -9,7 +9,7 @@
 // Verify(log, list, expected, "sha256:0-10"). With such a requirement a verdict is a match only if no event of the log extends PCR
 // 10 and each entry of the list names it. Entries and Events go through the inputs themselves. A Session is for a list that grows,
 // and for one that grew after the expected PCRs were read. Attest compares a log and a list with a quote in place of expected PCRs,
-// after the caller has verified its signature.
+// and VerifyQuote verifies the quote's signature.
 //
 // If an input, a requirement or a range is refused, the error is a *RefusedError. If memory runs out, it is ErrOutOfMemory. If the
 // library's answer is not as its header describes, it is an *UnexpectedError. With any error the result is the zero value, whose
@@ -110,8 +110,9 @@ func (v Verdict) Compared() int {
 //
 // Message is what the TPM signed, a TPMS_ATTEST: the file that `tpm2_quote -m` writes. Nonce is the verifier's own for this quote,
 // used once: 16 bytes or more. Require names the PCRs that must be quoted, at least 0 to 10, such as "sha256:0-10"; one of the SHA-1
-// bank alone is refused unless TakesSHA1. SignatureChecked says that the caller has verified the message's signature with the
-// machine's attestation key, which must be a restricted one. If it is false there is no match.
+// bank alone is refused unless TakesSHA1. SignatureChecked is what VerifyQuote gives for this Message, or says that the caller has
+// verified the signature otherwise, with the machine's attestation key, which must be a restricted one that its TPM made. If it is
+// false there is no match.
 type Quote struct {
 	Message          []byte
 	Nonce            []byte
@@ -140,6 +141,8 @@ type Clock struct {
 // replay. Quoted has the numbers of the PCRs that the quote selects, ascending, for each bank of which it selects any. Signer is the
 // qualified name of the key that signed, and Firmware the version of the TPM's firmware, as the quote states them. JSON is the
 // report, without the line feed. Extends has the first event that extends PCR 10, and the first entry that extends another.
+//
+// Confirmed and Unconfirmed are as in Verdict: only a Session with Prefix gives them.
 type Attestation struct {
 	Quoted           map[Algorithm][]int
 	Signer           []byte
@@ -153,6 +156,8 @@ type Attestation struct {
 	SignatureChecked bool
 	Matches          bool
 	JSON             string
+	Confirmed        uint64
+	Unconfirmed      *Unconfirmed
 	Extends          []Stray
 }
 
@@ -240,7 +245,7 @@ const (
 	KindReplay   Kind = "replay" // the template digest of an entry is not valid
 	KindExpected Kind = "expected"
 
-	// The state of a session is damaged (1), of another version (2), or of another boot (3).
+	// The state of a session is damaged (1), of another version (2), or of another boot by the log (3) or by a quote (4).
 	KindCheckpoint Kind = "checkpoint"
 
 	// The message of a quote: it is none (1 to 10), has another nonce (11), or does not select a required PCR (12).
@@ -305,8 +310,9 @@ type File struct {
 	Signature []byte
 }
 
-// Event is one of a firmware event log; events count from 1. Type is the name of the type, or empty if it has none. Digests has
-// those of the log's banks.
+// Event is one of a firmware event log; events count from 1. Register is the PCR that it names: one of the type EV_NO_ACTION extends
+// none, whatever digests it states, so no PCR confirms it. Type is the name of the type, or empty if it has none. Digests has those of
+// the log's banks.
 type Event struct {
 	Number     uint64
 	Register   uint32
@@ -342,13 +348,13 @@ func Verify(log, list, expected []byte, require string) (Verdict, error) {
 }
 
 // Attest gives the verdict on a firmware event log and a measurement list by a quote. No file of PCR values is needed. It verifies
-// no signature: do that first.
+// no signature: VerifyQuote does.
 //
 // A message that is no quote, has another nonce, or does not select a required PCR is refused with KindQuote; a requirement that is
 // not of its form or leaves out one of the PCRs 0 to 10, and a nonce that is too short, with KindArgument.
 func Attest(log, list []byte, quote Quote) (Attestation, error) {
-	read := func(a answer) (Attestation, error) { return a.attestation(quote.SignatureChecked) }
-	return askFor(read, func(out []byte) (int32, told) { return callAttest(log, list, quote, out) })
+	found, _, err := attestFrom(log, checkpoint{}, list, quote, false)
+	return found, err
 }
 
 // Locate says where each expected PCR first has its value. The arguments and the errors are those of Verify.

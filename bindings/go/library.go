@@ -111,12 +111,16 @@ func callMore(log, state, data, expected, require []byte, prefix bool, next, out
 	return result, uint64(nextSize), given
 }
 
-func callAttest(log, list []byte, quote Quote, out []byte) (int32, told) {
+// callAttest also gives the size of the next checkpoint.
+func callAttest(log, state, data []byte, quote Quote, prefix bool, next, out []byte) (int32, uint64, told) {
 	var t C.struct_ima_verify_told
+	var nextSize C.size_t
 	require := []byte(quote.Require)
-	return givenBy(C.ima_verify_raw_attest(start(log), size(log), start(list), size(list), start(quote.Message), size(quote.Message),
-		start(quote.Nonce), size(quote.Nonce), start(require), size(require), C.bool(quote.TakesSHA1), C.bool(quote.SignatureChecked),
-		true, start(out), size(out), &t), &t)
+	result, given := givenBy(C.ima_verify_raw_attest(start(log), size(log), start(state), size(state), start(data), size(data),
+		start(quote.Message), size(quote.Message), start(quote.Nonce), size(quote.Nonce), start(require), size(require),
+		C.bool(quote.TakesSHA1), C.bool(quote.SignatureChecked), C.bool(prefix), true,
+		start(next), size(next), &nextSize, start(out), size(out), &t), &t)
+	return result, uint64(nextSize), given
 }
 
 func callExpected(printed, registers, out []byte) (int32, told) {

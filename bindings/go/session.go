@@ -67,6 +67,36 @@ func (s *Session) More(data []byte) (Verdict, error) {
 	})
 }
 
+// NewQuoteSession gives a session for Attest alone: no PCRs are expected, and More gives an error.
+func NewQuoteSession(log []byte, options ...Option) (*Session, error) {
+	return NewSession(log, nil, "", options...)
+}
+
+// Attest gives the verdict by a quote on the list that the state covers, followed by these bytes, which may be none. If it is a
+// match, the state then covers what it is on, as after More.
+//
+// A state is continued by a quote only in its boot: Resets and Restarts of the quote's Clock are those of the last quote, and the
+// state is that of a session that used Attest last. Another is refused with KindCheckpoint and the number 4. (A suspend counts as a
+// restart: then begin a new session with the whole list.) Other errors are those of the function Attest.
+func (s *Session) Attest(data []byte, quote Quote) (Attestation, error) {
+	found, reached, err := attestFrom(s.log, s.reached, data, quote, s.prefix)
+	if err == nil {
+		s.reached = reached
+	}
+	return found, err
+}
+
+// attestFrom gives the verdict by a quote on the list of a checkpoint followed by these bytes, and the next checkpoint.
+func attestFrom(log []byte, from checkpoint, data []byte, quote Quote, prefix bool) (Attestation, checkpoint, error) {
+	given, err := askForBoth(make([]byte, room), make([]byte, room), func(next, out []byte) (int32, uint64, told) {
+		return callAttest(log, from.text, data, quote, prefix, next, out)
+	})
+	if err != nil {
+		return Attestation{}, from, err
+	}
+	return given.attestation(from, uint64(len(data)), prefix, quote.SignatureChecked)
+}
+
 // more is More for a call with so many bytes.
 func (s *Session) more(size int, call func(next, out []byte) (int32, uint64, told)) (Verdict, error) {
 	given, err := askForBoth(make([]byte, room), make([]byte, room), call)
@@ -101,7 +131,7 @@ type checkpoint struct {
 }
 
 const (
-	checkpointName, checkpointVersion = "ima-agent checkpoint ", "2\n"
+	checkpointName, checkpointVersion = "ima-agent checkpoint ", "3\n"
 	digits                            = `(0|[1-9][0-9]*)`
 )
 

@@ -112,7 +112,7 @@ func stateAfter(t *testing.T, count int) []byte {
 	before, _, _ := strings.Cut(string(stateAfter(t, 1)), "after\n")
 	_, before, _ = strings.Cut(before, "before\n")
 	counts := checkpointName + checkpointVersion + "entries 0\nbytes 0\nboot_aggregate none\n"
-	return sealed([]byte(counts + "before\n" + before + "after\n" + before + "register 10\nentry 0\n" + "sha256 "))
+	return sealed([]byte(counts + "before\n" + before + "after\n" + before + "register 10\nentry 0\nboot none\n" + "sha256 "))
 }
 
 func resumed(t *testing.T, count int) []Option {
@@ -454,8 +454,8 @@ func TestStateThatIsNotWholeIsRefused(t *testing.T) {
 		sealed(replaced(fmt.Sprintf("bytes %d", ends[50]), "bytes 9223372036854775808"))} {
 		checkNoState(t, text, 1)
 	}
-	for _, version := range []string{"0", "1", "20", "", "2 ", "2\r"} {
-		checkNoState(t, sealed(replaced("checkpoint 2\n", "checkpoint "+version+"\n")), 2)
+	for _, version := range []string{"0", "1", "2", "30", "", "3 ", "3\r"} {
+		checkNoState(t, sealed(replaced("checkpoint 3\n", "checkpoint "+version+"\n")), 2)
 	}
 	for place := range state {
 		if place > 60 && place%97 != 0 {
@@ -507,7 +507,7 @@ func TestSecondCallHasRoomForBothTexts(t *testing.T) {
 
 // Lines of the forms that docs/formats.md shows, of a state of 3 entries and 300 bytes.
 const (
-	stateText    = "ima-agent checkpoint 2\nentries 3\nbytes 300\nboot_aggregate none\n"
+	stateText    = "ima-agent checkpoint 3\nentries 3\nbytes 300\nboot_aggregate none\n"
 	replayMember = `"unconfirmed":{"kind":"replay","number":1,"entry":4,"message":"unconfirmed: replay fault 1 at entry 4"},`
 	listMember   = `"unconfirmed":{"kind":"list","number":1,"entry":5,"message":"unconfirmed: list fault 1 at entry 5"},`
 )
@@ -651,7 +651,7 @@ func TestFaultAfterTheFrontThatCannotBeIsNone(t *testing.T) {
 func TestStateThatIsNotThatOfTheReportIsNone(t *testing.T) {
 	for _, change := range [][2]string{
 		{stateText, ""}, {stateText, "x"}, {"ima", "im"}, {"entries 3", "entries 4"}, {"entries 3", "entries 2"}, {"entries 3", "entries 03"},
-		{"bytes 300", "bytes 301"}, {"checkpoint 2", "checkpoint 1"}, {"bytes 300\n", ""},
+		{"bytes 300", "bytes 301"}, {"checkpoint 3", "checkpoint 2"}, {"bytes 300\n", ""},
 	} {
 		state := strings.Replace(stateText, change[0], change[1], 1)
 		checkUnexpected(t, sessionError(t, done, state, report, false), report)

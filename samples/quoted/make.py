@@ -50,6 +50,11 @@ def check(key, name, pcrs, nonce):
     return ended.stdout, ended.returncode, ended.stderr.decode()
 
 
+def plain(signature):
+    """What `tpm2_quote -f plain` writes: a TPMT_SIGNATURE by RSASSA without its scheme, hash and size, of two bytes each."""
+    return signature[6:]
+
+
 def change_value():
     """A PCR file in which the last register's value has one bit turned."""
     values = bytearray(Path("sha256.pcrs").read_bytes())
@@ -76,8 +81,9 @@ def make(folder):
         (folder / f"{name}.txt").write_bytes(text)
         statuses += f"{name} {status}\n{said}"
     (folder / "statuses").write_text(statuses)
-    for given, name in {"AK.pem": "AK.pem", "sha256.msg": "quote.msg", "sha256.sig": "quote.sig", "sha256.pcrs": "quote.pcrs"}.items():
+    for given, name in {"AK.pem": "AK.pem", "sha256.msg": "quote.msg", "sha256.sig": "quote.sig"}.items():
         shutil.copyfile(given, folder / name)
+    (folder / "quote.plain").write_bytes(plain(Path("sha256.sig").read_bytes()))
     (folder / "nonce").write_text(f"{NONCE}\n")
 
 

@@ -15,14 +15,14 @@ from reference.measurement_list import IMA_NG, entry_of, list_spelling, read_lis
 from reference.registers import SHA256
 
 QUOTED = ROOT / "samples/quoted"
-NEEDED = ("swtpm", "openssl", "tpm2_checkquote", "tpm2_flushcontext", "tpm2_pcrread", "tpm2_pcrextend", "tpm2_pcrreset", "tpm2_readpublic", *TOOLS)
+NEEDED = ("swtpm", "openssl", "tpm2_flushcontext", "tpm2_pcrread", "tpm2_pcrextend", "tpm2_pcrreset", "tpm2_readpublic", *TOOLS)
 NONCE = (QUOTED / "nonce").read_text().strip()
-LOW = [f"sha256 {register} match" for register in range(11)]
+OF_QUOTE = "quote match"
+LOW = f"quoted sha256 {' '.join(map(str, range(11)))}"
 LAST_ENTRY = 95  # bytes
 EV_EVENT_TAG = 6
 LOG = read_log((BOOT / "firmware.log").read_bytes())
 ENTRIES = read_list((BOOT / "ima.list").read_bytes())
-LONGER = "a2bcf779880ae33077f9e7992851299f30cea5f6cffc6512de6cd10aa457a7f3"  # register 10 after the longer list, in README
 SECONDS = 60
 
 
@@ -33,23 +33,29 @@ class Evidence:
     key: Path = QUOTED / "AK.pem"
     nonce: str = NONCE
     quote: Path = QUOTED / "quote.msg"
-    signature: Path = QUOTED / "quote.sig"
-    values: Path = QUOTED / "quote.pcrs"
+    signature: Path = QUOTED / "quote.plain"
     require: str = "sha256:0-10"
     log: Path = BOOT / "firmware.log"
     list: Path = BOOT / "ima.list"
+    expected: Path = None
+    save: Path = None
+    resume: Path = None
     prefix: bool = False
+    sha1: bool = False
+    json: bool = False
 
     def options(self):
         """The options, each with its value."""
-        return [[f"--{name}", str(getattr(self, name))] for name in ("key", "nonce", "quote", "signature", "values", "require")]
+        names = ("key", "nonce", "quote", "signature", "require", "save", "resume")
+        return [[f"--{name}", str(getattr(self, name))] for name in names if getattr(self, name) is not None]
 
     def words(self):
-        flags = ["--prefix"] if self.prefix else []
-        return ["ima-attest", *sum(self.options(), []), *flags, "--", str(self.log), str(self.list)]
+        flags = [f"--{name}" for name in ("prefix", "sha1", "json") if getattr(self, name)]
+        return ["ima-attest", *sum(self.options(), []), *flags, "--", *map(str, filter(None, (self.log, self.list, self.expected)))]
 
 
 GOOD = Evidence()  # samples/quoted
+EXPECTED = BOOT / "expected.txt"  # the values of all registers of its bank
 
 
 @dataclass
@@ -125,21 +131,21 @@ class AttestTests(harness.TestCase):
         """Settings with which a script stands in for a tool; what it stands in for is `$real`."""
         folder = Path(tempfile.mkdtemp(dir=self.folder))
         real = shutil.which(name, path=self.environment["PATH"]) or "false"
+        if name == "openssl":  # (of the key itself the real one is asked)
+            body = f'[[ $1 != pkey ]] || exec "$real" "$@"\n{body}'
         folder.joinpath(name).write_text(f"#!/bin/bash\nreal={real}\n{body}\n")
         folder.joinpath(name).chmod(0o755)
         return {"PATH": f"{folder}:{self.environment['PATH']}"}
 
-    def have_confirmed(self, body):
-        """Has a script stand in for tpm2_checkquote until the test ends."""
-        self.environment = {**self.environment, **self.stand_in("tpm2_checkquote", body)}
+    def have_verified(self, body):
+        """Has a script stand in for openssl until the test ends."""
+        self.environment = {**self.environment, **self.stand_in("openssl", body)}
 
     def state(self, name, values, algorithm=SHA256):
-        """A message that states these values of registers 0 to 10 of a bank. Until the test ends tpm2_checkquote prints them of any message."""
-        message = (QUOTED / "quote.msg").read_bytes()
+        """A message that states these values of registers 0 to 10 of a bank."""
+        message = GOOD.quote.read_bytes()
         bank = message.index(bytes.fromhex("000b03ff0700"))
         changed = message[:bank] + algorithm.identifier.to_bytes(2, "big") + message[bank + 2 : -32] + SHA256.hash(b"".join(values))
-        text = "".join(f"    {register:<2}: 0x{value.hex()}\n" for register, value in enumerate(values))
-        self.have_confirmed(f"printf 'pcrs:\\n  {algorithm.name}:\\n{text}sig: 00\\n'")
         return self.put(f"{name}.msg", changed)
 
     @contextmanager
@@ -154,26 +160,37 @@ class AttestTests(harness.TestCase):
             self.agent.unlink()
             self.agent.symlink_to(self.program)
 
-    def check_match(self, title, ended):
-        """The verdict is `match`, on registers 0 to 10, and nothing else is said."""
-        rows = [line for line in ended.output.splitlines() if line.startswith("sha256 ")]
-        self.check(title, (ended.status, rows, ended.last, ended.errors), (0, LOW, "verdict match", ""))
+    def check_match(self, title, ended, quoted=LOW):
+        """The verdict is `match`, by a quote of registers 0 to 10, or of others, and nothing else is said."""
+        lines = ended.output.splitlines()
+        found = (ended.status, lines[:1], lines[-2:], ended.errors)
+        self.check(title, found, (0, [quoted], [OF_QUOTE, "verdict match"], ""))
 
     def check_refused(self, title, ended, status=4, words="the quote does not hold"):
         """There is no report, and a sentence says why."""
         self.check(title, (ended.status, ended.output, words in ended.errors or ended.errors), (status, "", True))
 
+    def check_fault(self, title, ended, number):
+        """The program refuses the quote: there is no report, but the number of its fault."""
+        self.check(title, (ended.status, ended.output, ended.errors), (4, f"refused: quote fault {number}\n", ""))
+
     def check_differ(self, title, ended, *rows):
-        """The verdict is `differ`, and the report has these rows."""
-        lines = ended.output.splitlines()
-        self.check(title, (ended.status, ended.last, [row for row in rows if row not in lines]), (1, "verdict differ", []))
+        """The verdict is `differ`, and the report has these rows. The quote is of other values, unless a row says that it is not."""
+        lines, rows = ended.output.splitlines(), [*rows, *([] if OF_QUOTE in rows else ["quote differ"])]
+        lacking = [row for row in rows if row not in lines]
+        self.check(title, (ended.status, ended.last, lacking, ended.errors), (1, "verdict differ", [], ""))
 
 
 class LenientTests(AttestTests):
-    """Tests without a TPM: tpm2_checkquote takes any message, and prints the registers of samples/quoted, unless a test has it print others."""
+    """Tests without a TPM: openssl takes any signature of any message."""
 
     def setUp(self):
-        self.have_confirmed(f"cat '{QUOTED}/sha256.txt'")
+        self.have_verified("exit 0")
+
+
+def turned(data):
+    """These bytes, but for the last bit."""
+    return data[:-1] + bytes([data[-1] ^ 1])
 
 
 def executable(path, register=10):

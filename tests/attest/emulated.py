@@ -25,7 +25,8 @@ from reference.measurement_list import read_list  # noqa: E402
 from reference.registers import ALGORITHMS, SHA256  # noqa: E402
 
 # Those that leave an object in the TPM.
-TOOLS = ("tpm2_createek", "tpm2_createak", "tpm2_evictcontrol", "tpm2_quote", "tpm2_sign", "tpm2_hash")
+TOOLS = ("tpm2_createek", "tpm2_createak", "tpm2_createprimary", "tpm2_create", "tpm2_evictcontrol", "tpm2_quote", "tpm2_sign", "tpm2_hash",
+         "tpm2_certify", "tpm2_certifycreation", "tpm2_gettime", "tpm2_nvcertify", "tpm2_getcommandauditdigest")
 # Makes room for the next objects first, as Linux does at /dev/tpmrm0.
 ROOMY = """#!/bin/sh
 tpm2_flushcontext --transient-object && exec {tool} "$@"

@@ -3,7 +3,7 @@
 import os
 from dataclasses import replace
 
-from calling import ENTRIES, LOG, LOW, SECOND_KERNEL, Evidence, LenientTests, executable, moved, values_after
+from calling import ENTRIES, LOG, LOW, OF_QUOTE, SECOND_KERNEL, Evidence, LenientTests, executable, moved, values_after
 from reference.log import EV_NO_ACTION
 from reference.measurement_list import BOOT_AGGREGATE, IMA_NG, Entry, entry_of, list_spelling
 from reference.registers import SHA1, SHA256, SHA384, SHA512
@@ -16,6 +16,7 @@ class EntriesInLog(LenientTests):
 
     def setUp(self):
         """`honest` has a list of two kernels, and in `forged` the log has the entries of the first."""
+        super().setUp()
         self.entries = [*ENTRIES, *SECOND_KERNEL]
         self.values = values_after(self.entries)
         quote, (log, rest) = self.state("of-values", self.values), moved(self.entries, 99)
@@ -30,11 +31,11 @@ class EntriesInLog(LenientTests):
         expected = self.put("expected.txt", "".join(lines).encode())
         ended = self.call(["ima-agent", "verify", str(forged.log), str(forged.list), str(expected)])
         self.check("the registers match a log with entries of the list", (ended.status, ended.last), (0, "verdict match"))
-        self.check_differ("a log with entries of the list", self.attest(forged), EXTENDS_TEN, *LOW)
-        self.check_differ("with the front of the list", self.attest(forged, prefix=True), EXTENDS_TEN, *LOW)
-        self.check_differ("from standard input", self.attest_from(forged.log, replace(forged, log="/dev/stdin")), EXTENDS_TEN, *LOW)
+        self.check_differ("a log with entries of the list", self.attest(forged), EXTENDS_TEN, OF_QUOTE)
+        self.check_differ("with the front of the list", self.attest(forged, prefix=True), EXTENDS_TEN, OF_QUOTE)
+        self.check_differ("from standard input", self.attest_from(forged.log, replace(forged, log="/dev/stdin")), EXTENDS_TEN, OF_QUOTE)
         one = self.put("one.log", moved(self.entries, 1)[0])
-        self.check_differ("a log with one entry, of a list that has it too", self.attest(honest, log=one), EXTENDS_TEN, *LOW[:10])
+        self.check_differ("a log with one entry, of a list that has it too", self.attest(honest, log=one), EXTENDS_TEN)
         cut = replace(forged, log=self.put("cut.log", forged.log.read_bytes()[:-1]))
         ended = self.attest(cut)
         self.check("a log with entries of the list, cut", (ended.status, ended.output), (2, f"refused: log fault 1 at event {24 + 99}\n"))
@@ -78,13 +79,13 @@ class OddLists(LenientTests):
             aggregate = entry_of(IMA_NG, algorithm, log.registers().boot_aggregate(algorithm), BOOT_AGGREGATE)
             entries = [aggregate, executable(b"/bin/hidden"), aggregate, executable(b"/bin/shown")]
             names = {"log": self.put(f"{name}.log", log.spelling()), "list": self.put(f"{name}.list", list_spelling(entries))}
-            honest = Evidence(quote=self.state(name, values_after(entries, log, algorithm), algorithm), require=f"{name}:0-10", **names)
+            quote = self.state(name, values_after(entries, log, algorithm), algorithm)
+            honest = Evidence(quote=quote, require=f"{name}:0-10", sha1=algorithm is SHA1, **names)
             ended = self.attest(honest)
-            self.check(f"a log of {name} alone", (ended.status, ended.last, ended.errors), (0, "verdict match", ""))
+            self.check_match(f"a log of {name} alone", ended, quoted=LOW.replace("sha256", name))
             log, rest = moved(entries, 2, log=log)
             forged = replace(honest, log=self.put("forged.log", log), list=self.put("rest.list", rest))
-            rows = [f"{name} {register} match" for register in range(11)]
-            self.check_differ(f"a log of {name} alone with entries of the list", self.attest(forged), EXTENDS_TEN, *rows)
+            self.check_differ(f"a log of {name} alone with entries of the list", self.attest(forged), EXTENDS_TEN, OF_QUOTE)
 
     def test_entries_of_others(self):
         """A list has entries of other registers than 10, or of 10 whose names would have one think so."""
@@ -97,9 +98,9 @@ class OddLists(LenientTests):
             return self.attest(quote=quote, list=self.put("others.list", list_spelling(entries) + end), **changes)
 
         def check_other(title, entries, **given):
-            """The report says which entry is of another register, and each register but that one matches."""
+            """The report says which entry is of another register; the quote is of the values, unless that register is quoted."""
             number, register = next((number, entry.register) for number, entry in enumerate(entries) if entry.register != 10)
-            rows = [row for row in LOW if row != f"sha256 {register} match"]
+            rows = [OF_QUOTE] if register > 10 else []
             self.check_differ(title, attested(entries, **given), f"entry {number} extends {register}", *rows)
 
         self.check_match("entries of register 10 with odd names", attested(entries))

@@ -2,113 +2,210 @@
 
 import re
 import shutil
+import textwrap
 from dataclasses import replace
 
-from calling import GOOD, LAST_ENTRY, LONGER, LOW, NEEDED, NONCE, QUOTED, AttestTests, LenientTests
-from emulated import BOOT
-from reference.quotes import QuoteFault, read_quote
+from calling import EXPECTED, GOOD, LAST_ENTRY, NONCE, QUOTED, AttestTests, LenientTests, turned
+from emulated import ROOT
+from reference.attestations import attest_report
+from reference.faults import Fault
 from reference.registers import SHA256, SHA384, SHA512
 
+LOG, LIST = GOOD.log.read_bytes(), GOOD.list.read_bytes()
+
+
+def due(message, nonce=NONCE, listed=LIST, expected=None):
+    """What the reference answers to a message with the sample's log, and its list or another: status and output."""
+    try:
+        report = attest_report(LOG, listed, message, bytes.fromhex(nonce), GOOD.require, expected=expected)
+    except Fault as fault:
+        return fault.status, f"{fault.line}\n"
+    return 0 if report.matches else 1, report.text()
 
 
 class Messages(LenientTests):
-    """Messages that are no quote of these values, where tpm2_checkquote would take any."""
+    """Messages that are no quote of these values, where openssl takes any signature."""
 
     def test_messages(self):
+        """Each message is judged as the reference judges it."""
         message = GOOD.quote.read_bytes()
         texts = re.findall(r"^    \d+ *: 0x(\w+)$", (QUOTED / "sha256.txt").read_text(), re.MULTILINE)
         values = b"".join(map(bytes.fromhex, texts))
-        required = [(SHA256, register) for register in range(11)]
         selection = message.index(bytes.fromhex("00000001000b03ff0700"))
         bank, size, apart = selection + 4, selection + 6, []
 
-        def value_of(algorithm, register):
-            return values[32 * register :][:32] or None if algorithm is SHA256 else None
-
-        def holds(message, nonce=NONCE):
-            """Whether the reference takes the message for a quote of these values, with this nonce."""
-            try:
-                quote = read_quote(message)
-            except QuoteFault:
-                return False
-            return quote.nonce == bytes.fromhex(nonce) and quote.covers(required) and quote.is_of(value_of)
-
         def attested(changed, **changes):
             ended = self.attest(quote=self.put("message", changed), **changes)
-            if holds(changed, **changes) != (ended.status == 0):
+            if (ended.status, ended.output) != due(changed, **changes):
                 apart.append(changed.hex())
             return ended
 
-        def selecting(bits):
-            return message[: size + 1] + bytes.fromhex(bits) + message[size + 4 :]
+        def selecting(bits, registers=values):
+            return message[: size + 1] + bytes.fromhex(bits) + message[size + 4 : -32] + SHA256.hash(registers)
+
+        def banks(*selections):
+            parts = [bytes.fromhex(part) for part in selections]
+            return message[:selection] + len(parts).to_bytes(4, "big") + b"".join(parts) + message[size + 4 :]
 
         self.check_match("a message that is as it was", attested(message))
         for length in range(len(message)):
             ended = attested(message[:length])
-            if (ended.status, ended.output) != (4, ""):
-                self.check_refused(f"a message of {length} bytes", ended)
+            if (ended.status, ended.output) != (4, "refused: quote fault 1\n"):
+                self.check_fault(f"a message of {length} bytes", ended, 2 if length < 6 else 1)
         for title, nonce in (("another nonce", "00" + NONCE[2:]), ("a nonce that goes on", NONCE + "00"), ("a longer nonce", NONCE[:-2]),
                              ("a longer nonce, by its end", NONCE[2:])):
-            self.check_refused(f"a message with {title}", attested(message, nonce=nonce))
-        for title, changed in (
-            ("a message that goes on", message + b"\0"),
-            ("a message that no TPM made", b"\0" + message[1:]),
-            ("a message of another type", message[:5] + b"\x17" + message[6:]),
-            ("a bank that is not known", message[:bank] + b"\0\x12" + message[bank + 2 :]),
-            ("registers of another bank", message[:bank] + b"\0\x0c" + message[bank + 2 :]),
-            ("a selection of other registers: one register less", selecting("ff0300")),
-            ("a selection of other registers: one register more", selecting("ff0f00")),
-            ("a selection of other registers: another register", selecting("ff0b00")),
-            ("a selection of other registers: none", selecting("000000")),
-            ("a selection with register 24", message[:size] + bytes.fromhex("04ff070001") + message[size + 4 :]),
-            ("a value that is not selected", selecting("ff0300")[:-32] + SHA256.hash(values[:-32])),
-            ("another hash of the values", message[:-1] + bytes([message[-1] ^ 1])),
+            self.check_fault(f"a message with {title}", attested(message, nonce=nonce), 11)
+        for title, changed, fault in (
+            ("a message that goes on", message + b"\0", 10),
+            ("a message that no TPM made", b"\0" + message[1:], 2),
+            ("a message of another type", message[:5] + b"\x17" + message[6:], 2),
+            ("a bank that is not known", message[:bank] + b"\0\x12" + message[bank + 2 :], 4),
+            ("registers of another bank", message[:bank] + b"\0\x0c" + message[bank + 2 :], 12),
+            ("a register less", selecting("ff0300"), 12),
+            ("a register less, and its value", selecting("ff0300", values[:-32]), 12),
+            ("another register", selecting("ff0b00"), 12),
+            ("no register", selecting("000000"), 8),
+            ("no bank", banks(), 8),
+            ("register 24", message[:size] + bytes.fromhex("04ff070001") + message[size + 4 :], 7),
+            ("a bank in two parts", banks("000b03ff0300", "000b03000400"), 5),
+            ("a register twice", banks("000b03ff0700", "000b03000400"), 5),
+            ("a bank again, without registers", banks("000b03ff0700", "000b03000000"), 5),
+            ("five banks", banks("000b03ff0700", "000403000000", "000c03000000", "000d03000000", "000b03000000"), 6),
         ):
-            self.check_refused(title, attested(changed))
+            self.check_fault(f"a selection or a message that is refused: {title}", attested(changed), fault)
+        for title, changed in (
+            ("a register more, without a value", selecting("ff0f00")),
+            ("a register more, with another value", selecting("ff0f00", values + bytes(31) + b"\1")),
+            ("a value in another place", selecting("ff0700", values[32:64] + values[:32] + values[64:])),
+            ("another hash of the values", turned(message)),
+        ):
+            self.check_differ(f"values of others: {title}", attested(changed))
+        more = attested(selecting("ff0f00", values + bytes(32)))
+        self.check_match("a register more, with its value", more, quoted="quoted sha256 0 1 2 3 4 5 6 7 8 9 10 11")
         for algorithm in (SHA384, SHA512):
             changed = message[:-34] + algorithm.size.to_bytes(2, "big") + algorithm.hash(values)
             self.check_match(f"a hash of the values by {algorithm.name}", attested(changed))
         for length in (0, 1, 20, 31, 33, 48, 64):
-            changed = message[:-34] + length.to_bytes(2, "big") + bytes(length)
-            self.check_refused(f"a hash of {length} bytes", attested(changed))
+            ended = attested(message[:-34] + length.to_bytes(2, "big") + bytes(length))
+            if length in (48, 64):
+                self.check_differ(f"a hash of {length} bytes", ended)
+            else:
+                self.check_fault(f"a hash of {length} bytes", ended, 9)
         self.check("messages of which the reference says another thing than ima-attest", apart, [])
 
 
 class Samples(AttestTests):
     """The quote of samples/quoted."""
 
-    needed = NEEDED
+    needed = ("openssl",)
 
     def test_sample(self):
         """The quote, as README calls for it, with lists that are older and newer."""
-        self.check_match("samples/quoted", self.attest())
+        ended = self.attest()
+        self.check_match("samples/quoted", ended)
+        guide = (ROOT / "docs/guide.md").read_text()
+        self.check("samples/quoted: the guide shows this report", textwrap.indent(ended.output, "    ") in guide)
+        self.check("samples/quoted: the report is that of the reference", (ended.status, ended.output), due(GOOD.quote.read_bytes()))
         self.check_match("a nonce in capitals", self.attest(nonce=NONCE.upper()))
         words, names = [f"{option}={value}" for option, value in GOOD.options()], [str(GOOD.log), str(GOOD.list)]
         self.check_match("options as one word each", self.call(["ima-attest", *words, *names]))
         ended = self.call(["ima-attest", *words, "--nonce=", *names])
         self.check_refused("a second nonce, which is empty", ended, 64, "--nonce is given twice")
-        ended = self.attest(require="sha256:0-11,sha1:10")
-        self.check_differ("registers are required that were not quoted", ended, "sha256 11 missing", "sha1 10 missing", *LOW)
-        entries = (BOOT / "ima.list").read_bytes()
-        longer = self.put("longer.list", entries + entries[-LAST_ENTRY:])
-        self.check_differ("a list that went on after the quote", self.attest(list=longer), f"sha256 10 differ {LONGER}", *LOW[:10])
+        self.check_fault("registers are required that were not quoted", self.attest(require="sha256:0-11,sha1:10", sha1=True), 12)
+        longer = self.put("longer.list", LIST + LIST[-LAST_ENTRY:])
+        self.check_differ("a list that went on after the quote", self.attest(list=longer))
         ended = self.attest(list=longer, prefix=True)
         self.check_match("a list that went on after the quote, by its front", ended)
         self.check("how much of it is confirmed", "\nconfirmed 99 of 100 entries\n" in ended.output)
-        forged = self.put("forged.list", entries + entries[-LAST_ENTRY:-1] + b"\1")
+        forged = self.put("forged.list", LIST + LIST[-LAST_ENTRY:-1] + b"\1")
         ended = self.attest(list=forged, prefix=True)
         self.check_match("an entry after the quote that is not genuine", ended)
         self.check("it is told", "\nunconfirmed: replay fault 1 at entry 99\n" in ended.output)
-        ended = self.attest(list=self.put("early.list", entries[:-LAST_ENTRY]), prefix=True)
-        self.check_differ("a list that is older than the quote", ended, *LOW[:10])
-        for require in ("none", "sha256", "sha256:0-9", "sha256:0-24", "sha256:10-0", "-h", "--help", " ", "sha256:0-10,"):
-            self.check_refused(f"what is required is {require!r}", self.attest(require=require), 64, "what is required is not")
+        self.check_differ("a list that is older than the quote", self.attest(list=self.put("early.list", LIST[:-LAST_ENTRY]), prefix=True))
+
+    def test_expected(self):
+        """With expected registers the report says which differ, if they are those that were quoted."""
+        right, early = EXPECTED.read_bytes(), LIST[:-LAST_ENTRY]
+        texts = {"right": right, "fewer": right.partition(b"\n")[2], "changed": right.replace(b"sha256 10 e", b"sha256 10 f"), "empty": b""}
+        for title, text in texts.items():
+            for listed in (LIST, early):
+                ended = self.attest(list=self.put("judged.list", listed), expected=self.put("registers.txt", text))
+                found = (ended.status, ended.output, ended.errors)
+                self.check(f"{title} registers and a list of {len(listed)} bytes", found, (*due(GOOD.quote.read_bytes(), NONCE, listed, text), ""))
+                confirmed = f"expected {'confirmed' if title == 'right' else 'unconfirmed'}" in ended.output.splitlines()
+                differs = "\nsha256 10 differ " in ended.output
+                self.check(f"{title} registers: what is said", (confirmed, differs), (True, title == "right" and listed == early))
+        ended = self.attest(list="judged.list", expected=EXPECTED)
+        self.check_differ("the guide: which register differs", ended, "expected confirmed", "sha256 9 match")
+        ended = self.call(["ima-agent", "locate", str(GOOD.log), "judged.list", str(EXPECTED)])
+        self.check("the guide: where it is reached", ("sha256 10 nowhere" in ended.output, ended.status), (True, 1))
+        ended = self.attest(expected=self.put("registers.txt", b"sha256 10\n"))
+        self.check("registers that are none", (ended.status, ended.output), (2, "refused: expected fault 1 at line 1\n"))
+        self.check_refused("no such file of registers", self.attest(expected="none"), 3, "cannot read 'none'")
+
+    def test_signature(self):
+        """A signature of another form, of another message, or by another key, or a key that is none."""
+        signature, key, message = (path.read_bytes() for path in (GOOD.signature, GOOD.key, GOOD.quote))
+        for title, changed in (("as without `-f plain`", (QUOTED / "quote.sig").read_bytes()), ("that is empty", b""),
+                               ("that is cut", signature[:-1]), ("with a bit turned", turned(signature)), ("of zeros", bytes(256)),
+                               ("that is the message", message)):
+            self.check_refused(f"a signature {title}", self.attest(signature=self.put("other.sig", changed)))
+        self.check_match("what follows a signature is not read", self.attest(signature=self.put("other.sig", signature + b"\0")))
+        for title, changed in (("as a certificate that is none", key.replace(b"PUBLIC KEY", b"CERTIFICATE")), ("that is empty", b""),
+                               ("that is cut", key[:-60]), ("that is the message", message)):
+            self.check_refused(f"a key {title}", self.attest(key=self.put("other.pem", changed)))
+        for place in range(0, len(message), 7):
+            changed = message[:place] + bytes([message[place] ^ 1]) + message[place + 1 :]
+            self.check_refused(f"byte {place} of the message is another", self.attest(quote=self.put("other.msg", changed)))
+        other = self.folder / "other.key"
+        self.check("another key is made", self.call(["openssl", "genrsa", "-out", str(other), "2048"]).status, 0)
+        for words in (["rsa", "-in", str(other), "-pubout", "-out", "others.pem"],
+                      ["dgst", "-sha256", "-sign", str(other), "-out", "others.sig", GOOD.quote]):
+            self.check(f"another key: {words[0]}", self.call(["openssl", *words]).status, 0)
+        others = {"key": self.folder / "others.pem", "signature": self.folder / "others.sig"}
+        for name in others:
+            self.check_refused(f"another key's {name}", self.attest(**{name: others[name]}))
+        self.check_match("a key that signs anything is taken: that it is a restricted one is the caller's to see", self.attest(**others))
+        hashed = ["openssl", "dgst", "-sha1", "-sign", str(other), "-out", "others.sig", GOOD.quote]
+        self.check("a signature by SHA-1 is made", self.call(hashed).status, 0)
+        self.check_refused("a signature by SHA-1", self.attest(**others))
+
+    def made_key(self, name, *options):
+        """The files of a key that openssl makes: the public one, and the signature by it of the sample's message."""
+        secret, public, signature = (self.folder / f"{name}.{end}" for end in ("key", "pem", "sig"))
+        for words in (["genpkey", *options, "-out", secret], ["pkey", "-in", secret, "-pubout", "-out", public],
+                      ["dgst", "-sha256", "-sign", secret, "-out", signature, GOOD.quote]):
+            self.check(f"a key is made: {name} {words[0]}", self.call(["openssl", *map(str, words)]).status, 0)
+        return {"key": public, "signature": signature}
+
+    def test_keys(self):
+        """A key is of a kind that a TPM has for quotes, not too short, and alone in its file."""
+        bits, curve = "rsa_keygen_bits:{}".format, "ec_paramgen_curve:{}".format
+        for size in (2048, 3072):
+            self.check_match(f"RSA of {size} bits", self.attest(**self.made_key(f"rsa{size}", "-algorithm", "RSA", "-pkeyopt", bits(size))))
+        for name in ("P-256", "P-384", "P-521"):
+            self.check_match(name, self.attest(**self.made_key(name, "-algorithm", "EC", "-pkeyopt", curve(name))))
+        for title, *options in (
+            ("RSA of 1024 bits", "-algorithm", "RSA", "-pkeyopt", bits(1024)),
+            ("RSA with the exponent 3", "-algorithm", "RSA", "-pkeyopt", bits(2048), "-pkeyopt", "rsa_keygen_pubexp:3"),
+            ("another curve", "-algorithm", "EC", "-pkeyopt", curve("secp256k1")),
+            ("an explicit curve", "-algorithm", "EC", "-pkeyopt", curve("P-256"), "-pkeyopt", "ec_param_enc:explicit"),
+        ):
+            self.check_refused(f"a key: {title}", self.attest(**self.made_key(title.replace(" ", "-"), *options)), words="its key is")
+        good, other = GOOD.key.read_bytes(), self.made_key("other", "-algorithm", "RSA", "-pkeyopt", bits(2048))
+        added = other["key"].read_bytes()
+        for title, key in (("two keys, the other first", added + good), ("two keys, the other last", good + added), ("text before it", b"x\n" + good),
+                           ("text after it", good + b"x\n"), ("other line ends", good.replace(b"\n", b"\r\n")),
+                           ("the secret key", self.folder.joinpath("other.key").read_bytes())):
+            for signature in (GOOD.signature, other["signature"]):
+                ended = self.attest(key=self.put("odd.pem", key), signature=signature)
+                self.check_refused(f"a file with {title}, and the signature {signature.name}", ended, words="its key is")
 
     def test_names(self):
         """Names that a shell or a tool could take for something else are names."""
         folder = self.folder / "odd names"
         folder.mkdir()
-        fields = {"key": "-x", "quote": "-", "signature": "$(touch called)=-", "values": "a b\n; touch called", "log": "-h", "list": "--help"}
+        fields = {"key": "-x", "quote": "-", "signature": "$(touch called)=-", "log": "-h", "list": "a b\n; touch called"}
         for field, name in fields.items():
             shutil.copy(getattr(GOOD, field), folder / name)
         evidence = replace(GOOD, **fields)
@@ -118,3 +215,8 @@ class Samples(AttestTests):
         self.check_match("odd names, in one word with their options", ended)
         self.check("odd names: nothing else was done", sorted(path.name for path in folder.iterdir()), sorted(fields.values()))
         self.check_match("a list from standard input, a file", self.attest_from(GOOD.list, replace(GOOD, list="/dev/stdin")))
+        for folder in ("relative", "-odd"):
+            (self.folder / folder).mkdir()
+            self.check_match(f"a folder for temporary files: {folder}", self.attest(settings={"TMPDIR": folder}))
+            self.check(f"nothing is left in {folder}", list((self.folder / folder).iterdir()), [])
+        self.check_match("a path of folders for cd", self.attest(settings={"CDPATH": "/:/tmp", "TMPDIR": "relative"}))

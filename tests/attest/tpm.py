@@ -1,14 +1,15 @@
 """Tests of machines with an emulated TPM. They run the blocks of docs/guide.md on quotes, as these are on the page."""
 
+import os
 import re
 import shutil
 from dataclasses import replace
 
-from calling import ENTRIES, LAST_ENTRY, LONGER, LOW, NEEDED, NONCE, SECOND_KERNEL, AttestTests, Evidence, executable, moved
+from calling import ENTRIES, LAST_ENTRY, LOG, LOW, NEEDED, NONCE, OF_QUOTE, SECOND_KERNEL, AttestTests, Evidence, executable, moved, turned
 from emulated import BOOT, ROOT, emulated, entry_extensions
 from lists import EXTENDS_TEN
 from reference.measurement_list import Entry, list_spelling
-from reference.registers import SHA1, SHA256
+from reference.registers import ALGORITHMS, SHA1, SHA256
 
 LOWEST = "0,1,2,3,4,5,6,7,8,9"
 
@@ -53,16 +54,21 @@ class MachineTests(AttestTests):
     @property
     def sent(self):
         """What the machine sent."""
-        names = {"key": "AK.pem", "quote": "quote.msg", "signature": "quote.sig", "values": "quote.pcrs", "log": "firmware.log", "list": "ima.list"}
+        names = {"key": "AK.pem", "quote": "quote.msg", "signature": "quote.sig", "log": "firmware.log", "list": "ima.list"}
         return Evidence(nonce=self.nonce, **{field: self.home / name for field, name in names.items()})
 
-    def quoted(self, selection, name, handle="0x81010002", nonce=None):
+    def quoted(self, selection, name, handle="0x81010002", nonce=None, scheme="rsassa", hashed="sha256"):
         """A quote of other registers, by another key, or with another nonce."""
-        files = {field: self.home / f"{name}.{end}" for field, end in (("quote", "msg"), ("signature", "sig"), ("values", "pcrs"))}
-        written = ("-m", files["quote"], "-s", files["signature"], "-o", files["values"])
-        ended = self.call(["tpm2_quote", "-c", handle, "-l", selection, "-q", nonce or self.nonce, *written])
-        self.check(f"a quote is made: {name}", ended.status, 0)
+        files = {field: self.home / f"{name}.{end}" for field, end in (("quote", "msg"), ("signature", "sig"))}
+        written = ("-m", files["quote"], "-s", files["signature"], "-f", "plain")
+        asked = ("-l", selection, "-q", nonce or self.nonce, "--scheme", scheme, "-g", hashed)
+        self.check(f"a quote is made: {name}", self.call(["tpm2_quote", "-c", handle, *asked, *written]).status, 0)
         return files
+
+    def must(self, title, *words):
+        """Runs a tool in the machine's folder."""
+        ended = self.call(words, folder=self.home)
+        self.check(title, None if ended.status == 0 else ended.errors, None)
 
     def extend(self, title, entries, register=10):
         """Extends a register with what entries extend."""
@@ -84,11 +90,11 @@ class Machine(MachineTests):
         self.check_refused("the guide: no nonce", self.do(self.verdict_block), 64, "--nonce is missing or empty")
         self.check_refused("the guide: no key", self.do(self.verdict_block, nonce=nonce, key=""), 64, "--key is missing or empty")
         stale = nonce.translate(str.maketrans("0123456789abcdef", "123456789abcdef0"))
-        self.check_refused("the guide: a stale nonce", self.do(self.verdict_block, nonce=stale))
+        self.check_fault("the guide: a stale nonce", self.do(self.verdict_block, nonce=stale), 11)
 
     def test_missing_files(self):
         """Each input is empty, missing, a folder, or another one."""
-        empty, sent, fields = self.put("empty", b""), self.sent, ("key", "quote", "signature", "values")
+        empty, sent, fields = self.put("empty", b""), self.sent, ("key", "quote", "signature")
         self.check_match("what the machine sent", self.attest(sent))
         for name in fields:
             self.check_refused(f"an empty file: {name}", self.attest(sent, **{name: empty}))
@@ -105,27 +111,27 @@ class Machine(MachineTests):
     def test_foreign_evidence(self):
         """One thing is changed or taken from elsewhere."""
         sent = self.sent
-        values = bytearray(sent.values.read_bytes())
-        values[values.index(bytes.fromhex("e8ed95b94e8d66f4"))] ^= 1
-        self.check_refused("a changed value", self.attest(sent, values=self.put("changed", values)))
+        message = sent.quote.read_bytes()
+        self.check_refused("a changed hash of the values", self.attest(sent, quote=self.put("changed", turned(message))))
         other_key = self.key_block.replace("AK", "other").replace("0x81010002", "0x81010003")
         self.check("another key is made", self.do(other_key).status, 0)
         self.check_refused("another key", self.attest(sent, key=self.home / "other.pem"))
         other = self.quoted(f"sha256:{LOWEST},10", "by-other", handle="0x81010003")
         self.check_refused("another key's quote", self.attest(sent, **other))
         self.check_refused("another key's signature", self.attest(sent, signature=other["signature"]))
-        self.check_refused("an earlier quote", self.attest(sent, **self.quoted(f"sha256:{LOWEST},10", "earlier", nonce=NONCE)))
+        self.check_match("another key's quote, by that key", self.attest(sent, **other, key=self.home / "other.pem"))
+        self.check_fault("an earlier quote", self.attest(sent, **self.quoted(f"sha256:{LOWEST},10", "earlier", nonce=NONCE)), 11)
 
     def test_other_selections(self):
         """The quote selects other registers."""
-        few, none, several, parts, twice = (self.attest(self.sent, **self.quoted(selection, name)) for selection, name in (
-            (f"sha256:{LOWEST}", "few"), ("sha256:none", "none"), ("sha1:10+sha256:all", "several"),
-            ("sha256:10,0+sha1:none+sha256:1,2,3,4,5,6,7,8,9", "parts"), (f"sha256:{LOWEST},10+sha256:10", "twice")))
-        self.check_differ("a quote that leaves out register 10", few, "sha256 10 missing", *LOW[:10])
-        self.check("a quote of no register", (none.status in (2, 4), "verdict" in none.output), (True, False))
-        self.check_differ("a quote of several banks", several, "sha1 10 absent", "sha256 23 match", *LOW)
-        self.check("a quote of a bank in two parts", parts.last, "verdict match")
-        self.check_refused("a quote of a register twice", twice)
+        for selection, fault in ((f"sha256:{LOWEST}", 12), ("sha256:none", 8), ("sha256:10", 12), (f"sha1:{LOWEST},10", 12),
+                                 ("sha384:all", 12), ("sha256:10,0+sha1:none+sha256:1,2,3,4,5,6,7,8,9", 5),
+                                 (f"sha256:{LOWEST},10+sha256:10", 5)):
+            self.check_fault(f"a quote of {selection}", self.attest(self.sent, **self.quoted(selection, "other")), fault)
+        for selection, quoted in ((f"sha1:none+sha256:{LOWEST},10", LOW), ("sha256:all", f"quoted sha256 {' '.join(map(str, range(24)))}")):
+            self.check_match(f"a quote of {selection}", self.attest(self.sent, **self.quoted(selection, "other")), quoted)
+        several = self.quoted("sha1:10+sha256:all", "several")
+        self.check_differ("a quote of a bank that the log lacks", self.attest(self.sent, **several), "quoted sha1 10")
 
     def test_other_boots(self):
         """Log or list of another boot, or changed."""
@@ -137,11 +143,9 @@ class Machine(MachineTests):
         aggregate, *others = ENTRIES
         stated = aggregate.payload.replace(bytes.fromhex("0abaf87a7919f164"), bytes.fromhex("0abaf87a7919f165"))
         foreign = aggregate._replace(payload=stated, template_digest=SHA1.hash(stated))
-        for title, changed in (("a list of another boot", list_spelling([foreign, *others])),
-                               ("a list without its last entry", measurements[:-LAST_ENTRY])):
-            ended = self.attest(sent, list=self.put("list", changed))
-            self.check_differ(title, ended, *LOW[:10])
-            self.check(f"{title}: where they agree", "sha256 10 nowhere\n" in ended.errors)
+        for title, changed, state in (("a list of another boot", list_spelling([foreign, *others]), "wrong"),
+                                      ("a list without its last entry", measurements[:-LAST_ENTRY], "good")):
+            self.check_differ(title, self.attest(sent, list=self.put("list", changed)), f"boot_aggregate {state}")
         ended = self.attest(sent, list=self.put("list", measurements.replace(b"/bin/helper", b"/bin/helpex")))
         self.check("a changed list", (ended.status, ended.output), (2, "refused: replay fault 1 at entry 5\n"))
 
@@ -159,48 +163,90 @@ class Machine(MachineTests):
         self.check("no key comes of a block that failed", self.home.joinpath("never.pem").exists(), False)
 
     def test_forged_quotes(self):
-        """Two ways to state any value with a restricted key, which tpm2_checkquote of tpm2-tools 5.4 takes."""
+        """A restricted key signs a message that no TPM made, unless that begins as one that a TPM made."""
         sent = self.sent
         forged = self.put("forged.msg", b"\0" + sent.quote.read_bytes()[1:])
-        for words in (["tpm2_hash", "-C", "o", "-g", "sha256", "-t", "ticket", "-o", "hash", str(forged)],
-                      ["tpm2_sign", "-c", "0x81010002", "-g", "sha256", "-s", "rsassa", "-t", "ticket", "-d", "-o", "forged.sig", "hash"]):
-            self.check(f"a message is forged: {words[0]}", self.call(words, folder=self.home).status, 0)
+        self.must("a message is forged", "tpm2_hash", "-C", "o", "-g", "sha256", "-t", "ticket", "-o", "hash", str(forged))
+        signed = ("-g", "sha256", "-s", "rsassa", "-f", "plain")
+        self.must("it is signed", "tpm2_sign", "-c", "0x81010002", *signed, "-t", "ticket", "-d", "-o", "forged.sig", "hash")
         ended = self.attest(sent, quote=forged, signature=self.home / "forged.sig")
-        self.check_refused("a message that no TPM made, signed by the key", ended)
-        self.extend("register 16 gets the value of register 10", ENTRIES, register=16)
-        other = self.quoted("sha256:16", "other-register")
-        ended = self.attest(sent, require="sha256:10,sha256:16", **other)
-        self.check_differ("register 16", ended, "sha256 16 differ " + "0" * 64, "sha256 10 missing")
-        values = bytearray(other["values"].read_bytes())
-        values[7:10] = b"\0\x04\0"  # (the bits of the registers, in the structure that tpm2_quote writes as it is in memory)
-        ended = self.attest(sent, require="sha256:10", **{**other, "values": self.put("stated", values)})
-        self.check_refused("register 16, stated as register 10", ended)
+        self.check_fault("a message that no TPM made, signed by the key", ended, 2)
+        ended = self.call(["tpm2_hash", "-C", "o", "-g", "sha256", "-t", "ticket", "-o", "hash", str(sent.quote)], folder=self.home)
+        words = ["tpm2_sign", "-c", "0x81010002", *signed, "-t", "ticket", "-d", "-o", "again.sig", "hash"]
+        self.check("the key does not sign what seems to be its TPM's", self.call(words, folder=self.home).status != 0)
 
-    def test_doubled_register(self):
-        """Register 16, which programs can reset, is quoted twice, and stated once as register 10."""
+    def test_other_attestations(self):
+        """A restricted key also signs what its TPM states of other things than registers, with the nonce as extra data."""
+        self.must("room is made", "tpm2_nvdefine", "0x1500016", "-s", "32", "-a", "ownerread|ownerwrite")
+        self.must("room is filled", "tpm2_nvwrite", "0x1500016", "-C", "o", "-i", "hash")
+        made = ("-c", "made.ctx", "-d", "made.hash", "-t", "made.ticket")
+        self.must("an object is made", "tpm2_createprimary", "-C", "o", *made)
+        key, plain, nonce = "0x81010002", ("-g", "sha256", "-f", "plain"), ("-q", self.nonce)
+        written = ("--attestation", "stated.msg", "-o", "stated.sig")
+        for title, *words in (
+            ("TPM2_GetTime", "tpm2_gettime", "-c", key, *nonce, *plain, *written),
+            ("TPM2_Certify", "tpm2_certify", "-c", "made.ctx", "-C", key, *plain, "-o", "stated.msg", "-s", "stated.sig"),
+            ("TPM2_CertifyCreation", "tpm2_certifycreation", "-C", key, *made, *nonce, *plain, *written),
+            ("TPM2_NV_Certify", "tpm2_nvcertify", "-C", key, "-c", "o", *nonce, *plain, *written, "0x1500016"),
+            ("TPM2_GetCommandAuditDigest", "tpm2_getcommandauditdigest", "-c", key, *nonce, *plain, "-m", "stated.msg", "-s", "stated.sig"),
+        ):
+            self.must(f"the key signs {title}", *words)
+            stated = {"quote": self.home / "stated.msg", "signature": self.home / "stated.sig"}
+            self.check_fault(f"{title}, for a quote", self.attest(self.sent, **stated), 2)
+            for path in stated.values():
+                path.unlink()
+
+    def test_unrestricted_keys(self):
+        """A key that is not restricted signs any message. Only that the verifier keeps no such key prevents a message with all that its TPM
+        would say, which is taken; one that does not begin as its TPM's does is refused."""
+        self.must("a parent is made", "tpm2_createprimary", "-C", "o", "-c", "parent.ctx")
+        free = "fixedtpm|fixedparent|sensitivedataorigin|userwithauth|sign"
+        self.must("a key is made", "tpm2_create", "-C", "parent.ctx", "-G", "rsa:rsassa:null", "-a", free, "-c", "free.ctx")
+        self.must("its public part", "tpm2_readpublic", "-c", "free.ctx", "-f", "pem", "-o", "free.pem")
+        message = self.sent.quote.read_bytes()
+        signed = ("-c", "free.ctx", "-g", "sha256", "-s", "rsassa", "-f", "plain", "-o", "free.sig")
+        for title, changed in (("without what a TPM says first", b"\0\0\0\0" + message[4:]),
+                               ("of another type", message[:5] + b"\x17" + message[6:])):
+            forged = self.put("forged.msg", changed)
+            self.must(f"a message {title} is signed", "tpm2_sign", *signed, str(forged))
+            ended = self.attest(self.sent, quote=forged, key=self.home / "free.pem", signature=self.home / "free.sig")
+            self.check_fault(f"a message {title}, by a key that signs anything", ended, 2)
+
+    def test_other_registers(self):
+        """Registers that programs can reset or extend have the values that register 10 should have."""
+        sent = self.sent
+        self.must("register 16 is reset", "tpm2_pcrreset", "16")
+        self.extend("register 16 gets the value of register 10", ENTRIES, register=16)
+        for selection, fault in (("sha256:16", 12), (f"sha256:{LOWEST},16", 12), (f"sha256:{LOWEST},16+sha256:16", 5)):
+            self.check_fault(f"a quote of {selection}", self.attest(sent, **self.quoted(selection, "other")), fault)
+        both = self.quoted(f"sha256:{LOWEST},10,16", "both")
+        self.check_differ("a quote of register 16, too", self.attest(sent, **both))
+        self.check_differ("a quote of register 16, too, which is required", self.attest(sent, require="sha256:0-10,sha256:16", **both))
+        log, _ = moved(ENTRIES, len(ENTRIES), register=16)
+        ended = self.attest(sent, log=self.put("with-16.log", log), **both)
+        self.check_match("a quote of register 16, too, which the log extends", ended, f"{LOW} 16")
         invented, title = [ENTRIES[0], executable(b"/bin/invented")], "register 16 gets the value of an invented list"
-        self.check(f"{title}: tpm2_pcrreset", self.call(["tpm2_pcrreset", "16"]).status, 0)
-        self.extend(f"{title}: tpm2_pcrextend", invented, register=16)
+        self.must("register 16 is reset again", "tpm2_pcrreset", "16")
+        self.extend(title, invented, register=16)
         doubled = self.quoted(f"sha256:{LOWEST},16+sha256:16", "doubled")
         log, _ = moved(invented, 2, register=16)
-        forged = replace(self.sent, **doubled, log=self.put("with-16.log", log), list=self.put("invented.list", list_spelling(invented)))
-        self.check_refused("a quote of register 16 twice", self.attest(forged, require="sha256:0-10,sha256:16"))
-        values = bytearray(doubled["values"].read_bytes())
-        values[:20] = bytes.fromhex("01000000" "0b0003ff07010000" "0000000000000000")  # (one selection, of 0 to 10 and 16)
-        stated = replace(forged, values=self.put("stated", values))
-        words = ("-u", stated.key, "-m", stated.quote, "-s", stated.signature, "-f", stated.values, "-q", self.nonce)
-        confirmed = self.call(["tpm2_checkquote", *words])
-        self.check("tpm2_checkquote takes register 16 for register 10", (confirmed.status, " 10: " in confirmed.output), (0, True))
-        self.check_refused("a quote of register 16 twice, stated as register 10 and itself", self.attest(stated))
+        forged = replace(sent, **doubled, log=self.put("with-16.log", log), list=self.put("invented.list", list_spelling(invented)))
+        self.check_fault("a quote of register 16 twice", self.attest(forged), 5)
+        self.check_fault("a quote of register 16 twice, which is required", self.attest(forged, require="sha256:0-10,sha256:16"), 5)
+        once = self.quoted(f"sha256:{LOWEST},16", "once")
+        self.check_fault("a quote of register 16 for 10", self.attest(forged, **once), 12)
+        ended = self.attest(forged, **self.quoted(f"sha256:{LOWEST},10,16", "both"))
+        self.check_differ("a quote of register 16 beside 10, with the invented list", ended)
 
     def test_list_that_went_on(self):
         """The list has one entry more than the register, and then the register has it too."""
         self.has([*ENTRIES, ENTRIES[-1]])
-        ended = self.verdict_on_quote("the list went on")
-        self.check_differ("the list went on", ended, f"sha256 10 differ {LONGER}", *LOW[:10])
-        self.check("the list went on: where they agree", "sha256 10 after entry 98\n" in ended.errors)
+        self.check_differ("the list went on", self.verdict_on_quote("the list went on"))
+        ended = self.attest(self.sent, prefix=True)
+        self.check_match("the list went on: its front", ended)
+        self.check("the list went on: how much of it is confirmed", "\nconfirmed 99 of 100 entries\n" in ended.output)
         self.extend("the register has it, too", ENTRIES[-1:])
-        self.check_differ("the register went on, and the quote is old", self.verdict(), *LOW[:10])
+        self.check_differ("the register went on, and the quote is old", self.verdict())
         self.check_match("the register went on", self.verdict_on_quote("the register went on"))
 
     def test_log_with_entries(self):
@@ -211,7 +257,7 @@ class Machine(MachineTests):
         self.check_match("a second kernel: the verdict", self.verdict_on_quote("a second kernel"))
         log, rest = moved(entries, 100)
         ended = self.attest(self.sent, log=self.put("forged.log", log), list=self.put("rest.list", rest))
-        self.check_differ("the log has the first kernel's entries", ended, EXTENDS_TEN, *LOW)
+        self.check_differ("the log has the first kernel's entries", ended, EXTENDS_TEN, OF_QUOTE)
 
 
 class Unmeasured(MachineTests):
@@ -230,10 +276,127 @@ class Unmeasured(MachineTests):
 
         self.check_match("a boot aggregate alone", attested("a boot aggregate alone"))
         padded = attested("another boot", *(entry._replace(register=11) for entry in others))
-        self.check_differ("the list of another boot, for register 11", padded, "entry 1 extends 11", *LOW)
+        self.check_differ("the list of another boot, for register 11", padded, "entry 1 extends 11", OF_QUOTE)
         kernel = b"a kernel that a loader measured"
         measured = self.call(["tpm2_pcrextend", f"9:sha256={SHA256.hash(kernel).hex()}"])
         self.check("a kernel is measured into register 9", measured.status, 0)
-        self.check_differ("the log lacks the kernel", attested("the log lacks the kernel"), *LOW[:9], LOW[10])
+        self.check_differ("the log lacks the kernel", attested("the log lacks the kernel"))
         hidden = attested("the list has the kernel", Entry(9, SHA1.hash(kernel), b"x", kernel))
-        self.check_differ("the list has the kernel, for register 9", hidden, "entry 1 extends 9", *LOW)
+        self.check_differ("the list has the kernel, for register 9", hidden, "entry 1 extends 9", OF_QUOTE)
+
+
+class Polled(MachineTests):
+    """A machine that is asked again and again: the verifier keeps a checkpoint, and gets what is new of the list."""
+
+    def test_poll(self):
+        """Each poll begins where the last match ended."""
+        self.check("a polled machine: the key", self.do(self.key_block).status, 0)
+        state, following = self.folder / "state", self.folder / "next"
+        entries = list(ENTRIES)
+
+        def asked(title, entries, log=LOG.spelling(), quoted=None):
+            """A call on a new quote and on what is new of a list with these entries, which goes on from the checkpoint, if there is one."""
+            nonce = os.urandom(20).hex()
+            given = self.quoted(f"sha256:{LOWEST},10", "polled", nonce=quoted or nonce)
+            known = int(re.search(r"^bytes (\d+)$", state.read_text(), re.MULTILINE)[1]) if state.exists() else 0
+            more = {"log": self.put("polled.log", log), "list": self.put("more.list", list_spelling(entries)[known:])}
+            resume = state if state.exists() else None
+            ended = self.attest(self.sent, nonce=nonce, **given, **more, save=following, resume=resume, prefix=True)
+            if following.exists():
+                following.replace(state)
+                self.check(f"{title}: a checkpoint of a match alone", ended.status, 0)
+            return ended
+
+        def check_counts(title, ended, line):
+            self.check_match(title, ended)
+            self.check(f"{title}: how much is confirmed", line in ended.output.splitlines() or ended.output)
+
+        check_counts("the first poll", asked("the first poll", entries), "confirmed 99 of 99 entries")
+        check_counts("nothing is new", asked("nothing is new", entries), "confirmed 99 of 99 entries")
+        later = [executable(b"/bin/later"), executable(b"/bin/latest")]
+        entries += later
+        check_counts("the list went on", asked("the list went on", entries), "confirmed 99 of 101 entries")
+        self.extend("the register has one more", later[:1])
+        check_counts("one more", asked("one more", entries), "confirmed 100 of 101 entries")
+        self.extend("the register has the other", later[1:])
+        kept = state.read_bytes()
+        self.check_differ("an entry is held back", asked("an entry is held back", entries[:-1]))
+        self.check_differ("another entry", asked("another entry", [*entries[:-1], executable(b"/bin/other")]))
+        stray = asked("an entry of another register", [*entries[:-1], executable(b"/bin/other", 11), entries[-1]])
+        self.check_differ("an entry of another register", stray, "entry 100 extends 11", OF_QUOTE)
+        self.check_fault("a stale nonce", asked("a stale nonce", entries, quoted=NONCE), 11)
+        ended = asked("the log of another boot", entries, log=LOG._replace(events=LOG.events[:-1]).spelling())
+        self.check("the log of another boot", (ended.status, ended.output), (2, "refused: checkpoint fault 3\n"))
+        self.check("nothing was saved of these", state.read_bytes() == kept)
+        check_counts("all", asked("all", entries), "confirmed 101 of 101 entries")
+
+
+class Keys(MachineTests):
+    """Keys of each kind, and quotes of each bank."""
+
+    KEYS = (("rsa", "sha256", "rsassa"), ("rsa", "sha384", "rsassa"), ("rsa", "sha512", "rsassa"), ("rsa3072", "sha256", "rsassa"),
+            ("rsa", "sha256", "rsapss"), ("rsa3072", "sha384", "rsapss"), ("rsa", "sha512", "rsapss"),
+            ("ecc", "sha256", "ecdsa"), ("ecc384", "sha384", "ecdsa"), ("ecc521", "sha512", "ecdsa"), ("ecc", "sha384", "ecdsa"))
+
+    def banked(self, entries):
+        """The log with the four banks that the TPM has, which extend what it was extended with, and the list."""
+        def widened(event):
+            own = event.digest_of(SHA256)
+            return event._replace(digests={each.identifier: own if each is SHA256 else each.hash(own) for each in ALGORITHMS})
+
+        declared = {each.identifier: each.size for each in ALGORITHMS}
+        log = LOG._replace(declared=declared, events=[widened(event) for event in LOG.events]).spelling()
+        return {"log": self.put("banked.log", log), "list": self.put("banked.list", list_spelling(entries))}
+
+    def test_keys(self):
+        """A key of each scheme and hash, and a quote of three banks by it."""
+        self.must("an endorsement key", "tpm2_createek", "-c", "ek.ctx", "-G", "rsa")
+        banked, files = self.banked(ENTRIES), []
+        banks = ("sha256", "sha384", "sha512")
+        selection = "+".join(f"{bank}:{LOWEST},10" for bank in banks)
+        early = self.put("early.list", list_spelling(ENTRIES[:-1]))
+        for kind, hashed, scheme in self.KEYS:
+            name = f"{kind}-{hashed}-{scheme}"
+            made = ("-G", kind, "-g", hashed, "-s", scheme, "-u", f"{name}.pem", "-f", "pem")
+            self.must(f"a key: {name}", "tpm2_createak", "-C", "ek.ctx", "-c", f"{name}.ctx", *made)
+            given = self.quoted(selection, name, handle=self.home / f"{name}.ctx", scheme=scheme, hashed=hashed)
+            evidence = Evidence(nonce=self.nonce, key=self.home / f"{name}.pem", **given, **banked)
+            ended = self.attest(evidence, require=",".join(f"{bank}:0-10" for bank in banks))
+            self.check_match(f"a quote of three banks by a key: {name}", ended)
+            found = [line for line in ended.output.splitlines() if line.startswith("quoted ")]
+            self.check(f"all banks are quoted: {name}", found, [LOW.replace("sha256", bank) for bank in banks])
+            self.check_differ(f"a list that lacks its last entry: {name}", self.attest(evidence, list=early))
+            message = self.put("changed.msg", turned(given["quote"].read_bytes()))
+            self.check_refused(f"a changed message: {name}", self.attest(evidence, quote=message))
+            files.append(evidence)
+        for number, evidence in enumerate(files):
+            ended = self.attest(evidence, key=files[number - 1].key)
+            self.check_refused(f"a quote by {evidence.key.stem}, and the key of another", ended)
+
+    def test_banks(self):
+        """A bank of each algorithm, alone and with others."""
+        self.must("an endorsement key", "tpm2_createek", "-c", "ek.ctx", "-G", "ecc")
+        made = ("-G", "ecc", "-g", "sha256", "-s", "ecdsa", "-u", "AK.pem", "-f", "pem")
+        self.must("a key", "tpm2_createak", "-C", "ek.ctx", "-c", "AK.ctx", *made)
+        banked, key = self.banked(ENTRIES), self.home / "AK.pem"
+
+        def attested(selection, require, **changes):
+            given = self.quoted(selection, "banks", handle=self.home / "AK.ctx", scheme="ecdsa")
+            return self.attest(Evidence(nonce=self.nonce, key=key, require=require, **given, **banked), **changes)
+
+        for bank in ("sha256", "sha384", "sha512"):
+            self.check_match(f"a quote of {bank} alone", attested(f"{bank}:{LOWEST},10", f"{bank}:0-10"), LOW.replace("sha256", bank))
+        low = LOW.replace("sha256", "sha1")
+        self.check_match("a quote of sha1 alone, as is asked for", attested(f"sha1:{LOWEST},10", "sha1:0-10", sha1=True), low)
+        self.check_refused("a quote of sha1 alone", attested(f"sha1:{LOWEST},10", "sha1:0-10"), 64, "of SHA-1 alone only with --sha1")
+        ended = attested(f"sha256:{LOWEST}+sha384:10", "sha256:0-9,sha384:10")
+        self.check_match("registers of two banks", ended, f"quoted sha256 {LOWEST.replace(',', ' ')}")
+        ended = attested(f"sha512:{LOWEST},10+sha256:{LOWEST},10", "sha256:0-10,sha512:0-10")
+        self.check_match("banks in another order", ended, LOW.replace("sha256", "sha512"))
+        every = "+".join(f"{bank}:all" for bank in ("sha1", "sha256", "sha384", "sha512"))
+        every_register = f"quoted sha1 {' '.join(map(str, range(24)))}"
+        self.check_match("all registers", attested(every, "sha256:0-23,sha1:0-23,sha384:0-10"), every_register)
+        self.check_fault("a required bank that is not quoted", attested(f"sha384:{LOWEST},10", "sha256:0-10"), 12)
+        ended = attested(f"sha256:{LOWEST}+sha384:{LOWEST},10", "sha256:0-10")
+        self.check_fault("a required register that is quoted in another bank", ended, 12)
+        self.check_fault("a bank in two parts", attested(f"sha384:{LOWEST}+sha256:10+sha384:10", "sha384:0-10"), 5)

@@ -1,4 +1,4 @@
-/* Holds the library to what ima_verify.h promises of wrong calls, room, faults, requirements, quotes, pieces and the stack.
+/* Holds the library to what ima_verify.h promises of wrong calls, room, faults, requirements, quotes, sessions by them, pieces and the stack.
  *
  *     header LOG LIST EXPECTED PRINTED MESSAGE NONCE [STACK]
  *
@@ -18,7 +18,6 @@
 
 enum {
     ROOM = 1 << 16,
-    LONGEST_CHECKPOINT = 20000,
     FILL = 0xa7,
     STACK = 512 * 1024,
     GUARD = 1 << 24,
@@ -74,14 +73,23 @@ static enum ima_verify_result call_more(const struct given *given, enum ima_veri
     return ima_verify_more(&given->evidence, given->state, given->prefix, form, to_next, to);
 }
 
-static enum ima_verify_result call_attest(const struct given *given, enum ima_verify_form form) {
+static struct ima_verify_quoted quoted_of(const struct given *given) {
     const struct ima_verify_evidence *evidence = &given->evidence;
-    struct ima_verify_quoted quoted = {
+    return (struct ima_verify_quoted){
         .log = evidence->log,         .list = evidence->list,       .message = given->message,
         .nonce = given->nonce,        .require = evidence->require, .takes_sha1 = given->takes_sha1,
         .signature_checked = given->signature_checked,
     };
+}
+
+static enum ima_verify_result call_attest(const struct given *given, enum ima_verify_form form) {
+    struct ima_verify_quoted quoted = quoted_of(given);
     return ima_verify_attest(&quoted, form, to);
+}
+
+static enum ima_verify_result call_attest_more(const struct given *given, enum ima_verify_form form) {
+    struct ima_verify_quoted quoted = quoted_of(given);
+    return ima_verify_attest_more(&quoted, given->state, given->prefix, form, to_next, to);
 }
 
 static enum ima_verify_result call_expected(const struct given *given, enum ima_verify_form form) {
@@ -127,14 +135,20 @@ static const struct function {
     {"replay", call_replay, ALL},
     {"more", call_more, ALL | OF_STATE},
     {"attest", call_attest, OF_LOG | OF_LIST | OF_REQUIRE | OF_MESSAGE | OF_NONCE},
+    {"attest_more", call_attest_more, OF_LOG | OF_LIST | OF_REQUIRE | OF_STATE | OF_MESSAGE | OF_NONCE},
     {"expected", call_expected, OF_PRINTED | OF_REGISTERS},
     {"registers", call_registers, OF_LOG},
     {"entries", call_entries, OF_LIST},
     {"events", call_events, OF_LOG},
 };
 enum { FUNCTIONS = sizeof functions / sizeof functions[0] };
-static const struct function *const more = &functions[3], *const attest = &functions[4], *const expecting = &functions[5];
-static const struct function *const registers = &functions[6], *const entries = &functions[7], *const events = &functions[8];
+static const struct function *const more = &functions[3], *const attest = &functions[4], *const attest_more = &functions[5];
+static const struct function *const expecting = &functions[6], *const registers = &functions[7];
+static const struct function *const entries = &functions[8], *const events = &functions[9];
+
+static bool gives_checkpoint(const struct function *function) {
+    return function == more || function == attest_more;
+}
 
 static struct ima_verify_bytes *input(struct given *given, int number) {
     struct ima_verify_bytes *inputs[INPUTS] = {
@@ -235,12 +249,15 @@ static void check_wrong_outputs(const struct given *sample) {
         result = function->call(sample, IMA_VERIFY_TEXT);
         check(result == IMA_VERIFY_TOO_SHORT && out.size > 0, function->name, "no room at NULL");
     }
-    to_next = NULL;
-    check_misused(ask(more, sample, IMA_VERIFY_TEXT, ROOM), "more", "no output for a checkpoint");
-    to_next = &next;
-    prepare(sample, ROOM);
-    next.data = NULL;
-    check_misused(more->call(sample, IMA_VERIFY_TEXT), "more", "a checkpoint with room at NULL");
+    for (int i = 0; i < 2; i++) {
+        const struct function *function = i ? attest_more : more;
+        to_next = NULL;
+        check_misused(ask(function, sample, IMA_VERIFY_TEXT, ROOM), function->name, "no output for a checkpoint");
+        to_next = &next;
+        prepare(sample, ROOM);
+        next.data = NULL;
+        check_misused(function->call(sample, IMA_VERIFY_TEXT), function->name, "a checkpoint with room at NULL");
+    }
     at = NULL;
     check_misused(ask(entries, sample, IMA_VERIFY_TEXT, ROOM), "entries", "no position");
     check_misused(ask(events, sample, IMA_VERIFY_TEXT, ROOM), "events", "no position");
@@ -251,6 +268,7 @@ static void check_wrong_outputs(const struct given *sample) {
     check_misused(ima_verify_replay(NULL, IMA_VERIFY_TEXT, to), "replay", "no evidence");
     check_misused(ima_verify_more(NULL, sample->state, false, IMA_VERIFY_TEXT, to_next, to), "more", "no evidence");
     check_misused(ima_verify_attest(NULL, IMA_VERIFY_TEXT, to), "attest", "no evidence");
+    check_misused(ima_verify_attest_more(NULL, sample->state, false, IMA_VERIFY_TEXT, to_next, to), "attest_more", "no evidence");
 }
 
 /* With too little room nothing is written, and with what the call asks for there is enough. */
@@ -264,26 +282,27 @@ static void check_rooms(const struct given *sample) {
         check(position.offset == 0 && position.number == 0, function->name, "the position after no room");
         ask(function, sample, form, size - 1);
         check(result == IMA_VERIFY_TOO_SHORT && is_left() && has_no_fault() && out.size == size, function->name, "a byte too few");
-        if (function == more) {
-            check(next_size > 0 && next_size < LONGEST_CHECKPOINT, "more", "the size of a checkpoint");
+        if (gives_checkpoint(function)) {
+            check(next_size > 0 && next_size < IMA_VERIFY_CHECKPOINT_ROOM, function->name, "the size of a checkpoint");
             size = size > next_size ? size : next_size;
         }
         ask(function, sample, form, size);
         check(result <= IMA_VERIFY_DIFFERS || result == IMA_VERIFY_MORE, function->name, "enough room");
-        check(is_filled(text, out.size) && is_filled(checkpoint, function == more ? next.size : 0), function->name, "after the text");
+        check(is_filled(text, out.size) && is_filled(checkpoint, gives_checkpoint(function) ? next.size : 0), function->name, "after the text");
         check(has_no_fault(), function->name, "no fault");
     }
     /* (one output of two) */
-    ask(more, sample, IMA_VERIFY_TEXT, ROOM);
-    size_t size = out.size, next_size = next.size;
-    for (int which = 0; which < 2; which++) {
+    for (int which = 0; which < 4; which++) {
+        const struct function *function = which & 2 ? attest_more : more;
+        ask(function, sample, IMA_VERIFY_TEXT, ROOM);
+        size_t size = out.size, next_size = next.size;
         memset(text, FILL, sizeof text);
         memset(checkpoint, FILL, sizeof checkpoint);
-        out.room = which ? ROOM : size - 1;
-        next.room = which ? next_size - 1 : ROOM;
-        result = call_more(sample, IMA_VERIFY_TEXT);
+        out.room = which & 1 ? ROOM : size - 1;
+        next.room = which & 1 ? next_size - 1 : ROOM;
+        result = function->call(sample, IMA_VERIFY_TEXT);
         bool is_told = out.size == size && next.size == next_size;
-        check(result == IMA_VERIFY_TOO_SHORT && is_left() && is_told, "more", "one output that is too short");
+        check(result == IMA_VERIFY_TOO_SHORT && is_left() && is_told, function->name, "one output that is too short");
     }
 }
 
@@ -291,7 +310,7 @@ static void check_refusal(const struct function *function, const struct given *g
                           uint64_t place) {
     ask(function, given, IMA_VERIFY_TEXT, ROOM);
     check(result == IMA_VERIFY_REFUSED && is_text(line) && is_fault(kind, number, place), function->name, line);
-    check(is_filled(checkpoint, 0) && (function != more || next.size == 0), function->name, "no checkpoint");
+    check(is_filled(checkpoint, 0) && (!gives_checkpoint(function) || next.size == 0), function->name, "no checkpoint");
     ask(function, given, IMA_VERIFY_JSON, ROOM);
     bool is_json = out.size > 10 && memcmp(text, "{\"fault\":{", 10) == 0 && text[out.size - 1] == '\n';
     check(result == IMA_VERIFY_REFUSED && is_json && is_fault(kind, number, place), function->name, "a fault as JSON");
@@ -454,6 +473,84 @@ static void check_quote(const struct given *sample) {
     check_quoted(WITH(message, ((struct ima_verify_bytes){changed, message.size})), false, false, "another digest");
 }
 
+/* Asks for a checkpoint, and copies it. */
+static struct ima_verify_bytes saved_by(const struct function *function, const struct given *given, uint8_t *room, const char *what) {
+    ask(function, given, IMA_VERIFY_TEXT, ROOM);
+    check(result == IMA_VERIFY_DONE && next.size > 0 && has_no_fault(), function->name, what);
+    memcpy(room, checkpoint, next.size);
+    return (struct ima_verify_bytes){room, next.size};
+}
+
+static bool has_checkpoint(struct ima_verify_bytes wanted) {
+    return next.size == wanted.size && memcmp(checkpoint, wanted.data, wanted.size) == 0;
+}
+
+/* Sessions by a quote go on from what a quote confirmed, in its boot, and from nothing else. */
+static void check_quoted_sessions(const struct given *sample) {
+    enum { LAST = 95, RESETS = 8, RESTARTS = 12 };
+    static const uint8_t event[50] = {9, 0, 0, 0, 13, 0, 0, 0, 1, 0, 0, 0, 0x0b};
+    static uint8_t quoted[ROOM], compared[ROOM], front[ROOM], changed[ROOM], longer[ROOM];
+    const char *other = "refused: checkpoint fault 4\n";
+    struct ima_verify_bytes list = sample->evidence.list, log = sample->evidence.log, message = sample->message, none = {NULL, 0};
+    struct given given;
+
+    struct ima_verify_bytes by_quote = saved_by(attest_more, sample, quoted, "the sample");
+    size_t size = out.size;
+    memcpy(changed, text, size);
+    ask(attest, sample, IMA_VERIFY_TEXT, ROOM);
+    check(out.size == size && memcmp(text, changed, size) == 0, "attest", "as attest_more without a checkpoint");
+    ask(attest_more, WITH(signature_checked, false), IMA_VERIFY_TEXT, ROOM);
+    check(result == IMA_VERIFY_DIFFERS && next.size == 0, "attest_more", "no checkpoint without a signature");
+
+    given = *sample;
+    given.state = by_quote;
+    given.evidence.list = none;
+    ask(attest_more, &given, IMA_VERIFY_TEXT, ROOM);
+    check(result == IMA_VERIFY_DONE && has_checkpoint(by_quote) && has_line("\nentries 99\n"), "attest_more", "nothing follows");
+    given.prefix = true;
+    memcpy(longer, list.data, list.size);
+    memcpy(longer + list.size, list.data + list.size - LAST, LAST);
+    given.evidence.list = (struct ima_verify_bytes){longer + list.size, LAST};
+    ask(attest_more, &given, IMA_VERIFY_TEXT, ROOM);
+    bool is_told = has_line("\nconfirmed 99 of 100 entries\n");
+    check(result == IMA_VERIFY_DONE && has_checkpoint(by_quote) && is_told, "attest_more", "an entry that is not quoted follows");
+    given.prefix = false;
+    ask(attest_more, &given, IMA_VERIFY_TEXT, ROOM);
+    check(result == IMA_VERIFY_DIFFERS && next.size == 0 && has_line("\nentries 100\n"), "attest_more", "the whole of a list that went on");
+    given = *sample;
+    given.prefix = true;
+    given.evidence.list = (struct ima_verify_bytes){longer, list.size + LAST};
+    check(saved_by(attest_more, &given, front, "a front").size == by_quote.size && has_checkpoint(by_quote), "attest_more", "a front");
+
+    /* (expected registers tell no boot) */
+    struct ima_verify_bytes by_registers = saved_by(more, sample, compared, "the sample");
+    given = *sample;
+    given.evidence.list = none;
+    given.state = by_registers;
+    check_refusal(attest_more, &given, other, IMA_VERIFY_CHECKPOINT, 4, IMA_VERIFY_NO_PLACE);
+    given.state = by_quote;
+    ask(more, &given, IMA_VERIFY_TEXT, ROOM);
+    check(result == IMA_VERIFY_DONE && has_checkpoint(by_registers), "more", "from what a quote confirmed");
+
+    /* (the message has the clock's eight bytes and then the counts, after the header, the signer and the nonce) */
+    size_t clock = 6 + 2 + (size_t)message.data[7] + 2 + sample->nonce.size;
+    for (size_t count = RESETS; count <= RESTARTS; count += RESTARTS - RESETS) {
+        memcpy(changed, message.data, message.size);
+        changed[clock + count + 3] ^= 1;
+        given.message = (struct ima_verify_bytes){changed, message.size};
+        check_refusal(attest_more, &given, other, IMA_VERIFY_CHECKPOINT, 4, IMA_VERIFY_NO_PLACE);
+    }
+    given.message = message;
+    memcpy(longer, log.data, log.size);
+    memcpy(longer + log.size, event, sizeof event);
+    given.evidence.log = (struct ima_verify_bytes){longer, log.size + sizeof event};
+    check_refusal(attest_more, &given, "refused: checkpoint fault 3\n", IMA_VERIFY_CHECKPOINT, 3, IMA_VERIFY_NO_PLACE);
+    given.state.size--;
+    check_refusal(attest_more, &given, "refused: checkpoint fault 1\n", IMA_VERIFY_CHECKPOINT, 1, IMA_VERIFY_NO_PLACE);
+    given.message = none;
+    check_refusal(attest_more, &given, "refused: quote fault 1\n", IMA_VERIFY_QUOTE, 1, IMA_VERIFY_NO_PLACE);
+}
+
 /* The line of register 10, which the sample's list alone extends. */
 static struct ima_verify_bytes tenth_of(struct ima_verify_bytes expected) {
     const uint8_t *line = memmem(expected.data, expected.size, "sha256 10 ", 10), *next = line;
@@ -505,7 +602,7 @@ static void check_strays(const struct given *sample) {
 /* Lines one by one, and all at once; and there is nothing after the last. */
 static void check_pieces(const struct given *sample) {
     static uint8_t whole[ROOM];
-    for (int i = 7 * 2; i < FUNCTIONS * 2; i++) {
+    for (int i = 8 * 2; i < FUNCTIONS * 2; i++) {
         const struct function *function = &functions[i / 2];
         enum ima_verify_form form = i % 2 ? IMA_VERIFY_JSON : IMA_VERIFY_TEXT;
         struct given given = *sample;
@@ -594,7 +691,7 @@ static void check_deep(const struct function *function, const struct given *give
 }
 
 static void check_stack(const struct given *sample, size_t stack) {
-    static uint8_t front[ROOM], state[ROOM];
+    static uint8_t front[ROOM], state[ROOM], quoted[ROOM];
     struct given given;
     struct sigaction action = {.sa_handler = overflowed, .sa_flags = SA_ONSTACK};
     sigaction(SIGSEGV, &action, NULL);
@@ -602,6 +699,7 @@ static void check_stack(const struct given *sample, size_t stack) {
     ask(more, sample, IMA_VERIFY_TEXT, ROOM);
     memcpy(state, checkpoint, next.size);
     struct ima_verify_bytes saved = {state, next.size}, list = sample->evidence.list;
+    struct ima_verify_bytes by_quote = saved_by(attest_more, sample, quoted, "the sample");
     memcpy(front, list.data, list.size);
     front[list.size - 20] ^= 1;
     for (int i = 0; i < FUNCTIONS * 2; i++) {
@@ -622,6 +720,9 @@ static void check_stack(const struct given *sample, size_t stack) {
         given.evidence.list = i & 2 ? (struct ima_verify_bytes){list.data + list.size - 95, 95} : ima_verify_text("");
         check_deep(more, &given, IMA_VERIFY_TEXT, stack, "with a checkpoint");
         check_deep(more, &given, IMA_VERIFY_JSON, stack, "with a checkpoint");
+        given.state = by_quote;
+        check_deep(attest_more, &given, IMA_VERIFY_TEXT, stack, "with a checkpoint");
+        check_deep(attest_more, &given, IMA_VERIFY_JSON, stack, "with a checkpoint");
     }
     check(deepest > 0 && deepest < stack, its_name, "the stack");
     printf("%zu bytes of stack at most: %s\n", deepest, its_name);
@@ -671,6 +772,7 @@ int main(int count, char **words) {
     check_strays(&sample);
     check_quote_refusals(&sample);
     check_quote(&sample);
+    check_quoted_sessions(&sample);
     check_pieces(&sample);
     fflush(stdout);
     check_stack(&sample, count > 7 ? strtoul(words[7], NULL, 10) : STACK);

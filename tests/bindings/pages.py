@@ -10,7 +10,7 @@ from reference.log import Event, Log
 from reference.measurement_list import IMA_NG, VIOLATION, Entry, entry_of, list_spelling
 from reference.registers import SHA1, SHA256
 
-SAMPLE = ROOT / "samples/real-boot"
+SAMPLE, QUOTED = ROOT / "samples/real-boot", ROOT / "samples/quoted"
 FILES = "firmware.log", "ima.list", "expected.txt"
 
 # What `sha256sum` may print of a path, after which no line starts.
@@ -38,16 +38,73 @@ PCR 9 has its value after event 22, EV_EVENT_TAG
 """
 
 
-def page_of(language):
-    """The program of a language's page, and after it the function of a list that grows. (Python's page has one more, of a quote.)"""
+# The first example of Go's page is a function, which this calls with the files that the other pages' programs read.
+GO_CALL = """package main
+
+import (
+	"fmt"
+	"log"
+	"os"
+
+	"imaverify"
+)
+
+func main() {
+	var files [][]byte
+	for _, name := range []string{"firmware.log", "ima.list", "quote.msg", "quote.sig", "AK.pem", "nonce"} {
+		data, err := os.ReadFile(name)
+		if err != nil {
+			log.Fatal(err)
+		}
+		files = append(files, data)
+	}
+	verdict, err := attested(files[0], files[1], files[2], files[3], files[4], files[5])
+	if err != nil {
+		log.Fatal(err)
+	}
+	fmt.Println(map[bool]string{true: "match", false: "differ"}[verdict.Matches], verdict.Entries)
+}
+
+"""
+
+
+def examples_of(language):
+    """The examples of a language's page, in their order."""
     page = (ROOT / "bindings" / language / "README.md").read_text()
-    program, function, *_ = re.findall(rf"^```{language}(?:,no_run)?\n(.*?)^```", page, re.MULTILINE | re.DOTALL)
+    return re.findall(rf"^```{language}(?:,no_run)?\n(.*?)^```", page, re.MULTILINE | re.DOTALL)
+
+
+def page_of(language):
+    """The second example of a language's page, a program, and after it the third, the function of a list that grows."""
+    _, program, function = examples_of(language)
     return f"{program}\n{function}"
 
 
-def quote_example():
-    """The function of a quote that Python's page has."""
-    return re.findall(r"^```python\n(.*?)^```", (ROOT / "bindings/python/README.md").read_text(), re.MULTILINE | re.DOTALL)[2]
+def quote_page_of(language):
+    """The first example of a language's page, of a quote, as a program."""
+    return (GO_CALL if language == "go" else "") + examples_of(language)[0]
+
+
+def quote_inputs(folder):
+    """Folders with what the programs of a quote read, each with what they must print: a line, or as a pattern a part of an error."""
+    files = {name: (QUOTED / name).read_bytes() for name in ("quote.msg", "quote.sig", "AK.pem")}
+    files |= {name: (SAMPLE / name).read_bytes() for name in FILES[:2]}
+    files["quote.sig"] = files["quote.sig"][6:]  # (the plain form of this TPMT_SIGNATURE)
+    files["nonce"] = bytes.fromhex((QUOTED / "nonce").read_text())
+    message, unsigned = files["quote.msg"], "the signature is not by this key and on this message|^Error: Signature$"  # (Rust prints its name)
+    for name, changes, wanted in (
+        ("a boot", {}, "match 99\n"),
+        ("a shorter list", {"ima.list": files["ima.list"][:-95]}, "differ 98\n"),
+        ("another nonce", {"nonce": bytes(20)}, "refused: quote fault 11"),
+        ("another message", {"quote.msg": message[:-1] + bytes([message[-1] ^ 1])}, unsigned),
+        ("a TPMT_SIGNATURE", {"quote.sig": (QUOTED / "quote.sig").read_bytes()}, unsigned),
+        ("no signature", {"quote.sig": b""}, unsigned),
+        ("no key", {"AK.pem": message}, "not the PEM of a public key"),
+    ):
+        (folder / name).mkdir(parents=True)
+        for file, data in {**files, **changes}.items():
+            (folder / name / file).write_bytes(data)
+        yield folder / name, wanted
 
 
 def page_inputs(folder):

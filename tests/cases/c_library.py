@@ -13,8 +13,9 @@ from typing import NamedTuple, Optional
 
 from form import ROOT
 
-sys.path.insert(1, str(ROOT / "dist"))
+sys.path[1:1] = [str(ROOT / "dist"), str(ROOT / "tests")]
 from header import constants_of, exports_of  # noqa: E402
+from reference.command_line import is_hexadecimal  # noqa: E402
 
 # What the program takes; the library takes more.
 MOST_BYTES = 64 << 20
@@ -36,7 +37,11 @@ NONE_REQUIRED = "none"
 # Those that take a text of their command's option each time, and which if there is none.
 TEXTS = {"verdict": NONE_REQUIRED, "locate": NONE_REQUIRED, "replay": NONE_REQUIRED, "expected": ""}
 # What `verify` of a list that grows has, of which `ima_verify_more` answers.
-MORE_OPTIONS = ("--require", "--resume", "--save")
+MORE_OPTIONS, MORE_FLAGS = ("--require", "--resume", "--save"), ("--json", "--prefix")
+# What `attest` has beside it, of which `ima_verify_attest_more` answers.
+QUOTED_OPTIONS, QUOTED_FLAGS = ("--nonce", *MORE_OPTIONS), ("--sha1", "--signature-checked", *MORE_FLAGS)
+# The status of the program where the quote is refused, or nobody says that its signature was checked. The library has none of its own for these.
+NOT_ATTESTED = 4
 ROOM = 16 * 1024
 # The rooms of pieces, of which the first has none for a line: then single lines are asked for. It is for inputs of so many bytes alone.
 ROOMS, SMALL_BYTES = (1, 4096, 1 << 20), 32 * 1024
@@ -45,8 +50,8 @@ CHECKPOINT_ROOM = 20000
 FILL = b"\xa7"
 
 CONSTANTS = {name.removeprefix("IMA_VERIFY_"): int(number) for name, number in constants_of(ROOT).items()}
-DONE, REFUSED, OUT_OF_MEMORY, TOO_SHORT, MORE = (
-    CONSTANTS[name] for name in ("DONE", "REFUSED", "OUT_OF_MEMORY", "TOO_SHORT", "MORE")
+DONE, DIFFERS, REFUSED, OUT_OF_MEMORY, TOO_SHORT, MORE = (
+    CONSTANTS[name] for name in ("DONE", "DIFFERS", "REFUSED", "OUT_OF_MEMORY", "TOO_SHORT", "MORE")
 )
 NO_FAULT, NO_PLACE = (CONSTANTS["NO_FAULT"], 0, (1 << 64) - 1), (1 << 64) - 1
 KINDS = {"command line": "ARGUMENT", **{name.lower(): name for name in ("LOG", "LIST", "REPLAY", "EXPECTED", "CHECKPOINT", "QUOTE")}}
@@ -90,15 +95,17 @@ class Library:
     def takes(self, words, folder, most_bytes=MOST_BYTES):
         """Whether there is a function for a command, and it is given files of at most so many bytes, texts of options and nothing else; and
         a file that it saves can be written."""
-        call = more_of(words) or call_of(words)
+        call = more_of(words) or by_quote_of(words) or call_of(words)
         if call is None or not all(is_input(file, folder, most_bytes) for file in call.inputs()):
             return False
-        return not isinstance(call, More) or call.save is None or is_writable(call.save, folder)
+        return isinstance(call, Call) or call.save is None or is_writable(call.save, folder)
 
     def answer(self, words, folder):
         """What the function for a command answers. The checkpoint that the command saves is written as there."""
         try:
-            more = more_of(words)
+            more, by_quote = more_of(words), by_quote_of(words)
+            if by_quote:
+                return self.answer_by_quote(by_quote, folder)
             return self.answer_more(more, folder) if more else self.answer_to(call_of(words), folder)
         except Unlike as cause:
             return None, f"not answered: {cause}".encode()
@@ -109,11 +116,28 @@ class Library:
             return self.answer_by_pieces(call, inputs[0])
         flags = [call.is_of_list] if call.function == "registers" else []
         texts = [] if call.text is None else [encoded(call.text)]
+        return self.ask_with_room(call.function, [*inputs, *texts], [*flags, call.is_json])[:2]
+
+    def answer_by_quote(self, call, folder):
+        log, listed, message = ((folder / file).read_bytes() for file in call.files)
+        inputs = [log, call.state(folder), listed, message, call.nonce, call.require]
+        status, text, checkpoint = self.ask_by_quote(inputs, call.takes_sha1, call.is_signed, call.prefix, call.is_json)
+        call.keep(status, checkpoint, folder)
+        return status, text
+
+    def ask_by_quote(self, inputs, takes_sha1, is_signed, prefix, is_json):
+        """What the function for a quote gives: the status that the program has, the text, and the checkpoint."""
+        status, text, told, checkpoint = self.ask_more("attest", inputs, [takes_sha1, is_signed, prefix, is_json])
+        is_unsigned = status == DIFFERS and not is_signed
+        return NOT_ATTESTED if is_unsigned or told.kind == CONSTANTS["QUOTE"] else status, text, checkpoint
+
+    def ask_with_room(self, function, inputs, between):
+        """The status, the text, and what else is told, of a call, which is made again if there was too little room."""
         room = ROOM
         while True:
-            status, text, told = self.ask(call.function, [*inputs, *texts], [*flags, call.is_json], room)
+            status, text, told = self.ask(function, inputs, between, room)
             if status != TOO_SHORT:
-                return status, text
+                return status, text, told
             room = told.size
 
     def ask(self, function, inputs, between, room):
@@ -172,30 +196,24 @@ class Library:
 
     def answer_more(self, more, folder):
         log, listed, expected = ((folder / file).read_bytes() for file in more.files)
-        state = (folder / more.resume).read_bytes() if more.resume is not None else b""
-        if more.resume is not None and not state:
-            # (no bytes are no checkpoint for the command, and for the function the list's beginning)
-            state = b"\n"
-        status, text, checkpoint = self.ask_more([log, state, listed, expected, more.require], [more.prefix, more.is_json])
-        if (status == DONE) != bool(checkpoint):
-            raise Unlike(f"status {status} and a checkpoint of {len(checkpoint)} bytes")
-        if more.save is not None and checkpoint:
-            (folder / more.save).write_bytes(checkpoint)
+        inputs = [log, more.state(folder), listed, expected, more.require]
+        status, text, _, checkpoint = self.ask_more("more", inputs, [more.prefix, more.is_json])
+        more.keep(status, checkpoint, folder)
         return status, text
 
-    def ask_more(self, inputs, flags):
-        """The status, the text and the checkpoint; asked once more if there was too little room, which must leave the buffers as they were. What
-        follows the checkpoint must stay as it was, too."""
+    def ask_more(self, function, inputs, flags):
+        """The status, the text, what else is told and the checkpoint of a function that gives one; asked once more if there was too little room,
+        which must leave the buffers as they were. What follows the checkpoint must stay as it was, too."""
         room, next_room = ROOM, CHECKPOINT_ROOM // 4
         while True:
             out, following = (ctypes.create_string_buffer(FILL * size, size) for size in (room, next_room))
             told, next_size = Told(), ctypes.c_size_t()
             words = [*pairs(inputs), *flags, following, next_room, ctypes.byref(next_size), out, room, ctypes.byref(told)]
-            status = self.functions["more"](*words)
+            status = self.functions[function](*words)
             if status != TOO_SHORT:
                 if following.raw[next_size.value :].strip(FILL):
                     raise Unlike("more than the checkpoint is written")
-                return *self.looked_at(status, out, room, told)[:2], following.raw[: next_size.value]
+                return *self.looked_at(status, out, room, told), following.raw[: next_size.value]
             if (out.raw + following.raw).strip(FILL) or (told.size <= room and next_size.value <= next_room) or told.fault != NO_FAULT:
                 raise Unlike("too short")
             room, next_room = max(room, told.size), max(next_room, next_size.value)
@@ -260,23 +278,65 @@ class More:
     def inputs(self):
         return self.files + ([] if self.resume is None else [self.resume])
 
+    def state(self, folder):
+        """The checkpoint to go on from. (No bytes are no checkpoint for the command, and for the function the list's beginning.)"""
+        return b"" if self.resume is None else (folder / self.resume).read_bytes() or b"\n"
+
+    def keep(self, status, checkpoint, folder):
+        """Saves a checkpoint as the command does. There is one with a match, and only then."""
+        if (status == DONE) != bool(checkpoint):
+            raise Unlike(f"status {status} and a checkpoint of {len(checkpoint)} bytes")
+        if self.save is not None and checkpoint:
+            (folder / self.save).write_bytes(checkpoint)
+
+
+@dataclass(frozen=True)
+class ByQuote(More):
+    """A call of the function for a quote: with a message in place of expected registers, the nonce, whether a register may be in the SHA-1 bank
+    alone, and whether the signature was checked."""
+
+    nonce: bytes
+    takes_sha1: bool
+    is_signed: bool
+
+
+def given_in(words, options, flag_names):
+    """Of words after a command the files, the values of these options and these flags; or None if they are not three files, or one of the
+    others has no value or comes twice."""
+    files, values, flags, rest = [], {}, [], iter(words)
+    for word in rest:
+        option, has_value, value = word.partition("=")
+        if option in options and option not in values:
+            values[option] = value if has_value else next(rest, "")
+        elif word in flag_names:
+            flags.append(word)
+        else:
+            files.append(word)
+    is_form = len(files) == 3 and "" not in values.values() and len(set(flags)) == len(flags)
+    return (files, values, flags) if is_form else None
+
+
+def by_quote_of(words):
+    """The call that answers `attest` without EXPECTED, or None."""
+    name, *rest = words or [""]
+    given = given_in(rest, QUOTED_OPTIONS, QUOTED_FLAGS) if name == "attest" else None
+    if given is None or not {"--nonce", "--require"} <= set(given[1]) or not is_hexadecimal(given[1]["--nonce"]):
+        # (the library takes bytes as nonce)
+        return None
+    files, values, flags = given
+    more = (encoded(values["--require"]), "--prefix" in flags, values.get("--resume"), values.get("--save"), "--json" in flags)
+    return ByQuote(files, *more, bytes.fromhex(values["--nonce"]), "--sha1" in flags, "--signature-checked" in flags)
+
 
 def more_of(words):
     """The call that answers `verify` of a list that grows, or None."""
     name, *rest = words or [""]
-    files, values, flags, rest = [], {}, [], iter(rest)
-    for word in rest:
-        option, has_value, value = word.partition("=")
-        if option in MORE_OPTIONS and option not in values:
-            values[option] = value if has_value else next(rest, "")
-        elif word in ("--json", "--prefix"):
-            flags.append(word)
-        else:
-            files.append(word)
-    is_growing = "--prefix" in flags or "--resume" in values or "--save" in values
-    if name != "verify" or not is_growing or len(files) != 3 or "" in values.values() or len(set(flags)) < len(flags):
+    given = given_in(rest, MORE_OPTIONS, MORE_FLAGS) if name == "verify" else None
+    if given is None:
         return None
-    if values.get("--require") == NONE_REQUIRED:
+    files, values, flags = given
+    is_growing = "--prefix" in flags or "--resume" in values or "--save" in values
+    if not is_growing or values.get("--require") == NONE_REQUIRED:
         # (the command has no such word)
         return None
     require = encoded(values.get("--require", NONE_REQUIRED))

@@ -107,6 +107,9 @@ def commands(folder):
     for name, log in damaged_logs((folder / "firmware.log").read_bytes()):
         (folder / name).write_bytes(log)
     (folder / "forged").write_bytes((folder / "ima.list").read_bytes()[:-2] + b"v\0")
+    (folder / "longer").write_bytes((folder / "ima.list").read_bytes() + (folder / "forged").read_bytes()[11834:])
+    (folder / "crossed").write_bytes((folder / "ima.list").read_bytes() + b"\x0b" + (folder / "ima.list").read_bytes()[11835:])
+    (folder / "quote.msg").write_bytes((ROOT / "samples/quoted/quote.msg").read_bytes())
     (folder / "none").write_bytes(b"")
     (folder / "firmware's").write_bytes(b"".join((sample / "expected.txt").read_bytes().splitlines(True)[:10]))
     (folder / "few").write_text("sha256 10 " + "00" * 32 + "\nsha384 1 " + "11" * 48 + "\n")
@@ -122,6 +125,10 @@ def commands(folder):
     yield from (["verify", "--prefix", *evidence, "expected.txt"], ["verify", "--prefix", *evidence, "few"])
     yield from (["verify", "--prefix", "firmware.log", name, "firmware's"] for name in ("many", "forged", "cut"))
     yield from (["verify", "--prefix", *evidence, "none"], ["verify", "--save", "kept", *evidence, "none"])
+    quoted = ["attest", "--nonce", (ROOT / "samples/quoted/nonce").read_text().strip(), "--require", "sha256:0-10"]
+    yield from ([*quoted, *evidence, "quote.msg"], [*quoted, "--signature-checked", *evidence, "quote.msg"], [*quoted, *evidence, "none"])
+    yield from ([*quoted, "--signature-checked", "--prefix", "firmware.log", name, "quote.msg"] for name in ("many", "forged", "longer"))
+    yield from ([*quoted, "--signature-checked", log, "crossed", "quote.msg"] for log in ("firmware.log", "banks.log"))
     yield ["measure", "--workers", "1", "firmware.log", "many", "few", "ima.list"]
     yield ["measure", "--workers", "1", "--print", "registers", "firmware.log", "many"]
     yield from (["registers", "banks.log"], ["events", "banks.log"], ["verify", "--require", "sha512:0-23", "banks.log", "many", "few"])
@@ -162,11 +169,27 @@ def is_within(names, order):
     return all(name in rest for name in names)
 
 
+def rows_by_quote(value):
+    """The lines of the text that a report by a quote has."""
+    clock, verdict = value["clock"], value["verdict"]
+    rows = [f"quoted {row['bank']} {' '.join(map(str, row['registers']))}" for row in value["quoted"]]
+    rows += [f"signer {value['signer']}", f"clock {clock['milliseconds']} resets {clock['resets']} restarts {clock['restarts']} "
+             f"{'safe' if clock['safe'] else 'unsafe'}", f"firmware {value['firmware']}"]
+    rows += [f"events {value['events']} locality {value['locality']}", f"entries {value['entries']}"]
+    rows += [f"confirmed {value['confirmed']} of {value['entries']} entries"] if "confirmed" in value else []
+    rows += [value["unconfirmed"]["message"]] if "unconfirmed" in value else []
+    rows += [f"boot_aggregate {value['boot_aggregate']}"]
+    rows += [f"{word} {number} extends {register}" for (word, number), (_, register) in (row.items() for row in value.get("extends", []))]
+    return [*rows, f"quote {value['quote']}", f"verdict {verdict}" if value["signature"] == "checked" else verdict]
+
+
 def is_told(words, values, text):
     """Whether values tell what the text without `--json` does: as many entries and events, the same words of registers."""
     rows = text.decode(errors="surrogateescape").splitlines()
     if "fault" in values[-1]:
         return values[-1]["fault"]["message"] == rows[0]
+    if words[0] == "attest":
+        return rows_by_quote(values[0]) == rows
     if words[0] in ("registers", "expected") or words[0] == "replay" and "registers" in values[0] and "verdict" not in values[0]:
         return [f"{row['bank']} {row['register']} {row['value']}" for row in values[0]["registers"]] == rows
     if words[0] == "verify" or "verdict" in values[0]:

@@ -20,6 +20,7 @@ sys.path.insert(0, str(Path(__file__).resolve().parents[1]))
 import harness  # noqa: E402
 import reference  # noqa: E402
 from c_library import MOST_BYTES, Library  # noqa: E402
+from harness import ROOT  # noqa: E402
 from reference.log import Event, Log  # noqa: E402
 from reference.measurement_list import BOOT_AGGREGATE, IMA_NG, Entry, entry_of, list_spelling, list_text, replay  # noqa: E402
 from reference.registers import ALGORITHMS, SHA1, SHA256, Registers, register_line  # noqa: E402
@@ -103,6 +104,10 @@ replay(REGISTERS, ENTRIES)
 EXPECTED = "".join(register_line(*row) for row in REGISTERS.rows())
 PRINTED = pcrread_text(REGISTERS)
 NAMES = b"f\nL\n"
+# The message of the sample's quote, but of the registers after this log and list.
+SAMPLE = ROOT / "samples/quoted"
+QUOTE = (SAMPLE / "quote.msg").read_bytes()[: -SHA256.size] + SHA256.hash(b"".join(REGISTERS.value(SHA256, register) for register in range(11)))
+ATTEST = f"attest --nonce {(SAMPLE / 'nonce').read_text().strip()} --require sha256:0-10 --signature-checked"
 
 
 @dataclass(frozen=True)
@@ -119,12 +124,13 @@ class Input:
 INPUTS = (
     Input("log of one event", log_of_size, (
         "registers input", "events input", "events --data input", "verify input list expected", "locate input list expected",
-        "measure input f",
+        "measure input f", f"{ATTEST} input list quote",
     )),
     Input("list with a long payload", list_of_size, (
         "show input", "replay input", f"replay --require {REQUIRE} input expected", "verify L input expected",
-        "locate L input expected",
+        "locate L input expected", f"{ATTEST} L input quote", f"{ATTEST} --prefix L input quote",
     )),
+    Input("message that goes on after a quote", lambda size: QUOTE + bytes(size - len(QUOTE)), (f"{ATTEST} L list input",), QUOTE + b"\0"),
     Input("96 expected registers after empty lines", with_empty_lines(EXPECTED.encode()), (
         "verify L list input", f"verify --require {REQUIRE} L list input", "locate L list input", f"replay --require {REQUIRE} list input",
     ), EXPECTED.encode()),
@@ -215,7 +221,7 @@ class Limits(harness.TestCase):
         """Each input by each command, of sizes up to the limit and just above it; a longer one by one command alone, but by each function."""
         shorter = self.folder()
         for each in (self.room, shorter):
-            files = {"L": LOG.spelling(), "list": list_spelling(ENTRIES), "expected": EXPECTED.encode(), "f": b"abc"}
+            files = {"L": LOG.spelling(), "list": list_spelling(ENTRIES), "expected": EXPECTED.encode(), "f": b"abc", "quote": QUOTE}
             for name, data in files.items():
                 (each / name).write_bytes(data)
         for size in SIZES:

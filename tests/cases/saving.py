@@ -3,7 +3,7 @@
 
 tests/cases/saving.py [PROGRAM]: by default the program that was built in this tree.
 
-What `verify --save` leaves goes by docs/formats.md ('Going on from a checkpoint'). The checkpoint is that of tests/cases/shared.files, and only
+What `verify --save` leaves, and `attest --save`, goes by docs/formats.md ('Going on from a checkpoint'). The checkpoint is that of tests/cases/shared.files, and only
 its user can read it. A FILE that is no regular file is refused. Nothing else in the folder is changed."""
 
 import os
@@ -23,6 +23,9 @@ FILE, OTHER = "saved", b"another's\n"
 REPORT = b"events 1 locality 0\nentries 3\nboot_aggregate good\nsha256 10 match\nverdict match\n"
 EXPECTED = b"sha256 10 d54d476b0532a0a009e48de651cd01544e8d093d584ca3dbb93dd0f1b69b7cc4\n"
 DONE = (0, REPORT)
+NONCE = "00112233445566778899aabbccddeeff"
+STATED = b"quoted sha256 0 1 2 3 4 5 6 7 8 9 10\nsigner 000b%s\nclock 5120 resets 1 restarts 2 safe\nfirmware 7\n" % (b"5e" * 32)
+BY_QUOTE = STATED + b"events 1 locality 0\nentries 3\nboot_aggregate good\nquote match\n"
 
 
 def ended(process):
@@ -46,12 +49,12 @@ def beside(number):
 
 
 class Saving(harness.TestCase):
-    """Each test has a folder with a log, a list and an expected register, in which the program saves."""
+    """Each test has a folder with a log, a list, an expected register and a quote, in which the program saves."""
 
     def setUp(self):
         self.program, self.room, shared = harness.argument(), self.folder(), form.read_shared()
-        self.checkpoint = shared["checkpoint"]
-        for name, data in (("log", shared["log"]), ("list", shared["list"]), ("expected", EXPECTED)):
+        self.checkpoint, self.quoted_checkpoint = shared["checkpoint"], shared["quoted-checkpoint"]
+        for name, data in (("log", shared["log"]), ("list", shared["list"]), ("expected", EXPECTED), ("quote", shared["quote"])):
             self.lay(name, data)
 
     def lay(self, name, data=OTHER, mode=0o644):
@@ -60,8 +63,11 @@ class Saving(harness.TestCase):
 
     def begun(self, listed="list", file=FILE):
         """The program at work, which saves the checkpoint of a list. Its files may have any mode that it asks for."""
-        words = [self.program, "verify", "--save", file, "log", listed, "expected"]
-        return subprocess.Popen(words, cwd=self.room, env={}, stdin=subprocess.DEVNULL, stdout=subprocess.PIPE, stderr=subprocess.STDOUT, umask=0)
+        return self.started("verify", "--save", file, "log", listed, "expected")
+
+    def started(self, *words):
+        return subprocess.Popen([self.program, *words], cwd=self.room, env={}, stdin=subprocess.DEVNULL, stdout=subprocess.PIPE,
+                                stderr=subprocess.STDOUT, umask=0)
 
     def left(self):
         """What is in the folder, by its name."""
@@ -109,6 +115,14 @@ class Saving(harness.TestCase):
     def test_read_only_file(self):
         """a FILE that none may write"""
         self.replaces(0o444, 0o400)
+
+    def test_attest(self):
+        """`attest`, which saves where the signature is said to be checked, and else leaves FILE"""
+        self.lay(FILE, mode=0o644)
+        words = ["attest", "--nonce", NONCE, "--require", "sha256:0-10", "--save", FILE, "log", "list", "quote"]
+        self.wants((4, BY_QUOTE + b"signature not checked\n"), self.left(), self.started(*words))
+        left = {**self.left(), FILE: (stat.S_IFREG | 0o600, self.quoted_checkpoint, False)}
+        self.wants((0, BY_QUOTE + b"verdict match\n"), left, self.started(*words, "--signature-checked"))
 
     def test_names_taken(self):
         """names beside it are taken: by a file that anyone may read, by links, which are not followed, by a folder, and by LIST"""

@@ -29,9 +29,12 @@ sys.path.insert(0, str(Path(__file__).resolve().parents[1]))
 import form  # noqa: E402
 import harness  # noqa: E402
 from answers import Answer, fault_of  # noqa: E402
+from reference.attestations import NotAttested, require_asked_for  # noqa: E402
 from reference.command_line import read_words  # noqa: E402
 from reference.log import Log  # noqa: E402
+from reference.quotes import read_quote  # noqa: E402
 from reference.registers import SHA256  # noqa: E402
+from reference.texts import read_requirement  # noqa: E402
 
 PROGRAM = harness.argument()
 SECONDS = 180  # (beside the other parts of the gate)
@@ -47,6 +50,7 @@ ATTEMPTS = 5
 INPUTS = {
     "measure": ["log"],
     "verify": ["log", "list", "expected"],
+    "attest": ["log", "list", "quote", "expected"],
     "locate": ["log", "list", "expected"],
     "expected": ["expected"],
     "registers": ["log"],
@@ -56,12 +60,14 @@ INPUTS = {
 }
 
 # The sentences of docs/formats.md's tables of faults, by number; those of expected registers from 4 on name no line.
-LOG, LIST, REPLAY, EXPECTED, CHECKPOINT, BOOK = map(form.sentences_of, ("Log", "List", "Replay", "Expected", "Checkpoint", "Book"))
+LOG, LIST, REPLAY, EXPECTED, QUOTE, CHECKPOINT, BOOK = map(
+    form.sentences_of, ("Log", "List", "Replay", "Expected", "Quote", "Checkpoint", "Book"))
 
 # What clap says of wrong arguments, or the program in its form where clap takes them.
 MORE = "\nFor more information, try '--help'.\n"
-REQUIRE, REGISTERS = "--require <BANK:A-B[,BANK:C-D..]>", "--registers <A-B>"
+REQUIRE, REGISTERS, NONCE = "--require <BANK:A-B[,BANK:C-D..]>", "--registers <A-B>", "--nonce <HEX>"
 MALFORMED = "not of the form BANK:A-B[,BANK:C-D..]"
+UNBOUND = "register 10 is named of no bank, so nothing of the list would be required"
 USAGES = [
     (["nothing"], f"error: unrecognized subcommand 'nothing'\n\nUsage: ima-agent <COMMAND>\n{MORE}"),
     (["show"], f"error: the following required arguments were not provided:\n  <LIST>\n\nUsage: ima-agent show <LIST>\n{MORE}"),
@@ -74,9 +80,30 @@ USAGES = [
     (["verify", "--require", "sha256", "L", "M", "N"], f"error: invalid value 'sha256' for '{REQUIRE}': {MALFORMED}\n"),
     (["locate", "--require=\x9b2J", "L", "M", "N"], f"error: invalid value '\\xc2\\x9b2J' for '{REQUIRE}': {MALFORMED}\n"),
     (["replay", "--require", "sha256:9-8", "L", "M"], f"error: invalid value 'sha256:9-8' for '{REQUIRE}': {MALFORMED}\n"),
-    (["verify", "--require", "sha256:0-9", "L", "M", "N"],
-     f"error: invalid value 'sha256:0-9' for '{REQUIRE}': register 10 is named of no bank, so nothing of the list would be required\n"),
+    (["verify", "--require", "sha256:0-9", "L", "M", "N"], f"error: invalid value 'sha256:0-9' for '{REQUIRE}': {UNBOUND}\n"),
     (["expected", "--registers", "24", "L"], f"error: invalid value '24' for '{REGISTERS}'\n"),
+    *((["attest", "--nonce", nonce, "--require", "sha256:0-10", "L", "M", "Q"], f"error: invalid value '{shown}' for '{NONCE}': {cause}\n")
+      for nonce, shown, cause in (
+          ("xy", "xy", "it is not hexadecimal"),
+          ("000", "000", "it is not hexadecimal"),
+          ("\x1b[2J", r"\x1b[2J", "it is not hexadecimal"),
+          ("00", "00", "the nonce has fewer than 16 bytes"),
+          ("0" * 30, "0" * 30, "the nonce has fewer than 16 bytes"),
+      )),
+    (["attest", "--nonce", "00", "L", "M", "Q"],
+     f"error: the following required arguments were not provided:\n  {REQUIRE}\n\n"
+     f"Usage: ima-agent attest {NONCE} {REQUIRE} <LOG> <LIST> <QUOTE> [EXPECTED]\n{MORE}"),
+    (["attest", "--nonce", "00", "--require", "sha256", "L", "M", "Q"], f"error: invalid value 'sha256' for '{REQUIRE}': {MALFORMED}\n"),
+    (["attest", "--nonce", "xy", "--require", "sha256", "L", "M", "Q"], f"error: invalid value 'xy' for '{NONCE}': it is not hexadecimal\n"),
+    *((["attest", "--nonce", "0" * 32, "--require", text, "L", "M", "Q"], f"error: invalid value '{text}' for '{REQUIRE}': {cause}\n")
+      for text, cause in (
+          ("sha256", MALFORMED),
+          ("sha256:0-9", UNBOUND),
+          ("sha256:10", "register 0 is not required in any bank"),
+          ("sha256:0-2,sha384:4-10", "register 3 is not required in any bank"),
+          ("sha1:0-10", "register 0 is required in the SHA-1 bank alone"),
+          ("sha256:0-10,sha1:16", "register 16 is required in the SHA-1 bank alone"),
+      )),
 ]
 
 # Names with bytes that a terminal acts upon (C0, DEL, C1, and a mark that turns the writing), or that are not ASCII, as they are shown.
@@ -175,6 +202,8 @@ def fault_in_words(line, words, folder):
         return inputs["expected"], EXPECTED[int(found[1])]
     if found := re.fullmatch(r"refused: expected fault (\d+) at line (\d+)", line):
         return inputs["expected"], f"line {found[2]}: {EXPECTED[int(found[1])]}"
+    if found := re.fullmatch(r"refused: quote fault (\d+)", line):
+        return inputs["quote"], quote_sentence(int(found[1]), words, folder)
     if found := re.fullmatch(r"refused: checkpoint fault (\d+)", line):
         return inputs["checkpoint"], CHECKPOINT[int(found[1])]
     if found := re.fullmatch(r"refused: book fault (\d+)", line):
@@ -183,6 +212,19 @@ def fault_in_words(line, words, folder):
         job = int(found[1])
         return files[job] if job < len(files) else None, f"file {job} is refused: {BOOK[int(found[2])]}"
     raise ValueError(f"not the line of a fault: {line}")
+
+
+def quote_sentence(number, words, folder):
+    """The sentence of a fault of a quote. Of the last the table calls `R` what is told: the first register that is not selected."""
+    if number < max(QUOTE):
+        return QUOTE[number]
+    asked = read_words(words)
+    try:
+        require_asked_for(read_quote((folder / asked.names[2]).read_bytes()), bytes.fromhex(asked.values["--nonce"]),
+                          read_requirement(asked.values["--require"]))
+    except NotAttested as cause:
+        return QUOTE[number].replace(" R ", f" {cause.args[2]} ")
+    raise ValueError("each register is selected")
 
 
 def names_of(words):

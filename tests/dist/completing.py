@@ -92,11 +92,11 @@ def try_shell(shell, share, folder):
 
 def try_zsh(share, folder):
     said = zsh_specifications(share, folder, ["ima-agent", ""])
-    offered_first = {*(line for line in said if line in COMMANDS), *re.findall(r"^(?:\(.*\))?(-[a-z-]+)\[", "\n".join(said), re.MULTILINE)}
+    offered_first = {*(line for line in said if line in COMMANDS), *re.findall(r"^(?:\(.*\))?(-[a-z0-9-]+)\[", "\n".join(said), re.MULTILINE)}
     if offered_first != {*COMMANDS, *asked_of_program()}:
         yield f"zsh: offers {sorted(offered_first)} at first"
     for name, command in COMMANDS.items():
-        told = dict(re.match(r"(--[a-z-]+)=?\[.*\](?::[a-z-]+:(?:\((.*)\))?.*)?$", line).groups()
+        told = dict(re.match(r"(--[a-z0-9-]+)=?\[.*\](?::[a-z0-9-]+:(?:\((.*)\))?.*)?$", line).groups()
                     for line in zsh_specifications(share, folder, ["ima-agent", name, ""]) if line.startswith("--"))
         wanted = {option: " ".join(choices_of(row) or []) or None for option, row in command.options.items()}
         if told != wanted:

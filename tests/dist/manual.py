@@ -65,7 +65,7 @@ def options_in(items):
     options = {}
     for head, text in items:
         if head.startswith("Fl "):
-            names = re.findall(r"-([a-z][a-z-]*)", head)
+            names = re.findall(r"-([a-z][a-z0-9-]*)", head)
             options.update((name, (" Ar " in head, text)) for name in names)
     return options
 
@@ -94,7 +94,7 @@ def synopses(page):
             command = None
         elif command:
             options, arguments = uses[command]
-            options += re.findall(r"Fl -([a-z-]+)", line)
+            options += re.findall(r"Fl -([a-z0-9-]+)", line)
             if line.startswith((".Ar", ".Op Ar")):
                 arguments += line.split("Ar", 1)[1].split() or ["file"]
     return uses
@@ -156,7 +156,7 @@ def check_library():
 
 def check_usage(name, usage):
     """A page's options are those that a usage names."""
-    wanted = dict.fromkeys(re.findall(r"(?<![\w-])--([a-z][a-z-]*)", usage))
+    wanted = dict.fromkeys(re.findall(r"(?<![\w-])--([a-z][a-z0-9-]*)", usage))
     found = [option for option in options_in(Page(name).items("DESCRIPTION")) if len(option) > 1]
     yield from differences(name, list(wanted), found)
     if not wanted:

@@ -105,7 +105,7 @@ class Commands(harness.TestCase):
         return len(self.tree.builds.read_text().splitlines()) - before
 
     def test_answers(self):
-        for status in range(4):
+        for status in range(5):
             answer = self.tree.call(str(status), "a b", "*")
             self.check(f"status {status} and the arguments reach the caller", answer[:2], (status, f"<{status}>\n<a b>\n<*>\n"))
         self.check("the program that was built is run again", self.builds_for("again"), 0)
@@ -173,10 +173,11 @@ class Commands(harness.TestCase):
         def tried(*words, ended="run=ended status=0 runners=1"):
             return self.tree.call(*words, command="try", folder=folder, ENDED=ended)
 
-        for status in range(4):
+        for status in range(5):
             found = tried("show", ended=f"run=ended status={status} runners=1")
             self.check(f"try: status {status} reaches the caller", found[:2], (status, "<-->\n<show>\n"))
-        for ended in ("run=no-answer proved=no", "run=ended status=4 runners=1", "run=ended status=10 runners=1", "run=none", ""):
+        others = (f"run=ended status={status} runners=1" for status in (5, 10, 40))
+        for ended in ("run=no-answer proved=no", *others, "run=none", ""):
             self.check(f"try: no answer where the kit says {ended!r}", tried("show", ended=ended)[0], NOT_BUILT)
         given = f"<--data>\n<log={folder}/log>\n"
         self.check("try: a file of the caller's folder is given", tried("show", "log")[1], f"{given}<-->\n<show>\n<log>\n")

@@ -1,14 +1,16 @@
 #!/usr/bin/env python3
 """Compares what the library for C and `tests/reference/` answer on damaged inputs: each prefix of the sample's log, of its list and of the
-message of its quote, and each of the three with the lowest bit of one byte turned.
+message of its quote, and each of the three with the lowest bit of one byte turned; and 100,000 small boots that are changed at random.
 
 tests/faults/damaged.py [LIBRARY]: a libima_verify.so; without it `dist/library` makes one, which builds what is not up to date.
 
 The text of each input is compared, and its verdict; of a damaged list also the lines of the entries before the fault. Most of a log is data
-that no register depends on, so a log is judged with the first entry of the list alone. For each kind of input the script prints how many have
-which answer. It counts inputs."""
+that no register depends on, so a log is judged with the first entry of the list alone. The boots (boots.py) are judged by a quote: half of the
+messages are such as an honest TPM signs of the changed log and list. For each kind of input the script prints how many have which answer. It
+counts inputs."""
 
 import os
+import random
 import subprocess
 import sys
 from collections import Counter
@@ -16,6 +18,7 @@ from concurrent.futures import ProcessPoolExecutor
 from pathlib import Path
 
 sys.path[:0] = [str(Path(__file__).resolve().parents[1]), str(Path(__file__).resolve().parents[1] / "cases")]
+import boots  # noqa: E402
 import harness  # noqa: E402
 from c_library import Call, Library, Unlike  # noqa: E402
 from harness import ROOT  # noqa: E402
@@ -33,6 +36,7 @@ MESSAGE = (ROOT / "samples/quoted/quote.msg").read_bytes()
 NONCE = bytes.fromhex((ROOT / "samples/quoted/nonce").read_text())
 TENTH = next(line for line in (BOOT / "expected.txt").read_bytes().splitlines() if line.startswith(b"sha256 10 "))
 ROOM = 65536
+SEEDS, BOOTS_OF_A_SEED = 20, 5000
 
 
 def answer_of(decide):
@@ -72,7 +76,7 @@ KINDS = {
 }
 # What a function takes beside the inputs: a requirement, and its form.
 NOTHING_REQUIRED, AS_TEXT, OF_LOG = b"none", False, False
-SHA1_IS_NOT_TAKEN, IS_SIGNED = False, True
+NO_STATE, SHA1_IS_NOT_TAKEN, IS_SIGNED, OF_WHOLE = b"", False, True, False
 ENTRIES = Call("entries", [], None, AS_TEXT, False)
 DAMAGES = {
     "fronts": (lambda data: range(len(data) + 1), lambda data, place: data[:place]),
@@ -86,7 +90,8 @@ def library_answer(library, function, inputs):
         if function == "entries":
             return entries_answer(library, *inputs)
         if function == "attest":
-            return library.ask(function, inputs, [SHA1_IS_NOT_TAKEN, IS_SIGNED, AS_TEXT], ROOM)[:2]
+            log, *others = inputs
+            return library.ask_by_quote([log, NO_STATE, *others], SHA1_IS_NOT_TAKEN, IS_SIGNED, OF_WHOLE, AS_TEXT)[:2]
         if function == "registers":
             return library.ask(function, inputs, [OF_LOG, AS_TEXT], ROOM)[:2]
         return library.ask(function, [*inputs, NOTHING_REQUIRED], [AS_TEXT], ROOM)[:2]
@@ -123,15 +128,34 @@ def compared(file, kind, damage):
     return counts, wrong
 
 
+def compared_boots(file, seed):
+    """The same of boots that are changed at random, from this seed on."""
+    library, chance, counts, wrong = Library(file), random.Random(seed), Counter(), []
+    for place in range(BOOTS_OF_A_SEED):
+        inputs = [*boots.random_boot(chance), boots.NONCE, boots.REQUIRE.encode()]
+        wanted, found = answer_of(lambda: attested(*inputs)), library_answer(library, "attest", inputs)
+        counts[kind_of_answer(wanted)] += 1
+        if wanted != found:
+            wrong.append(f"seed {seed}, boot {place}: status {found[0]}, {found[1][-200:]!r}, not {wanted[0]}, {wanted[1][-200:]!r}")
+    return counts, wrong
+
+
 class Damaged(harness.TestCase):
     def test_answers(self):
         file, groups = self.library(), [(kind, damage) for kind in KINDS for damage in DAMAGES]
         with ProcessPoolExecutor(os.cpu_count()) as pool:
             runs = [pool.submit(compared, str(file), *group) for group in groups]
+            changed = [pool.submit(compared_boots, str(file), seed) for seed in range(SEEDS)]
             for (kind, damage), run in zip(groups, runs):
-                counts, wrong = run.result()
-                answers = ", ".join(f"{answer} {times}" for answer, times in sorted(counts.items()))
-                self.check_all(f"{kind}, {damage}: {answers}", sum(counts.values()) - len(wrong), wrong)
+                self.check_answers(f"{kind}, {damage}", *run.result())
+            counts, wrong = Counter(), []
+            for run in changed:
+                counts, wrong = counts + run.result()[0], wrong + run.result()[1]
+            self.check_answers("boots that are changed at random, by a quote", counts, wrong)
+
+    def check_answers(self, title, counts, wrong):
+        answers = ", ".join(f"{answer} {times}" for answer, times in sorted(counts.items()))
+        self.check_all(f"{title}: {answers}", sum(counts.values()) - len(wrong), wrong)
 
     def library(self):
         """The library that is asked, which is made if the script has no argument."""

@@ -8,8 +8,9 @@ registers that it leaves, or is the reference's where it does not match. The res
 list. So it must be in three parts, with an entry whose digest does not match, and where the first part ends within an entry, so that the
 prefix before it is saved. Prefixes that registers confirm are looked for in lists with such an entry before or after their end. A checkpoint
 with the lowest bit of one byte turned, and a prefix of one, must be refused. The former is also tried with a last line that is right again. A
-checkpoint that no list leaves must be refused, too. Each answer is compared with the reference's, and so is each file that is saved. For each
-kind of trial the script prints how many had which answer. It counts trials."""
+checkpoint that no list leaves must be refused, too. A list in two parts is also judged by quotes of a TPM, the second with the same counts of
+resets and restarts or with others; and so are boots that are changed at random (boots.py), with expected registers. Each answer is compared with
+the reference's, and so is each file that is saved. For each kind of trial the script prints how many had which answer. It counts trials."""
 
 import os
 import random
@@ -21,6 +22,7 @@ from concurrent.futures import ProcessPoolExecutor
 from pathlib import Path
 
 sys.path.insert(0, str(Path(__file__).resolve().parents[1]))
+import boots  # noqa: E402
 import harness  # noqa: E402
 import reference  # noqa: E402
 from harness import ROOT  # noqa: E402
@@ -38,6 +40,10 @@ FIRST_BYTES, STEP = 200, 5
 MOST_BYTES = 2**63 - 2**26 - 1
 SAVED = "saved"
 OPTIONS = ([], ["--json"], ["--require", "sha256:10"], ["--require", "sha1:10"])
+QUOTED = ["--nonce", boots.NONCE.hex(), "--require", boots.REQUIRE, "--signature-checked"]
+# The TPM's counts that the first quote states, and those that a later one may state.
+FIRST_COUNTS, LATER_COUNTS = (7, 1), ((7, 1), (8, 1), (7, 2), (1, 7), (0, 0))
+RANDOM_BOOTS = 1000
 
 
 class Wrong(Exception):
@@ -115,9 +121,9 @@ class Room:
         if data is not None:
             self.put(**{SAVED: data})
 
-    def answer(self, *words):
-        """The program's status and output for `verify` with these words, which must be the reference's, and so must the file that is saved."""
-        words, before = ["verify", *words], self.saved()
+    def answer(self, *words, command=("verify",)):
+        """The program's status and output for a command with these words, which must be the reference's, and so must the file that is saved."""
+        words, before = [*command, *words], self.saved()
         done = subprocess.run([self.program, *words], cwd=self.folder, stdin=subprocess.DEVNULL, capture_output=True, timeout=SECONDS)
         answer, saved = (done.returncode, done.stdout), self.saved()
         self.restore(before)
@@ -203,6 +209,34 @@ def front(room, boot, entries, forged, start):
     return room.answer("--prefix", "--resume", SAVED, "--require", "sha256:10", "log", "rest", "then")
 
 
+def quoted_in_parts(room, boot, place, counts, options):
+    """The list in two parts, by quotes, of which the second states these counts."""
+    first, attest = boot.list[:place], ("attest", *QUOTED, *options)
+    room.put(log=boot.log, whole=boot.list, first=first, rest=boot.list[place:])
+    room.put(quote=boots.quoted(boot.log, first, FIRST_COUNTS), later=boots.quoted(boot.log, boot.list, counts))
+    whole = room.answer("log", "whole", "later", command=attest)
+    room.restore(None)
+    room.answer("--save", SAVED, "log", "first", "quote", command=attest)
+    if room.saved() is None:
+        room.put(**{SAVED: checkpoint_of(boot, boot.ends.index(place))._replace(boot=FIRST_COUNTS).text()})
+    answer = room.answer("--resume", SAVED, "--save", SAVED, "log", "rest", "later", command=attest)
+    if counts == FIRST_COUNTS:
+        return same(answer, whole)
+    if answer[0] != 2 or b"refused: checkpoint fault 4" not in answer[1]:
+        raise Wrong(f"status {answer[0]}, {answer[1]!r}, by a quote of another boot")
+    return answer[0], b"refused: checkpoint fault 4"
+
+
+def with_expected(room, seed):
+    """A boot that is changed at random, by a quote, with expected registers."""
+    drawn = random.Random(seed)
+    log, listed, message = boots.random_boot(drawn)
+    room.put(log=log, list=listed, quote=message, expected=boots.random_expected(drawn, log, listed))
+    room.restore(None)
+    options = [option for option in ("--prefix", f"--save={SAVED}") if drawn.random() < 0.5]
+    return room.answer(*options, "log", "list", "quote", "expected", command=("attest", *QUOTED))
+
+
 def in_place(room, boot, text, is_refused=None):
     """A text in place of a checkpoint of the list, whose last entry comes once more; and whether it must be refused, if that is known."""
     longer = Boot(boot.log, [*boot.entries, boot.entries[-1]])
@@ -229,6 +263,8 @@ def impossible(known):
     yield known._replace(entries=2**64 - 1)
     yield known._replace(bytes=MOST_BYTES + 1)
     yield known._replace(bytes=2**63 - 1)
+    yield known._replace(boot=(2**32, 0))
+    yield known._replace(boot=(0, 2**32))
     yield known._replace(before=fewer)
     yield known._replace(after=fewer)
 
@@ -240,6 +276,7 @@ def possible(known):
     yield known._replace(entries=known.bytes // 32)
     yield known._replace(bytes=MOST_BYTES)
     yield known._replace(entries=MOST_BYTES // 32, bytes=MOST_BYTES)
+    yield known._replace(boot=(2**32 - 1, 2**32 - 1))
 
 
 def turned(text, place):
@@ -284,6 +321,10 @@ def trials():
         (cut, real, real.forged(drawn.randrange(len(real.entries))), drawn.choice(real.ends), []) for _ in range(50)]
     yield "real list, one entry forged, and a front", [
         (front, real, drawn.randrange(100), drawn.randrange(99), drawn.randrange(30)) for _ in range(50)]
+    whole = Boot(b"".join(boots.WHOLE.events), read_list(b"".join(boots.WHOLE.entries)))
+    yield "list in two parts, by quotes", [
+        (quoted_in_parts, whole, end, counts, options) for end in whole.ends for counts in LATER_COUNTS for options in ([], ["--prefix"], ["--json"])]
+    yield "boots that are changed at random, by a quote, with expected registers", [(with_expected, seed) for seed in range(RANDOM_BOOTS)]
     yield "checkpoint, one bit turned", [(in_place, small, turned(text, place), True) for place in range(len(text))]
     yield "checkpoint, fronts", [(in_place, small, text[:size], True) for size in some_of(len(text))]
     yield "checkpoint, one bit turned, under a right hash", [
@@ -296,7 +337,8 @@ def trials():
 def kind_of_answer(answer):
     """An answer without its numbers of entries."""
     status, text = answer
-    return "match" if status == 0 else "differ" if status == 1 else text.decode().strip().partition(" at ")[0]
+    compared = ", EXPECTED is confirmed" if b"\nexpected confirmed\n" in text else ""
+    return f"match{compared}" if status == 0 else f"differ{compared}" if status == 1 else text.decode().strip().partition(" at ")[0]
 
 
 def outcomes(program, chunk):

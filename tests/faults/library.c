@@ -26,7 +26,7 @@
 #include <sys/stat.h>
 #include <unistd.h>
 
-enum { MOST_BLOCKS = 1 << 16, MOST_TURNS = 100000, MOST_INPUTS = 5, MARGIN = 64, FREED = 0xdd, UNUSED = 0xa7, LINE = 256 };
+enum { MOST_BLOCKS = 1 << 16, MOST_TURNS = 100000, MOST_INPUTS = 6, MARGIN = 64, FREED = 0xdd, UNUSED = 0xa7, LINE = 256 };
 
 struct answer {
     enum ima_verify_result result;
@@ -185,12 +185,16 @@ static int inputs_of(const char *function) {
     static const struct {
         const char *name;
         int inputs;
-    } functions[] = {{"verdict", 4},  {"locate", 4},    {"replay", 3},  {"more", 5},  {"attest", 5},
-                     {"expected", 2}, {"registers", 1}, {"entries", 1}, {"events", 1}};
+    } functions[] = {{"verdict", 4},     {"locate", 4},   {"replay", 3},    {"more", 5},    {"attest", 5},
+                     {"attest_more", 6}, {"expected", 2}, {"registers", 1}, {"entries", 1}, {"events", 1}};
     for (size_t i = 0; i < sizeof functions / sizeof functions[0]; i++)
         if (is(function, functions[i].name))
             return functions[i].inputs;
     return 0;
+}
+
+static bool gives_checkpoint(const char *function) {
+    return is(function, "more") || is(function, "attest_more");
 }
 
 static bool is_by_pieces(const char *function) {
@@ -220,6 +224,11 @@ static enum ima_verify_result call(const char *function, const struct ima_verify
         struct ima_verify_quoted quoted = {.log = in[0], .list = in[1], .message = in[2], .nonce = in[3], .require = in[4]};
         quoted.signature_checked = has(function, ":signed");
         return ima_verify_attest(&quoted, form, out);
+    }
+    if (is(function, "attest_more")) {
+        struct ima_verify_quoted quoted = {.log = in[0], .list = in[2], .message = in[3], .nonce = in[4], .require = in[5]};
+        quoted.signature_checked = has(function, ":signed");
+        return ima_verify_attest_more(&quoted, in[1], has(function, ":prefix"), form, next, out);
     }
     struct ima_verify_evidence evidence = {.log = in[0], .list = in[1], .expected = in[2], .require = in[3]};
     return is(function, "verdict") ? ima_verify_verdict(&evidence, form, out) : ima_verify_locate(&evidence, form, out);
@@ -294,11 +303,11 @@ static struct answer memory_answer(const char *function) {
  * buffer is too short for its text, all bytes as before. */
 static bool is_given(const char *function, struct answer answer, enum ima_verify_result result, const struct room *next,
                      const struct room *out) {
-    bool fits = answer.text.size <= out->output.room && (!is(function, "more") || answer.next.size <= next->output.room);
+    bool fits = answer.text.size <= out->output.room && (!gives_checkpoint(function) || answer.next.size <= next->output.room);
     if (result != (fits ? answer.result : IMA_VERIFY_TOO_SHORT) || !has_text(answer.text, out, fits)
         || !has_fault(result, answer.text, &out->output))
         return false;
-    return !is(function, "more") || (has_text(answer.next, next, fits) && has_fault(IMA_VERIFY_DONE, answer.next, &next->output));
+    return !gives_checkpoint(function) || (has_text(answer.next, next, fits) && has_fault(IMA_VERIFY_DONE, answer.next, &next->output));
 }
 
 static void fail_of(const struct room *next, const struct room *out, enum ima_verify_result result) {

@@ -4,15 +4,13 @@
 tests/faults/library.py [PROGRAM ARCHIVE]: the program and the static library that the toolchain made; without them, those of this tree,
 which `dist/library` builds first if they are not there or are older than a source.
 
-The answers that are wanted, and the checkpoints, are those of the program to the same files, and for a quote, of which the program has no
-command, those of `tests/reference/`. Each function of the header is called with each
+The answers that are wanted, and the checkpoints, are those of the program to the same files. Each function of the header is called with each
 input, in both forms, and with buffers that have room to spare, just enough, and too little; entries and events come by pieces. In the Nth
 turn the Nth allocation is refused (tests/faults/library.c, which gives the library its memory), until a turn ends with none refused. A call
 must have the answer, or say that memory ran out. It must tell the fault of its text, and write nothing but that, and nothing to a
 checkpoint's buffer if memory ran out. It must give back, once, all memory that it took, and have the answer when it is made again. A function
 that takes no memory at all fails, and so does one that takes it elsewhere, a crash, and a run of more than a minute. Needs cc and nm."""
 
-import json
 import re
 import subprocess
 import sys
@@ -25,7 +23,7 @@ import harness  # noqa: E402
 from harness import PROGRAM, ROOT  # noqa: E402
 from header import VERSION, functions_of  # noqa: E402
 from reference.attestations import attest_report  # noqa: E402
-from reference.faults import Fault  # noqa: E402
+from reference.checkpoint import read_checkpoint  # noqa: E402
 from sweep import check_runs  # noqa: E402
 
 SECONDS = 60
@@ -34,6 +32,9 @@ JSON_MEMORY = b'{"fault":{"kind":"memory","message":"failed: memory"}}\n'
 # The command of each function that has another name, and the option that the last of its inputs is the value of.
 COMMANDS = {"entries": "show", "verdict": "verify", "registers:list": "replay"}
 OPTIONS = {"verdict": "--require", "locate": "--require", "replay": "--require", "expected": "--registers"}
+# The program's status where nothing is attested, what it then prints of a quote that it refuses, and the library's results.
+NOT_ATTESTED, QUOTE_REFUSED = 4, b"refused: quote fault"
+DIFFERS, REFUSED = 1, 2
 # The first 97 entries of the sample's list, and the first three.
 FRONT_BYTES, THREE_ENTRIES_BYTES = 11731, 292
 FEW_LINES = 8
@@ -63,16 +64,26 @@ class Case:
 
     def is_more(self):
         """Whether the function gives a checkpoint too."""
-        return self.name.startswith("more")
+        return self.function.partition(":")[0] in ("more", "attest_more")
+
+    def is_by_quote(self):
+        return self.name.startswith("attest")
 
     def words(self, save):
         """What asks the program for the same, and to save a checkpoint, if there is one, in that file."""
         json = ["--json"] if self.is_json() else []
+        flags = ["--prefix"] if ":prefix" in self.function else []
+        flags += [f"--save={save}"] if self.is_more() else []
+        if self.is_by_quote():
+            log, *state, listed, message, nonce, require = self.inputs
+            flags += ["--signature-checked"] if ":signed" in self.function else []
+            flags += [f"--resume={it}" for it in state if it.read_bytes()]
+            nonce = f"--nonce={nonce.read_bytes().hex()}"
+            return ["attest", *json, *flags, nonce, *option_of("--require", require), log, listed, message]
         if self.is_more():
             log, state, listed, expected, require = self.inputs
-            flags = ["--prefix"] if ":prefix" in self.function else []
             flags += [f"--resume={state}"] if state.read_bytes() else []
-            return ["verify", *json, *flags, *option_of("--require", require), f"--save={save}", log, listed, expected]
+            return ["verify", *json, *flags, *option_of("--require", require), log, listed, expected]
         command = [COMMANDS.get(self.name, self.name), *json]
         if self.name not in OPTIONS:
             return [*command, *self.inputs]
@@ -134,6 +145,7 @@ def made_files(folder, program):
         "rest": listed[FRONT_BYTES:],
         "rest and more": listed[FRONT_BYTES:] + listed[-95:],
         "cut rest": listed[FRONT_BYTES:-1],
+        "last entry": listed[-95:],
         "expected": expected,
         "firmware's": b"".join(expected.splitlines(True)[:10]),
         "tenth": expected.splitlines(True)[10],
@@ -164,7 +176,12 @@ def made_files(folder, program):
     files["damaged"], files["other version"] = folder / "damaged", folder / "other-version"
     text = files["checkpoint"].read_bytes()
     files["damaged"].write_bytes(text[:-2])
-    files["other version"].write_bytes(text.replace(b"checkpoint 2", b"checkpoint 1"))
+    files["quoted"] = folder / "quoted"
+    files["quoted"].write_bytes(attest_report(log, listed, message, nonce, "sha256:0-10").next)
+    known = read_checkpoint(files["quoted"].read_bytes())
+    files["other counts"] = folder / "other-counts"
+    files["other counts"].write_bytes(known._replace(boot=(known.boot[0], known.boot[1] + 1)).text())
+    files["other version"].write_bytes(text.replace(b"checkpoint 3", b"checkpoint 2"))
     return files
 
 
@@ -221,6 +238,21 @@ CASES = (
         ("the real boot", "log", "list", "message", "nonce", "low"),
         ("a longer list", "log", "longer list", "message", "nonce", "low"),
     )),
+    (("attest_more:signed", "attest_more:signed:prefix"), BOTH, (
+        ("the real boot", "log", "empty", "list", "message", "nonce", "low"),
+        ("a longer list", "log", "empty", "longer list", "message", "nonce", "low"),
+        ("nothing after a checkpoint", "log", "quoted", "empty", "message", "nonce", "low"),
+        ("an entry after it", "log", "quoted", "last entry", "message", "nonce", "low"),
+        ("a checkpoint that no quote confirmed", "log", "checkpoint", "rest", "message", "nonce", "low"),
+        ("a checkpoint of another boot by its counts", "log", "other counts", "empty", "message", "nonce", "low"),
+        ("a checkpoint of another boot by its log", "one event", "quoted", "empty", "message", "nonce", "low"),
+        ("a damaged checkpoint", "log", "damaged", "rest", "message", "nonce", "low"),
+        ("a checkpoint of another version", "log", "other version", "rest", "message", "nonce", "low"),
+        ("another nonce", "log", "damaged", "rest", "message", "another nonce", "low"),
+    )),
+    (("attest_more",), BOTH, (
+        ("the real boot", "log", "empty", "list", "message", "nonce", "low"),
+    )),
     (("replay",), BOTH, (
         ("the real boot", "list", "tenth", "ten"),
         ("the real boot, and nothing required", "list", "tenth", "none"),
@@ -261,25 +293,12 @@ def cases(files):
             yield Case(function + form, title, [files[name] for name in names])
 
 
-def quote_answer(case):
-    """The reference's answer by a quote."""
-    *given, require = (file.read_bytes() for file in case.inputs)
-    try:
-        report = attest_report(*given, require.decode(), is_signed=":signed" in case.function)
-    except Fault as fault:
-        return fault.status, as_line(fault.as_json()) if case.is_json() else f"{fault.line}\n".encode()
-    return 0 if report.matches else 1, as_line(report.as_json()) if case.is_json() else report.text().encode()
-
-
-def as_line(value):
-    return json.dumps(value, separators=(",", ":")).encode() + b"\n"
-
-
 def answer_to(case, program, following, files):
-    """The program's answer. It prints no entries of a damaged list without --json: those before the fault are the sample's."""
-    if case.name.startswith("attest"):
-        return quote_answer(case)
+    """The program's answer. It prints no entries of a damaged list without --json: those before the fault are the sample's. Where it has the
+    status of what is not attested, the library refuses the quote, or says that the verdict is not `match`."""
     answer = subprocess.run([program, *case.words(following)], capture_output=True, timeout=SECONDS)
+    if case.is_by_quote() and answer.returncode == NOT_ATTESTED:
+        return REFUSED if QUOTE_REFUSED in answer.stdout else DIFFERS, answer.stdout
     if answer.returncode not in (0, 1, 2):
         raise RuntimeError(f"{program} {case.function} of {case.title}: status {answer.returncode}, {answer.stderr[-500:]!r}")
     if case.function == "entries" and answer.returncode == 2:

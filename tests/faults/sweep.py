@@ -128,7 +128,7 @@ def request_of(command, folder):
     names, given = read_arguments(COMMANDS[command.words[0]], command.words[1:])
     listed = folder / given.pop("--files-from", "")
     has_listed = listed.is_file() and listed.stat().st_size > 0
-    given |= {name: True for name in ("--save", "--resume") if name in given}
+    given |= {name: True for name in ("--save", "--resume", "--nonce") if name in given}
     options = frozenset((name, value if isinstance(value, str) else value == 1) for name, value in given.items())
     return options, min(len(names), 3), has_listed
 

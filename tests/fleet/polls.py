@@ -267,7 +267,7 @@ def damage(verdicts):
     other = "UPDATE checkpoints SET checkpoint = CAST(replace(checkpoint, 'sha256 10 ', 'sha256 10 0') AS BLOB)"
     for kind, text, *values in (
         ("damaged", other), ("damaged, shorter", other),
-        ("other version", "UPDATE checkpoints SET checkpoint = CAST('ima-agent checkpoint 3' || x'0a' AS BLOB)"),
+        ("other version", "UPDATE checkpoints SET checkpoint = CAST('ima-agent checkpoint 4' || x'0a' AS BLOB)"),
         ("no text", "UPDATE checkpoints SET checkpoint = ?", "\udcff".encode(errors="surrogateescape")),
         ("lost", "DELETE FROM checkpoints"),
     ):

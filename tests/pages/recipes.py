@@ -513,7 +513,7 @@ class Recipes(harness.TestCase):
 
     def test_examples(self):
         """an example of a page"""
-        self.needs("tpm2_checkquote")
+        self.needs("openssl")
         for page in ("README.md", "docs/guide.md"):
             blocks = [re.sub("^    ", "", block, flags=re.MULTILINE) for block in EXAMPLES.findall((ROOT / page).read_text())]
             folder, found = self.folder(), EXAMPLE.findall("".join(blocks))

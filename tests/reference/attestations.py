@@ -2,14 +2,14 @@
 
 from typing import NamedTuple
 
-from .checkpoint import before_a_list
-from .faults import USAGE, quote_fault
+from .checkpoint import Checkpoint, before_a_list, read_checkpoint
+from .faults import USAGE, CheckpointFault, quote_fault
 from .log import read_log
-from .measurement_list import IMA_REGISTER, read_list
+from .measurement_list import IMA_REGISTER, read_front, read_list
 from .quotes import Quote, QuoteFault, read_quote
 from .registers import ALGORITHMS, REGISTERS, SHA1
-from .texts import read_requirement
-from .verdict import Report, boot_aggregate_state, report_at, strays_in
+from .texts import read_expected, read_requirement
+from .verdict import Report, boot_aggregate_state, confirmed_front, front_report, report_at, strays_in
 
 LEAST_NONCE = 16
 
@@ -74,17 +74,40 @@ def attest(log, measurements, message, nonce, required, takes_sha1=False):
     return Attestation(len(boot.events), boot.locality, len(entries), quote)
 
 
+def confirmed_by(quote, expected):
+    """The rows of expected registers that a quote confirms, those that it selects; None if it does not: one of these is not expected, or the
+    hash of their values is another."""
+    values = {(row.algorithm, row.register): row.value for row in expected}
+    if not quote.is_of(lambda *register: values.get(register)):
+        return None
+    return [row for row in expected if quote.covers([(row.algorithm, row.register)])]
+
+
 class AttestReport(NamedTuple):
-    """What a quote states, the report on log and list without rows, how the quote compares, and whether its signature was checked."""
+    """What a quote states; the report on log and list, with rows of expected registers that the quote confirms; None if there were no expected
+    registers, else whether it confirms them; how the quote compares; whether its signature was checked; and the checkpoint of what the report
+    is on."""
 
     quote: Quote
     report: Report
+    is_confirmed: bool | None
     is_quoted: bool
     is_signed: bool
+    end: Checkpoint
+
+    @property
+    def expected(self):
+        """What came of the values of expected registers, by its word: none or one."""
+        return [] if self.is_confirmed is None else ["confirmed" if self.is_confirmed else "unconfirmed"]
 
     @property
     def matches(self):
         return self.report.matches and self.is_signed
+
+    @property
+    def next(self):
+        """The text of the checkpoint to go on from, of the quote's boot: no bytes unless the verdict is `match`."""
+        return self.end._replace(boot=boot_of(self.quote)).text() if self.matches else b""
 
     def banks(self):
         """The registers that are selected, by bank, in the quote's order."""
@@ -96,6 +119,8 @@ class AttestReport(NamedTuple):
     def text(self):
         quote, word = self.quote, "match" if self.is_quoted else "differ"
         *lines, verdict = self.report.text().splitlines()
+        after = next(number for number, line in enumerate(lines, 1) if line.startswith("boot_aggregate "))
+        lines[after:after] = [f"expected {word}" for word in self.expected]
         stated = [f"quoted {bank} {' '.join(map(str, registers))}" for bank, registers in self.banks().items()]
         stated += [f"signer {quote.signer.hex()}"]
         stated += [f"clock {quote.clock} resets {quote.resets} restarts {quote.restarts} {'safe' if quote.is_safe else 'unsafe'}"]
@@ -109,25 +134,88 @@ class AttestReport(NamedTuple):
         clock = {"milliseconds": quote.clock, "resets": quote.resets, "restarts": quote.restarts, "safe": quote.is_safe}
         stated = {"quoted": [{"bank": bank, "registers": registers} for bank, registers in self.banks().items()],
                   "signer": quote.signer.hex(), "clock": clock, "firmware": quote.firmware}
-        judged = {name: value for name, value in report.items() if name not in ("registers", "verdict")}
+        counts = dict(self.report.counts)
+        compared = {"expected": word for word in self.expected} | ({"registers": report["registers"]} if self.is_confirmed else {})
+        extends = {"extends": report["extends"]} if "extends" in report else {}
         concluded = {"quote": "match" if self.is_quoted else "differ", "signature": "checked" if self.is_signed else "not checked",
                      "verdict": report["verdict"] if self.is_signed else "signature not checked"}
-        return {**stated, **judged, **concluded}
+        return {**stated, **counts, **compared, **extends, **concluded}
 
 
-def attest_report(log, measurements, message, nonce, require, takes_sha1=False, is_signed=True):
-    """The report by a quote on the bytes of a log and a list, where `require` is a text; or the fault that comes first."""
+def boot_of(quote):
+    """The boot in which a TPM made a quote, by its counts."""
+    return quote.resets, quote.restarts
+
+
+def sound_requirement(require, nonce, takes_sha1):
+    """The registers that a text requires, or the fault where these and the nonce are refused."""
     required = read_requirement(require)
     try:
         require_sound(nonce, required or set(), takes_sha1)
     except NotAttested:
         raise USAGE from None
+    return required
+
+
+def asked_quote(message, nonce, required):
+    """The quote that a message is, or the fault where it is none, or another than is asked for."""
     try:
         quote = read_quote(message)
         require_asked_for(quote, nonce, required)
     except (QuoteFault, NotAttested) as cause:
         raise quote_fault(cause.args[0]) from None
-    boot, entries = read_log(log), read_list(measurements)
-    end = before_a_list(boot.registers()).following(entries)
-    report, strays, is_quoted = report_at(boot, end, []), strays_in(boot.events, end.stray), quote.is_of(end.after.value)
-    return AttestReport(quote, report._replace(strays=strays, matches=report.matches and not strays and is_quoted), is_quoted, is_signed)
+    return quote
+
+
+def stated_rows(quote, expected):
+    """What came of a text of expected registers, or of None: None without a text, else whether the quote confirms them; and their rows."""
+    if expected is None:
+        return None, []
+    rows = confirmed_by(quote, read_expected(expected))
+    return rows is not None, rows or []
+
+
+def read_state(text, quote):
+    """The checkpoint of a text, or the fault where it was not saved by a quote of the same boot."""
+    start = read_checkpoint(text)
+    if start.boot != boot_of(quote):
+        raise CheckpointFault.OTHER_COUNTS.fault()
+    return start
+
+
+def is_confirmed(front, quote):
+    """Whether the boot aggregate of a front is good, and the quote is of the registers after it."""
+    return boot_aggregate_state(front.before, front.stated) == "good" and quote.is_of(front.after.value)
+
+
+def quoted_report(boot, start, entries, fault, quote, is_signed, prefix, stated):
+    """The report by a quote on what a list has from a checkpoint on: entries, and the fault that ends them, or None. It is on the shortest front
+    that the quote confirms, if that is sought and there is one; else on the whole list, or its fault is raised. What extends a register that
+    is not its own is told by the report."""
+    is_stated, rows = stated
+    end = confirmed_front(start, entries, lambda front: is_confirmed(front, quote)) if prefix else None
+    if end:
+        report = front_report(boot, end, start, entries, fault, rows)
+    elif fault:
+        raise fault
+    else:
+        end = start.following(entries)
+        report = report_at(boot, end, rows)
+    strays = strays_in(boot.events, end.stray)
+    report = report._replace(strays=strays, matches=is_confirmed(end, quote) and not strays)
+    return AttestReport(quote, report, is_stated, quote.is_of(end.after.value), is_signed, end)
+
+
+def attest_report(log, measurements, message, nonce, require, takes_sha1=False, is_signed=True, state=None, prefix=False,
+                  expected=None):
+    """The report by a quote on the bytes of a log and of a list, or of what follows the checkpoint that `state` is, where `require` is a text, and
+    `expected` a text or None; or the fault that comes first."""
+    quote = asked_quote(message, nonce, sound_requirement(require, nonce, takes_sha1))
+    stated = stated_rows(quote, expected)
+    start = None if state is None else read_state(state, quote)
+    boot = read_log(log)
+    before = boot.registers()
+    start = start or before_a_list(before)
+    if start.before.banks != before.banks:
+        raise CheckpointFault.OTHER_BOOT.fault()
+    return quoted_report(boot, start, *read_front(measurements, start.entries), quote, is_signed, prefix, stated)

@@ -10,7 +10,7 @@ from .measurement_list import IMA_REGISTER, replay, stated_boot_aggregate
 from .registers import ALGORITHMS, BY_NAME, REGISTERS, SHA256, Registers, register_line
 
 NAME = b"ima-agent checkpoint "
-VERSION = b"2\n"
+VERSION = b"3\n"
 NUMBER = "(0|[1-9][0-9]*)"
 MOST_INPUT = 64 << 20
 # The fewest bytes of an entry.
@@ -19,7 +19,8 @@ ENTRY_BYTES = 32
 
 class Checkpoint(NamedTuple):
     """How many entries and bytes the list had; the boot aggregate that it states, as its algorithm and its digest, or None; the registers before
-    and after it; and the first entry that extends another register than that of the list, as its number and the register, or None."""
+    and after it; the first entry that extends another register than that of the list, as its number and the register, or None; and the resets and
+    restarts of the TPM that a quote told, or None."""
 
     entries: int
     bytes: int
@@ -27,9 +28,10 @@ class Checkpoint(NamedTuple):
     before: Registers
     after: Registers
     stray: tuple | None
+    boot: tuple | None = None
 
     def following(self, entries):
-        """The same after entries that follow the list, or the fault of the first that is not genuine."""
+        """The same after entries that follow the list, which no quote confirms, or the fault of the first that is not genuine."""
         after = self.after.copy()
         replay(after, entries, self.entries)
         stated = stated_boot_aggregate(entries) if self.entries == 0 else self.stated
@@ -48,14 +50,16 @@ class Checkpoint(NamedTuple):
         is_empty = self.bytes == 0 and self.stated is None and self.before.banks == self.after.banks
         is_long = self.entries * ENTRY_BYTES <= self.bytes
         is_within = not self.stray or self.stray[0] < self.entries and self.stray[1] < REGISTERS
-        return self.leaves_room and is_long and is_within and self.before.banks.keys() == self.after.banks.keys() and (self.entries > 0 or is_empty)
+        is_counted = not self.boot or max(self.boot) < 2**32
+        return self.leaves_room and is_long and is_within and is_counted and self.before.banks.keys() == self.after.banks.keys() and (self.entries > 0 or is_empty)
 
     def text(self):
         stated = f"{self.stated[0].name}:{self.stated[1].hex()}" if self.stated else "none"
         counts = f"entries {self.entries}\nbytes {self.bytes}\nboot_aggregate {stated}\n"
         entry, register = self.stray or (0, IMA_REGISTER)
         banks = f"before\n{banks_text(self.before)}after\n{banks_text(self.after)}"
-        body = NAME + VERSION + f"{counts}{banks}register {register}\nentry {entry}\n".encode()
+        boot = "resets {}\nrestarts {}\n".format(*self.boot) if self.boot else "boot none\n"
+        body = NAME + VERSION + f"{counts}{banks}register {register}\nentry {entry}\n{boot}".encode()
         return body + f"sha256 {SHA256.hash(body).hex()}\n".encode()
 
 
@@ -87,7 +91,7 @@ BANKS = "(" + "".join(map(bank_form, ALGORITHMS)) + ")"
 STATED = "|".join(f"{algorithm.name}:{digits(algorithm)}" for algorithm in ALGORITHMS)
 FORM = re.compile(
     f"{(NAME + VERSION).decode()}entries {NUMBER}\nbytes {NUMBER}\nboot_aggregate (none|{STATED})\n"
-    f"before\n{BANKS}after\n{BANKS}register {NUMBER}\nentry {NUMBER}\nsha256 ({digits(SHA256)})\n".encode()
+    f"before\n{BANKS}after\n{BANKS}register {NUMBER}\nentry {NUMBER}\n(?:boot none|resets {NUMBER}\nrestarts {NUMBER})\nsha256 ({digits(SHA256)})\n".encode()
 )
 
 
@@ -98,11 +102,12 @@ def read_checkpoint(text):
     if not text.startswith(NAME + VERSION):
         raise CheckpointFault.VERSION.fault()
     match = FORM.fullmatch(text)
-    if not match or SHA256.hash(text[: match.start(8) - len("sha256 ")]).hex().encode() != match[8]:
+    if not match or SHA256.hash(text[: match.start(10) - len("sha256 ")]).hex().encode() != match[10]:
         raise CheckpointFault.DAMAGED.fault()
     entries, size, stated, before, after, register, entry = (part.decode() for part in match.groups()[:7])
+    boot = (int(match[8]), int(match[9])) if match[8] else None
     stray = None if int(register) == IMA_REGISTER else (int(entry), int(register))
-    checkpoint = Checkpoint(int(entries), int(size), stated_in(stated), registers_in(before), registers_in(after), stray)
+    checkpoint = Checkpoint(int(entries), int(size), stated_in(stated), registers_in(before), registers_in(after), stray, boot)
     if not checkpoint.is_of_a_list or checkpoint.text() != text:
         raise CheckpointFault.DAMAGED.fault()
     return checkpoint

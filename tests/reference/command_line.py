@@ -18,10 +18,11 @@ class VersionAsked(Exception):
 
 
 class Option(NamedTuple):
-    """An option: what its value is read as, where None is a wrong value, and the value without it."""
+    """An option: what its value is read as, where None is a wrong value, the value without it, and whether it has to be there."""
 
     read: Optional[Callable]
     default: object
+    is_required: bool = False
 
 
 class Command(NamedTuple):
@@ -68,6 +69,16 @@ COMMANDS = {
         "--resume": Option(str, None),
         "--json": Option(FLAG, False),
     }),
+    "attest": Command(3, 4, {
+        "--nonce": Option(str, None, is_required=True),
+        "--require": Option(str, None, is_required=True),
+        "--sha1": Option(FLAG, False),
+        "--signature-checked": Option(FLAG, False),
+        "--prefix": Option(FLAG, False),
+        "--save": Option(str, None),
+        "--resume": Option(str, None),
+        "--json": Option(FLAG, False),
+    }),
     "locate": Command(3, 3, {"--require": Option(str, None), "--json": Option(FLAG, False)}),
     "expected": Command(1, 1, {"--registers": Option(str, "0-23"), "--json": Option(FLAG, False)}),
     "registers": Command(1, 1, {"--json": Option(FLAG, False)}),
@@ -96,7 +107,9 @@ def read_words(words):
         raise USAGE
     command = COMMANDS[name]
     names, values = read_arguments(command, rest)
-    if len(names) < command.fewest_names or lacks_another(name, names, values) or is_json_of_binary(values):
+    if len(names) < command.fewest_names or lacks_another(name, names, values) or lacks_required(command, values):
+        raise USAGE
+    if is_json_of_binary(values) or not is_hexadecimal(values.get("--nonce", "")):
         raise USAGE
     defaults = {option: it.default for option, it in command.options.items()}
     return Words(name, names, {**defaults, **values})
@@ -107,6 +120,16 @@ def lacks_another(command, names, values):
     if command == "replay":
         return "--require" in values and len(names) < 2
     return "--null" in values and "--files-from" not in values
+
+
+def lacks_required(command, values):
+    """Whether an option is not there that has to be."""
+    return any(option.is_required and name not in values for name, option in command.options.items())
+
+
+def is_hexadecimal(text):
+    """Whether a text is pairs of hexadecimal digits, of which there may be none."""
+    return re.fullmatch("(?:[0-9a-fA-F]{2})*", text) is not None
 
 
 def is_json_of_binary(values):

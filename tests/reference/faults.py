@@ -58,7 +58,7 @@ QUOTE_FAULTS = ("Truncated", "NotQuote", "BadClock", "UnknownBank", "BankTwice",
 
 def quote_fault(name):
     number = QUOTE_FAULTS.index(name) + 1
-    return Fault(f"refused: quote fault {number}", "quote", number=number)
+    return Fault(f"refused: quote fault {number}", "quote", status=4, number=number)
 
 
 class ReplayFault(IntEnum):
@@ -86,6 +86,7 @@ class CheckpointFault(IntEnum):
     DAMAGED = 1
     VERSION = 2
     OTHER_BOOT = 3
+    OTHER_COUNTS = 4
 
     def fault(self):
         return Fault(f"refused: checkpoint fault {self.value}", "checkpoint", number=self.value)

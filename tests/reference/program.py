@@ -9,6 +9,7 @@ import subprocess
 from pathlib import Path
 from typing import Callable, NamedTuple
 
+from .attestations import asked_quote, quoted_report, read_state, sound_requirement, stated_rows
 from .checkpoint import before_a_list, read_checkpoint
 from .command_line import HelpAsked, VersionAsked, read_words
 from .faults import (
@@ -38,13 +39,15 @@ from .measurement_list import (
 )
 from .registers import ALGORITHMS, BY_NAME, SHA1, Registers, registers_value
 from .texts import read_expected, read_hexadecimal, read_names, read_printed, read_range, read_requirement
-from .verdict import confirmed_front, front_report, list_report, places, report_at
+from .verdict import front_report, front_that_matches, list_report, places, report_at
 
 MOST_BYTES = 64 << 20
 LONGEST_PATH = 4095
 # How many names there are for the file beside one that is saved, and the mode of one that its user alone reads and writes.
 MOST_BESIDE = 100
 PRIVATE = 0o600
+# The exit status where nobody says that the signature of a quote was checked, whatever else holds.
+NOT_ATTESTED = 4
 
 
 class Unanswered(Exception):
@@ -222,31 +225,61 @@ def expected_command(inputs, values, text):
     return Told(lambda: "".join(row.line() for row in rows), lambda: [registers_value(rows)])
 
 
-def verify_command(inputs, values, log, listed, expected):
-    required = required_by(values)
-    log = inputs.load(log)
-    expected = read_expected(inputs.load(expected))
-    start = read_checkpoint(inputs.load(values["--resume"])) if values["--resume"] is not None else None
+def read_boot(inputs, values, log, listed, read_state=read_checkpoint):
+    """What a log of these bytes states, the checkpoint from which its list goes on, the entries that follow, and the fault that ends these, or
+    None."""
+    start = read_state(inputs.load(values["--resume"])) if values["--resume"] is not None else None
     read = inputs.opened(listed)
     log = read_log(log)
     before = log.registers()
     start = start or before_a_list(before)
     if start.before.banks != before.banks:
         raise CheckpointFault.OTHER_BOOT.fault()
-    entries, fault = front_of(*read(), start.entries)
-    end = confirmed_front(log, start, entries, expected, required) if values["--prefix"] and expected else None
-    if end:
-        report = front_report(log, end, start, entries, fault, expected, required)
-    else:
-        end = start.following(whole(entries, fault))
-        report = report_at(log, end, expected, required)
+    return log, start, *front_of(*read(), start.entries)
+
+
+def judged_front(log, start, entries, fault, front, expected, required=None):
+    """The checkpoint that is reported on, and the report: on a front of the list, or where that is None on the whole."""
+    if front:
+        return front, front_report(log, front, start, entries, fault, expected, required)
+    end = start.following(whole(entries, fault))
+    return end, report_at(log, end, expected, required)
+
+
+def save_if_it_matches(inputs, values, report, text):
+    """Saves the text of a checkpoint, if that is asked for, where the verdict of a report is `match`."""
+    if values["--save"] is not None and report.matches:
+        inputs.save(values["--save"], text)
+
+
+def verify_command(inputs, values, log, listed, expected):
+    required = required_by(values)
+    log = inputs.load(log)
+    expected = read_expected(inputs.load(expected))
+    log, start, entries, fault = read_boot(inputs, values, log, listed)
+    front = front_that_matches(log, start, entries, expected, required) if values["--prefix"] else None
+    end, report = judged_front(log, start, entries, fault, front, expected, required)
     if is_growing(values):
         report = report._replace(matches=report.matches and bool(expected))
         if not end.leaves_room:
             raise MEMORY
-    if values["--save"] is not None and report.matches:
-        inputs.save(values["--save"], end.text())
+    save_if_it_matches(inputs, values, report, end._replace(boot=None).text())
     return told_of(report, report.matches)
+
+
+def attest_command(inputs, values, log, listed, message, expected=None):
+    nonce, is_signed = bytes.fromhex(values["--nonce"]), values["--signature-checked"]
+    required = sound_requirement(values["--require"], nonce, values["--sha1"])
+    quote = asked_quote(inputs.load(message), nonce, required)
+    log = inputs.load(log)
+    rows = stated_rows(quote, None if expected is None else inputs.load(expected))
+    boot, start, entries, fault = read_boot(inputs, values, log, listed, lambda text: read_state(text, quote))
+    report = quoted_report(boot, start, entries, fault, quote, is_signed, values["--prefix"], rows)
+    if not report.end.leaves_room:
+        raise MEMORY
+    save_if_it_matches(inputs, values, report, report.next)
+    told = told_of(report, report.matches)
+    return told if is_signed else told._replace(status=NOT_ATTESTED)
 
 
 def is_growing(values):
@@ -312,6 +345,7 @@ def measured(log, algorithm, template, limit, files, workers):
 COMMANDS = {
     "measure": measure_command,
     "verify": verify_command,
+    "attest": attest_command,
     "locate": locate_command,
     "expected": expected_command,
     "registers": registers_command,

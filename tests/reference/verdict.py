@@ -63,19 +63,25 @@ def report_at(log, end, expected, required=None, entries=None, told=None):
     return report(counts, end.after, expected, required, aggregate == "good", strays_in(log.events, end.stray))
 
 
-def confirmed_front(log, start, entries, expected, required=None):
-    """The checkpoint of the shortest front on which the verdict is `match`, of those that a checkpoint and entries after it have; or None
-    ('The confirmed front'). What extends a register that is not its own is told by the report."""
-    if missing_rows(expected, required):
-        return None
+def confirmed_front(start, entries, is_sought):
+    """The checkpoint of the shortest front that is sought, of those that a checkpoint and entries after it have; or None ('The confirmed
+    prefix')."""
     front = start
     for entry in entries:
-        if report_at(log, front, expected).matches:
+        if is_sought(front):
             return front
         if not entry.is_genuine:
             return None
         front = front.following([entry])
-    return front if report_at(log, front, expected).matches else None
+    return front if is_sought(front) else None
+
+
+def front_that_matches(log, start, entries, expected, required=None):
+    """The shortest front on which the verdict is `match`, with nothing required missing; or None, also where no register is expected. What
+    extends a register that is not its own is told by the report."""
+    if not expected or missing_rows(expected, required):
+        return None
+    return confirmed_front(start, entries, lambda front: report_at(log, front, expected).matches)
 
 
 def front_report(log, front, start, entries, fault, expected, required=None):

@@ -18,7 +18,7 @@ Each verdict takes `require`: the registers that must be among the expected ones
 none, and then a verdict covers only the registers that `expected` names. A verdict on no registers is no match. With `require` a verdict is a
 match only if no event of the log extends register 10 and each entry of the list names it.
 
-`attest` compares a log and a list with a quote in place of expected registers, after the caller has verified its signature.
+`attest` compares a log and a list with a quote in place of expected registers, and `verify_quote` verifies the quote's signature.
 
 `entries(measurements)` and `events(log)` go through the inputs themselves. A `Session` is for a list that grows, and for one that grew after
 the expected registers were read.
@@ -35,10 +35,10 @@ otherwise what the system's loader finds as `libima_verify.so.1`. It is loaded b
 `LoadError`, which is an ImportError, or if it is of an earlier version `VersionError`, which is a LoadError."""
 
 from enum import Enum
-from typing import Optional, Tuple, Union
+from typing import TYPE_CHECKING, Literal, Optional, Tuple, Union
 
 from . import _answers, _library
-from ._errors import Error, Kind, LibraryError, LoadError, Misuse, OutOfMemory, Refused, VersionError
+from ._errors import Error, InvalidSignature, Kind, LibraryError, LoadError, Misuse, OutOfMemory, Refused, VersionError
 from ._library import JSON, TEXT, BytesLike
 from ._listings import Entries, Events
 from ._results import (
@@ -46,13 +46,16 @@ from ._results import (
     State, Stray, Unconfirmed, Verdict,
 )
 
+if TYPE_CHECKING:
+    from ._signatures import PublicKey
+
 __version__ = "1.0.0"
 
 __all__ = [
-    "Algorithm", "Attestation", "BootAggregate", "BytesLike", "Clock", "Entries", "Entry", "Error", "Event", "Events", "Kind", "LibraryError",
-    "ListVerdict", "LoadError", "LogAlgorithm", "Misuse", "NOTHING", "Nothing", "OutOfMemory", "Place", "PlaceRow", "Places", "Refused",
-    "Register", "Report", "Row", "Session", "State", "Stray", "Unconfirmed", "Verdict", "VersionError", "attest", "entries", "events",
-    "expected", "list_registers", "locate", "registers", "replay", "report", "show", "verify", "version",
+    "Algorithm", "Attestation", "BootAggregate", "BytesLike", "Clock", "Entries", "Entry", "Error", "Event", "Events", "InvalidSignature", "Kind",
+    "LibraryError", "ListVerdict", "LoadError", "LogAlgorithm", "Misuse", "NOTHING", "Nothing", "OutOfMemory", "Place", "PlaceRow", "Places",
+    "Refused", "Register", "Report", "Row", "Session", "State", "Stray", "Unconfirmed", "Verdict", "VersionError", "attest", "entries", "events",
+    "expected", "list_registers", "locate", "registers", "replay", "report", "show", "verify", "verify_quote", "version",
 ]
 
 
@@ -167,9 +170,49 @@ class Session:
         """
         start, inputs = self._reached, (self._log, self._reached.text, data, self._expected, self._required)
         verdict, self._reached = _answers.read_more(
-            *_library.call_more(inputs, self._prefix, self._require), start, memoryview(data).nbytes, self._prefix
+            *_library.call_more("more", inputs, (self._prefix,), self._require), start, memoryview(data).nbytes, self._prefix
         )
         return verdict
+
+    @classmethod
+    def by_quotes(cls, log: BytesLike, *, prefix: bool = False, state: Optional[BytesLike] = None) -> "Session":
+        """A session for `attest` alone: no registers are expected, and `more` raises `Misuse`.
+
+        Args:
+            log, prefix, state: As for the class. The state must be that of a session that used `attest` last.
+        """
+        session = cls(log, b"", require=NOTHING, prefix=prefix, state=state)
+        session._require, session._required = "", b""
+        return session
+
+    def attest(
+        self, data: BytesLike, message: BytesLike, *, nonce: BytesLike, require: str, signature_checked: bool, takes_sha1: bool = False
+    ) -> Attestation:
+        """The verdict by a quote on the list that the state covers, followed by these bytes, which may be none.
+
+        After a match the state covers what the verdict is on, as after `more`. The next quote must be of the same boot: its `clock.resets` and
+        `clock.restarts` are those of the last one. (A suspend counts as a restart: then begin a new session with the whole list.)
+
+        Args:
+            message, nonce, require, signature_checked, takes_sha1: As for the function `attest`.
+
+        Raises:
+            Refused: As `attest` does; or the state is damaged, of another boot, or of no quote (CHECKPOINT, 4).
+            Misuse: As `attest` does.
+
+        >>> message, nonce = Path("../quoted/quote.msg").read_bytes(), bytes.fromhex(Path("../quoted/nonce").read_text())
+        >>> quoted = {"message": message, "nonce": nonce, "require": "sha256:0-10", "signature_checked": True}
+        >>> session = ima_verify.Session.by_quotes(log, prefix=True)
+        >>> found = session.attest(measurements + measurements[-95:], **quoted)  # (an entry more than is quoted)
+        >>> found.matches, found.confirmed, found.entries, session.offset == len(measurements)
+        (True, 99, 100, True)
+        >>> later = ima_verify.Session.by_quotes(log, state=session.state)
+        >>> later.attest(measurements[later.offset:], **quoted).matches
+        True
+        """
+        start = self._reached
+        found, self._reached = _attested(self._log, start, data, message, nonce, require, signature_checked, takes_sha1, self._prefix)
+        return found
 
     @property
     def state(self) -> Optional[bytes]:
@@ -182,20 +225,55 @@ class Session:
         return self._reached.bytes
 
 
+def verify_quote(key: Union[BytesLike, str, "PublicKey"], signature: BytesLike, message: BytesLike) -> Literal[True]:
+    """Verifies the signature of a quote: True if it is by this key and on this message. Otherwise it raises an error, and returns nothing.
+
+    The result is what `attest` takes as `signature_checked`. This needs the package `cryptography`, from version 37 on, for which this
+    package's extra `quotes` asks.
+
+    Args:
+        key: The machine's attestation key: the PEM that `tpm2_readpublic -f pem` writes, or such a key as `cryptography` loads it. RSA of
+            2048 bits or more, or of the curve P-256, P-384 or P-521. It must be known as a *restricted* key that the machine's TPM made
+            (`fixedtpm`). One that is not restricted, or was imported, also signs messages that no TPM made.
+        signature: The file that `tpm2_quote -f plain -s` writes: RSASSA, RSAPSS or ECDSA, by SHA-256, SHA-384 or SHA-512. Without
+            `-f plain` it is a TPMT_SIGNATURE, which is refused.
+        message: What the TPM signed, as for `attest`.
+
+    Raises:
+        InvalidSignature: The signature is not by this key, or not on this message, or of another form.
+        Misuse: The key is not one of these, or is not PEM of a public key alone. (It may be a private key, or a certificate.)
+        LoadError: The package `cryptography` is not there, or is too old.
+
+    >>> quoted = Path("../quoted")
+    >>> key, message, signature = ((quoted / name).read_bytes() for name in ("AK.pem", "quote.msg", "quote.sig"))
+    >>> ima_verify.verify_quote(key, signature[6:], message)  # (this file is a TPMT_SIGNATURE: the plain form, after 6 bytes)
+    True
+    >>> ima_verify.verify_quote(key, signature, message)
+    Traceback (most recent call last):
+    ima_verify._errors.InvalidSignature: the signature is not by this key and on this message, in plain form and by SHA-256, SHA-384 or SHA-512
+    """
+    try:
+        from . import _signatures
+    except (ImportError, AttributeError) as error:
+        raise LoadError(f"verify_quote needs the package cryptography, from version 37 on: {error}") from error
+    return _signatures.verify(key, signature, message)
+
+
 def attest(
     log: BytesLike, measurements: BytesLike, message: BytesLike, *,
     nonce: BytesLike, require: str, signature_checked: bool, takes_sha1: bool = False,
 ) -> Attestation:
     """The verdict on a firmware event log and a measurement list by a quote. No file of register values is needed.
 
-    This verifies no signature: do that first.
+    This verifies no signature: `verify_quote` does.
 
     Args:
         message: What the TPM signed, a TPMS_ATTEST: the file that `tpm2_quote -m` writes.
         nonce: The verifier's own nonce for this quote, used once: 16 bytes or more.
         require: The registers that must be quoted, at least 0 to 10, such as `sha256:0-10`.
-        signature_checked: Whether the caller has verified the message's signature with the machine's attestation key, which must be a
-            restricted one. There is no default; if it is False, there is no match.
+        signature_checked: `verify_quote(key, signature, message)`, of this same message; or whether the caller has verified it otherwise,
+            with the machine's attestation key, which must be a restricted one that its TPM made. There is no default; if it is False, there
+            is no match.
         takes_sha1: Whether a register may be required in the SHA-1 bank alone.
 
     Raises:
@@ -211,18 +289,8 @@ def attest(
     >>> ima_verify.attest(log, measurements, message, nonce=nonce, require="sha256:0-10", signature_checked=False).matches
     False
     """
-    for name, value in (("signature_checked", signature_checked), ("takes_sha1", takes_sha1)):
-        if not isinstance(value, bool):
-            raise TypeError(f"{name} is True or False, and not {value!r}")
-    if not isinstance(require, str):
-        raise TypeError(f"require is a text, and not {require!r}")
-    inputs = log, measurements, message, nonce, _required(require)
-    size = memoryview(nonce).nbytes
-    if size < _NONCE_BYTES:
-        raise Misuse(f"a nonce has {_NONCE_BYTES} bytes or more, and not {size}")
-    return _answers.read_attestation(
-        *_library.call("attest", inputs, (takes_sha1, signature_checked, JSON), argument=require), signature_checked
-    )
+    found, _ = _attested(log, _answers.START, measurements, message, nonce, require, signature_checked, takes_sha1, False)
+    return found
 
 
 def locate(log: BytesLike, measurements: BytesLike, expected: Text, *, require: Required) -> Places:
@@ -339,6 +407,24 @@ def show(measurements: BytesLike) -> bytes:
     b'51aabe89 /init'
     """
     return b"".join(iter(_library.Pieces("entries", measurements, TEXT).next, b""))
+
+
+def _attested(
+    log: BytesLike, start: _answers.Checkpoint, data: BytesLike, message: BytesLike, nonce: BytesLike, require: str, signature_checked: bool,
+    takes_sha1: bool, prefix: bool,
+) -> Tuple[Attestation, _answers.Checkpoint]:
+    """The verdict by a quote on the list of a checkpoint followed by these bytes, and the next checkpoint."""
+    for name, value in (("signature_checked", signature_checked), ("takes_sha1", takes_sha1)):
+        if not isinstance(value, bool):
+            raise TypeError(f"{name} is True or False, and not {value!r}")
+    if not isinstance(require, str):
+        raise TypeError(f"require is a text, and not {require!r}")
+    inputs = log, start.text, data, message, nonce, _required(require)
+    size = memoryview(nonce).nbytes
+    if size < _NONCE_BYTES:
+        raise Misuse(f"a nonce has {_NONCE_BYTES} bytes or more, and not {size}")
+    answer = _library.call_more("attest", inputs, (takes_sha1, signature_checked, prefix), require)
+    return _answers.read_attestation(*answer, signature_checked, start, memoryview(data).nbytes, prefix)
 
 
 def _judged(name: str, inputs: Tuple[BytesLike, ...], expected: Text, require: Required) -> Tuple[int, bytes]:

@@ -24,7 +24,7 @@ _MATCH = re.compile(
 )
 
 # How a checkpoint begins.
-_CHECKPOINT, _CHECKPOINT_VERSION = b"ima-agent checkpoint ", b"2\n"
+_CHECKPOINT, _CHECKPOINT_VERSION = b"ima-agent checkpoint ", b"3\n"
 _NUMBER = "(0|[1-9][0-9]{0,19})"
 _COUNTS = re.compile(_CHECKPOINT + _CHECKPOINT_VERSION + f"entries {_NUMBER}\nbytes {_NUMBER}\n".encode())
 MOST_BYTES = 2**63 - 1
@@ -83,19 +83,24 @@ def read_more(
     before."""
     with _reading(result, text):
         verdict = _verdict_of(result, text, may_match_nothing=False)
-        confirmed, end = verdict.confirmed, start.bytes + size
-        _require((confirmed is not None) == (has_front and _has_all_values(verdict)))
-        covered = verdict.entries if confirmed is None else confirmed
-        _require(start.entries <= covered)
-        if not verdict.matches:
-            _require(not state)
-            return verdict, start
-        reached = _checkpoint_in(state)
-        if reached is None:
-            raise ValueError(state)
-        _require(reached.entries == covered)
-        _require((end if confirmed is None else start.bytes) <= reached.bytes <= end)
-        return verdict, reached
+        _require((verdict.confirmed is not None) == (has_front and _has_all_values(verdict)))
+        return verdict, _reached_by(verdict, state, start, size)
+
+
+def _reached_by(verdict: Union[Verdict, Attestation], state: bytes, start: Checkpoint, size: int) -> Checkpoint:
+    """The checkpoint after a verdict on a list that has more bytes after one, so many."""
+    confirmed, end = verdict.confirmed, start.bytes + size
+    covered = verdict.entries if confirmed is None else confirmed
+    _require(start.entries <= covered)
+    if not verdict.matches:
+        _require(not state)
+        return start
+    reached = _checkpoint_in(state)
+    if reached is None:
+        raise ValueError(state)
+    _require(reached.entries == covered)
+    _require((end if confirmed is None else start.bytes) <= reached.bytes <= end)
+    return reached
 
 
 def read_state(state: bytes) -> Checkpoint:
@@ -117,25 +122,32 @@ def read_list_verdict(result: int, text: bytes) -> ListVerdict:
         return ListVerdict(entries, rows, matches, text[:-1].decode(), extends)
 
 
-def read_attestation(result: int, text: bytes, signature_checked: bool) -> Attestation:
-    """The verdict by a quote that a report states, where the caller has checked the signature, or has not."""
+def read_attestation(
+    result: int, text: bytes, state: bytes, signature_checked: bool, start: Checkpoint, size: int, has_front: bool
+) -> Tuple[Attestation, Checkpoint]:
+    """The verdict by a quote that a report states, where the caller has checked the signature, or has not; and the next checkpoint, as of
+    `read_more`."""
     with _reading(result, text):
         report = _object_of(text)
-        _require("confirmed" not in report and "unconfirmed" not in report)
         aggregate, events, entries = BootAggregate(report["boot_aggregate"]), _number(report, "events"), _number(report, "entries")
-        extends, quote_matches = _strays_of(report, events, entries), report["quote"] == "match"
-        is_attested = quote_matches and aggregate is BootAggregate.GOOD and not extends
+        confirmed, unconfirmed = _front_of(report, entries)
+        extends = _strays_of(report, events, entries if confirmed is None else confirmed)
+        quote_matches = report["quote"] == "match"
+        is_confirmed = quote_matches and aggregate is BootAggregate.GOOD
+        _require((confirmed is not None) == (has_front and is_confirmed))
+        is_attested = is_confirmed and not extends
         matches = is_attested and signature_checked
         verdict = ("match" if is_attested else "differ") if signature_checked else "signature not checked"
         _require((report["quote"], report["signature"]) == (
             "match" if quote_matches else "differ", "checked" if signature_checked else "not checked"
         ))
         _require((result, report["verdict"]) == (DONE if matches else DIFFERS, verdict))
-        return Attestation(
+        found = Attestation(
             _quoted_of(_member(report, "quoted", list)), _bytes(report, "signer"), _clock_of(_member(report, "clock", dict)),
             _number(report, "firmware"), events, _number(report, "locality", 255), entries, aggregate, quote_matches, signature_checked,
-            matches, text[:-1].decode(), extends,
+            matches, text[:-1].decode(), extends, confirmed, unconfirmed,
         )
+        return found, _reached_by(found, state, start, size)
 
 
 def read_places(result: int, text: bytes) -> Places:

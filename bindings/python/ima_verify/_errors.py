@@ -13,7 +13,7 @@ class Kind(str, enum.Enum):
     LIST = "list"
     REPLAY = "replay"  # the template digest of an entry of the list does not match
     EXPECTED = "expected"  # the expected registers, or what tpm2-tools printed
-    CHECKPOINT = "checkpoint"  # a session's state: it is damaged (1), of another version (2), or of another boot (3)
+    CHECKPOINT = "checkpoint"  # a session's state: it is damaged (1), of another version (2), or of another boot by the log (3) or by a quote (4)
     QUOTE = "quote"  # the message of a quote: it is none (1 to 10), has another nonce (11), or lacks a required register (12)
 
 
@@ -53,8 +53,12 @@ class Misuse(Error, ValueError):
     """An argument has no meaning, such as an empty `require`."""
 
 
+class InvalidSignature(Error):
+    """The signature is not by the key and on the message, or it is by SHA-1 or in another form than the plain one."""
+
+
 class LoadError(Error, ImportError):
-    """The shared library cannot be used: it is not there, or is another file."""
+    """The shared library cannot be used: it is not there, or is another file. Or `verify_quote` lacks the package `cryptography`."""
 
 
 class VersionError(LoadError):

@@ -50,7 +50,7 @@ FUNCTIONS = {
     "locate": (4, (c_bool,)),
     "replay": (3, (c_bool,)),
     "more": (5, (c_bool, c_bool, c_void_p, c_size_t, _SIZE)),
-    "attest": (5, (c_bool, c_bool, c_bool)),
+    "attest": (6, (c_bool, c_bool, c_bool, c_bool, c_void_p, c_size_t, _SIZE)),
     "expected": (2, (c_bool,)),
     "registers": (1, (c_bool, c_bool)),
     "events": (1, (_SIZE, _SIZE)),
@@ -134,11 +134,11 @@ def answered(function: Any, inputs: Sequence[BytesLike], options: Sequence[Any],
     return result, told, out
 
 
-def call_more(inputs: Sequence[BytesLike], prefix: bool, argument: Optional[object]) -> Tuple[int, bytes, bytes]:
-    """What `call` gives of the raw function `more`, and the checkpoint, which has no bytes unless the verdict is a match."""
+def call_more(name: str, inputs: Sequence[BytesLike], flags: Sequence[bool], argument: Optional[object]) -> Tuple[int, bytes, bytes]:
+    """What `call` gives of the raw function `more` or `attest`, and the checkpoint, which has no bytes unless the verdict is a match."""
     state, size = bytearray(CHECKPOINT_ROOM), c_size_t(-1)
-    options = prefix, JSON, byref(c_char.from_buffer(state)), len(state), byref(size)
-    result, text = call("more", inputs, options, argument=argument)
+    options = *flags, JSON, byref(c_char.from_buffer(state)), len(state), byref(size)
+    result, text = call(name, inputs, options, argument=argument)
     if size.value > len(state):
         raise LibraryError(f"libima_verify returned {result} and a checkpoint of size {size.value} for {len(state)} bytes")
     return result, text, bytes(state[:size.value])

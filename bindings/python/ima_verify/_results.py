@@ -235,6 +235,7 @@ class Attestation:
             registers in `quoted`, and no others.
         json: The report as JSON, without the line feed.
         extends: The first event that extends register 10, and the first entry that extends another.
+        confirmed, unconfirmed: As of a `Verdict`: only from a `Session` with a prefix.
     """
 
     quoted: Dict[Algorithm, Tuple[int, ...]]
@@ -250,6 +251,8 @@ class Attestation:
     matches: bool
     json: str
     extends: Tuple[Stray, ...] = ()
+    confirmed: Optional[int] = None
+    unconfirmed: Optional[Unconfirmed] = None
 
     def __bool__(self) -> bool:
         return self.matches
@@ -322,7 +325,8 @@ class Event:
 
     Attributes:
         number: Its number; events count from 1.
-        register: The number of the register that it extends, which need not be one of a TPM.
+        register: The number of the register that it names, which need not be one of a TPM. An event of the type `EV_NO_ACTION` extends
+            none, whatever digests it states, so no register confirms it.
         type: The name of its type, or None if the type has none.
         type_number: The number of its type.
         digests: Its digest for each bank of the log.

@@ -32,7 +32,7 @@ class Call:
 
     def give_state(self, state, size=None):
         """Answers with this checkpoint."""
-        out, room, size_of_state = self.options[2:]
+        out, room, size_of_state = self.options[-3:]
         ctypes.memmove(out, state, min(len(state), room))
         size_of_state[0] = len(state) if size is None else size
 

@@ -2,6 +2,7 @@
 
 From bindings/python: IMA_VERIFY_LIBRARY=/path/to/libima_verify.so python3 -m unittest discover tests"""
 
+import ctypes
 import os
 import pickle
 import re
@@ -53,6 +54,15 @@ FAULT = b'{"fault":{"kind":"list","number":1,"entry":2,"message":"refused: list 
 MEMORY = b'{"fault":{"kind":"memory","message":"failed: memory"}}\n'
 DONE, DIFFERS, REFUSED, OUT_OF_MEMORY, TOO_SHORT, MORE, MISUSED = range(7)
 NONE = _library.NO_PLACE
+
+
+# A checkpoint of the list that the reports are on, so far as this package reads one.
+STATE = b"ima-agent checkpoint 3\nentries 3\nbytes 300\nboot_aggregate none\n"
+
+
+def read_attestation(result, text, signature_checked):
+    """The verdict by a quote on a whole list, with the checkpoint that only a match has."""
+    return _answers.read_attestation(result, text, b"" if result else STATE, signature_checked, _answers.START, 300, False)[0]
 
 
 class Buffers(unittest.TestCase):
@@ -207,7 +217,7 @@ class Answers(unittest.TestCase):
                 self.check_wrong(read, 1, DIFFERING.replace(64 * b"0", value))
 
     def test_right_reports_by_a_quote_are_read(self):
-        found = _answers.read_attestation(0, ATTESTED, True)
+        found = read_attestation(0, ATTESTED, True)
         quoted = {ima_verify.Algorithm.SHA1: (10,), ima_verify.Algorithm.SHA256: (0, 1, 10)}
         self.assertEqual((found.quoted, found.signer.hex(), found.firmware), (quoted, "000b" + 64 * "a", 7))
         self.assertEqual((found.clock, found.events, found.locality, found.entries), (ima_verify.Clock(5, 1, 0, True), 1, 0, 3))
@@ -217,15 +227,15 @@ class Answers(unittest.TestCase):
         for old, new in ((b'"quote":"match"', b'"quote":"differ"'), (b'"good"', b'"wrong"'),
                          (b'"quote"', b'"extends":[{"entry":2,"register":11}],"quote"')):
             text = ATTESTED.replace(old, new)
-            differing = _answers.read_attestation(1, text.replace(b'"verdict":"match"', b'"verdict":"differ"'), True)
+            differing = read_attestation(1, text.replace(b'"verdict":"match"', b'"verdict":"differ"'), True)
             self.assertEqual((differing.matches, differing.signature_checked, bool(differing)), (False, True, False))
         unsigned = ATTESTED.replace(*UNSIGNED)
         for text in (unsigned, unsigned.replace(b'"quote":"match"', b'"quote":"differ"')):
-            found = _answers.read_attestation(1, text, False)
+            found = read_attestation(1, text, False)
             self.assertEqual((found.matches, found.signature_checked, bool(found)), (False, False, False))
 
     def test_wrong_reports_by_a_quote_are_no_verdicts(self):
-        self.check_changes(_answers.read_attestation, 0, ATTESTED, (
+        self.check_changes(read_attestation, 0, ATTESTED, (
             (b'"quoted":[', b'"quoted":[1,'), (b'"quoted":[', b'"quoted":[{},'), (b'"quoted"', b'"selected"'), (b'"sha1"', b'"md5"'),
             (b'"sha1"', b'"sha256"'), (b'{"bank":"sha1","registers":[10]},{"bank":"sha256","registers":[0,1,10]}', b""),
             (b"[10]", b"[]"), (b"[10]", b"[24]"), (b"[10]", b"[-1]"), (b"[10]", b"[true]"), (b"[10]", b"[1.0]"), (b"[10]", b"10"),
@@ -247,9 +257,9 @@ class Answers(unittest.TestCase):
             (1, unsigned.replace(b'"verdict":"signature not checked"', b'"verdict":"differ"'), False),
             (1, unsigned.replace(b'"verdict":"signature not checked"', b'"verdict":"match"'), False),
         ):
-            self.check_wrong(_answers.read_attestation, status, text, is_checked)
+            self.check_wrong(read_attestation, status, text, is_checked)
         for size in range(len(ATTESTED)):
-            self.check_wrong(_answers.read_attestation, 0, ATTESTED[:size], True)
+            self.check_wrong(read_attestation, 0, ATTESTED[:size], True)
 
     def test_wrong_reports_with_missing_registers_are_no_verdicts(self):
         self.check_changes(_answers.read_verdict, 1, LACKING, (
@@ -641,9 +651,11 @@ class Failures(unittest.TestCase):
         for name, inputs in (
             ("registers", (b"",)), ("registers", (bytes(32),)), ("registers", (LOG[:-1],)), ("verdict", (LOG, LIST[:-1], EXPECTED, b"none")),
             ("verdict", (LOG, LIST.replace(b"/bin/helper", b"/bin/helpex"), EXPECTED, b"none")), ("verdict", (LOG, LIST, b"x", b"none")),
-            ("expected", (b"", b"")), ("expected", (b"sha256:\n  0 : x\n", b"")), ("attest", (LOG, LIST, b"", bytes(16), b"sha256:0-10")),
+            ("expected", (b"", b"")), ("expected", (b"sha256:\n  0 : x\n", b"")), ("attest", (LOG, b"", LIST, b"", bytes(16), b"sha256:0-10")),
         ):
-            options, line = {"registers": (False, False), "attest": (False, True, False)}.get(name, (False,)), []
+            room, size = ctypes.create_string_buffer(1), ctypes.c_size_t()
+            quoted = False, True, False, False, room, 1, ctypes.byref(size)
+            options, line = {"registers": (False, False), "attest": quoted}.get(name, (False,)), []
             answered = _library.answered
 
             def noted(*words):
@@ -709,13 +721,13 @@ class Errors(unittest.TestCase):
 
     def test_all_errors_have_one_base(self):
         for error, other in ((ima_verify.Refused, Exception), (ima_verify.OutOfMemory, MemoryError), (ima_verify.Misuse, ValueError),
-                             (ima_verify.LoadError, ImportError), (ima_verify.VersionError, ima_verify.LoadError),
-                             (ima_verify.LibraryError, RuntimeError)):
+                             (ima_verify.InvalidSignature, Exception), (ima_verify.LoadError, ImportError),
+                             (ima_verify.VersionError, ima_verify.LoadError), (ima_verify.LibraryError, RuntimeError)):
             self.assertTrue(issubclass(error, ima_verify.Error) and issubclass(error, other))
         self.assertFalse(issubclass(ima_verify.Refused, ValueError))
         exported = {name for name in ima_verify.__all__ if isinstance(getattr(ima_verify, name), type)}
         errors = {name for name in exported if issubclass(getattr(ima_verify, name), BaseException)}
-        self.assertEqual(errors, {"Error", "Refused", "OutOfMemory", "Misuse", "LoadError", "VersionError", "LibraryError"})
+        self.assertEqual(errors, {"Error", "Refused", "OutOfMemory", "Misuse", "InvalidSignature", "LoadError", "VersionError", "LibraryError"})
 
     def test_refusal_can_be_pickled(self):
         for place in (None, 0, 5):

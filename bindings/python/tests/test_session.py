@@ -33,10 +33,12 @@ ENDS = [sum(len(entry.spelling()) for entry in ENTRIES[:count]) for count in ran
 CUTS = 0, 1, 2, 50, 97, 98, 99
 LONGER = LIST + LIST[ENDS[98]:]
 OTHER_LOG = inputs.made_log([SHA256], 24).spelling()
+MESSAGE = (ROOT / "samples/quoted/quote.msg").read_bytes()
+NONCE = bytes.fromhex((ROOT / "samples/quoted/nonce").read_text())
 # The expected registers of the firmware alone.
 TEN = b"".join(EXPECTED.splitlines(True)[:10])
 
-STATE = b"ima-agent checkpoint 2\nentries 3\nbytes 300\nboot_aggregate none\n"
+STATE = b"ima-agent checkpoint 3\nentries 3\nbytes 300\nboot_aggregate none\n"
 REPORT = (b'{"events":1,"locality":0,"entries":3,"boot_aggregate":"good",'
           b'"registers":[{"bank":"sha256","register":10,"state":"match"}],"verdict":"match"}\n')
 DIFFERING = REPORT.replace(b'"match"}\n', b'"differ"}\n').replace(b'"good"', b'"wrong"')
@@ -413,7 +415,7 @@ class Page(unittest.TestCase):
     def judge(self, *words):
         page = (ROOT / "bindings/python/README.md").read_text()
         program, said = {"ima_verify": ima_verify}, io.StringIO()
-        exec(page.split("```python\n")[2].split("```")[0], program)
+        exec("def judge(" + page.split("```python\ndef judge(")[1].split("```")[0], program)
         with contextlib.redirect_stdout(said):
             verdict, state = program["judge"](LOG, *words)
         return verdict.matches, state, said.getvalue()
@@ -451,8 +453,8 @@ class States(Refusing):
 
     def test_state_of_another_version_is_refused(self):
         state = state_after(50)
-        for version in (b"0", b"1", b"20", b"", b"2 ", b"2\r"):
-            self.check_no_state(sealed(state.replace(b"checkpoint 2\n", b"checkpoint %b\n" % version)), 2)
+        for version in (b"0", b"1", b"2", b"30", b"", b"3 ", b"3\r"):
+            self.check_no_state(sealed(state.replace(b"checkpoint 3\n", b"checkpoint %b\n" % version)), 2)
 
     def test_counts_that_cannot_be_are_refused(self):
         state = state_after(50)
@@ -479,6 +481,99 @@ class States(Refusing):
         self.assertTrue(Session(LOG, EXPECTED, require=NOTHING, state=state).more(LIST))
 
 
+class Quoted(Refusing):
+    """Sessions by a quote of the sample's registers 0 to 10."""
+
+    GIVEN = {"nonce": NONCE, "require": "sha256:0-10", "signature_checked": True}
+    # Where the counts are in the message, and which they are.
+    AT = MESSAGE.index(NONCE) + len(NONCE) + 8
+    BOOT = int.from_bytes(MESSAGE[AT:AT + 4], "big"), int.from_bytes(MESSAGE[AT + 4:AT + 8], "big")
+
+    def quoted_state(self, count=99, boot=BOOT):
+        """The state after so many entries that a quote of this boot confirms, by the reference."""
+        return before_a_list(read_log(LOG).registers()).following(ENTRIES[:count])._replace(boot=boot).text()
+
+    def check_no_state(self, state, number, log=LOG, message=MESSAGE):
+        session = Session.by_quotes(log, state=state)
+        with self.assertRaisesRegex(ima_verify.Refused, f"^refused: checkpoint fault {number}$") as caught:
+            session.attest(b"", message, **self.GIVEN)
+        self.assertEqual((caught.exception.kind, session.state), (Kind.CHECKPOINT, state))
+
+    def test_list_in_two_parts_is_as_the_whole(self):
+        whole = ima_verify.attest(LOG, LIST, MESSAGE, **self.GIVEN)
+        for cut in CUTS:
+            state = self.quoted_state(cut) if cut else None
+            session = Session.by_quotes(LOG, state=state)
+            self.assertEqual((session.attest(LIST[session.offset:], MESSAGE, **self.GIVEN), session.offset), (whole, ENDS[99]))
+            self.assertEqual(session.state, self.quoted_state())
+
+    def test_prefix_is_what_is_quoted(self):
+        for state in (None, self.quoted_state(50), self.quoted_state()):
+            for more, message in ((b"", None), (LIST[ENDS[98]:], None), (b"x", "unconfirmed: list fault 1 at entry 99"),
+                                  (changed(98)[ENDS[98]:], "unconfirmed: replay fault 1 at entry 99")):
+                session = Session.by_quotes(LOG, prefix=True, state=state)
+                found = session.attest((LIST + more)[session.offset:], MESSAGE, **self.GIVEN)
+                self.assertEqual((found.matches, found.confirmed, found.entries), (True, 99, 99 + (len(more) > 1)))
+                self.assertEqual(found.unconfirmed and found.unconfirmed.message, message)
+                self.assertEqual((session.state, session.offset), (self.quoted_state(), ENDS[99]))
+
+    def test_no_match_leaves_the_session_as_it_was(self):
+        for state in (None, self.quoted_state(50)):
+            for given in ({**self.GIVEN, "signature_checked": False}, self.GIVEN):
+                session = Session.by_quotes(LOG, state=state)
+                end = 98 if given["signature_checked"] else 99
+                self.assertFalse(session.attest(LIST[session.offset:ENDS[end]], MESSAGE, **given))
+                self.assertEqual((session.state, session.offset), (state, 0 if state is None else ENDS[50]))
+
+    def test_state_of_another_boot_is_refused(self):
+        resets, restarts = self.BOOT
+        for boot in (None, (resets + 1, restarts), (resets, restarts + 1), (restarts, resets), (2**32 - 1, restarts)):
+            self.check_no_state(self.quoted_state(boot=boot), 4)
+        for place in (self.AT + 3, self.AT + 7):
+            self.check_no_state(self.quoted_state(), 4, message=MESSAGE[:place] + bytes([MESSAGE[place] ^ 1]) + MESSAGE[place + 1:])
+        self.check_no_state(self.quoted_state(), 3, log=OTHER_LOG)
+        self.check_no_state(self.quoted_state()[:-2] + b"x\n", 1)
+
+    def test_verdicts_on_registers_tell_no_boot(self):
+        session = Session(LOG, EXPECTED, require="sha256:0-10", state=self.quoted_state())
+        self.assertTrue(session.more(b""))
+        self.assertEqual(session.state, state_after(99))
+        with self.assertRaisesRegex(ima_verify.Refused, "^refused: checkpoint fault 4$"):
+            session.attest(b"", MESSAGE, **self.GIVEN)
+
+    def test_session_by_quotes_expects_no_registers(self):
+        self.assertRaises(ima_verify.Misuse, Session.by_quotes(LOG).more, LIST)
+        self.assertRaises(ima_verify.Misuse, Session.by_quotes(LOG).attest, LIST, MESSAGE, **{**self.GIVEN, "nonce": bytes(15)})
+        self.assertRaises(TypeError, Session.by_quotes(LOG).attest, LIST, MESSAGE, **{**self.GIVEN, "signature_checked": 1})
+        self.assertRaises(ima_verify.Refused, Session.by_quotes, LOG, state=b"")
+
+    def test_inputs_cross_in_order(self):
+        report = ima_verify.attest(LOG, LIST, MESSAGE, **{**self.GIVEN, "signature_checked": False}).json.encode() + b"\n"
+        with fake.library(attest=lambda call: (call.give_state(b""), call.give(1, report))[1]) as calls:
+            for takes_sha1 in (False, True):
+                session = Session.by_quotes(b"a", state=STATE)
+                given = {"nonce": 16 * b"e", "require": "f", "signature_checked": False, "takes_sha1": takes_sha1}
+                session.attest(b"c", b"d", **given)
+        for call, takes_sha1 in zip(calls, (False, True)):
+            self.assertEqual((call.inputs, call.options[:4]), ([b"a", STATE, b"c", b"d", 16 * b"e", b"f"], (takes_sha1, False, False, True)))
+
+    def test_answers_that_cannot_be_are_none(self):
+        report = ima_verify.attest(LOG, LIST, MESSAGE, **self.GIVEN).json.encode() + b"\n"
+        state = self.quoted_state()
+        front = report.replace(b'"entries":99', b'"entries":99,"confirmed":99')
+        for prefix, status, text, given, size in (
+            (False, 0, report, b"", 0), (False, 0, report, b"x", 0), (False, 0, report, self.quoted_state(98), 0), (False, 0, report, state, 1),
+            (False, 0, report, state, -1), (True, 0, report, state, 0), (False, 0, front, state, 0), (False, 1, report, b"", 0),
+            (True, 0, front.replace(b'"confirmed":99', b'"confirmed":100'), state, 0),
+            (False, 1, report.replace(b'"quote":"match"', b'"quote":"differ"').replace(b'"verdict":"match"', b'"verdict":"differ"'), state, 0),
+        ):
+            with fake.library(attest=lambda call: (call.give_state(given), call.give(status, text))[1]):
+                session = Session.by_quotes(b"", prefix=prefix)
+                with self.assertRaises(ima_verify.LibraryError):
+                    session.attest((ENDS[99] + size) * b"x", b"", **self.GIVEN)
+            self.assertEqual((session.state, session.offset), (None, 0))
+
+
 class Buffers(unittest.TestCase):
     """A report, which may be longer than its buffer, and a state, which never is."""
 
@@ -496,7 +591,7 @@ class Buffers(unittest.TestCase):
                     sizes.extend(rooms)
 
         with unittest.mock.patch.object(_library, "call", called):
-            return _library.call_more(inputs, False, None), sizes
+            return _library.call_more("more", inputs, (False,), None), sizes
 
     def test_second_call_has_room_for_the_report_and_gives_the_state(self):
         state, report = state_after(99), ima_verify.verify(LOG, LIST, EXPECTED, require="sha256:10").json.encode() + b"\n"
@@ -642,7 +737,7 @@ class Answers(unittest.TestCase):
     def test_state_that_is_not_that_of_the_report_is_none(self):
         for state in (
             b"", b"x", STATE[1:], STATE.replace(b"entries 3", b"entries 4"), STATE.replace(b"entries 3", b"entries 2"),
-            STATE.replace(b"entries 3", b"entries 03"), STATE.replace(b"bytes 300", b"bytes 301"), STATE.replace(b"checkpoint 2", b"checkpoint 1"),
+            STATE.replace(b"entries 3", b"entries 03"), STATE.replace(b"bytes 300", b"bytes 301"), STATE.replace(b"checkpoint 3", b"checkpoint 2"),
             STATE.replace(b"bytes 300\n", b""),
         ):
             self.check_wrong(0, REPORT, state=state)
@@ -720,7 +815,7 @@ class Answers(unittest.TestCase):
             self.check_wrong(4, REPORT, needed=needed)
 
     def test_refusals_of_states_are_read(self):
-        for number in (1, 2, 3):
+        for number in (1, 2, 3, 4):
             with answering(2, b"", FAULT, fault=fake.fault_of(Kind.CHECKPOINT, number)), self.assertRaises(ima_verify.Refused) as caught:
                 Session(b"", b"", require=NOTHING, state=STATE).more(b"")
             refused = caught.exception

@@ -66,6 +66,14 @@ class Wheel(unittest.TestCase):
         with zipfile.ZipFile(wheel) as archive:
             self.assertIn(f"\nVersion: {version}\n", archive.read(f"ima_verify-{version}.dist-info/METADATA").decode())
 
+    def test_cryptography_is_an_extra(self):
+        wheel = self.made()
+        with zipfile.ZipFile(wheel) as archive:
+            (name,) = (name for name in archive.namelist() if name.endswith(".dist-info/METADATA"))
+            metadata = archive.read(name).decode()
+        self.assertEqual(re.findall("^Provides-Extra: (.*)$", metadata, re.MULTILINE), ["quotes"])
+        self.assertRegex(metadata, r"\nRequires-Dist: cryptography>=37; extra == ['\"]quotes['\"]\n")
+
     def test_tag_names_the_glibc_that_the_library_asks_for(self):
         if not shutil.which("objdump"):
             self.skipTest("no objdump")

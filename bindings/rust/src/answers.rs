@@ -57,18 +57,29 @@ impl Answer {
     pub(crate) fn more(self, from: &Checkpoint, size: u64, prefix: bool) -> Result<(Verdict, Option<Checkpoint>), Error> {
         self.read(|answer| {
             let verdict = answer.report(false)?;
-            let (end, confirmed) = (from.bytes.checked_add(size)?, verdict.confirmed);
-            let entries = confirmed.unwrap_or(verdict.entries);
-            let is_right = confirmed.is_some() == (prefix && verdict.has_all_values()) && from.entries <= entries;
-            is_right.then_some(())?;
-            if !verdict.matches {
-                return answer.next.is_empty().then_some((verdict, None));
-            }
-            let reached = Checkpoint::of(answer.next.clone())?;
-            let is_right_end =
-                if confirmed.is_some() { (from.bytes..=end).contains(&reached.bytes) } else { reached.bytes == end };
-            (is_right_end && entries == reached.entries).then_some((verdict, Some(reached)))
+            (verdict.confirmed.is_some() == (prefix && verdict.has_all_values())).then_some(())?;
+            let reached = answer.reached(from, size, verdict.entries, verdict.confirmed, verdict.matches)?;
+            Some((verdict, reached))
         })
+    }
+
+    /// The next checkpoint after a verdict on a list of so many entries, which has so many bytes after a checkpoint.
+    fn reached(
+        &self,
+        from: &Checkpoint,
+        size: u64,
+        entries: u64,
+        confirmed: Option<u64>,
+        matches: bool,
+    ) -> Option<Option<Checkpoint>> {
+        let (end, entries) = (from.bytes.checked_add(size)?, confirmed.unwrap_or(entries));
+        (from.entries <= entries).then_some(())?;
+        if !matches {
+            return self.next.is_empty().then_some(None);
+        }
+        let reached = Checkpoint::of(self.next.clone())?;
+        let is_right_end = if confirmed.is_some() { (from.bytes..=end).contains(&reached.bytes) } else { reached.bytes == end };
+        (is_right_end && entries == reached.entries).then_some(Some(reached))
     }
 
     /// The verdict of a report, where one on no PCRs may say that it is a match, or may not.
@@ -79,11 +90,7 @@ impl Answer {
         let is_good = boot_aggregate == BootAggregate::Good && (has_rows || may_match_nothing) && extends.is_empty();
         let matches = self.matches(&rest, is_good)? && has_rows;
         let (entries, rows, json) = (rest.entries, rest.registers, self.line()?);
-        confirmed.map_or(unconfirmed.is_none(), |confirmed| (1..=entries).contains(&confirmed)).then_some(())?;
-        let unconfirmed = match unconfirmed {
-            Some(fault) => Some(fault.unconfirmed(confirmed?, entries)?),
-            None => None,
-        };
+        let unconfirmed = unconfirmed_of(confirmed, unconfirmed, entries)?;
         Some(Verdict { events, locality, entries, boot_aggregate, rows, matches, json, confirmed, unconfirmed, extends })
     }
 
@@ -97,13 +104,24 @@ impl Answer {
         })
     }
 
-    /// The verdict by a quote, where the caller has checked its signature, or has not.
-    pub(crate) fn attestation(self, signature_checked: bool) -> Result<Attestation, Error> {
+    /// The verdict by a quote on a list that has so many bytes after a checkpoint, where the caller has checked the quote's
+    /// signature, or has not; and the next checkpoint, as of [`more`](Self::more).
+    pub(crate) fn attestation(
+        self,
+        from: &Checkpoint,
+        size: u64,
+        prefix: bool,
+        signature_checked: bool,
+    ) -> Result<(Attestation, Option<Checkpoint>), Error> {
         self.read(|answer| {
             let report: QuoteReport = object(&answer.text)?;
-            let extends = strays_of(&report.extends, report.events, report.entries)?;
+            let (entries, confirmed) = (report.entries, report.confirmed);
+            let unconfirmed = unconfirmed_of(confirmed, report.unconfirmed, entries)?;
+            let extends = strays_of(&report.extends, report.events, confirmed.unwrap_or(entries))?;
             let quote_matches = report.quote == Said::Match;
-            let is_attested = quote_matches && report.boot_aggregate == BootAggregate::Good && extends.is_empty();
+            let is_confirmed = quote_matches && report.boot_aggregate == BootAggregate::Good;
+            (confirmed.is_some() == (prefix && is_confirmed)).then_some(())?;
+            let is_attested = is_confirmed && extends.is_empty();
             let matches = is_attested && signature_checked;
             let (signature, verdict) = match (signature_checked, is_attested) {
                 (false, _) => ("not checked", "signature not checked"),
@@ -111,21 +129,25 @@ impl Answer {
                 (true, false) => ("checked", "differ"),
             };
             (report.signature == signature && report.verdict == verdict && answer.says(matches)).then_some(())?;
-            Some(Attestation {
+            let reached = answer.reached(from, size, entries, confirmed, matches)?;
+            let found = Attestation {
                 quoted: quoted_of(report.quoted)?,
                 signer: report.signer.0,
                 clock: report.clock,
                 firmware: report.firmware,
                 events: report.events,
                 locality: report.locality,
-                entries: report.entries,
+                entries,
                 boot_aggregate: report.boot_aggregate,
                 quote_matches,
                 signature_checked,
                 matches,
                 json: answer.line()?,
+                confirmed,
+                unconfirmed,
                 extends,
-            })
+            };
+            Some((found, reached))
         })
     }
 
@@ -208,7 +230,7 @@ pub(crate) struct Checkpoint {
 
 impl Checkpoint {
     const NAME: &'static [u8] = b"ima-agent checkpoint ";
-    const FIRST_LINE: &'static [u8] = b"ima-agent checkpoint 2\n";
+    const FIRST_LINE: &'static [u8] = b"ima-agent checkpoint 3\n";
     const MOST_BYTES: u64 = i64::MAX as u64;
 
     /// The checkpoint whose text this is, if it begins as one. (The library judges the rest.)
@@ -297,12 +319,21 @@ struct QuoteReport {
     quote: Said,
     signature: String,
     verdict: String,
-    #[serde(default, rename = "confirmed")]
-    _confirmed: NoFault,
-    #[serde(default, rename = "unconfirmed")]
-    _unconfirmed: NoFault,
+    #[serde(default, deserialize_with = "told")]
+    confirmed: Option<u64>,
+    #[serde(default, deserialize_with = "told")]
+    unconfirmed: Option<AfterConfirmed>,
     #[serde(default, rename = "fault")]
     _fault: NoFault,
+}
+
+/// The first error after the confirmed entries, if they are at least one of all, and no error without them.
+fn unconfirmed_of(confirmed: Option<u64>, fault: Option<AfterConfirmed>, entries: u64) -> Option<Option<Unconfirmed>> {
+    confirmed.map_or(fault.is_none(), |confirmed| (1..=entries).contains(&confirmed)).then_some(())?;
+    match fault {
+        Some(fault) => fault.unconfirmed(confirmed?, entries).map(Some),
+        None => Some(None),
+    }
 }
 
 /// A bank, and the PCRs that a quote selects of it.

@@ -18,8 +18,8 @@
 //! A verdict covers only the boot aggregate and the PCRs in the expected text. So each call says which PCRs it must cover, as here.
 //! With such a requirement a verdict is a match only if no event of the log extends PCR 10 and each entry of the list names it.
 //! [`entries`] and [`events`] go through the inputs themselves. A [`Session`] is for a list that grows, and for one that grew after
-//! the expected PCRs were read. [`attest`] compares a log and a list with a quote in place of expected PCRs, after the caller has
-//! verified its signature.
+//! the expected PCRs were read. [`attest`] compares a log and a list with a quote in place of expected PCRs, and `verify_quote`, with
+//! the feature `quotes`, verifies the quote's signature.
 //!
 //! Any number of threads may call at once.
 
@@ -30,14 +30,18 @@ mod answers;
 mod library;
 mod lines;
 mod session;
+#[cfg(feature = "quotes")]
+mod signatures;
 
 pub use session::Session;
+#[cfg(feature = "quotes")]
+pub use signatures::verify_quote;
 
 #[cfg(test)]
 mod tests;
 
-/// The example of the page is compiled.
-#[cfg(doctest)]
+/// The examples of the page are compiled.
+#[cfg(all(doctest, feature = "quotes"))]
 #[doc = include_str!("../README.md")]
 struct Readme;
 
@@ -211,8 +215,8 @@ pub struct Quote<'a> {
     pub require: &'a str,
     /// Whether a PCR may be required in the SHA-1 bank alone.
     pub takes_sha1: bool,
-    /// Whether the caller has verified the message's signature with the machine's attestation key, which must be a restricted one.
-    /// If it is false there is no match.
+    /// What `verify_quote` gives for this message; or whether the caller has verified the signature otherwise, with the machine's
+    /// attestation key, which must be a restricted one that its TPM made. If it is false there is no match.
     pub signature_checked: bool,
 }
 
@@ -263,6 +267,10 @@ pub struct Attestation {
     pub matches: bool,
     /// The report as JSON, without the line feed.
     pub json: String,
+    /// Only from a [`Session`] with a prefix, as of [`Verdict`].
+    pub confirmed: Option<u64>,
+    /// The first error in the entries after the confirmed ones, if they have one.
+    pub unconfirmed: Option<Unconfirmed>,
     /// The first event that extends PCR 10, and the first entry that extends another.
     pub extends: Vec<Stray>,
 }
@@ -417,7 +425,7 @@ pub struct File {
 pub struct Event {
     /// The event's number.
     pub number: u64,
-    /// The PCR that it names.
+    /// The PCR that it names. An event of the type `EV_NO_ACTION` extends none, whatever digests it states, so no PCR confirms it.
     pub register: u32,
     /// The name of the type, if it has one.
     pub name: Option<String>,
@@ -496,7 +504,7 @@ pub enum Kind {
     Replay,
     /// The text of expected PCRs, or what tpm2-tools printed.
     Expected,
-    /// The state of a session is damaged (1), of another version (2), or of another boot (3).
+    /// The state of a session is damaged (1), of another version (2), or of another boot by the log (3) or by a quote (4).
     Checkpoint,
     /// The message of a quote: it is none (1 to 10), has another nonce (11), or does not select a required PCR (12).
     Quote,
@@ -532,6 +540,10 @@ pub enum Error {
     },
     /// The library has this version of the interface, which is too old.
     Version(u32),
+    /// The signature of a quote is not by the key and on the message, or it is by SHA-1 or in another form than the plain one.
+    Signature,
+    /// The key of a quote is not the PEM of a public key alone, or is of another kind or weaker than is taken. This says why.
+    Key(&'static str),
 }
 
 impl fmt::Display for Error {
@@ -547,6 +559,10 @@ impl fmt::Display for Error {
                 write!(f, "libima_verify gave the result {result} and the size {size}")
             }
             Self::Version(found) => write!(f, "libima_verify has version {found} of the interface"),
+            Self::Signature => f.write_str(
+                "the signature is not by this key and on this message, in plain form and by SHA-256, SHA-384 or SHA-512",
+            ),
+            Self::Key(reason) => write!(f, "the key is not taken: {reason}"),
         }
     }
 }
@@ -592,11 +608,11 @@ pub fn verify(log: &[u8], list: &[u8], expected: &[u8], require: &str) -> Result
 
 /// The verdict on a firmware event log and a measurement list by a quote. No file of PCR values is needed.
 ///
-/// This verifies no signature: do that first.
+/// This verifies no signature: `verify_quote` does, with the feature `quotes`.
 ///
 /// ```no_run
 /// # fn judge(log: &[u8], list: &[u8], message: &[u8], nonce: &[u8]) -> Result<(), ima_verify::Error> {
-/// // (the signature of the message was verified with the machine's own restricted key)
+/// // (here the signature of the message was verified otherwise, with the machine's own restricted key)
 /// let quote = ima_verify::Quote { message, nonce, require: "sha256:0-10", takes_sha1: false, signature_checked: true };
 /// let verdict = ima_verify::attest(log, list, &quote)?;
 /// println!("{} {}", verdict.matches, verdict.entries);
@@ -610,7 +626,8 @@ pub fn verify(log: &[u8], list: &[u8], expected: &[u8], require: &str) -> Result
 /// [`Kind::Argument`] if the requirement is not of its form, leaves out one of the PCRs 0 to 10, or names one of the SHA-1 bank
 /// alone, or if the nonce is too short; otherwise as for [`verify`].
 pub fn attest(log: &[u8], list: &[u8], quote: &Quote<'_>) -> Result<Attestation, Error> {
-    ask(|out| library::attest(log, list, quote, out))?.attestation(quote.signature_checked)
+    let inputs = library::Attested { log, state: &[], data: list, prefix: false };
+    Ok(session::attested(&inputs, quote, &answers::Checkpoint::default())?.0)
 }
 
 /// Where each expected PCR first has its value. The arguments are as in [`verify`].

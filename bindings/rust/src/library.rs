@@ -72,19 +72,29 @@ pub(crate) fn verify_more(inputs: &More, next: &mut [u8], out: &mut [u8]) -> (i3
     (result, next_size, told)
 }
 
-/// The call of a quote.
+/// The inputs of a call by a quote, without the quote.
+pub(crate) struct Attested<'a> {
+    pub(crate) log: &'a [u8],
+    pub(crate) state: &'a [u8],
+    pub(crate) data: &'a [u8],
+    pub(crate) prefix: bool,
+}
+
+/// The call of a quote: it also gives the size of the next state.
 #[rustfmt::skip]
-pub(crate) fn attest(log: &[u8], list: &[u8], quote: &Quote<'_>, out: &mut [u8]) -> (i32, Told) {
+pub(crate) fn attest(inputs: &Attested, quote: &Quote<'_>, next: &mut [u8], out: &mut [u8]) -> (i32, usize, Told) {
+    let &Attested { log, state, data, prefix } = inputs;
     let &Quote { message, nonce, require, takes_sha1, signature_checked } = quote;
-    let mut told = NOTHING_TOLD;
-    // SAFETY: as of the calls above.
+    let (mut next_size, mut told) = (usize::MAX, NOTHING_TOLD);
+    // SAFETY: as of `verify_more`.
     let result = unsafe {
         c::ima_verify_raw_attest(
-            log.as_ptr(), log.len(), list.as_ptr(), list.len(), message.as_ptr(), message.len(), nonce.as_ptr(), nonce.len(),
-            require.as_ptr(), require.len(), takes_sha1, signature_checked, true, out.as_mut_ptr(), out.len(), &mut told,
+            log.as_ptr(), log.len(), state.as_ptr(), state.len(), data.as_ptr(), data.len(), message.as_ptr(), message.len(),
+            nonce.as_ptr(), nonce.len(), require.as_ptr(), require.len(), takes_sha1, signature_checked, prefix, true,
+            next.as_mut_ptr(), next.len(), &mut next_size, out.as_mut_ptr(), out.len(), &mut told,
         )
     };
-    (result, told)
+    (result, next_size, told)
 }
 
 /// Where the lines of entries or events continue.

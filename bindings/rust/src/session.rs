@@ -1,8 +1,8 @@
 //! Verdicts on a list that grows.
 
 use crate::answers::{Answer, Checkpoint};
-use crate::library::{ask_for_both, verify_more, zeros, More, ROOM};
-use crate::{Error, Verdict};
+use crate::library::{self, ask_for_both, verify_more, zeros, Attested, More, ROOM};
+use crate::{Attestation, Error, Quote, Verdict};
 
 /// Verdicts on a measurement list that grows: each is on all of the list so far, but only what is new of it is given.
 ///
@@ -41,6 +41,11 @@ impl Session {
         Self { log, expected, require, prefix: false, reached: Checkpoint::default() }
     }
 
+    /// A session for [`attest`](Self::attest) alone: no PCRs are expected, and [`more`](Self::more) gives an error.
+    pub fn by_quotes(log: &[u8]) -> Self {
+        Self::new(log, &[], "")
+    }
+
     /// A session whose verdict is on the confirmed part of the list, if there is one: the list's first entries, as few as make all
     /// PCRs match. What comes after them may be new since the PCRs were read, or damaged. [`Verdict::confirmed`] says how many
     /// entries they are, and [`Verdict::unconfirmed`] what is wrong after them.
@@ -76,6 +81,26 @@ impl Session {
         self.answered(data.len(), answer)
     }
 
+    /// The verdict by a quote on the list that the state covers, followed by these bytes, which may be none. After a match the state
+    /// covers what the verdict is on, as after [`more`](Self::more).
+    ///
+    /// A state is continued by a quote only in its boot: `resets` and `restarts` of the quote's clock are those of the last quote, and
+    /// the state is that of a session that used this function last. (A suspend counts as a restart: then begin a new session with the
+    /// whole list.)
+    ///
+    /// # Errors
+    ///
+    /// [`Error::Refused`] with [`Kind::Checkpoint`](crate::Kind::Checkpoint) if the state is damaged, of another boot, or of no quote
+    /// (number 4); otherwise as for [`attest`](crate::attest).
+    pub fn attest(&mut self, data: &[u8], quote: &Quote<'_>) -> Result<Attestation, Error> {
+        let inputs = Attested { log: &self.log, state: &self.reached.text, data, prefix: self.prefix };
+        let (found, reached) = attested(&inputs, quote, &self.reached)?;
+        if let Some(reached) = reached {
+            self.reached = reached;
+        }
+        Ok(found)
+    }
+
     /// The verdict that the answer to a call with so many bytes has.
     fn answered(&mut self, size: usize, answer: Answer) -> Result<Verdict, Error> {
         let (verdict, reached) = answer.more(&self.reached, size as u64, self.prefix)?;
@@ -94,6 +119,16 @@ impl Session {
     pub fn offset(&self) -> u64 {
         self.reached.bytes
     }
+}
+
+/// The verdict by a quote, and the next checkpoint, if it is a match.
+pub(crate) fn attested(
+    inputs: &Attested,
+    quote: &Quote<'_>,
+    from: &Checkpoint,
+) -> Result<(Attestation, Option<Checkpoint>), Error> {
+    let answer = ask_for_both(zeros(ROOM)?, zeros(ROOM)?, |next, out| library::attest(inputs, quote, next, out))?;
+    answer.attestation(from, inputs.data.len() as u64, inputs.prefix, quote.signature_checked)
 }
 
 #[cfg(test)]

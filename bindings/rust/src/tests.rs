@@ -1,6 +1,6 @@
 //! What the crate answers, by the library.
 
 mod listing;
-mod quoted;
+pub(crate) mod quoted;
 mod sample;
 mod session;

@@ -30,6 +30,7 @@ abbrev pub not_resumed_number : NotResumed → ℕ
 not_resumed_number resumes.Damaged = 1
 not_resumed_number resumes.Version = 2
 not_resumed_number resumes.OtherBoot = 3
+not_resumed_number resumes.OtherCounts = 4
 
 abbrev pub fault_of_arguments : ArgumentsFault → RunFault
 fault_of_arguments arguments.Usage = runs.Usage

@@ -26,10 +26,13 @@ pub enum NotResumed {
     /// 3: the checkpoint is of another boot: the log leaves other registers than those that it began from.
     #[error("{}", ResumeFault::OtherBoot)]
     OtherBoot,
+    /// 4: a quote is of another boot than the checkpoint, by the TPM's counts; or no quote confirmed the checkpoint.
+    #[error("the quote is of another boot than the checkpoint: its resets or restarts are others, or the checkpoint is of no quote")]
+    OtherCounts,
 }
 
 impl NotResumed {
-    /// The fault's number, from 1 to 3.
+    /// The fault's number, from 1 to 4.
     pub fn number(self) -> u32
         ensures { result ≡ not_resumed_number self }
     {
@@ -37,6 +40,7 @@ impl NotResumed {
             NotResumed::Damaged => 1,
             NotResumed::Version => 2,
             NotResumed::OtherBoot => 3,
+            NotResumed::OtherCounts => 4,
         }
     }
 }

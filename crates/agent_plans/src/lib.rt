@@ -6,5 +6,6 @@ mod plan;
 
 pub use fault::ArgumentsFault;
 pub use plan::{
-    DataShown, Form, Judge, Judged, Measurement, NameEnd, Names, Plan, Print, Question, Scope, Task,
+    Attest, DataShown, Form, Judge, Judged, Measurement, NameEnd, Names, Plan, Print, Question,
+    Scope, Task,
 };

@@ -92,6 +92,33 @@ pub struct Judge {
     pub required: Option<String>,
 }
 
+/// What is asked of a log and a list where the TPM has quoted registers.
+#[derive(Drop)]
+pub struct Attest {
+    /// The name of the firmware event log, binary.
+    pub log: String,
+    /// The name of the measurement list, binary; with a checkpoint, of what follows it.
+    pub list: String,
+    /// The name of the message that the TPM signed.
+    pub quote: String,
+    /// The name of the text of expected registers, which nobody has signed, if there is one.
+    pub expected: Option<String>,
+    /// The nonce that the quote must have.
+    pub nonce: Vec<u8>,
+    /// The text of the registers that must be quoted, as `sha256:0-10`. It is any text here.
+    pub required: String,
+    /// Whether a register may be required in the SHA-1 bank alone.
+    pub takes_sha1: bool,
+    /// Whether the caller says that he has verified the message's signature.
+    pub is_signed: bool,
+    /// Which part of the list is judged.
+    pub scope: Scope,
+    /// The name of the checkpoint to go on from, if there is one.
+    pub resume: Option<String>,
+    /// The name under which the checkpoint is saved, if it is.
+    pub save: Option<String>,
+}
+
 /// A text that names further files.
 #[derive(Drop)]
 pub struct Names {
@@ -137,6 +164,8 @@ pub enum Question {
     },
     /// What a list is worth.
     Judge(Judge),
+    /// Whether a quote is of a log and a list.
+    Attest(Attest),
     /// The expected registers that `tpm2_pcrread` or `tpm2_checkquote` printed.
     Expected {
         /// The name of the text that one of them printed.

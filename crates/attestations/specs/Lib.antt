@@ -2,4 +2,5 @@ pub mod Policies
 pub mod Judging
 pub mod Attesting
 pub mod Quoted
+pub mod Confirming
 pub mod Reports

@@ -2,20 +2,24 @@
 use Rattle.std.specs.Prelude.{◌&&◌, Bool, Option}
 use Rattle.boot_verdict.specs.Isolation.{are_none}
 use Rattle.boot_verdict.specs.Verdicts.{Verdict, is_good, verdict_of}
+use Rattle.attestations.specs.declared.expected.ExpectedValues.{ExpectedValues}
 use Rattle.attestations.specs.declared.report.AttestReport.{AttestReport}
 use Rattle.attestations.specs.declared.report.Whole.{Whole}
 use Rattle.attestations.specs.Quoted.{Stated, stated_of}
 
--- What the quote states; the verdict on log and list, or on the prefix of the list that the quote confirms; the whole list, if it is on a
--- prefix; whether the quote is of the values to which log and list replay; and whether its signature was verified.
+-- What the quote states; the verdict on log and list, or on the prefix of the list that the quote confirms, with a row for each expected
+-- register that counts; the whole list, if it is on a prefix; what came of the values of expected registers; whether the quote is of the values
+-- to which log and list replay, or log and the prefix; and whether its signature was verified.
 pub record AttestVerdict : Type 0 where
   pub quoted : Stated
   pub verdict : Verdict
   pub prefix : Option Whole
+  pub expected : ExpectedValues
   pub is_quoted : Bool
   pub is_signed : Bool
 
--- Whether log and list are what the quote is of: the boot aggregate is good, they are apart, and the quote is of the values to which they replay.
+-- Whether log and list are what the quote is of: the boot aggregate is good, they are apart, and the quote is of the values to which they
+-- replay. Where the verdict is on a prefix of the list, each of the three is of that prefix. Expected registers make no difference.
 abbrev pub is_attested : AttestVerdict → Bool
 is_attested report = is_good report.verdict.aggregate && (are_none report.verdict.strays && report.is_quoted)
 
@@ -26,6 +30,7 @@ attest_verdict_of report = record {
   quoted = stated_of report.quoted;
   verdict = verdict_of report.report;
   prefix = report.prefix;
+  expected = report.expected;
   is_quoted = report.is_quoted;
   is_signed = report.is_signed;
 }

@@ -5,6 +5,7 @@
 
 mod attested;
 mod cause;
+mod expected;
 mod policy;
 mod quoted;
 mod refusal;
@@ -12,6 +13,7 @@ mod report;
 
 pub use attested::{AttestFault, Attested, attest};
 pub use cause::Cause;
+pub use expected::{ExpectedValues, keep_confirmed};
 pub use policy::{LEAST_NONCE, Policy, PolicyFault};
 pub use quoted::{Quoted, Selected};
 pub use refusal::{QuoteRefusal, quote_for};

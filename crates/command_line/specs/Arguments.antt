@@ -1,5 +1,5 @@
 -- The commands as clap takes them, and the plan that comes from the arguments.
-use Rattle.std.specs.Prelude.{◌≡◌, Bool, true, false, Option, None, String, List, [], ◌∷◌, codes, Some, ℕ, ◌⊎◌, ◌||◌, ◌==◌, IsTrue, bytes_eq, map, option_map, unwrap_or, string_bytes}
+use Rattle.std.specs.Prelude.{◌≡◌, Bool, true, false, Option, None, String, List, [], ◌∷◌, codes, Ok, Some, ℕ, ◌⊎◌, ◌||◌, ◌==◌, IsTrue, bytes_eq, map, option_map, unwrap_or, string_bytes}
 use Rattle.std.specs.Global.{Global}
 use Rattle.std.specs.List.{fold, list_any, starts_with}
 use Rattle.clap.specs.Words.{App, Rule, Text, new_app, new_rule, with_rule, with_subcommand, Row, all_of, first_of, subcommand_of}
@@ -11,6 +11,8 @@ use Rattle.clap.specs.Takes.{takes}
 use Rattle.pcr_banks.specs.Hashing.{name_of}
 use Rattle.ima_list.specs.Templates.{template_name}
 use Rattle.agent_plans.specs.Plans.{IsOneOf, task_of}
+use Rattle.hex.specs.Hex.{decode_of}
+use Rattle.agent_plans.specs.declared.plan.Attest.{Attest}
 use Rattle.agent_plans.specs.declared.plan.DataShown.TheVariants.{Size, Bytes}
 use Rattle.agent_plans.specs.declared.plan.Form.{Form}
 use Rattle.agent_plans.specs.declared.plan.Form.TheVariants as forms
@@ -46,6 +48,10 @@ required id = record (new_rule id) { required = true }
 -- An option without a default value.
 abbrev pub without_default : Text → Rule
 without_default id = record (new_rule id) { long = Some id; value_names = 1 }
+
+-- An option that has to be there.
+abbrev pub required_option : Text → Rule
+required_option id = record (without_default id) { required = true }
 
 -- An option with this default value.
 abbrev pub optional : Text → Text → ValueParser → Rule
@@ -92,6 +98,22 @@ table parsers = (
           ∷ required (codes "LOG")
           ∷ required (codes "LIST")
           ∷ required (codes "EXPECTED")
+          ∷ [],
+    )
+    ∷ (
+      codes "attest",
+      required_option (codes "nonce")
+          ∷ required_option (codes "require")
+          ∷ flag (codes "sha1")
+          ∷ flag (codes "signature-checked")
+          ∷ flag (codes "prefix")
+          ∷ without_default (codes "save")
+          ∷ without_default (codes "resume")
+          ∷ flag (codes "json")
+          ∷ required (codes "LOG")
+          ∷ required (codes "LIST")
+          ∷ required (codes "QUOTE")
+          ∷ new_rule (codes "EXPECTED")
           ∷ [],
     )
     ∷ (codes "locate", without_default (codes "require") ∷ flag (codes "json") ∷ required (codes "LOG") ∷ required (codes "LIST") ∷ required (codes "EXPECTED") ∷ [])
@@ -153,6 +175,26 @@ pub record HasMeasure (rows : List Row) (request : Measurement) : Type 0 where
   pub files_are : unwrap_or (all_of (codes "FILE") rows) [] ≡ map string_bytes request.files.items
   pub names_are : AreFurtherNames rows request.names
 
+-- The first value of this name spells these bytes, two hexadecimal digits of either case for each.
+pub record HasBytes (id : Text) (rows : List Row) (bytes : List ℕ) : Type 0 where
+  pub text : Text
+  pub has : first_of id rows ≡ Some text
+  pub spells : decode_of text ≡ Ok bytes
+
+-- The matches have the options and names of this attestation.
+pub record HasAttest (rows : List Row) (attest : Attest) : Type 0 where
+  pub log_is : IsGivenAs (codes "LOG") rows (Some attest.log)
+  pub list_is : IsGivenAs (codes "LIST") rows (Some attest.list)
+  pub quote_is : IsGivenAs (codes "QUOTE") rows (Some attest.quote)
+  pub expected_is : IsGivenAs (codes "EXPECTED") rows attest.expected
+  pub nonce_is : HasBytes (codes "nonce") rows attest.nonce.items
+  pub required_is : IsGivenAs (codes "require") rows (Some attest.required)
+  pub takes_sha1_is : IsFlag (codes "sha1") rows false true attest.takes_sha1
+  pub is_signed_is : IsFlag (codes "signature-checked") rows false true attest.is_signed
+  pub scope_is : IsFlag (codes "prefix") rows Whole Prefix attest.scope
+  pub resume_is : IsGivenAs (codes "resume") rows attest.resume
+  pub save_is : IsGivenAs (codes "save") rows attest.save
+
 -- ---- commands and their tasks
 
 -- The command of this name judges this, and the matches have the options and names that only this has.
@@ -180,6 +222,7 @@ HasQuestion command rows (questions.Judge judge) =
     × IsGivenAs (codes "LIST") rows (Some judge.list)
     × IsGivenAs (codes "EXPECTED") rows (Some judge.expected)
     × IsGivenAs (codes "require") rows judge.required
+HasQuestion command rows (questions.Attest attest) = (command ≡ codes "attest") × HasAttest rows attest
 HasQuestion command rows (questions.Expected printed registers) =
     (command ≡ codes "expected") × IsGivenAs (codes "PCRREAD") rows (Some printed) × IsGivenAs (codes "registers") rows registers
 

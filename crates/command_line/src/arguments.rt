@@ -13,10 +13,11 @@ ghost use Rattle.agent_plans.specs.declared.plan.Question.TheVariants as questio
 ghost use Rattle.agent_plans.specs.declared.plan.Task.TheVariants.{Version};
 
 use crate::commands::{KnownNames, VERSION, all_commands};
-use crate::values::{flag_of, measurement_of, name_of, text_if_given};
+use crate::values::{attest_of, flag_of, measurement_of, name_of, text_if_given};
 use agent_plans::{ArgumentsFault, DataShown, Form, Judge, Judged, Plan, Question, Scope, Task};
 use clap::error::ErrorKind;
 use clap::{ArgMatches, Error};
+use hex::FromHexError;
 use ima_list::Template;
 use pcr_banks::Alg;
 use std::alloc::{AllocError, Global};
@@ -47,9 +48,9 @@ pub fn read_words(alloc: Global, arguments: &[String]) -> Result<Plan, Arguments
     }
 }
 
-/// What `clap` says of arguments that it refuses, or what is wrong with `--print binary` beside `--json`: lines for a person, which may
-/// have any bytes of the arguments. `None` if `clap` takes them, and they are no such; of `--help` and `--version` it
-/// is what `clap` shows.
+/// What `clap` says of arguments that it refuses, or what is wrong with `--print binary` beside `--json`, or with a nonce that is not
+/// hexadecimal: lines for a person, which may have any bytes of the arguments. `None` if `clap` takes them, and they are no such; of
+/// `--help` and `--version` it is what `clap` shows.
 pub fn refusal_of(alloc: Global, arguments: &[String]) -> Result<Option<String>, AllocError>
     // Without arguments nothing is refused.
     ensures none { arguments.now ≡ [] → result ≡ Ok None }
@@ -65,8 +66,25 @@ pub fn refusal_of(alloc: Global, arguments: &[String]) -> Result<Option<String>,
         Ok(matches) if is_json_of_bytes(&matches) => {
             Ok(Some(String::from_str(alloc, NO_JSON_OF_BYTES)?))
         }
-        Ok(_) => Ok(None),
+        Ok(matches) => nonce_refusal(alloc, &matches),
         Err(error) => refusal_text(alloc, &error),
+    }
+}
+
+// What is wrong with a nonce that is not hexadecimal, which `clap` takes.
+fn nonce_refusal(alloc: Global, matches: &ArgMatches) -> Result<Option<String>, AllocError> {
+    let Some(matches) = matches.subcommand_matches("attest") else {
+        return Ok(None);
+    };
+    let Some(nonce) = matches.get_str("nonce") else {
+        return Ok(None);
+    };
+    match hex::decode(alloc, nonce) {
+        Ok(_) => Ok(None),
+        Err(FromHexError::OutOfMemory) => Err(AllocError),
+        Err(_) => Ok(Some(format!(in alloc;
+            "error: invalid value '{nonce}' for '--nonce <HEX>': it is not hexadecimal\n"
+        )?)),
     }
 }
 
@@ -174,6 +192,7 @@ fn question_of(
             log: name_of(alloc, matches, "LOG")?,
         }),
         "replay" => replay_of(alloc, matches),
+        "attest" => Ok(Question::Attest(attest_of(alloc, matches)?)),
         _ => Err(ArgumentsFault::Usage),
     }
 }

@@ -36,6 +36,8 @@ pub(crate) enum Form<'a> {
     Flag,
     /// As a flag, and only beside this option.
     FlagBeside(&'a str),
+    /// As an option with a value, which has to be there.
+    RequiredOption(&'a str),
     /// As an option with a value, or not at all.
     Optional(&'a str),
     /// As an option with a value, or not at all, and only beside this argument, which is the second text.
@@ -85,7 +87,7 @@ const JSON: ArgumentRow<'static> =
     row!("json", Form::Flag; "Print the result as JSON, one object on one line");
 
 /// The commands, in the order of the help. `table` of specs/Plans.antt has the same.
-pub(crate) static COMMANDS: [CommandRow; 8] = [
+pub(crate) static COMMANDS: [CommandRow; 9] = [
     CommandRow {
         name: "measure",
         about: "Measures files into the registers left by a firmware event log, and prints the result",
@@ -125,6 +127,30 @@ registers, one object on one line; not with --print binary"),
 An empty file compares no
 register: the verdict then depends on the list's boot aggregate alone,
 and is `differ` with --require, --prefix, --save or --resume")),
+        ],
+    },
+    CommandRow {
+        name: "attest",
+        about: "Judges a firmware event log and a measurement list by a quote of the TPM",
+        arguments: &[
+            row!("nonce", Form::RequiredOption("HEX"); "Nonce that the quote must have, in hexadecimal, at least 16 bytes"),
+            row!("require", Form::RequiredOption(REQUIRED_REGISTERS); "\
+Registers that must be quoted, for example sha256:0-10 or
+sha256:0-7,sha384:0-10; each from 0 to 10 must be among them"),
+            row!("sha1", Form::Flag; "Take registers that are required in the SHA-1 bank alone, though collisions of SHA-1 are made"),
+            row!("signature-checked", Form::Flag; "\
+Say that you have verified the signature of QUOTE by the machine's key:
+without this nothing is attested, and a report has status 4"),
+            row!("prefix", Form::Flag; "Judge the shortest prefix of the list that the quote confirms; if none is, the whole list"),
+            row!("save", Form::Optional("FILE"); "If log and list are attested, write the checkpoint of what was judged to FILE"),
+            row!("resume", Form::Optional("FILE"); "\
+Go on from the checkpoint in FILE, your own, of an attestation of this
+boot: LIST then has only the bytes after it"),
+            JSON,
+            LOG,
+            LIST,
+            row!("QUOTE", Form::Required; "Message that the TPM signed, as `tpm2_quote -m` writes it, at most 64 MiB"),
+            row!("EXPECTED", Form::Omittable; expected_help!("Nobody has signed\nthem: they count only if they are the values of QUOTE, and decide nothing")),
         ],
     },
     CommandRow {

@@ -102,6 +102,7 @@ fn argument<'a>(
             .long(row.id)
             .action(ArgAction::SetTrue)
             .requires_arg(option),
+        Form::RequiredOption(value) => Ok(arg.long(row.id).value_name(value).required(true)),
         Form::Optional(value) => Ok(arg.long(row.id).value_name(value)),
         Form::OptionalBeside(value, argument) => {
             arg.long(row.id).value_name(value).requires_arg(argument)

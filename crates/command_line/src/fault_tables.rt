@@ -54,6 +54,7 @@ Checkpoint faults (refused: checkpoint fault N):
   1  the text is not a whole checkpoint, as it was saved
   2  the checkpoint is of another version
   3  the checkpoint is of another boot: the log's registers are not those it began from
+  4  the quote is of another boot than the checkpoint: its resets or restarts are others, or the checkpoint is of no quote
 " "\n"; $($more)*; $end)
     };
     // The faults of a quote.

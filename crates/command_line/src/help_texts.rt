@@ -11,18 +11,21 @@ macro_rules! help_end {
             "\
 Exit status:
   0  done; for verify: the expected registers and the boot aggregate match;
-     for replay with EXPECTED: the expected registers match
+     for replay with EXPECTED: the expected registers match;
+     for attest: the quote is of log and list, and its signature was checked
   1  for verify: an expected register or the boot aggregate does not match;
      with --prefix, --save or --resume: no register is expected;
      for replay with EXPECTED: an expected register does not match;
      for locate: a register's value was not reached, or none is expected;
      for each of these: EXPECTED lacks a register that --require names;
-     for verify and replay with --require: an event extends register 10, or
-     an entry extends another
+     for verify and replay with --require, and for attest: an event extends
+     register 10, or an entry extends another;
+     for attest: the boot aggregate or the quote does not match
   2  the arguments or an input were refused
   3  out of memory, an input could not be read, or the output failed;
-     for verify: the checkpoint of --save could not be written;
-     for measure: an error of the program itself"
+     for verify and attest: the checkpoint of --save could not be written;
+     for measure: an error of the program itself
+  4  for attest: QUOTE was refused, or --signature-checked is not given"
         )
     };
 }
@@ -78,6 +81,8 @@ pub(crate) fn help_end_of<'a>(command: &str) -> &'a str {
             help_end!("ima-agent measure --print registers firmware.log /bin/sh /bin/ls"; log book gather),
         "verify" =>
             help_end!("ima-agent verify --require sha256:0-10 firmware.log ima.list expected.txt"; log list replay expected checkpoint),
+        "attest" =>
+            help_end!("ima-agent attest --nonce \"$nonce\" --require sha256:0-10 firmware.log ima.list quote.msg"; quote log list replay expected checkpoint),
         "locate" =>
             help_end!("ima-agent locate firmware.log ima.list expected.txt"; log list replay expected),
         "expected" =>

@@ -3,11 +3,12 @@
 ghost use Rattle.std.specs.Prelude.{◌≡◌, ◌<◌, ◌≤◌, ◌^◌, [], Some, codes, map, string_bytes, unwrap_or, vec_len, IfOk};
 ghost use Rattle.clap.specs.Words.{all_of, first_of, found_of, rows_of};
 ghost use Rattle.agent_plans.specs.Plans.{HasForm, IsWithinLimits};
-ghost use Rattle.command_line.specs.Arguments.{AreFurtherNames, HasMeasure, HasNumber, IsFlag, IsGivenAs, print_name};
+ghost use Rattle.command_line.specs.Arguments.{AreFurtherNames, HasAttest, HasBytes, HasMeasure, HasNumber, IsFlag, IsGivenAs, print_name};
 
 use crate::command_table::{MOST_RECORDS, MOST_WORKERS};
-use agent_plans::{ArgumentsFault, Form, Measurement, NameEnd, Names, Print};
+use agent_plans::{ArgumentsFault, Attest, Form, Measurement, NameEnd, Names, Print, Scope};
 use clap::ArgMatches;
+use hex::FromHexError;
 use ima_list::Template;
 use pcr_banks::Alg;
 use std::alloc::Global;
@@ -33,6 +34,36 @@ pub(crate) fn measurement_of(
         files: files_of(alloc, matches)?,
         names: further_names_of(alloc, matches)?,
     })
+}
+
+/// The options and names of `attest`. Refuses a nonce that is not hexadecimal.
+pub(crate) fn attest_of(alloc: Global, matches: &ArgMatches) -> Result<Attest, ArgumentsFault>
+    ensures { IfOk result (HasAttest (rows_of (found_of matches.now))) }
+{
+    Ok(Attest {
+        log: name_of(alloc, matches, "LOG")?,
+        list: name_of(alloc, matches, "LIST")?,
+        quote: name_of(alloc, matches, "QUOTE")?,
+        expected: text_if_given(alloc, matches, "EXPECTED")?,
+        nonce: bytes_of(alloc, matches, "nonce")?,
+        required: name_of(alloc, matches, "require")?,
+        takes_sha1: flag_of(matches, "sha1", false, true)?,
+        is_signed: flag_of(matches, "signature-checked", false, true)?,
+        scope: flag_of(matches, "prefix", Scope::Whole, Scope::Prefix)?,
+        resume: text_if_given(alloc, matches, "resume")?,
+        save: text_if_given(alloc, matches, "save")?,
+    })
+}
+
+// The bytes that the first value of this argument spells, two hexadecimal digits of either case for each.
+fn bytes_of(alloc: Global, matches: &ArgMatches, id: &str) -> Result<Vec<u8>, ArgumentsFault>
+    ensures { IfOk result (λ bytes. HasBytes id.now (rows_of (found_of matches.now)) bytes.items) }
+{
+    match hex::decode(alloc, text_of(matches, id)?) {
+        Ok(bytes) => Ok(bytes),
+        Err(FromHexError::OutOfMemory) => Err(ArgumentsFault::Memory),
+        Err(_) => Err(ArgumentsFault::Usage),
+    }
 }
 
 // The text of further names, if there is one. Refuses `--null` without `--files-from`.

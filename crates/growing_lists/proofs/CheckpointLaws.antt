@@ -26,8 +26,10 @@ use Rattle.pcr_banks.proofs.SetLaws.{bytes_again, has_where}
 use Rattle.boot_verdict.specs.declared.checkpoint.Checkpoint.{Checkpoint}
 use Rattle.boot_verdict.specs.declared.expected.Expected.{Expected}
 use Rattle.boot_verdict.specs.declared.isolation.Stray.{Stray}
-use Rattle.growing_lists.specs.CheckpointData.{HaveValues, IsHash, IsStrayOf, SameData, SameValues}
-use Rattle.growing_lists.specs.CheckpointTexts.{IsOfOtherVersion, bank_lines, banks_lines, checkpoint_text, checkpoint_body, data_lines, number_line, seal_line, recorded_line, recorded_words, stray_entry, stray_lines, stray_register, value_line}
+use Rattle.growing_lists.specs.CheckpointData.{HaveValues, IsBoot, IsHash, IsSameState, IsStrayOf, SameData, SameValues}
+use Rattle.growing_lists.specs.declared.saved_state.Boot.{Boot}
+use Rattle.growing_lists.specs.declared.saved_state.SavedState.{SavedState}
+use Rattle.growing_lists.specs.CheckpointTexts.{IsOfOtherVersion, bank_lines, banks_lines, boot_lines, checkpoint_text, checkpoint_body, data_lines, state_lines, number_line, seal_line, recorded_line, recorded_words, stray_entry, stray_lines, stray_register, value_line}
 use Rattle.boot_verdict.specs.ExpectedTexts.{IsRegisterLine}
 use Rattle.boot_verdict.specs.RegisterTexts.{all_registers, change_line, register_line}
 use Rattle.boot_verdict.specs.Replays as replays
@@ -165,6 +167,31 @@ pub some_stray : (stray : Option Stray) (register entry : ℕ) → IfSome stray 
 some_stray None register entry is same number other = absurd (other same)
 some_stray (Some stray) register entry is same number other =
     let exists = is.exists in (omega (arith, exists, same), λ i. Some (record { entry = number i; register = same i }))
+
+-- ---- the boot
+
+pub boot_apart : (boot : Boot) (rest : List ℕ)
+    → boot_lines (Some boot) ++ rest
+    ≡ number_line (codes "resets ") boot.resets ++ (number_line (codes "restarts ") boot.restarts ++ rest)
+boot_apart boot rest =
+    append_assoc (number_line (codes "resets ") boot.resets) (number_line (codes "restarts ") boot.restarts) rest
+
+not_counts : (boot : Boot) (rest more : List ℕ) → boot_lines (Some boot) ++ rest ≡ codes "boot none\n" ++ more → ⊥
+not_counts boot rest more is =
+    let byte : ◌≡◌ {A = ℕ} 114 98 = ap (λ (l : List ℕ). slice_index l 0) is in absurd (omega (arith, byte))
+
+-- The line is there that no quote tells the boot.
+pub no_boot : (boot : Option Boot) (rest more text : List ℕ) → text ≡ boot_lines boot ++ rest → text ≡ codes "boot none\n" ++ more
+    → (None ≡ boot) × (more ≡ rest)
+no_boot None rest more text is found = (refl, append_cancel_left (codes "boot none\n") more rest (sym found ∙ is))
+no_boot (Some boot) rest more text is found = absurd (not_counts boot rest more (sym is ∙ found))
+
+-- The lines of a boot are there.
+pub some_boot : (boot : Option Boot) (rest text : List ℕ) → IfSome boot IsBoot → text ≡ boot_lines boot ++ rest
+    → ((more : List ℕ) → text ≡ codes "boot none\n" ++ more → ⊥)
+    → (found : Boot) × (boot ≡ Some found) × IsBoot found × (text ≡ boot_lines (Some found) ++ rest)
+some_boot None rest text fits is none = absurd (none rest is)
+some_boot (Some boot) rest text fits is none = (boot, refl, fits, is)
 
 -- ---- the line of a register
 
@@ -460,9 +487,8 @@ bank_same first second alg same =
 banks_same : (first second : Banks) → SameValues first second → banks_lines first ≡ banks_lines second
 banks_same first second same = flat_same (bank_lines first) (bank_lines second) (λ alg. bank_same first second alg same) all_algs
 
-pub text_same : (first second : Checkpoint) → SameData first second → checkpoint_text first ≡ checkpoint_text second
-text_same first second same =
-    let lines : data_lines first ≡ data_lines second =
+data_same : (first second : Checkpoint) → SameData first second → data_lines first ≡ data_lines second
+data_same first second same =
     rw (
       same.entries,
       same.bytes,
@@ -470,8 +496,14 @@ text_same first second same =
       same.stray,
       banks_same first.before second.before same.before,
       banks_same first.after second.after same.after,
-    ) refl in
-    ap (λ (l : List ℕ). let body = codes "ima-agent checkpoint " ++ (codes "2\n" ++ l) in body ++ seal_line body) lines
+    ) refl
+
+pub text_same : (first second : SavedState) → IsSameState first second → checkpoint_text first ≡ checkpoint_text second
+text_same first second same =
+    let lines : state_lines first ≡ state_lines second =
+    ap (λ (l : List ℕ). l ++ boot_lines first.boot) (data_same first.checkpoint second.checkpoint same.checkpoint)
+    ∙ ap (λ (boot : Option Boot). data_lines second.checkpoint ++ boot_lines boot) same.boot in
+    ap (λ (l : List ℕ). let body = codes "ima-agent checkpoint " ++ (codes "3\n" ++ l) in body ++ seal_line body) lines
 
 -- What holds of the value in an option is passed on.
 pub some_then : {A : Type 0} {P Q : A → Type 0} (o : Option A) → IsSomeAnd o P → ((x : A) → P x → Q x) → IsSomeAnd o Q
@@ -507,23 +539,23 @@ data_apart known rest =
     (codes "before\n") (banks_lines known.before) (codes "after\n") (banks_lines known.after) (stray_lines known.stray) rest
 
 parts_joined : (entries bytes recorded before after register entry : List ℕ)
-    → (codes "ima-agent checkpoint 2\nentries " ++ (entries ++ (codes "\nbytes " ++ (bytes ++ codes "\n"))))
+    → (codes "entries " ++ (entries ++ (codes "\nbytes " ++ (bytes ++ codes "\n"))))
     ++ (recorded ++ ((codes "before\n" ++ before) ++ ((codes "after\n" ++ after)
     ++ (codes "register " ++ (register ++ (codes "\nentry " ++ (entry ++ codes "\n")))))))
-    ≡ codes "ima-agent checkpoint " ++ (codes "2\n" ++ ((codes "entries " ++ (entries ++ codes "\n"))
+    ≡ (codes "entries " ++ (entries ++ codes "\n"))
     ++ ((codes "bytes " ++ (bytes ++ codes "\n")) ++ (recorded ++ (codes "before\n" ++ (before ++ (codes "after\n" ++ (after
-    ++ ((codes "register " ++ (register ++ codes "\n")) ++ (codes "entry " ++ (entry ++ codes "\n")))))))))))
+    ++ ((codes "register " ++ (register ++ codes "\n")) ++ (codes "entry " ++ (entry ++ codes "\n")))))))))
 parts_joined entries bytes recorded before after register entry = simp append_assoc refl
 
--- The parts of the body, as they are written.
-pub body_parts : (known : Checkpoint)
-    → (codes "ima-agent checkpoint 2\nentries " ++ (decimal known.entries ++ (codes "\nbytes " ++ (decimal known.bytes ++ codes "\n"))))
+-- The parts of the data, as they are written.
+pub data_parts : (known : Checkpoint)
+    → (codes "entries " ++ (decimal known.entries ++ (codes "\nbytes " ++ (decimal known.bytes ++ codes "\n"))))
     ++ (recorded_line known.recorded
     ++ ((codes "before\n" ++ banks_lines known.before) ++ ((codes "after\n" ++ banks_lines known.after)
     ++ (codes "register "
     ++ (decimal (stray_register known.stray) ++ (codes "\nentry " ++ (decimal (stray_entry known.stray) ++ codes "\n")))))))
-    ≡ checkpoint_body known
-body_parts known =
+    ≡ data_lines known
+data_parts known =
     let recorded = recorded_line known.recorded in
     let before = banks_lines known.before in
     let after = banks_lines known.after in
@@ -531,45 +563,53 @@ body_parts known =
     let entry = decimal (stray_entry known.stray) in
     parts_joined (decimal known.entries) (decimal known.bytes) recorded before after register entry
 
+-- The parts of the body, as they are written.
+pub body_parts : (state : SavedState)
+    → codes "ima-agent checkpoint 3\n" ++ (data_lines state.checkpoint ++ boot_lines state.boot) ≡ checkpoint_body state
+body_parts state = refl
+
 -- ---- the whole text
 
 three : (a b c rest : List ℕ) → (a ++ (b ++ c)) ++ rest ≡ a ++ (b ++ (c ++ rest))
 three a b c rest = simp append_assoc refl
 
-pub text_begins : (known : Checkpoint)
-    → checkpoint_text known
-    ≡ codes "ima-agent checkpoint " ++ (codes "2\n" ++ (data_lines known ++ seal_line (checkpoint_body known)))
-text_begins known = three (codes "ima-agent checkpoint ") (codes "2\n") (data_lines known) (seal_line (checkpoint_body known))
+pub text_begins : (state : SavedState)
+    → checkpoint_text state
+    ≡ codes "ima-agent checkpoint " ++ (codes "3\n" ++ (state_lines state ++ seal_line (checkpoint_body state)))
+text_begins state = three (codes "ima-agent checkpoint ") (codes "3\n") (state_lines state) (seal_line (checkpoint_body state))
 
-pub version_is : (known : Checkpoint) (text version : List ℕ) → text ≡ codes "ima-agent checkpoint " ++ version → text ≡ checkpoint_text known
-    → version ≡ codes "2\n" ++ (data_lines known ++ seal_line (checkpoint_body known))
-version_is known text version found is =
-    append_cancel_left (codes "ima-agent checkpoint ") version (codes "2\n" ++ (data_lines known ++ seal_line (checkpoint_body known)))
-    (sym found ∙ is ∙ text_begins known)
+pub version_is : (state : SavedState) (text version : List ℕ) → text ≡ codes "ima-agent checkpoint " ++ version → text ≡ checkpoint_text state
+    → version ≡ codes "3\n" ++ (state_lines state ++ seal_line (checkpoint_body state))
+version_is state text version found is =
+    append_cancel_left (codes "ima-agent checkpoint ") version (codes "3\n" ++ (state_lines state ++ seal_line (checkpoint_body state)))
+    (sym found ∙ is ∙ text_begins state)
 
-pub lines_are : (known : Checkpoint) (text version lines : List ℕ) → text ≡ codes "ima-agent checkpoint " ++ version
-    → version ≡ codes "2\n" ++ lines → text ≡ checkpoint_text known → lines ≡ data_lines known ++ seal_line (checkpoint_body known)
-lines_are known text version lines found then_found is =
-    append_cancel_left (codes "2\n") lines (data_lines known ++ seal_line (checkpoint_body known))
-    (sym then_found ∙ version_is known text version found is)
+pub lines_are : (state : SavedState) (text version lines : List ℕ) → text ≡ codes "ima-agent checkpoint " ++ version
+    → version ≡ codes "3\n" ++ lines → text ≡ checkpoint_text state → lines ≡ state_lines state ++ seal_line (checkpoint_body state)
+lines_are state text version lines found then_found is =
+    append_cancel_left (codes "3\n") lines (state_lines state ++ seal_line (checkpoint_body state))
+    (sym then_found ∙ version_is state text version found is)
 
 pub ok_then : {A E : Type 0} {P Q : A → Type 0} (r : Result A E) → IfOk r P → ((x : A) → P x → Q x) → IfOk r Q
 ok_then (Ok x) is next = next x is
 ok_then (Err fault) is next = tt
 
-pub this_version : (text version lines : List ℕ) → text ≡ codes "ima-agent checkpoint " ++ version → version ≡ codes "2\n" ++ lines
+pub this_version : (text version lines : List ℕ) → text ≡ codes "ima-agent checkpoint " ++ version → version ≡ codes "3\n" ++ lines
     → IsOfOtherVersion text → ⊥
 this_version text version lines found then_found other =
     let same = append_cancel_left (codes "ima-agent checkpoint ") other.version version (sym other.begins ∙ found) in
     other.other lines (same ∙ then_found)
 
--- Two checkpoints with the data of a third have the same data.
-pub same_both : (found first second : Checkpoint) → SameData found first → SameData found second → SameData first second
+-- Two states with the data of a third have the same data.
+pub same_both : (found first second : SavedState) → IsSameState found first → IsSameState found second → IsSameState first second
 same_both found first second one other = record {
-  entries = sym one.entries ∙ other.entries;
-  bytes = sym one.bytes ∙ other.bytes;
-  recorded = sym one.recorded ∙ other.recorded;
-  stray = sym one.stray ∙ other.stray;
-  before = λ a r. sym (one.before a r) ∙ other.before a r;
-  after = λ a r. sym (one.after a r) ∙ other.after a r;
+  checkpoint = record {
+    entries = sym one.checkpoint.entries ∙ other.checkpoint.entries;
+    bytes = sym one.checkpoint.bytes ∙ other.checkpoint.bytes;
+    recorded = sym one.checkpoint.recorded ∙ other.checkpoint.recorded;
+    stray = sym one.checkpoint.stray ∙ other.checkpoint.stray;
+    before = λ a r. sym (one.checkpoint.before a r) ∙ other.checkpoint.before a r;
+    after = λ a r. sym (one.checkpoint.after a r) ∙ other.checkpoint.after a r;
+  };
+  boot = sym one.boot ∙ other.boot;
 }

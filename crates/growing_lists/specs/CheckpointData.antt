@@ -9,6 +9,9 @@ use Rattle.pcr_banks.specs.Registers.{register_count, is_active, value_at}
 use Rattle.boot_verdict.specs.declared.checkpoint.Checkpoint.{Checkpoint}
 use Rattle.boot_verdict.specs.declared.isolation.Stray.{Stray}
 use Rattle.boot_verdict.specs.Isolation.{list_register}
+use Rattle.tpm_quotes.specs.Spelling.{TpmQuote}
+use Rattle.growing_lists.specs.declared.saved_state.Boot.{Boot}
+use Rattle.growing_lists.specs.declared.saved_state.SavedState.{SavedState}
 
 -- Bytes, as many as a hash of the algorithm has.
 abbrev pub IsHash : Alg → List ℕ → Type 0
@@ -72,3 +75,24 @@ pub record SameData (first second : Checkpoint) : Type 0 where
   pub stray : first.stray ≡ second.stray
   pub before : SameValues first.before second.before
   pub after : SameValues first.after second.after
+
+-- ---- what is saved
+
+-- The boot in which a TPM made a quote, by its counts of resets and restarts (TPM 2.0 Library, part 2, TPMS_CLOCK_INFO).
+abbrev pub boot_of : TpmQuote → Boot
+boot_of quote = record { resets = quote.clock.resets; restarts = quote.clock.restarts }
+
+-- The counts fit their fields, of 32 bits.
+pub record IsBoot (boot : Boot) : Type 0 where
+  pub resets : boot.resets < 2 ^ 32
+  pub restarts : boot.restarts < 2 ^ 32
+
+-- What is known is possible, and so is the boot.
+pub record IsPossibleState (state : SavedState) : Type 0 where
+  pub checkpoint : IsPossible state.checkpoint
+  pub boot : IfSome state.boot IsBoot
+
+-- Two states of the same data.
+pub record IsSameState (first second : SavedState) : Type 0 where
+  pub checkpoint : SameData first.checkpoint second.checkpoint
+  pub boot : first.boot ≡ second.boot

@@ -1,4 +1,4 @@
--- A checkpoint, as text.
+-- A checkpoint, with the boot that a quote told of it, as text.
 use Rattle.std.specs.Prelude.{◌≡◌, ℕ, List, ◌++◌, codes, decimal, flat_map, if◌then◌else◌, Option, Some, None, is_some}
 use Rattle.hex.specs.Hex.{encode_lower}
 use Rattle.pcr_banks.specs.declared.alg.Alg.{Alg}
@@ -12,6 +12,8 @@ use Rattle.boot_verdict.specs.declared.checkpoint.Checkpoint.{Checkpoint}
 use Rattle.boot_verdict.specs.declared.isolation.Stray.{Stray}
 use Rattle.boot_verdict.specs.Isolation.{list_register}
 use Rattle.boot_verdict.specs.RegisterTexts.{all_registers, change_line}
+use Rattle.growing_lists.specs.declared.saved_state.Boot.{Boot}
+use Rattle.growing_lists.specs.declared.saved_state.SavedState.{SavedState}
 
 -- A line of a word and a number in decimal.
 abbrev pub number_line : List ℕ → ℕ → List ℕ
@@ -59,19 +61,28 @@ data_lines checkpoint =
     ++ (recorded_line checkpoint.recorded
     ++ (codes "before\n" ++ (banks_lines checkpoint.before ++ (codes "after\n" ++ (banks_lines checkpoint.after ++ stray_lines checkpoint.stray))))))
 
+-- The counts of the boot, or that no quote confirmed what is known.
+abbrev pub boot_lines : Option Boot → List ℕ
+boot_lines None = codes "boot none\n"
+boot_lines (Some boot) = number_line (codes "resets ") boot.resets ++ number_line (codes "restarts ") boot.restarts
+
+-- The lines of a state.
+abbrev pub state_lines : SavedState → List ℕ
+state_lines state = data_lines state.checkpoint ++ boot_lines state.boot
+
 -- What stands before the last line.
-abbrev pub checkpoint_body : Checkpoint → List ℕ
-checkpoint_body checkpoint = codes "ima-agent checkpoint " ++ (codes "2\n" ++ data_lines checkpoint)
+abbrev pub checkpoint_body : SavedState → List ℕ
+checkpoint_body state = codes "ima-agent checkpoint " ++ (codes "3\n" ++ state_lines state)
 
 -- The last line: the SHA-256 of what stands before it.
 abbrev pub seal_line : List ℕ → List ℕ
 seal_line body = codes "sha256 " ++ (encode_lower (hash_of Sha256 body) ++ codes "\n")
 
-abbrev pub checkpoint_text : Checkpoint → List ℕ
-checkpoint_text checkpoint = checkpoint_body checkpoint ++ seal_line (checkpoint_body checkpoint)
+abbrev pub checkpoint_text : SavedState → List ℕ
+checkpoint_text state = checkpoint_body state ++ seal_line (checkpoint_body state)
 
 -- The text begins as that of a checkpoint does, but then does not have this version.
 pub record IsOfOtherVersion (text : List ℕ) : Type 0 where
   pub version : List ℕ
   pub begins : text ≡ codes "ima-agent checkpoint " ++ version
-  pub other : (rest : List ℕ) → version ≡ codes "2\n" ++ rest → ⊥
+  pub other : (rest : List ℕ) → version ≡ codes "3\n" ++ rest → ⊥

@@ -1,6 +1,6 @@
 //! The text of a checkpoint, read back.
 
-ghost use Rattle.std.specs.Prelude.{◌≡◌, ◌↔◌, ◌^◌, ◌<◌, ℕ, List, ◌++◌, codes, decimal, flat_map, IfOk, IfErr, IfSome, IfNone, IsErrOf, IsTrue, Option};
+ghost use Rattle.std.specs.Prelude.{◌≡◌, ◌↔◌, ◌^◌, ◌<◌, ℕ, List, ◌++◌, codes, decimal, flat_map, IfOk, IfErr, IfSome, IfNone, IsErrOf, IsTrue, Option, Some};
 ghost use Rattle.std.specs.Option.{IsSomeAnd};
 ghost use Rattle.pcr_banks.specs.declared.alg.Alg.{Alg};
 ghost use Rattle.pcr_banks.specs.declared.banks.Banks.{Banks};
@@ -11,12 +11,15 @@ ghost use Rattle.pcr_banks.specs.Registers.{is_active, register_count};
 ghost use Rattle.boot_verdict.specs.declared.checkpoint.Checkpoint.{Checkpoint};
 ghost use Rattle.boot_verdict.specs.declared.isolation.Stray.{Stray};
 ghost use Rattle.boot_verdict.specs.RegisterTexts.{all_registers, register_line};
-ghost use Rattle.growing_lists.specs.CheckpointData.{HasTakenNothing, HaveValues, IsCounted, IsHash, IsPossible, IsStrayOf, SameData, SameValues};
-ghost use Rattle.growing_lists.specs.CheckpointTexts.{IsOfOtherVersion, bank_lines, banks_lines, checkpoint_text, data_lines, number_line, recorded_line, recorded_words, stray_entry, stray_lines, stray_register, value_line};
+ghost use Rattle.growing_lists.specs.CheckpointData.{HasTakenNothing, HaveValues, IsBoot, IsCounted, IsHash, IsPossible, IsPossibleState, IsSameState, IsStrayOf, SameData, SameValues};
+ghost use Rattle.growing_lists.specs.CheckpointTexts.{IsOfOtherVersion, bank_lines, banks_lines, boot_lines, checkpoint_text, data_lines, state_lines, number_line, recorded_line, recorded_words, stray_entry, stray_lines, stray_register, value_line};
+ghost use Rattle.growing_lists.specs.declared.saved_state.Boot.{Boot};
+ghost use Rattle.growing_lists.specs.declared.saved_state.SavedState.{SavedState};
 ghost use Rattle.growing_lists.specs.parts.CheckpointParts.{HasBank, Sets, TakesBank};
 
 use crate::laws::{banks_have_values, counted_checkpoint_is_possible};
 use crate::same_banks::{are_same_active, are_same_banks};
+use crate::saved_state::{Boot, SavedState, boots_have_counts};
 use crate::session::leaves_room;
 use crate::texts::write_checkpoint;
 use boot_verdict::{
@@ -26,56 +29,53 @@ use boot_verdict::{
 use pcr_banks::{Alg, Banks, Digest, REGISTERS};
 use std::alloc::{AllocError, Global};
 
-/// Reads the text that [`crate::write_checkpoint`] makes of a checkpoint, and no other.
+/// Reads the text that [`crate::write_checkpoint`] makes of a checkpoint and its boot, and no other.
 ///
 /// Fails with [`CheckpointFault::Version`] if the text begins as that of a checkpoint does, but has another version; with
 /// [`CheckpointFault::Damaged`] if it is not the text of a checkpoint, or of one whose data do not fit together; or with
 /// [`CheckpointFault::Memory`].
-pub fn read_checkpoint(alloc: Global, text: &[u8]) -> Result<Checkpoint, CheckpointFault>
+pub fn read_checkpoint(alloc: Global, text: &[u8]) -> Result<SavedState, CheckpointFault>
     // The text is that of the result, which is possible.
-    ensures found { IfOk result (λ found. IsPossible found × (text.now ≡ checkpoint_text found)) }
+    ensures found { IfOk result (λ found. IsPossibleState found × (text.now ≡ checkpoint_text found)) }
     // The text of a checkpoint is read, unless memory runs out.
-    ensures only { (checkpoint : Checkpoint) → IsPossible checkpoint → text.now ≡ checkpoint_text checkpoint
-        → IfOk result (λ found. SameData found checkpoint) × IfErr result (λ fault. fault ≡ CheckpointFault.Memory) }
+    ensures only { (state : SavedState) → IsPossibleState state → text.now ≡ checkpoint_text state
+        → IfOk result (λ found. IsSameState found state) × IfErr result (λ fault. fault ≡ CheckpointFault.Memory) }
     // It is the text of no other.
-    ensures one { (first second : Checkpoint) → IsPossible first → IsPossible second → text.now ≡ checkpoint_text first
-        → text.now ≡ checkpoint_text second → SameData first second }
+    ensures one { (first second : SavedState) → IsPossibleState first → IsPossibleState second → text.now ≡ checkpoint_text first
+        → text.now ≡ checkpoint_text second → IsSameState first second }
     ensures version { IsErrOf result CheckpointFault.Version ↔ IsOfOtherVersion text.now }
 {
     let Some(version) = after_prefix(b"ima-agent checkpoint ", text) else {
         return Err(CheckpointFault::Damaged);
     };
-    let Some(lines) = after_prefix(b"2\n", version) else {
+    let Some(lines) = after_prefix(b"3\n", version) else {
         return Err(CheckpointFault::Version);
     };
-    let Some(checkpoint) = data_at(lines) else {
+    let Some(state) = state_at(lines) else {
         return Err(CheckpointFault::Damaged);
     };
-    check_text(alloc, checkpoint, text)
+    check_text(alloc, state, text)
 }
 
-// The checkpoint, if its counts are possible and this is its text.
-fn check_text(
-    alloc: Global,
-    checkpoint: Checkpoint,
-    text: &[u8],
-) -> Result<Checkpoint, CheckpointFault>
-    ensures same { IfOk result (λ found. found ≡ checkpoint) }
-    ensures found { IfOk result (λ found. IsPossible found × (text.now ≡ checkpoint_text found)) }
-    ensures only { (known : Checkpoint) → IsPossible known → SameData checkpoint known → text.now ≡ checkpoint_text checkpoint
+// The state, if its counts are possible and this is its text.
+fn check_text(alloc: Global, state: SavedState, text: &[u8]) -> Result<SavedState, CheckpointFault>
+    ensures same { IfOk result (λ found. found ≡ state) }
+    ensures found { IfOk result (λ found. IsPossibleState found × (text.now ≡ checkpoint_text found)) }
+    ensures only { (known : SavedState) → IsPossibleState known → IsSameState state known → text.now ≡ checkpoint_text state
         → IfErr result (λ fault. fault ≡ CheckpointFault.Memory) }
     ensures version { IsErrOf result CheckpointFault.Version → ⊥ }
 {
-    banks_have_values(&checkpoint.before);
-    banks_have_values(&checkpoint.after);
-    if !is_counted(&checkpoint) {
+    banks_have_values(&state.checkpoint.before);
+    banks_have_values(&state.checkpoint.after);
+    if !is_counted(&state.checkpoint) {
         return Err(CheckpointFault::Damaged);
     }
-    if !is_text_of(alloc, &checkpoint, text)? {
+    if !is_text_of(alloc, &state, text)? {
         return Err(CheckpointFault::Damaged);
     }
-    counted_checkpoint_is_possible(&checkpoint);
-    Ok(checkpoint)
+    counted_checkpoint_is_possible(&state.checkpoint);
+    boots_have_counts(state.boot);
+    Ok(state)
 }
 
 // Whether the counts, the boot aggregate, the stray entry and the active banks are such as a list leaves.
@@ -110,33 +110,74 @@ fn has_taken_nothing(checkpoint: &Checkpoint) -> bool
         && are_same_banks(&checkpoint.before, &checkpoint.after)
 }
 
-// Whether this is the checkpoint's text.
-fn is_text_of(alloc: Global, checkpoint: &Checkpoint, text: &[u8]) -> Result<bool, AllocError>
-    ensures { IfOk result (λ is. IsTrue is ↔ (text.now ≡ checkpoint_text checkpoint.now)) }
+// Whether this is the state's text.
+fn is_text_of(alloc: Global, state: &SavedState, text: &[u8]) -> Result<bool, AllocError>
+    ensures { IfOk result (λ is. IsTrue is ↔ (text.now ≡ checkpoint_text state.now)) }
 {
-    let written = write_checkpoint(alloc, checkpoint)?;
+    let written = write_checkpoint(alloc, state)?;
     Ok(written.as_slice() == text)
 }
 
-// The data that lines at the start state, which may be those of no checkpoint.
-fn data_at(text: &[u8]) -> Option<Checkpoint>
+// The state that lines at the start state, which may be one that nobody saves.
+fn state_at(text: &[u8]) -> Option<SavedState>
+    ensures { (known : SavedState) (rest : List ℕ) → IsPossibleState known → text.now ≡ state_lines known ++ rest
+        → IsSomeAnd result (λ found. IsSameState found known) }
+{
+    let (checkpoint, rest) = data_at(text)?;
+    let (boot, _) = boot_at(rest)?;
+    Some(SavedState { checkpoint, boot })
+}
+
+// The boot by its lines at the start, and what follows the lines.
+fn boot_at(text: &[u8]) -> Option<(Option<Boot>, &[u8])>
+    ensures { (boot : Option Boot) (rest : List ℕ) → IfSome boot IsBoot → text.now ≡ boot_lines boot ++ rest
+        → IsSomeAnd result (λ x. (x.0 ≡ boot) × (x.1.now ≡ rest)) }
+{
+    match after_prefix(b"boot none\n", text) {
+        Some(rest) => Some((None, rest)),
+        None => counts_at(text),
+    }
+}
+
+// A boot by its counts on the lines at the start, and what follows the lines.
+fn counts_at(text: &[u8]) -> Option<(Option<Boot>, &[u8])>
+    ensures { (boot : Boot) (rest : List ℕ) → IsBoot boot → text.now ≡ boot_lines (Some boot) ++ rest
+        → IsSomeAnd result (λ x. (x.0 ≡ Some boot) × (x.1.now ≡ rest)) }
+{
+    let (resets, rest) = number_at(b"resets ", text)?;
+    let (restarts, rest) = number_at(b"restarts ", rest)?;
+    Some((Some(boot_with(resets, restarts)?), rest))
+}
+
+// The boot with these counts, if they fit.
+fn boot_with(resets: u64, restarts: u64) -> Option<Boot>
+    ensures { (boot : Boot) → IsBoot boot → resets ≡ boot.resets → restarts ≡ boot.restarts → IsSomeAnd result (λ x. x ≡ boot) }
+{
+    let resets = u32::try_from(resets).ok()?;
+    let restarts = u32::try_from(restarts).ok()?;
+    Some(Boot { resets, restarts })
+}
+
+// The data that lines at the start state, which may be those of no checkpoint, and what follows the lines.
+fn data_at(text: &[u8]) -> Option<(Checkpoint, &[u8])>
     ensures { (known : Checkpoint) (rest : List ℕ) → IsPossible known → text.now ≡ data_lines known ++ rest
-        → IsSomeAnd result (λ found. SameData found known) }
+        → IsSomeAnd result (λ x. SameData x.0 known × (x.1.now ≡ rest)) }
 {
     let (entries, rest) = number_at(b"entries ", text)?;
     let (bytes, rest) = number_at(b"bytes ", rest)?;
     let (recorded, rest) = recorded_at(rest)?;
     let (before, rest) = section_at(b"before\n", rest)?;
     let (after, rest) = section_at(b"after\n", rest)?;
-    let (stray, _) = stray_at(rest)?;
-    Some(Checkpoint {
+    let (stray, rest) = stray_at(rest)?;
+    let checkpoint = Checkpoint {
         before,
         after,
         entries: entries as usize,
         bytes,
         recorded,
         stray,
-    })
+    };
+    Some((checkpoint, rest))
 }
 
 // The number on a line that begins with this word, and what follows the line.

@@ -12,6 +12,7 @@ use Rattle.agent_inputs.specs.Loading.{Inputs, IsInputFault, OfInput, Saved}
 use Rattle.agent_plans.specs.declared.plan.Scope.TheVariants.{Whole}
 use Rattle.agent_plans.specs.declared.plan.Form.{Form}
 use Rattle.agent_plans.specs.declared.plan.Form.TheVariants as forms
+use Rattle.agent_plans.specs.declared.plan.Attest.{Attest}
 use Rattle.agent_plans.specs.declared.plan.Judge.{Judge}
 use Rattle.agent_plans.specs.declared.plan.Judged.{Judged}
 use Rattle.agent_plans.specs.declared.plan.Judged.TheVariants as judged
@@ -22,7 +23,7 @@ use Rattle.agent_plans.specs.declared.plan.Task.{Task}
 use Rattle.agent_plans.specs.declared.plan.Task.TheVariants as tasks
 use Rattle.agent_plans.specs.Plans.{IsWithinRanges, task_of}
 use Rattle.command_line.specs.Arguments.{IsRequestedBy}
-use Rattle.judging.specs.Requests.{Any, Requested, Compared, Compares, ExpectedOf, Judgement, ListRegistersOf, ListVerdictOf, LogRegistersOf, Nothing, PositionsOf, Requires, These, VerdictOf}
+use Rattle.judging.specs.Requests.{Any, Attested, Attests, Requested, Compared, Compares, ExpectedOf, Judgement, ListRegistersOf, ListVerdictOf, LogRegistersOf, Nothing, PositionsOf, Requires, These, VerdictOf}
 use Rattle.judging.specs.Inputs.{FileOf, Where}
 use Rattle.measuring.specs.declared.file_book.Measured.{Measured}
 use Rattle.measuring.specs.Measuring.{IsMeasured, IsMeasuringFault}
@@ -61,11 +62,27 @@ compared_by judge = record {
   required = requires_by judge.judged judge.required;
 }
 
+-- What is judged by a quote.
+abbrev pub attested_by : Attest → Attested
+attested_by attest = record {
+  log = file_of attest.log;
+  list = file_of attest.list;
+  message = file_of attest.quote;
+  expected = option_map file_of attest.expected;
+  nonce = attest.nonce.items;
+  required = string_bytes attest.required;
+  takes_sha1 = attest.takes_sha1;
+  is_signed = attest.is_signed;
+  scope = attest.scope;
+  resume = option_map file_of attest.resume;
+}
+
 -- What a question asks.
 abbrev pub requested_by : Question → Requested
 requested_by (questions.LogRegisters log) = LogRegistersOf (file_of log)
 requested_by (questions.ListRegisters list) = ListRegistersOf (file_of list)
 requested_by (questions.Judge judge) = Compares (compared_by judge)
+requested_by (questions.Attest attest) = Attests (attested_by attest)
 requested_by (questions.Expected printed registers) = ExpectedOf (file_of printed) (option_map string_bytes registers)
 
 -- The name under which the checkpoint is saved, if it is.
@@ -75,6 +92,7 @@ save_of judged = None
 
 abbrev pub save_by : Question → Option (List ℕ)
 save_by (questions.Judge judge) = save_of judge.judged
+save_by (questions.Attest attest) = option_map string_bytes attest.save
 save_by question = None
 
 -- ---- a task

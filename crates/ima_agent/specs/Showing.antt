@@ -7,7 +7,6 @@ use Rattle.boot_log.specs.Spelling as logs
 use Rattle.ima_list.specs.declared.fault.ListFault.{ListFault}
 use Rattle.ima_list.specs.ListEntry.{ListEntry}
 use Rattle.ima_list.specs.Spelling.{BeginsWith, IsReading}
-use Rattle.boot_verdict.specs.declared.checkpoint.Checkpoint.{Checkpoint}
 use Rattle.verdict_texts.specs.declared.events.EventData.{EventData}
 use Rattle.verdict_texts.specs.declared.events.EventData.TheVariants as texts
 use Rattle.verdict_texts.specs.EventTexts.{events_text}
@@ -24,7 +23,7 @@ use Rattle.agent_inputs.specs.Faults.{HasLogFault, fault_of_list, fault_of_log}
 use Rattle.agent_inputs.specs.Loading.{Holds, HoldsTooMuch, Inputs, IsReadFailure, IsTooLong, OfInput, input_limit, unknown}
 use Rattle.judging.specs.Requests.{LogRegistersOf}
 use Rattle.judging.specs.Inputs.{BytesOf}
-use Rattle.rendering.specs.Rendering.{IsRefusalOn, IsShown}
+use Rattle.rendering.specs.Rendering.{GivesAnswer, IsRefusalOn}
 use Rattle.rendering.specs.FaultTexts.{IsFailure, IsReportedAsJson}
 
 -- The program and its version; and the logic that the proofs rest on, as the kit's `rt version` names it.
@@ -48,7 +47,7 @@ Spells text bytes = decode_of (without_white_space text) ≡ Ok bytes
 -- The text is a firmware event log in hexadecimal, and what is shown is the answer to what is asked of its bytes, in this form.
 abbrev pub ShowsHexadecimal : Form → List ℕ → List ℕ → ℕ → Type 0
 ShowsHexadecimal form text shown status =
-    (bytes : List ℕ) × (next : Option Checkpoint) × Spells text bytes × IsShown unknown (LogRegistersOf (BytesOf bytes)) form shown status next
+    (bytes : List ℕ) × (state : List ℕ) × Spells text bytes × GivesAnswer unknown (LogRegistersOf (BytesOf bytes)) form shown status state
 
 -- Why no registers are shown: the text is not hexadecimal; or there is no answer to what is asked of its bytes; or memory ran out.
 abbrev pub IsRefusedFor : List ℕ → RunFault → Type 0

@@ -6,7 +6,8 @@ ghost use Rattle.ima_agent.specs.Escaping.{is_shown};
 
 use crate::escapes::{escape_each, shown_line, shown_lines};
 use agent_inputs::RunFault;
-use agent_plans::{Judge, Judged, Measurement, Question, Task};
+use agent_plans::{Attest, Judge, Judged, Measurement, Question, Task};
+use attestations::{Policy, PolicyFault};
 use boot_verdict::Requirement;
 use command_line::refusal_of;
 use measure_book::BookFault;
@@ -21,6 +22,9 @@ const STANDARD_INPUT: &str = "standard input";
 
 /// What is wrong with arguments that are within all other limits.
 const TOO_MANY_FILES: &str = "error: 2^32 files or more";
+
+/// The option that names what is required, as the help shows it.
+const REQUIRE: &str = "--require <BANK:A-B[,BANK:C-D..]>";
 
 /// What came of a run that failed.
 #[derive(Clone, Copy)]
@@ -125,6 +129,7 @@ fn of_value_in(alloc: Global, task: &Task) -> Result<String, AllocError>
                 },
             ),
         ) => of_requirement(alloc, text)?,
+        Task::Answer(Question::Attest(attest)) => of_policy(alloc, attest)?,
         Task::Answer(
             Question::Expected {
                 registers: Some(range),
@@ -138,10 +143,30 @@ fn of_value_in(alloc: Global, task: &Task) -> Result<String, AllocError>
 
 // Why this text spells no requirement.
 fn of_requirement(alloc: Global, text: &str) -> Result<String, AllocError> {
-    let option = "--require <BANK:A-B[,BANK:C-D..]>";
     match Requirement::from_text(alloc, text.as_bytes()) {
         Ok(_) => Err(AllocError),
-        Err(fault) => { format!(in alloc; "error: invalid value '{text}' for '{option}': {fault}") }
+        Err(fault) => format!(in alloc; "error: invalid value '{text}' for '{REQUIRE}': {fault}"),
+    }
+}
+
+// Why a quote is not asked for so.
+fn of_policy(alloc: Global, attest: &Attest) -> Result<String, AllocError> {
+    let text = &attest.required;
+    let Ok(required) = Requirement::from_text(alloc, text.as_bytes()) else {
+        return of_requirement(alloc, text);
+    };
+    let policy = Policy {
+        nonce: &attest.nonce,
+        required: &required,
+        takes_sha1: attest.takes_sha1,
+    };
+    match policy.fault() {
+        None => Err(AllocError),
+        Some(fault @ PolicyFault::ShortNonce) => {
+            let nonce = hex::encode(alloc, &attest.nonce)?;
+            format!(in alloc; "error: invalid value '{nonce}' for '--nonce <HEX>': {fault}")
+        }
+        Some(fault) => format!(in alloc; "error: invalid value '{text}' for '{REQUIRE}': {fault}"),
     }
 }
 
@@ -191,6 +216,13 @@ fn input_of<'a>(task: &'a Task, fault: &RunFault) -> Option<&'a str> {
         (RunFault::Expect(_), Task::Answer(Question::Judge(judge))) => {
             Some(judge.expected.as_str())
         }
+        (RunFault::Expect(_), Task::Answer(Question::Attest(attest))) => {
+            attest.expected.as_deref()
+        }
+        (RunFault::Quote(_), Task::Answer(Question::Attest(attest))) => Some(attest.quote.as_str()),
+        (RunFault::Checkpoint(_), Task::Answer(Question::Attest(attest))) => {
+            attest.resume.as_deref()
+        }
         (RunFault::Checkpoint(_), Task::Answer(Question::Judge(judge))) => match &judge.judged {
             Judged::Verdict { resume, .. } => resume.as_deref(),
             _ => None,
@@ -209,6 +241,7 @@ fn log_of(task: &Task) -> Option<&str> {
         Task::Registers => Some(STANDARD_INPUT),
         Task::Measure(Measurement { log, .. })
         | Task::Answer(Question::LogRegisters { log })
+        | Task::Answer(Question::Attest(Attest { log, .. }))
         | Task::Events { log, .. } => Some(log.as_str()),
         Task::Answer(Question::Judge(judge)) => match &judge.judged {
             Judged::Verdict { log, .. } | Judged::Positions { log } => Some(log.as_str()),
@@ -222,6 +255,7 @@ fn log_of(task: &Task) -> Option<&str> {
 fn list_of(task: &Task) -> Option<&str> {
     match task {
         Task::Answer(Question::Judge(Judge { list, .. }))
+        | Task::Answer(Question::Attest(Attest { list, .. }))
         | Task::Answer(Question::ListRegisters { list })
         | Task::Entries { list } => Some(list.as_str()),
         _ => None,

@@ -18,7 +18,8 @@ pub use agent_inputs::{
     SystemFiles, WriteSink, hash_from, load,
 };
 pub use agent_plans::{
-    DataShown, Form, Judge, Judged, Measurement, NameEnd, Names, Plan, Print, Question, Scope, Task,
+    Attest, DataShown, Form, Judge, Judged, Measurement, NameEnd, Names, Plan, Print, Question,
+    Scope, Task,
 };
 pub use boot_verdict::{
     Aggregate, BankRange, ExpectFault, Expected, Located, Position, RegisterRange, Report,

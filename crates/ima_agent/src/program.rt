@@ -97,9 +97,10 @@ fn exits_with(status: u8) -> ExitCode
 /// the entries while it reads the list, so that memory does not grow with the list, and `events --json` those of the events while it
 /// reads the loaded log: a fault's line then comes after those of the entries or events before it, whatever the fault. The status is 0 on success, 1
 /// if the report does not match, a register's value was not reached, none was looked for or a required one is missing, 2 for refused
-/// input, and 3 if memory ran out, outcomes do not account for the book, or a device failed. After the sink fails, nothing more is written.
+/// input, 3 if memory ran out, outcomes do not account for the book, or a device failed, and 4 for a refused quote, or one whose signature
+/// the caller has not checked. After the sink fails, nothing more is written.
 ///
-/// A file is replaced only by `verify --save` with the verdict `match`: by the checkpoint of what the report is on, before the report is
+/// A file is replaced only by `verify --save` and `attest --save` with the verdict `match`: by the checkpoint of what the report is on, before the report is
 /// written. With a fault none is.
 pub fn run<R: Threads + Wait + Sync, F: AgentFiles, S: Sink>(
     rt: &R,

@@ -1,11 +1,11 @@
 //! What questions ask of logs and lists.
 
 ghost use Rattle.std.specs.Prelude.{◌≡◌, option_map};
-ghost use Rattle.judging.specs.Requests.{requested_of, compared_of, judgement_of, requires_of};
-ghost use Rattle.ima_agent.specs.Program.{requested_by, compared_by, judgement_by, requires_by, save_by};
+ghost use Rattle.judging.specs.Requests.{requested_of, place_of, attested_of, compared_of, judgement_of, requires_of};
+ghost use Rattle.ima_agent.specs.Program.{requested_by, file_of, attested_by, compared_by, judgement_by, requires_by, save_by};
 
-use agent_plans::{Judge, Judged, Question, Scope};
-use judging::{Comparison, Input, Request, Required, Wanted};
+use agent_plans::{Attest, Judge, Judged, Question, Scope};
+use judging::{Attesting, Comparison, Input, Request, Required, Wanted};
 
 /// What a question asks.
 pub(crate) fn request_of(question: &Question) -> Request<'_>
@@ -19,6 +19,7 @@ pub(crate) fn request_of(question: &Question) -> Request<'_>
             list: Input::File(list),
         },
         Question::Judge(judge) => Request::Comparison(comparison_of(judge)),
+        Question::Attest(attest) => Request::Attestation(attesting_of(attest)),
         Question::Expected { printed, registers } => Request::Expected {
             printed: Input::File(printed),
             range: match registers {
@@ -26,6 +27,34 @@ pub(crate) fn request_of(question: &Question) -> Request<'_>
                 Some(range) => Some(range.as_bytes()),
             },
         },
+    }
+}
+
+// What is judged by a quote.
+fn attesting_of(attest: &Attest) -> Attesting<'_>
+    ensures { attested_of result ≡ attested_by attest.now }
+{
+    Attesting {
+        log: Input::File(&attest.log),
+        list: Input::File(&attest.list),
+        message: Input::File(&attest.quote),
+        expected: file_of(&attest.expected),
+        nonce: &attest.nonce,
+        required: attest.required.as_bytes(),
+        takes_sha1: attest.takes_sha1,
+        is_signed: attest.is_signed,
+        scope: attest.scope,
+        resume: file_of(&attest.resume),
+    }
+}
+
+// The file of this name, if there is one.
+fn file_of(name: &Option<String>) -> Option<Input<'_>>
+    ensures { option_map place_of result ≡ option_map file_of name.now }
+{
+    match name {
+        None => None,
+        Some(name) => Some(Input::File(name)),
     }
 }
 
@@ -54,10 +83,7 @@ fn wanted_of(judged: &Judged) -> Wanted<'_>
         } => Wanted::Verdict {
             log: Input::File(log),
             scope: *scope,
-            resume: match resume {
-                None => None,
-                Some(name) => Some(Input::File(name)),
-            },
+            resume: file_of(resume),
         },
         Judged::Positions { log } => Wanted::Positions {
             log: Input::File(log),
@@ -97,6 +123,7 @@ pub(crate) fn save_of(question: &Question) -> Option<&str>
                 ..
             },
         ) => save.as_deref(),
+        Question::Attest(attest) => attest.save.as_deref(),
         _ => None,
     }
 }

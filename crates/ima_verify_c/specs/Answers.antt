@@ -1,10 +1,11 @@
 -- What a call with these bytes requests, and what it gives.
 use Rattle.std.specs.Prelude.{ℕ, ◌==◌, if◌then◌else◌, Bool, List, bytes_eq, codes, length, Option, None, Some, option_map, ◌≡◌, ℤ, pos, ◌<◌, ◌≤◌, ◌⊎◌, false, [], ◌++◌, drop, Result, Ok, Err, unwrap_or}
+use Rattle.agent_plans.specs.declared.plan.Scope.{Scope}
 use Rattle.agent_plans.specs.declared.plan.Scope.TheVariants.{Prefix, Whole}
 use Rattle.agent_plans.specs.declared.plan.Form.{Form}
 use Rattle.agent_plans.specs.declared.plan.Form.TheVariants.{Json, Text}
 use Rattle.judging.specs.Requests.{Any, Attests, Requested, Compares, Judgement, ListRegistersOf, ListVerdictOf, LogRegistersOf, Nothing, PositionsOf, Requires, These, VerdictOf}
-use Rattle.judging.specs.Inputs.{BytesOf}
+use Rattle.judging.specs.Inputs.{BytesOf, Where}
 use Rattle.agent_inputs.specs.declared.fault.FaultKind.{FaultKind}
 use Rattle.agent_inputs.specs.declared.fault.FaultKind.TheVariants as kinds
 use Rattle.agent_inputs.specs.declared.fault.RunFault.{RunFault}
@@ -44,10 +45,17 @@ requested_by none judgement list expected require = Compares (record {
   required = required_by none require;
 })
 
--- The verdict on a log and a list, or on its confirmed prefix, from a checkpoint on, if it has bytes.
+-- The whole list, or its confirmed prefix.
+abbrev pub scope_of : Bool → Scope
+scope_of prefix = if prefix then Prefix else Whole
+
+-- Where the checkpoint is that is gone on from, if it has bytes.
+abbrev pub resume_of : List ℕ → Option Where
+resume_of state = option_map BytesOf (given_bytes state)
+
+-- The verdict on a log and a list, or on its confirmed prefix, from a checkpoint on, if there is one.
 abbrev pub verdict_of : List ℕ → List ℕ → Bool → Judgement
-verdict_of log state prefix =
-    VerdictOf (BytesOf log) (if prefix then Prefix else Whole) (option_map BytesOf (given_bytes state))
+verdict_of log state prefix = VerdictOf (BytesOf log) (scope_of prefix) (resume_of state)
 
 -- The verdict on a log and a list; where the registers have their values; and the verdict on a list alone. `none` requires nothing.
 abbrev pub requested_of_verdict : List ℕ → List ℕ → List ℕ → List ℕ → Requested
@@ -63,18 +71,19 @@ requested_of_list list expected require = requested_by Nothing ListVerdictOf lis
 abbrev pub requested_of_more : List ℕ → List ℕ → List ℕ → List ℕ → List ℕ → Bool → Requested
 requested_of_more log state more expected require prefix = requested_by Any (verdict_of log state prefix) more expected require
 
--- Whether a quote is of a log and a list.
-abbrev pub requested_of_attestation : List ℕ → List ℕ → List ℕ → List ℕ → List ℕ → Bool → Bool → Requested
-requested_of_attestation log list message nonce require takes_sha1 is_signed = Attests (record {
+-- Whether a quote is of a log and a list, or of its confirmed prefix, from a checkpoint on, if there is one.
+abbrev pub requested_of_attestation : List ℕ → List ℕ → List ℕ → List ℕ → List ℕ → List ℕ → Bool → Bool → Bool → Requested
+requested_of_attestation log state more message nonce require takes_sha1 is_signed prefix = Attests (record {
   log = BytesOf log;
-  list = BytesOf list;
+  list = BytesOf more;
   message = BytesOf message;
   nonce = nonce;
   required = require;
   takes_sha1 = takes_sha1;
   is_signed = is_signed;
-  scope = Whole;
-  resume = None;
+  expected = None;
+  scope = scope_of prefix;
+  resume = resume_of state;
 })
 
 -- The registers after a list alone, or after a log.
@@ -179,11 +188,15 @@ IsRefusal HasReason form text status fault = (reason : RunFault) × (fault ≡ S
 abbrev pub HasNoAnswerOn : Requested → RunFault → Type 0
 HasNoAnswerOn request fault = IsRefusalOn unknown request fault ⊎ (fault ≡ Memory)
 
--- The answer to what is asked, in this form, with its status, and the text of the checkpoint of what it is on, which has no bytes unless all
+-- What a call returns for an answer with this exit status: 0 if all is well, else 1.
+abbrev pub answer_of_status : ℕ → ℕ
+answer_of_status status = if status == 0 then 0 else 1
+
+-- The answer to what is asked, in this form, with what a call returns for it, and the text of the checkpoint of what it is on, which has no bytes unless all
 -- is well; or why there is no answer, and no text of a checkpoint.
 abbrev pub IsAnswerAndNext : Requested → Form → List ℕ → ℕ → Option RunFault → List ℕ → Type 0
 IsAnswerAndNext request form text status fault state =
-    ((fault ≡ None) × GivesAnswer unknown request form text status state)
+    ((fault ≡ None) × ((exit : ℕ) × GivesAnswer unknown request form text exit state × (status ≡ answer_of_status exit)))
     ⊎ (IsRefusal (HasNoAnswerOn request) form text status fault × (state ≡ []))
 
 -- The answer, whatever checkpoint there is.

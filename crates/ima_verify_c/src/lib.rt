@@ -18,8 +18,10 @@ ghost use Rattle.judging.specs.Inputs.{BytesOf};
 ghost use Rattle.ima_verify_c.specs.Answers.{Answers, AnswersMore, GivesEntries, GivesEvents, IsAnswerAndNext, IsAnswerTo, requested_of_attestation, requested_of_list, requested_of_more, requested_of_positions, requested_of_registers, requested_of_verdict, form_of, given_bytes, interface_version};
 
 use crate::replies::{give, give_both, give_lines};
-use crate::requests::{form_of, given_bytes, registers_on, requested_by, verdict_of};
-use agent_plans::{Form, Scope};
+use crate::requests::{
+    form_of, given_bytes, registers_on, requested_by, resume_of, scope_of, verdict_of,
+};
+use agent_plans::Form;
 use judging::{Attesting, Input, Request, Required, Wanted};
 use pieces::{Position, entry_lines, event_lines};
 use std::alloc::Global;
@@ -119,39 +121,46 @@ pub extern "C" fn ima_verify_raw_more<'a>(
     give_both(alloc, request, form_of(json), next, next_size, out, told)
 }
 
-/// Whether the message of a quote is of a firmware event log and a measurement list: 0 if they are attested by it, else 1. The message must
-/// have this nonce, of at least 16 bytes, and select each register that `require` names: in any case 0 to 10, and none in the SHA-1 bank
-/// alone unless `takes_sha1`. Nothing is attested unless `is_signed` says that the caller has verified the message's signature by the machine's
-/// attestation key, which must be a restricted one.
+/// Whether the message of a quote is of a firmware event log and a measurement list that grows: 0 if they are attested by it, else 1. `state`,
+/// `more`, `prefix` and `next` are as those of [`ima_verify_raw_more`]; the checkpoint that is gone on from must be of the quote's boot, by the
+/// TPM's counts of resets and restarts. The message must have this nonce, of at least 16 bytes, and select each register that `require` names:
+/// in any case 0 to 10, and none in the SHA-1 bank alone unless `takes_sha1`. Nothing is attested unless `is_signed` says that the caller has
+/// verified the message's signature by the machine's attestation key, which must be a restricted one.
 #[unsafe(no_mangle)]
 pub extern "C" fn ima_verify_raw_attest<'a>(
     alloc: Global,
     log: &'a [u8],
-    list: &'a [u8],
+    state: &'a [u8],
+    more: &'a [u8],
     message: &'a [u8],
     nonce: &'a [u8],
     require: &'a [u8],
     takes_sha1: bool,
     is_signed: bool,
+    prefix: bool,
     json: bool,
+    next: &mut [u8],
+    next_size: &mut usize,
     out: &mut [u8],
     told: &mut Told,
 ) -> i32
-    ensures { Answers (IsAnswerTo (requested_of_attestation log.now list.now message.now nonce.now require.now takes_sha1 is_signed) (form_of json))
-        result told.new out.old out.new }
+    ensures { AnswersMore (IsAnswerAndNext
+        (requested_of_attestation log.now state.now more.now message.now nonce.now require.now takes_sha1 is_signed prefix) (form_of json)) result
+        told.new out.old out.new next_size.new next.old next.new }
 {
     let request = Request::Attestation(Attesting {
         log: Input::Bytes(log),
-        list: Input::Bytes(list),
+        list: Input::Bytes(more),
         message: Input::Bytes(message),
         nonce,
         required: require,
         takes_sha1,
         is_signed,
-        scope: Scope::Whole,
-        resume: None,
+        expected: None,
+        scope: scope_of(prefix),
+        resume: resume_of(state),
     });
-    give(alloc, request, form_of(json), out, told)
+    give_both(alloc, request, form_of(json), next, next_size, out, told)
 }
 
 /// The expected registers that a text which tpm2_pcrread or tpm2_checkquote printed states within a range, as `0-10`, or all if that is

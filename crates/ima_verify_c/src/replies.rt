@@ -3,7 +3,7 @@
 ghost use Rattle.std.specs.Prelude.{◌≡◌, ◌≤◌, ◌⊎◌, None, length, option_map, IfOk, IfSome};
 ghost use Rattle.agent_inputs.specs.declared.fault.RunFault.TheVariants.{Memory};
 ghost use Rattle.judging.specs.Requests.{requested_of};
-ghost use Rattle.ima_verify_c.specs.Answers.{Answers, AnswersMore, AreGiven, fault_answer, GivesFound, GivesPiece, IsAnswerAndNext, IsAnswerTo, IsGiven, IsLineOf, IsRefusal};
+ghost use Rattle.ima_verify_c.specs.Answers.{Answers, AnswersMore, AreGiven, answer_of_status, fault_answer, GivesFound, GivesPiece, IsAnswerAndNext, IsAnswerTo, IsGiven, IsLineOf, IsRefusal};
 
 use crate::told::Told;
 use agent_inputs::{FaultKind, RunFault};
@@ -13,6 +13,12 @@ use judging::Request;
 use pieces::{End, Piece, Position};
 use rendering::{Given, json_fault_line, json_memory_line, output_on, status_of, write_fault};
 use std::alloc::{AllocError, Global};
+
+/// What a call returns if all is well.
+const DONE: u8 = 0;
+
+/// What a call returns if not all is well.
+const DIFFERS: u8 = 1;
 
 /// What a call returns if an input is refused.
 const REFUSED: u8 = 2;
@@ -43,9 +49,22 @@ pub(crate) fn give(
     ensures { Answers (IsAnswerTo (requested_of request.entry) form) result told.new out.old out.new }
 {
     match output_on(alloc, request, form) {
-        Ok(given) => put(&given.output.text, given.output.status, None, out, told),
+        Ok(given) => put(
+            &given.output.text,
+            answer_of_status(given.output.status),
+            None,
+            out,
+            told,
+        ),
         Err(fault) => give_fault(alloc, form, &fault, out, told),
     }
+}
+
+// What a call returns for an answer with this exit status.
+fn answer_of_status(status: u8) -> u8
+    ensures { result ≡ answer_of_status status }
+{
+    if status == 0 { DONE } else { DIFFERS }
 }
 
 /// Gives the answer and the text of the checkpoint of what it is on; or the line of a fault, and no checkpoint.
@@ -186,7 +205,7 @@ fn put_both(
     out: &mut [u8],
     told: &mut Told,
 ) -> i32
-    ensures { AreGiven given.now.output.text.items given.now.output.status None given.now.checkpoint.items result told.new out.old out.new
+    ensures { AreGiven given.now.output.text.items (answer_of_status given.now.output.status) None given.now.checkpoint.items result told.new out.old out.new
         next_size.new next.old next.new }
 {
     let text = &given.output.text;
@@ -194,7 +213,8 @@ fn put_both(
     *next_size = state.len();
     if state.len() <= next.len() && text.len() <= out.len() {
         next[..state.len()].copy_from_slice(state);
-        return put(text, given.output.status, None, out, told);
+        let answer = answer_of_status(given.output.status);
+        return put(text, answer, None, out, told);
     }
     *told = Told::of(text.len(), None);
     TOO_SHORT

@@ -1,8 +1,8 @@
 //! What a call with these bytes asks for.
 
 ghost use Rattle.std.specs.Prelude.{◌≡◌, option_map};
-ghost use Rattle.judging.specs.Requests.{requested_of, judgement_of, requires_of};
-ghost use Rattle.ima_verify_c.specs.Answers.{requested_by, requested_of_registers, form_of, given_bytes, required_by, verdict_of};
+ghost use Rattle.judging.specs.Requests.{requested_of, judgement_of, place_of, requires_of};
+ghost use Rattle.ima_verify_c.specs.Answers.{requested_by, requested_of_registers, form_of, given_bytes, required_by, resume_of, scope_of, verdict_of};
 
 use agent_plans::{Form, Scope};
 use judging::{Comparison, Input, Request, Required, Wanted};
@@ -21,18 +21,31 @@ pub(crate) fn given_bytes(bytes: &[u8]) -> Option<&[u8]>
     if bytes.is_empty() { None } else { Some(bytes) }
 }
 
+/// The whole list, or its confirmed prefix.
+pub(crate) fn scope_of(prefix: bool) -> Scope
+    ensures { result ≡ scope_of prefix }
+{
+    if prefix { Scope::Prefix } else { Scope::Whole }
+}
+
+/// The checkpoint to go on from, if it has bytes.
+pub(crate) fn resume_of(state: &[u8]) -> Option<Input<'_>>
+    ensures { option_map place_of result ≡ resume_of state.now }
+{
+    match given_bytes(state) {
+        Some(state) => Some(Input::Bytes(state)),
+        None => None,
+    }
+}
+
 /// The verdict on a log and a list, or on its confirmed prefix, from a checkpoint on, if there is one.
 pub(crate) fn verdict_of<'a>(log: &'a [u8], state: &'a [u8], prefix: bool) -> Wanted<'a>
     ensures { judgement_of result ≡ verdict_of log.now state.now prefix }
 {
-    let resume = match given_bytes(state) {
-        Some(state) => Some(Input::Bytes(state)),
-        None => None,
-    };
     Wanted::Verdict {
         log: Input::Bytes(log),
-        scope: if prefix { Scope::Prefix } else { Scope::Whole },
-        resume,
+        scope: scope_of(prefix),
+        resume: resume_of(state),
     }
 }
 

@@ -1,22 +1,25 @@
 -- A report by a quote is one line, and has no member `fault`.
 use Rattle.std.proofs.Common.{◌≡◌, ℕ, zero, suc, refl, ◌+◌, ◌≤◌, Bool, true, false, cond, List, [], ◌∷◌, Option, Some, None, codes, arith}
 use Rattle.std.specs.Prelude.{flat_map, if◌then◌else◌, IfSome}
-use Rattle.std.specs.List.{range_with_len}
+use Rattle.std.specs.List.{AllByRecursion, range_with_len}
 use Rattle.json.specs.Find.{get}
 use Rattle.boot_verdict.specs.declared.isolation.Strays.{Strays}
 use Rattle.boot_verdict.specs.declared.prefix_report.Unconfirmed.{Unconfirmed}
+use Rattle.boot_verdict.specs.declared.report.Row.{Row}
 use Rattle.boot_verdict.specs.Isolation.{are_none}
 use Rattle.boot_verdict.specs.RegisterTexts.{all_registers}
 use Rattle.boot_verdict.specs.Verdicts.{Verdict}
 use Rattle.tpm_quotes.specs.Spelling.{BankSelection, is_selected, selects_one}
+use Rattle.attestations.specs.declared.expected.ExpectedValues.{ExpectedValues}
+use Rattle.attestations.specs.declared.expected.ExpectedValues.TheVariants as values
 use Rattle.attestations.specs.declared.report.Whole.{Whole}
 use Rattle.attestations.specs.Quoted.{Stated}
 use Rattle.attestations.specs.Reports.{AttestVerdict}
 use Rattle.json_texts.specs.JsonValues.{IsCount, IsOneLine, Member, items_of, members_of, number_json}
 use Rattle.json_texts.specs.ReportJson.{AreCounted, extends_members, unconfirmed_members}
-use Rattle.json_texts.specs.AttestJson.{IsCountedClock, IsCountedWhole, attest_count_members, attest_json, number_if_selected, selection_json, selection_values, stated_members}
+use Rattle.json_texts.specs.AttestJson.{IsCountedClock, IsCountedWhole, attest_count_members, attest_json, comparison_members, number_if_selected, selection_json, selection_values, stated_members, values_members}
 use Rattle.json_texts.proofs.LineLaws.{ArePlain, ItemsArePlain, line_within, members_deeper, members_joined}
-use Rattle.json_texts.proofs.ValueLaws.{extends_plain, unconfirmed_plain, values_joined}
+use Rattle.json_texts.proofs.ValueLaws.{extends_plain, report_plain, unconfirmed_plain, values_joined}
 use Rattle.json_texts.proofs.FaultMemberLaws.{AreOther, lacks, others_joined}
 
 -- ---- what the quote states
@@ -77,17 +80,27 @@ counts_plain verdict (Some whole) events locality entries fits = (
   ),
 )
 
+values_plain : (expected : ExpectedValues) (rows : List Row) → AllByRecursion (λ row. IsCount row.expected.register) rows
+    → ArePlain (values_members expected rows) 3
+values_plain values.NotGiven rows fit = tt
+values_plain values.Confirmed rows fit = members_deeper (members_of (values_members values.Confirmed rows)) 2 (tt, (report_plain None rows fit, tt))
+values_plain values.Unconfirmed rows fit = (tt, tt)
+
 pub attest_line : (report : AttestVerdict) → IsCountedClock report.quoted.clock → IsCount report.quoted.firmware
     → IsCount report.verdict.events → IsCount report.verdict.locality → IsCount report.verdict.entries
-    → IfSome report.prefix IsCountedWhole → AreCounted report.verdict.strays → IsOneLine (attest_json report)
-attest_line report clock firmware events locality entries prefix strays =
+    → IfSome report.prefix IsCountedWhole → AreCounted report.verdict.strays
+    → AllByRecursion (λ row. IsCount row.expected.register) report.verdict.rows → IsOneLine (attest_json report)
+attest_line report clock firmware events locality entries prefix strays rows =
     let few : 4 ≤ 4 = omega arith in
     let extends = members_deeper (members_of (extends_members report.verdict.strays)) 2 (extends_plain report.verdict.strays strays) in
-    let ended = members_joined 3 (extends_members report.verdict.strays) _ extends (tt, (tt, (tt, tt))) in
+    let given = values_plain report.expected report.verdict.rows rows in
+    let compared : ArePlain (comparison_members report) 3 =
+    (tt, members_joined 3 (values_members report.expected report.verdict.rows) _ given extends) in
+    let ended = members_joined 3 (comparison_members report) _ compared (tt, (tt, (tt, tt))) in
     let counts = counts_plain report.verdict report.prefix events locality entries prefix in
     line_within 4 (attest_json report) few
     (members_joined 3 (stated_members report.quoted) _ (stated_plain report.quoted clock firmware)
-    (members_joined 3 (attest_count_members report.verdict report.prefix) _ counts (tt, ended)))
+    (members_joined 3 (attest_count_members report.verdict report.prefix) _ counts ended))
 
 -- ---- its members
 
@@ -106,8 +119,15 @@ unless_other false ms other = other
 extends_other : (strays : Strays) → AreOther (members_of (extends_members strays))
 extends_other strays = unless_other (are_none strays) _ (refl, tt)
 
+values_other : (expected : ExpectedValues) (rows : List Row) → AreOther (members_of (values_members expected rows))
+values_other values.NotGiven rows = tt
+values_other values.Confirmed rows = (refl, (refl, tt))
+values_other values.Unconfirmed rows = (refl, tt)
+
 pub attest_lacks : (report : AttestVerdict) → get (codes "fault") (attest_json report) ≡ None
 attest_lacks report =
-    let ended = others_joined (extends_members report.verdict.strays) _ (extends_other report.verdict.strays) (refl, (refl, (refl, tt))) in
-    let counted = others_joined (attest_count_members report.verdict report.prefix) _ (counts_other report.verdict report.prefix) (refl, ended) in
+    let given = others_joined (values_members report.expected report.verdict.rows) _ (values_other report.expected report.verdict.rows)
+    (extends_other report.verdict.strays) in
+    let ended = others_joined (comparison_members report) _ (refl, given) (refl, (refl, (refl, tt))) in
+    let counted = others_joined (attest_count_members report.verdict report.prefix) _ (counts_other report.verdict report.prefix) ended in
     lacks (attest_json report) refl (refl, (refl, (refl, (refl, counted))))

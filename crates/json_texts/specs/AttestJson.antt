@@ -2,16 +2,19 @@
 use Rattle.std.specs.Prelude.{ℕ, List, [], ◌∷◌, ◌++◌, codes, flat_map, if◌then◌else◌, Option, Some, None, IfSome, Bool, true, false}
 use Rattle.json.specs.Json.{Json, string, boolean}
 use Rattle.pcr_banks.specs.Hashing.{name_of}
+use Rattle.boot_verdict.specs.declared.report.Row.{Row}
 use Rattle.boot_verdict.specs.RegisterTexts.{all_registers}
 use Rattle.boot_verdict.specs.Verdicts.{Verdict}
 use Rattle.boot_verdict.specs.Words.{aggregate_word, unconfirmed_entry}
 use Rattle.tpm_quotes.specs.declared.clock.Clock.{Clock}
 use Rattle.tpm_quotes.specs.Spelling.{BankSelection, is_selected, selects_one}
+use Rattle.attestations.specs.declared.expected.ExpectedValues.{ExpectedValues}
+use Rattle.attestations.specs.declared.expected.ExpectedValues.TheVariants.{NotGiven, Confirmed, Unconfirmed}
 use Rattle.attestations.specs.declared.report.Whole.{Whole}
 use Rattle.attestations.specs.Quoted.{Stated}
 use Rattle.attestations.specs.Reports.{AttestVerdict, is_attested}
 use Rattle.json_texts.specs.JsonValues.{IsCount, Member, array_of, hex_json, number_json, object_of}
-use Rattle.json_texts.specs.ReportJson.{count_members, extends_members, prefix_count_members, verdict_word}
+use Rattle.json_texts.specs.ReportJson.{count_members, extends_members, prefix_count_members, report_rows, verdict_word}
 
 -- ---- what the quote states
 
@@ -56,6 +59,18 @@ abbrev pub attest_count_members : Verdict → Option Whole → List Member
 attest_count_members verdict None = count_members verdict.events verdict.locality verdict.entries
 attest_count_members verdict (Some whole) = prefix_count_members verdict whole.entries whole.unconfirmed
 
+-- What came of expected values, if some were given; where they are confirmed, the rows.
+abbrev pub values_members : ExpectedValues → List Row → List Member
+values_members NotGiven rows = []
+values_members Confirmed rows = (codes "expected", string (codes "confirmed")) ∷ (codes "registers", report_rows None rows) ∷ []
+values_members Unconfirmed rows = (codes "expected", string (codes "unconfirmed")) ∷ []
+
+-- How log and list compare: the boot aggregate, expected values, and what extends a register that is not its own.
+abbrev pub comparison_members : AttestVerdict → List Member
+comparison_members report =
+    (codes "boot_aggregate", string (aggregate_word report.verdict.aggregate))
+    ∷ (values_members report.expected report.verdict.rows ++ extends_members report.verdict.strays)
+
 abbrev pub signature_word : Bool → List ℕ
 signature_word true = codes "checked"
 signature_word false = codes "not checked"
@@ -73,13 +88,12 @@ conclusion_members report =
     ∷ (codes "verdict", string (conclusion_word report.is_signed (is_attested report)))
     ∷ []
 
--- The report: what the quote states, the counts, the boot aggregate, what extends a register that is not its own, and the conclusion.
+-- The report: what the quote states, the counts, how log and list compare, and the conclusion.
 abbrev pub attest_json : AttestVerdict → Json
 attest_json report = object_of (
     stated_members report.quoted
     ++ (attest_count_members report.verdict report.prefix
-    ++ (codes "boot_aggregate", string (aggregate_word report.verdict.aggregate))
-    ∷ (extends_members report.verdict.strays ++ conclusion_members report)))
+    ++ (comparison_members report ++ conclusion_members report)))
 
 -- ---- what fits in 64 bits
 

@@ -2,17 +2,19 @@
 
 ghost use Rattle.std.specs.Prelude.{◌≡◌, [], ◌∷◌, codes, flat_map, map};
 ghost use Rattle.boot_verdict.specs.Verdicts.{verdict_of};
+ghost use Rattle.attestations.specs.declared.expected.ExpectedValues.TheVariants.{Confirmed};
 ghost use Rattle.attestations.specs.Quoted.{bank_selection_of, stated_of};
 ghost use Rattle.attestations.specs.Reports.{attest_verdict_of};
 ghost use Rattle.json_texts.specs.JsonValues.{AppendsLine, array_of};
-ghost use Rattle.json_texts.specs.AttestJson.{attest_count_members, attest_json, clock_json, conclusion_members, conclusion_word, number_if_selected, numbers_json, selection_json, selection_values, signature_word, stated_members};
+ghost use Rattle.json_texts.specs.AttestJson.{attest_count_members, attest_json, clock_json, comparison_members, conclusion_members, conclusion_word, number_if_selected, numbers_json, selection_json, selection_values, signature_word, stated_members, values_members};
 ghost use Rattle.json_texts.specs.parts.WrittenParts.{WritesItems, WritesMembers, WritesValue};
 
 use crate::lines::{Written, begin_line, end_line};
 use crate::members::{write_flag, write_hex, write_number, write_text};
 use crate::reports::{verdict_word, write_counts, write_extends, write_prefix_counts};
-use attestations::{AttestReport, Quoted, Selected, Whole};
-use boot_verdict::{Report, aggregate_word};
+use crate::rows::write_rows;
+use attestations::{AttestReport, ExpectedValues, Quoted, Selected, Whole};
+use boot_verdict::{Report, Row, aggregate_word};
 use json::Writer;
 use pcr_banks::REGISTERS;
 use std::alloc::Global;
@@ -23,8 +25,9 @@ use tpm_quotes::Clock;
 /// First is what the quote states: `quoted`, an array with an object for each bank of which it selects registers, with `bank` and `registers`, an
 /// array of their numbers; `signer`, the qualified name of the key; `clock`, an object with `milliseconds`, `resets`, `restarts` and `safe`,
 /// which is true or false; and `firmware`, a number. Then come `events`, `locality` and `entries`, on a prefix of the list with `confirmed` and
-/// `unconfirmed` as [`crate::append_prefix_report`] has them; `boot_aggregate`; and `extends`, if an event extends register 10 or an entry another
-/// one, as in [`crate::append_report`]. The last are `quote`, which is `match` or `differ`; `signature`, which is `checked` or `not checked`;
+/// `unconfirmed` as [`crate::append_prefix_report`] has them; `boot_aggregate`; `expected`, if expected registers were given, which is `confirmed`
+/// or `unconfirmed`, and if they are confirmed `registers`, as in [`crate::append_report`]; and `extends`, if an event extends register 10 or an
+/// entry another one, as there. The last are `quote`, which is `match` or `differ`; `signature`, which is `checked` or `not checked`;
 /// and `verdict`, which is `match`, `differ` or `signature not checked`.
 ///
 /// Fails only if memory runs out; the vector then is as before.
@@ -42,9 +45,7 @@ fn write_attestation(alloc: Global, report: &AttestReport, writer: &mut Writer) 
     writer.begin_object()?;
     write_stated(alloc, &report.quoted, writer)?;
     write_list_counts(alloc, &report.report, report.prefix, writer)?;
-    let aggregate = aggregate_word(report.report.aggregate);
-    write_text("boot_aggregate", aggregate, writer)?;
-    write_extends(report.report.strays, writer)?;
+    write_comparison(alloc, report, writer)?;
     write_conclusion(report, writer)?;
     writer.end_object()?;
     Ok(())
@@ -144,6 +145,42 @@ fn write_list_counts(
         None => write_counts(report.events, report.locality, report.entries, writer),
         Some(whole) => write_prefix_counts(alloc, report, whole.entries, whole.unconfirmed, writer),
     }
+}
+
+// Writes the boot aggregate, what came of expected values, and what extends a register that is not its own.
+fn write_comparison(alloc: Global, report: &AttestReport, writer: &mut Writer) -> Written
+    ensures { WritesMembers result writer.old writer.new (comparison_members (attest_verdict_of report.now)) }
+{
+    let aggregate = aggregate_word(report.report.aggregate);
+    write_text("boot_aggregate", aggregate, writer)?;
+    write_values(alloc, report.expected, &report.report.rows, writer)?;
+    write_extends(report.report.strays, writer)?;
+    Ok(())
+}
+
+// Writes what came of expected values, if some were given.
+fn write_values(
+    alloc: Global,
+    expected: ExpectedValues,
+    rows: &[Row],
+    writer: &mut Writer,
+) -> Written
+    ensures { WritesMembers result writer.old writer.new (values_members expected rows.now) }
+{
+    match expected {
+        ExpectedValues::NotGiven => Ok(()),
+        ExpectedValues::Confirmed => write_confirmed(alloc, rows, writer),
+        ExpectedValues::Unconfirmed => write_text("expected", "unconfirmed", writer),
+    }
+}
+
+// Writes that expected values are confirmed, and how their registers compare.
+fn write_confirmed(alloc: Global, rows: &[Row], writer: &mut Writer) -> Written
+    ensures { WritesMembers result writer.old writer.new (values_members Confirmed rows.now) }
+{
+    write_text("expected", "confirmed", writer)?;
+    write_rows(alloc, "state", rows, None, writer)?;
+    Ok(())
 }
 
 // Writes how the quote compares, whether its signature is checked, and the verdict.

@@ -51,7 +51,8 @@ pub fn each_value_is_one_line()
         → AllByRecursion (λ row. IsCount row.expected.register) verdict.rows → IsOneLine (list_report_json required verdict) }
     ensures attestation { (report : AttestVerdict) → IsCountedClock report.quoted.clock → IsCount report.quoted.firmware
         → IsCount report.verdict.events → IsCount report.verdict.locality → IsCount report.verdict.entries
-        → IfSome report.prefix IsCountedWhole → AreCounted report.verdict.strays → IsOneLine (attest_json report) }
+        → IfSome report.prefix IsCountedWhole → AreCounted report.verdict.strays
+        → AllByRecursion (λ row. IsCount row.expected.register) report.verdict.rows → IsOneLine (attest_json report) }
     ensures positions { (required : Option (List BankRange)) (located : List Located)
         → AllByRecursion (λ row. IsCount row.expected.register × IsCountedPosition row.position) located
         → IsOneLine (positions_json required located) }

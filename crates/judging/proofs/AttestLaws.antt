@@ -1,7 +1,7 @@
 -- Attestations.
 use Rattle.std.proofs.Common.{◌≡◌, ◌⊎◌, List, Bool, true, false, Option, None, Some, Ok, Err, refl, sym, ◌∙◌, ap}
-use Rattle.std.specs.Prelude.{IfErr, IfOk, Result, is_some}
-use Rattle.std.proofs.lemmas.Bool.{both_ways}
+use Rattle.std.specs.Prelude.{IfErr, IfOk, IfSome, IsSomeAnd, Result, is_some}
+use Rattle.std.proofs.lemmas.Bool.{both_ways, true≢false}
 use Rattle.boot_verdict.specs.declared.requirement.BankRange.{BankRange}
 use Rattle.boot_verdict.specs.Requirements.{IsRequirementText}
 use Rattle.boot_verdict.proofs.RequirementLaws.{ranges_once}
@@ -9,7 +9,11 @@ use Rattle.attestations.specs.declared.policy.PolicyFault.{PolicyFault}
 use Rattle.attestations.specs.Policies.{policy_fault}
 use Rattle.agent_inputs.specs.declared.fault.RunFault.{RunFault}
 use Rattle.judging.specs.declared.request.Answered.{Answered}
-use Rattle.judging.specs.Answering.{AreTaken, terms_with}
+use Rattle.growing_lists.specs.declared.saved_state.SavedState.{SavedState}
+use Rattle.tpm_quotes.specs.Spelling.{TpmQuote}
+use Rattle.agent_inputs.specs.Loading.{Inputs}
+use Rattle.judging.specs.Answering.{AreTaken, IsCheckpointText, IsKnown, IsOfQuote, terms_with}
+use Rattle.judging.specs.Inputs.{OfInput, Where}
 use Rattle.judging.specs.Requests.{Attested}
 
 -- What holds of an answer, or of a fault, so far as it is one.
@@ -35,3 +39,12 @@ not_taken asked ranges other taken spells refused =
     let same : other ≡ ranges = ranges_once asked.required other ranges taken.0.0 spells.0 in
     let none : policy_fault (terms_with asked ranges) ≡ None = rw same at taken.1 in
     both_ways (is_some (policy_fault (terms_with asked ranges))) (ap (λ (f : Option PolicyFault). is_some f) none) refused
+
+-- If a state is not of the quote's boot, there is one.
+pub other_counts : (inputs : Inputs) (resume : Option Where) (state : Option SavedState) (quote : TpmQuote) → IsKnown inputs resume state
+    → (IfSome state (IsOfQuote quote) → ⊥)
+    → IsSomeAnd resume (λ place. OfInput inputs place (λ text. (state : SavedState) × IsCheckpointText text state × (IsOfQuote quote state → ⊥)))
+other_counts inputs None None quote is other = absurd (other tt)
+other_counts inputs None (Some state) quote is other = absurd (true≢false (ap (λ (s : Option SavedState). is_some s) is))
+other_counts inputs (Some place) None quote is other = absurd is
+other_counts inputs (Some place) (Some state) quote is other = (is.0, is.1, (state, is.2, other))

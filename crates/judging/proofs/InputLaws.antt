@@ -32,8 +32,8 @@ use Rattle.agent_inputs.specs.declared.fault.RunFault.{RunFault}
 use Rattle.agent_inputs.specs.declared.fault.RunFault.TheVariants as runs
 use Rattle.agent_inputs.specs.Faults.{HasLogFault}
 use Rattle.agent_inputs.specs.Loading.{HasFailed, Inputs}
-use Rattle.judging.specs.declared.request.Answer.TheVariants as answers
-use Rattle.judging.specs.Answering.{CanBeReadBack, Evidence, GivesInput, IsJudged, IsNext, IsNotFound, IsRefusedAfter, IsRefusedList, IsStarted, IsUnconfirmedIn, IsWrongIn, aim_in, seeks_prefix}
+use Rattle.judging.specs.declared.request.Judged.TheVariants as judged
+use Rattle.judging.specs.Answering.{CanBeReadBack, Evidence, GivesInput, IsNext, IsNotFound, IsRefusedAfter, IsRefusedList, IsStarted, IsUnconfirmedIn, IsVerdictOn, IsWrongIn, aim_in, seeks_prefix}
 use Rattle.judging.specs.Requests.{VerdictOf}
 use Rattle.judging.specs.Inputs.{Holds, IsFaultAt, OfInput, Where, held_in, limit_of}
 
@@ -167,7 +167,7 @@ module _ {inputs : Inputs} {list : Where} {old new : SourceState} (gives : Gives
         → TakesUnconfirmed log taken old.remaining new.remaining (most_after before.known (limit_of list)) (aim_in evidence)
         before.known.entries after)
         → ((log all : List ℕ) → HasTaken log all after → IsVerdict log all evidence.expected (verdict_of report))
-        → IsJudged inputs (VerdictOf place scope resume) list evidence (answers.Report report) (Some after.known)
+        → IsVerdictOn inputs scope list evidence (judged.Whole report) after.known
     whole_found after report room takes none verdict = (
       started.boot,
       λ taken take.
@@ -190,8 +190,8 @@ module _ {inputs : Inputs} {list : Where} {old new : SourceState} (gives : Gives
         → ((log taken : List ℕ) → HasTaken log taken before → IsPrefixTaken log taken old.remaining new.remaining
         (most_after before.known (limit_of list)) (aim_in evidence) before.known.entries after confirmed)
         → ((log all : List ℕ) → HasTaken log all after → IsVerdict log all evidence.expected (verdict_of report))
-        → IsJudged inputs (VerdictOf place scope resume) list evidence
-        (answers.Prefix (record { report = report; entries = confirmed.entries; unconfirmed = confirmed.unconfirmed })) (Some after.known)
+        → IsVerdictOn inputs scope list evidence
+        (judged.Prefix (record { report = report; entries = confirmed.entries; unconfirmed = confirmed.unconfirmed })) after.known
     prefix_found after report confirmed room sought prefixes verdict = (
       started.boot,
       sought,

@@ -24,27 +24,34 @@ use Rattle.boot_verdict.specs.declared.prefix_report.Unconfirmed.{Unconfirmed}
 use Rattle.boot_verdict.specs.declared.prefix_report.Unconfirmed.TheVariants as unconfirmed
 use Rattle.tpm_quotes.specs.Quoting.{confirms}
 use Rattle.tpm_quotes.specs.Spelling.{IsQuote, TpmQuote, quote_of}
+use Rattle.attestations.specs.declared.expected.ExpectedValues.{ExpectedValues}
+use Rattle.attestations.specs.declared.expected.ExpectedValues.TheVariants.{NotGiven}
 use Rattle.attestations.specs.declared.report.AttestReport.{AttestReport}
 use Rattle.attestations.specs.declared.refusal.QuoteRefusal.{QuoteRefusal}
 use Rattle.attestations.specs.Attesting.{IsQuoteRefusal}
+use Rattle.attestations.specs.Confirming.{confirmed_by, expected_values}
 use Rattle.attestations.specs.Judging.{quote_refusal}
 use Rattle.attestations.specs.Policies.{Terms, policy_fault}
 use Rattle.attestations.specs.Quoted.{stated_by}
 use Rattle.attestations.specs.Reports.{AttestVerdict, attest_verdict_of, is_attested}
 use Rattle.growing_lists.specs.declared.session.Session.{Session}
-use Rattle.growing_lists.specs.CheckpointData.{IsPossible}
+use Rattle.growing_lists.specs.declared.saved_state.Boot.{Boot}
+use Rattle.growing_lists.specs.declared.saved_state.SavedState.{SavedState}
+use Rattle.growing_lists.specs.CheckpointData.{IsPossible, IsPossibleState, boot_of}
 use Rattle.growing_lists.specs.Goals.{Aim, OfExpected, OfQuote}
 use Rattle.growing_lists.specs.Prefixes.{AreUnconfirmed, IsConfirmed}
 use Rattle.growing_lists.specs.Sessions.{HasTaken, IsOfBoot}
 use Rattle.agent_plans.specs.declared.plan.Scope.{Scope}
 use Rattle.agent_plans.specs.declared.plan.Scope.TheVariants.{Whole, Prefix}
-use Rattle.agent_inputs.specs.declared.fault.NotResumed.TheVariants.{OtherBoot, Damaged, Version}
+use Rattle.agent_inputs.specs.declared.fault.NotResumed.TheVariants.{OtherBoot, OtherCounts, Damaged, Version}
 use Rattle.agent_inputs.specs.declared.fault.RunFault.{RunFault}
 use Rattle.agent_inputs.specs.declared.fault.RunFault.TheVariants as runs
 use Rattle.agent_inputs.specs.Faults.{HasLogFault, fault_of_expected}
 use Rattle.agent_inputs.specs.Loading.{GivesAll, HasFailed, Inputs}
 use Rattle.judging.specs.declared.request.Answer.{Answer}
 use Rattle.judging.specs.declared.request.Answer.TheVariants as answers
+use Rattle.judging.specs.declared.request.Judged.{Judged}
+use Rattle.judging.specs.declared.request.Judged.TheVariants as judged
 use Rattle.judging.specs.Requests.{Attested, Attests, Judgement, ListVerdictOf, PositionsOf, VerdictOf, Requested, Compared, Compares, ExpectedOf, ListRegistersOf, LogRegistersOf, Nothing, Requires, These, held_bytes, log_of, resume_of}
 use Rattle.judging.specs.Inputs.{IsFaultAt, IsReadFailure, MayFail, OfInput, Where, held_in, limit_of, Holds, IsInputFault}
 use Rattle.pcr_banks.specs.declared.banks.Banks.{Banks}
@@ -63,12 +70,15 @@ use Rattle.judging.specs.declared.request.Answered.{Answered}
 use Rattle.judging.specs.declared.answers.Evidence.{Evidence as HeldEvidence}
 
 -- What a list is judged with: the registers that are required, if a text spells some; the log, no bytes without one; the expected
--- registers; the quote, if there is one; and the checkpoint that is gone on from, if there is one.
+-- registers, beside a quote those that count; the quote, if there is one, whether its signature was verified, and what came of the values of
+-- expected registers beside it; and the checkpoint that is gone on from, if there is one.
 pub record Evidence : Type 0 where
   pub required : Option (List BankRange)
   pub log : List ℕ
   pub expected : List Expected
   pub quote : Option TpmQuote
+  pub is_signed : Bool
+  pub values : ExpectedValues
   pub known : Option Checkpoint
 
 -- What a prefix is confirmed by: the quote, if there is one; else the expected registers.
@@ -159,19 +169,50 @@ IsUnconfirmedIn inputs place evidence (verdicts.List first) = OfList inputs plac
 IsUnconfirmedIn inputs place evidence (verdicts.Replay first) = OfList inputs place evidence.known (HasNoPrefix evidence)
 IsUnconfirmedIn inputs place evidence first = Unit {0}
 
--- The answer is on this evidence and the list of this input; and this is where to go on. A verdict is on a log that leaves the registers
+-- This was judged on this evidence and the list of this input; and this is where to go on. A verdict is on a log that leaves the registers
 -- before what is gone on from, and on the whole list, of which no prefix is confirmed, if one is sought; or on its confirmed prefix.
-abbrev pub IsJudged : Inputs → Judgement → Where → Evidence → Answer → Option Checkpoint → Type 0
-IsJudged inputs (VerdictOf place scope resume) list evidence (answers.Report report) (Some next) =
+abbrev pub IsVerdictOn : Inputs → Scope → Where → Evidence → Judged → Checkpoint → Type 0
+IsVerdictOn inputs scope list evidence (judged.Whole report) next =
     IfSome evidence.known (IsOfBoot evidence.log)
     × OfMore inputs list evidence.known (λ taken more. (length more ≤ most_more evidence.known list)
     × IsVerdict evidence.log (taken ++ more) evidence.expected (verdict_of report) × IsNext evidence.log (taken ++ more) next)
     × (seeks_prefix scope evidence ≡ true → OfList inputs list evidence.known (HasNoPrefix evidence))
-IsJudged inputs (VerdictOf place scope resume) list evidence (answers.Prefix report) (Some next) =
+IsVerdictOn inputs scope list evidence (judged.Prefix report) next =
     IfSome evidence.known (IsOfBoot evidence.log)
     × (seeks_prefix scope evidence ≡ true)
     × OfList inputs list evidence.known (λ all. IsPrefixOf evidence all report next)
     × OfList inputs list evidence.known (λ all. IsWrongIn all report.entries report.unconfirmed)
+
+-- What a report by a quote says of what was judged, a whole list or its confirmed prefix, after which this is known: by the registers after it.
+abbrev pub told_by : TpmQuote → Bool → ExpectedValues → Checkpoint → Judged → AttestVerdict
+told_by quote is_signed values next (judged.Whole report) = record {
+  quoted = stated_by quote;
+  verdict = verdict_of report;
+  prefix = None;
+  expected = values;
+  is_quoted = confirms quote (value_at next.after);
+  is_signed = is_signed;
+}
+told_by quote is_signed values next (judged.Prefix report) = record {
+  quoted = stated_by quote;
+  verdict = verdict_of report.report;
+  prefix = Some (record { entries = report.entries; unconfirmed = report.unconfirmed });
+  expected = values;
+  is_quoted = confirms quote (value_at next.after);
+  is_signed = is_signed;
+}
+
+-- The answer is the report on what was judged: where there is a quote, a report by the quote.
+abbrev pub IsAnswerOn : Option TpmQuote → Bool → ExpectedValues → Judged → Checkpoint → Answer → Type 0
+IsAnswerOn None is_signed values (judged.Whole report) next answer = answer ≡ answers.Report report
+IsAnswerOn None is_signed values (judged.Prefix report) next answer = answer ≡ answers.Prefix report
+IsAnswerOn (Some quote) is_signed values on next answer =
+    (report : AttestReport) × (answer ≡ answers.Attestation report) × (attest_verdict_of report ≡ told_by quote is_signed values next on)
+
+-- The answer is on this evidence and the list of this input; and this is where to go on.
+abbrev pub IsJudged : Inputs → Judgement → Where → Evidence → Answer → Option Checkpoint → Type 0
+IsJudged inputs (VerdictOf place scope resume) list evidence answer (Some next) =
+    (on : Judged) × IsVerdictOn inputs scope list evidence on next × IsAnswerOn evidence.quote evidence.is_signed evidence.values on next answer
 IsJudged inputs (PositionsOf place) list evidence (answers.Positions located) None =
     OfInput inputs list (λ all. AreLocated evidence.log all evidence.expected located.items)
 IsJudged inputs ListVerdictOf list evidence (answers.ListReport report) None =
@@ -253,10 +294,10 @@ abbrev pub FindsFrom : Judgement → Where → Evidence → SourceState → Sour
 FindsFrom judgement list evidence old new result = (inputs : Inputs) → GivesInput inputs list old new → Finds inputs judgement list evidence result
 
 -- So it is where a session goes on from what is known, if its checkpoint can be read back.
-abbrev pub JudgesFrom : Scope → Where → Evidence → SourceState → SourceState → Session → Session → Result Answer RunFault → Type 0
+abbrev pub JudgesFrom : Scope → Where → Evidence → SourceState → SourceState → Session → Session → Result Judged RunFault → Type 0
 JudgesFrom scope list evidence old new before after result =
     (inputs : Inputs) (log : Where) (resume : Option Where) → GivesInput inputs list old new → IsStarted evidence.log evidence.known before
-    → MatchResult result (λ answer. CanBeReadBack after.known → IsJudged inputs (VerdictOf log scope resume) list evidence answer (Some after.known))
+    → MatchResult result (λ on. CanBeReadBack after.known → IsVerdictOn inputs scope list evidence on after.known)
     (IsNotFound inputs (VerdictOf log scope resume) list evidence)
 
 -- ---- evidence
@@ -272,15 +313,22 @@ IsNotRequired (These text) fault =
     ((fault ≡ runs.Usage) × ((ranges : List BankRange) → IsRequirementText text ranges → ⊥)) ⊎ (fault ≡ runs.Memory)
 IsNotRequired requires fault = ⊥
 
--- The text is that of this checkpoint, which is possible. Any other possible one of which it is has the same data, and so is that of the
--- same lists and boots.
-abbrev pub IsCheckpointText : List ℕ → Checkpoint → Type 0
-IsCheckpointText text known = IsPossible known × (text ≡ checkpoint_text known)
+-- The text is that of this state, which is possible. Any other possible one of which it is has the same data, and so its checkpoint is that of
+-- the same lists and boots.
+abbrev pub IsCheckpointText : List ℕ → SavedState → Type 0
+IsCheckpointText text state = IsPossibleState state × (text ≡ checkpoint_text state)
 
--- What is gone on from: the checkpoint of the input, if there is one.
-abbrev pub IsKnown : Inputs → Option Where → Option Checkpoint → Type 0
+-- What is gone on from: the state in the input, if there is one.
+abbrev pub IsKnown : Inputs → Option Where → Option SavedState → Type 0
 IsKnown inputs resume known =
-    MatchOption resume (known ≡ None) (λ place. IsSomeAnd known (λ known. OfInput inputs place (λ text. IsCheckpointText text known)))
+    MatchOption resume (known ≡ None) (λ place. IsSomeAnd known (λ state. OfInput inputs place (λ text. IsCheckpointText text state)))
+
+-- The checkpoint in a state, if there is one; and the state that has a checkpoint, if there is one, and this boot.
+abbrev pub checkpoint_of : Option SavedState → Option Checkpoint
+checkpoint_of known = option_map (λ state. state.checkpoint) known
+
+abbrev pub state_after : Option Boot → Option Checkpoint → Option SavedState
+state_after boot next = option_map (λ checkpoint. record { checkpoint = checkpoint; boot = boot }) next
 
 -- What is judged with is what the text requires, and what the inputs have that are asked for.
 pub record IsEvidence (inputs : Inputs) (request : Compared) (evidence : Evidence) : Type 0 where
@@ -288,7 +336,9 @@ pub record IsEvidence (inputs : Inputs) (request : Compared) (evidence : Evidenc
   pub log_is : MatchOption (log_of request.judgement) (evidence.log ≡ []) (λ place. Holds inputs place evidence.log)
   pub expected_are : OfInput inputs request.expected (λ text. IsExpectedText text evidence.expected)
   pub none_quoted : evidence.quote ≡ None
-  pub known_is : IsKnown inputs (resume_of request.judgement) evidence.known
+  pub state : Option SavedState
+  pub state_is : IsKnown inputs (resume_of request.judgement) state
+  pub known_is : evidence.known ≡ checkpoint_of state
 
 abbrev pub evidence_of : HeldEvidence → Evidence
 evidence_of held = record {
@@ -296,6 +346,8 @@ evidence_of held = record {
   log = held_bytes held.log;
   expected = held.expected.items;
   quote = option_map (λ quote. quote_of quote.now) held.quote;
+  is_signed = held.is_signed;
+  values = held.values;
   known = held.known;
 }
 
@@ -304,7 +356,7 @@ abbrev pub IsNoCheckpoint : List ℕ → RunFault → Type 0
 IsNoCheckpoint text fault =
     ((fault ≡ runs.Checkpoint Version) × IsOfOtherVersion text)
     ⊎ ((fault ≡ runs.Checkpoint Damaged) × (IsOfOtherVersion text → ⊥)
-    × ((known : Checkpoint) → IsPossible known → text ≡ checkpoint_text known → ⊥))
+    × ((state : SavedState) → IsPossibleState state → text ≡ checkpoint_text state → ⊥))
     ⊎ (fault ≡ runs.Memory)
 
 -- Why there is no evidence, where a text that is given spells registers: an input was not loaded; the text does not state expected
@@ -340,7 +392,7 @@ is_well requires (Some ranges) (answers.ListReport report) = required_list_match
 is_well requires ranges (answers.Attestation report) = report.is_signed && is_attested (attest_verdict_of report)
 is_well requires ranges answer = true
 
--- This is what comes of what is compared, and what it is worth. Nobody goes on from it, unless all is well.
+-- This is what comes of what is compared, and what it is worth. Nobody goes on from it, unless all is well; and no quote tells the boot.
 pub record IsComparison (inputs : Inputs) (request : Compared) (given : Answered) : Type 0 where
   pub evidence : Evidence
   pub next : Option Checkpoint
@@ -348,7 +400,7 @@ pub record IsComparison (inputs : Inputs) (request : Compared) (given : Answered
   pub requirement_is : given.requirement ≡ evidence.required
   pub judged : IsJudged inputs request.judgement request.list evidence given.answer next
   pub well_is : given.is_well ≡ is_well request.required given.requirement given.answer
-  pub next_is : given.next ≡ (if given.is_well then next else None)
+  pub next_is : given.next ≡ (if given.is_well then state_after None next else None)
 
 -- Why nothing comes of what is compared: the text spells no registers; it spells some or is not given, and there is no evidence; or there
 -- is, and no answer.
@@ -373,58 +425,98 @@ abbrev pub IsAskedFor : Inputs → Attested → List BankRange → TpmQuote → 
 IsAskedFor inputs asked ranges quote =
     OfInput inputs asked.message (λ message. IsQuote message quote) × (quote_refusal quote (terms_with asked ranges) ≡ None)
 
--- What a list is judged with where a quote stands in the place of expected registers.
-abbrev pub quoted_evidence : List ℕ → TpmQuote → Option Checkpoint → Evidence
-quoted_evidence log quote known = record { required = None; log = log; expected = []; quote = Some quote; known = known }
+-- What the input of expected registers states; nothing without one.
+abbrev pub IsStated : Inputs → Option Where → Option (List Expected) → Type 0
+IsStated inputs expected stated =
+    MatchOption expected (stated ≡ None) (λ place. IsSomeAnd stated (λ stated. OfInput inputs place (λ text. IsExpectedText text stated)))
 
--- The report is on what was judged, a whole list or its confirmed prefix, after which this is known: by the registers after it.
-abbrev pub IsReportOn : Answer → Checkpoint → TpmQuote → Bool → AttestVerdict → Type 0
-IsReportOn (answers.Report report) next quote is_signed told = told ≡ record {
-  quoted = stated_by quote;
-  verdict = verdict_of report;
-  prefix = None;
-  is_quoted = confirms quote (value_at next.after);
-  is_signed = is_signed;
-}
-IsReportOn (answers.Prefix prefix) next quote is_signed told = told ≡ record {
-  quoted = stated_by quote;
-  verdict = verdict_of prefix.report;
-  prefix = Some (record { entries = prefix.entries; unconfirmed = prefix.unconfirmed });
-  is_quoted = confirms quote (value_at next.after);
-  is_signed = is_signed;
-}
-IsReportOn answer next quote is_signed told = ⊥
+-- What came of the values that are stated, if any are, and the registers that count.
+abbrev pub values_by : TpmQuote → Option (List Expected) → ExpectedValues
+values_by quote None = NotGiven
+values_by quote (Some stated) = expected_values quote stated
 
--- This is what comes of a log, a list and a quote, and what it is worth: nobody goes on from it, unless all is well.
+abbrev pub counted_by : TpmQuote → Option (List Expected) → List Expected
+counted_by quote None = []
+counted_by quote (Some stated) = confirmed_by quote stated
+
+-- This came of the values that the input of expected registers states, and these registers of it count.
+pub record AreCounted (inputs : Inputs) (expected : Option Where) (quote : TpmQuote) (values : ExpectedValues) (counted : List Expected) : Type 0 where
+  pub stated : Option (List Expected)
+  pub stated_is : IsStated inputs expected stated
+  pub values_is : values ≡ values_by quote stated
+  pub counted_is : counted ≡ counted_by quote stated
+
+-- What a list is judged with by a quote, with the expected registers that count.
+abbrev pub quoted_evidence : List ℕ → TpmQuote → Bool → ExpectedValues → List Expected → Option Checkpoint → Evidence
+quoted_evidence log quote is_signed values counted known = record {
+  required = None;
+  log = log;
+  expected = counted;
+  quote = Some quote;
+  is_signed = is_signed;
+  values = values;
+  known = known;
+}
+
+-- A quote confirmed the state, in the boot in which the TPM made this one.
+abbrev pub IsOfQuote : TpmQuote → SavedState → Type 0
+IsOfQuote quote state = state.boot ≡ Some (boot_of quote)
+
+-- This is what comes of a log, a list and a quote, and what it is worth: nobody goes on from it, unless all is well. What is gone on from is of
+-- the quote's boot, and so is what is saved.
 pub record IsAttestation (inputs : Inputs) (asked : Attested) (given : Answered) : Type 0 where
   pub ranges : List BankRange
   pub quote : TpmQuote
   pub log : List ℕ
-  pub known : Option Checkpoint
-  pub judged : Answer
-  pub next : Checkpoint
-  pub report : AttestReport
+  pub values : ExpectedValues
+  pub counted : List Expected
+  pub state : Option SavedState
+  pub next : Option Checkpoint
   pub taken : AreTaken asked ranges
   pub asked_for : IsAskedFor inputs asked ranges quote
   pub log_is : Holds inputs asked.log log
-  pub known_is : IsKnown inputs asked.resume known
-  pub judged_is : IsJudged inputs (VerdictOf asked.log asked.scope asked.resume) asked.list (quoted_evidence log quote known) judged (Some next)
-  pub report_is : IsReportOn judged next quote asked.is_signed (attest_verdict_of report)
-  pub answer_is : given.answer ≡ answers.Attestation report
+  pub counted_are : AreCounted inputs asked.expected quote values counted
+  pub state_is : IsKnown inputs asked.resume state
+  pub boot_is : IfSome state (IsOfQuote quote)
+  pub judged : IsJudged inputs (VerdictOf asked.log asked.scope asked.resume) asked.list
+      (quoted_evidence log quote asked.is_signed values counted (checkpoint_of state)) given.answer next
   pub none_required : given.requirement ≡ None
   pub well_is : given.is_well ≡ is_well Nothing None given.answer
-  pub next_is : given.next ≡ (if given.is_well then Some next else None)
+  pub next_is : given.next ≡ (if given.is_well then state_after (Some (boot_of quote)) next else None)
 
--- Why there is no judgement by this quote: the log or the checkpoint is not read; or both are, and nothing is found in the list.
+-- The input to go on from has no checkpoint; or it has one, and that is not of the quote's boot, or no quote confirmed it.
+abbrev pub IsNotOfQuote : Inputs → TpmQuote → Where → RunFault → Type 0
+IsNotOfQuote inputs quote place fault =
+    OfInput inputs place (λ text. IsNoCheckpoint text fault)
+    ⊎ ((fault ≡ runs.Checkpoint OtherCounts)
+    × OfInput inputs place (λ text. (state : SavedState) × IsCheckpointText text state × (IsOfQuote quote state → ⊥)))
+
+-- Why nothing is known to go on from: the input is not read, or what it has is not of the quote's boot.
+abbrev pub IsNotKnown : Inputs → TpmQuote → Option Where → RunFault → Type 0
+IsNotKnown inputs quote resume fault =
+    IsSomeAnd resume (λ place. IsInputFault inputs place fault ⊎ IsNotOfQuote inputs quote place fault)
+
+-- Why the input of expected registers states none: it is not read; or its text is none of them, and the fault is that of its first wrong line.
+abbrev pub IsNotStated : Inputs → Option Where → RunFault → Type 0
+IsNotStated inputs expected fault =
+    IsSomeAnd expected (λ place. IsInputFault inputs place fault
+    ⊎ ((first : ExpectFault) × OfInput inputs place (λ text. HasFirstFault text first) × (fault ≡ fault_of_expected first)))
+
+-- Why there is no judgement by this quote: the log is not read; the expected registers are not; what is to be gone on from is not read, or is not
+-- of the quote's boot; or all are, and nothing is found in the list.
 abbrev pub IsNotJudgedBy : Inputs → Attested → TpmQuote → RunFault → Type 0
 IsNotJudgedBy inputs asked quote fault =
     IsInputFault inputs asked.log fault
-    ⊎ IsSomeAnd asked.resume (λ place. IsInputFault inputs place fault ⊎ OfInput inputs place (λ text. IsNoCheckpoint text fault))
-    ⊎ ((log : List ℕ) × (known : Option Checkpoint) × Holds inputs asked.log log × IsKnown inputs asked.resume known
-    × IsNotFound inputs (VerdictOf asked.log asked.scope asked.resume) asked.list (quoted_evidence log quote known) fault)
+    ⊎ IsNotStated inputs asked.expected fault
+    ⊎ (((stated : Option (List Expected)) × IsStated inputs asked.expected stated) × IsNotKnown inputs quote asked.resume fault)
+    ⊎ ((log : List ℕ) × (values : ExpectedValues) × (counted : List Expected) × (state : Option SavedState) × Holds inputs asked.log log
+    × AreCounted inputs asked.expected quote values counted × IsKnown inputs asked.resume state × IfSome state (IsOfQuote quote)
+    × IsNotFound inputs (VerdictOf asked.log asked.scope asked.resume) asked.list
+    (quoted_evidence log quote asked.is_signed values counted (checkpoint_of state)) fault)
 
 -- Why nothing comes of it: the text spells no registers, or with them a match would say too little; or the message is not read, or not the
--- quote that is asked for; or the log or the checkpoint is not read; or there is no judgement on them and the list; or memory ran out.
+-- quote that is asked for; or the log, the expected registers or the checkpoint are not read; or there is no judgement on them and the list; or
+-- memory ran out.
 abbrev pub IsNoAttestation : Inputs → Attested → RunFault → Type 0
 IsNoAttestation inputs asked fault =
     ((fault ≡ runs.Usage) × ((ranges : List BankRange) → AreTaken asked ranges → ⊥))

@@ -37,8 +37,8 @@ pub record Compared : Type 0 where
   pub required : Requires
 
 -- What is judged by a quote: where the log is, the list, or what follows the checkpoint, and the quote's message; the nonce, the text of the
--- registers that must be quoted, and whether one may be in the SHA-1 bank alone; whether the message's signature was verified; which part of
--- the list; and where the checkpoint is that is gone on from, if there is one.
+-- registers that must be quoted, and whether one may be in the SHA-1 bank alone; whether the message's signature was verified; where the text of
+-- expected registers is, if there is one; which part of the list; and where the checkpoint is that is gone on from, if there is one.
 pub record Attested : Type 0 where
   pub log : Where
   pub list : Where
@@ -47,6 +47,7 @@ pub record Attested : Type 0 where
   pub required : List ℕ
   pub takes_sha1 : Bool
   pub is_signed : Bool
+  pub expected : Option Where
   pub scope : Scope
   pub resume : Option Where
 
@@ -108,6 +109,7 @@ attested_of asked = record {
   required = asked.required.now;
   takes_sha1 = asked.takes_sha1;
   is_signed = asked.is_signed;
+  expected = option_map place_of asked.expected;
   scope = asked.scope;
   resume = option_map place_of asked.resume;
 }

@@ -1,7 +1,7 @@
 //! The answer to what is asked for, by one path.
 
 ghost use Rattle.std.specs.Prelude.{◌≡◌, ◌⊎◌, [], IfOk, IfErr, IsSomeAnd, MatchOption};
-ghost use Rattle.judging.specs.Answering.{HasNoEvidence, IsAnswer, IsComparison, IsEvidence, IsKnown, IsNoCheckpoint, IsNoComparison, IsNotRequired, IsRefusal, IsRequired, evidence_of, Finds, FindsFrom};
+ghost use Rattle.judging.specs.Answering.{HasNoEvidence, IsAnswer, IsComparison, IsEvidence, IsKnown, IsNoCheckpoint, IsNoComparison, IsNotRequired, IsRefusal, IsRequired, checkpoint_of, evidence_of, Finds, FindsFrom};
 ghost use Rattle.judging.specs.Requests.{requested_of, compared_of, held_bytes, judgement_of, log_of, place_of, requires_of, resume_of};
 ghost use Rattle.judging.specs.Inputs.{Holds, IsInputFault, OfInput};
 
@@ -9,14 +9,16 @@ use crate::attesting::attest;
 use crate::inputs::{Held, Input, limit_of, load_at, refusal};
 use crate::printed_registers::printed_within;
 use crate::registers::{after_list, after_log};
-use crate::request::{Answer, Answered, Answering, Comparison, Request, Required, Wanted, is_well};
+use crate::request::{Answer, Answered, Answering, Comparison, Request, Required, Wanted, weighed};
 use crate::sessions::checkpoint_in;
 use agent_inputs::{AgentFiles, RunFault, not_read};
+use attestations::ExpectedValues;
 use boot_verdict::{
     Checkpoint, Expected, Requirement, RequirementFault, locate_from, read_expected,
     verify_list_from,
 };
 use byte_streams::{Failed, SliceSource, Source};
+use growing_lists::SavedState;
 use std::alloc::Global;
 use tpm_quotes::Quote;
 
@@ -49,13 +51,8 @@ fn compare<F: AgentFiles>(alloc: Global, files: &mut F, request: Comparison<'_>)
     let requirement = required_in(alloc, request.required)?;
     let evidence = evidence_of(alloc, files, request, requirement)?;
     let (answer, next) = evidence.find(alloc, files, request)?;
-    let is_well = is_well(request.required, evidence.requirement.as_ref(), &answer);
-    Ok(Answered {
-        answer,
-        requirement: evidence.requirement,
-        is_well,
-        next: if is_well { next } else { None },
-    })
+    let required = request.required;
+    Ok(weighed(required, evidence.requirement, answer, next, None))
 }
 
 // What has to be among the expected registers, if a text spells it.
@@ -80,10 +77,14 @@ pub(crate) struct Evidence<'a> {
     pub requirement: Option<Requirement>,
     /// The log; no bytes without one.
     pub log: Held<'a>,
-    /// The expected registers.
+    /// The expected registers; beside a quote those that count.
     pub expected: Vec<Expected>,
     /// The quote, if there is one.
     pub quote: Option<&'a Quote<'a>>,
+    /// Whether the caller has verified the signature of the quote's message.
+    pub is_signed: bool,
+    /// What came of the values of expected registers beside the quote.
+    pub values: ExpectedValues,
     /// The checkpoint to go on from, if there is one.
     pub known: Option<Checkpoint>,
 }
@@ -104,13 +105,15 @@ fn evidence_of<'a, F: AgentFiles>(
     let log = log_in(alloc, files, request.wanted)?;
     let text = load_at(alloc, files, request.expected)?;
     let expected = read_expected(alloc, text.bytes())?;
-    let known = known_in(alloc, files, request.wanted)?;
+    let state = state_in(alloc, files, request.wanted)?;
     Ok(Evidence {
         requirement,
         log,
         expected,
         quote: None,
-        known,
+        is_signed: false,
+        values: ExpectedValues::NotGiven,
+        known: checkpoint_of(state),
     })
 }
 
@@ -134,12 +137,22 @@ fn log_in<'a, F: AgentFiles>(
 }
 
 /// The checkpoint to go on from, if there is one.
-pub(crate) fn known_in<F: AgentFiles>(
+pub(crate) fn checkpoint_of(state: Option<SavedState>) -> Option<Checkpoint>
+    ensures { result ≡ checkpoint_of state }
+{
+    match state {
+        None => None,
+        Some(state) => Some(state.checkpoint),
+    }
+}
+
+/// The state to go on from, if there is one.
+pub(crate) fn state_in<F: AgentFiles>(
     alloc: Global,
     files: &mut F,
     wanted: Wanted<'_>,
-) -> Result<Option<Checkpoint>, RunFault>
-    ensures checkpoint { IfOk result (IsKnown (F.known files.old) (resume_of (judgement_of wanted.entry))) }
+) -> Result<Option<SavedState>, RunFault>
+    ensures state { IfOk result (IsKnown (F.known files.old) (resume_of (judgement_of wanted.entry))) }
     ensures fault { IfErr result (λ fault. IsSomeAnd (resume_of (judgement_of wanted.entry))
         (λ place. IsInputFault (F.known files.old) place fault ⊎ OfInput (F.known files.old) place (λ text. IsNoCheckpoint text fault))) }
     ensures known { F.known files.new ≡ F.known files.old }

@@ -1,6 +1,6 @@
 //! The judgement on a log and a list by a quote.
 
-ghost use Rattle.std.specs.Prelude.{◌≡◌, ◌⊎◌, List, None, Some, IfOk, IfErr, if◌then◌else◌};
+ghost use Rattle.std.specs.Prelude.{◌≡◌, ◌↔◌, ◌⊎◌, List, None, option_map, IfOk, IfErr, IfSome, IsTrue};
 ghost use Rattle.boot_verdict.specs.declared.requirement.BankRange.{BankRange};
 ghost use Rattle.boot_verdict.specs.Requirements.{IsRequirementText};
 ghost use Rattle.tpm_quotes.specs.Spelling.{IsQuote, quote_of};
@@ -10,23 +10,24 @@ ghost use Rattle.attestations.specs.Judging.{quote_refusal};
 ghost use Rattle.attestations.specs.Policies.{terms_of};
 ghost use Rattle.attestations.specs.Reports.{attest_verdict_of};
 ghost use Rattle.agent_inputs.specs.declared.fault.RunFault.TheVariants as runs;
-ghost use Rattle.judging.specs.Answering.{AreTaken, IsAskedFor, IsAttestation, IsNoAttestation, IsNotJudgedBy, IsReportOn, is_well};
-ghost use Rattle.judging.specs.declared.request.Answer.TheVariants as answers;
-ghost use Rattle.judging.specs.Requests.{Nothing, VerdictOf, attested_of, judgement_of, place_of};
+ghost use Rattle.judging.specs.Answering.{AreCounted, AreTaken, IsAskedFor, IsAttestation, IsKnown, IsNoAttestation, IsNotJudgedBy, IsNotKnown, IsNotStated, IsOfQuote, told_by};
+ghost use Rattle.judging.specs.Requests.{VerdictOf, attested_of, judgement_of, place_of, resume_of};
 
-use crate::answers::{Evidence, known_in};
+use crate::answers::{Evidence, checkpoint_of, state_in};
 use crate::inputs::{Input, load_at};
-use crate::request::{
-    Answer, Answered, Answering, Attesting, Comparison, Required, Wanted, is_well,
+use crate::request::{Answering, Attesting, Comparison, Judged, Required, Wanted, weighed};
+use agent_inputs::{AgentFiles, NotResumed, RunFault};
+use attestations::{
+    AttestReport, ExpectedValues, Policy, Quoted, Whole, keep_confirmed, quote_for,
 };
-use agent_inputs::{AgentFiles, RunFault};
-use attestations::{AttestReport, Policy, Quoted, Whole, quote_for};
-use boot_verdict::{Checkpoint, Requirement, RequirementFault};
+use boot_verdict::{Checkpoint, Expected, Requirement, RequirementFault, read_expected};
+use growing_lists::{Boot, SavedState};
 use std::alloc::Global;
 use tpm_quotes::Quote;
 
-/// What comes of a log, a list and a quote. It is read in this order: what is required; the quote's message; the log, which is loaded; the
-/// checkpoint; and then the list is opened, and replayed as it is read, without loading it.
+/// What comes of a log, a list and a quote. It is read in this order (only in part by the clauses: not that the log comes first of its inputs):
+/// what is required; the quote's message; the log, which is loaded; the expected registers, if there are such; the checkpoint, and whether it is
+/// of the quote's boot; and then the list is opened, and replayed as it is read, without loading it.
 pub(crate) fn attest<F: AgentFiles>(
     alloc: Global,
     files: &mut F,
@@ -91,20 +92,73 @@ fn judge_by<F: AgentFiles>(
 {
     let comparison = comparison_of(request);
     let log = load_at(alloc, files, request.log)?;
-    let known = known_in(alloc, files, comparison.wanted)?;
+    let (values, expected) = counted_in(alloc, files, request.expected, quote)?;
+    let state = state_by(alloc, files, comparison.wanted, quote)?;
     let evidence = Evidence {
         requirement: None,
         log,
-        expected: Vec::new(alloc),
+        expected,
         quote: Some(quote),
-        known,
+        is_signed: request.is_signed,
+        values,
+        known: checkpoint_of(state),
     };
-    let (judged, next) = evidence.find(alloc, files, comparison)?;
-    let Some(next) = next else {
-        return Err(RunFault::Memory);
+    let (answer, next) = evidence.find(alloc, files, comparison)?;
+    let boot = Boot::of(quote);
+    Ok(weighed(Required::Nothing, None, answer, next, Some(boot)))
+}
+
+// What came of the values of expected registers, and those that count beside this quote.
+fn counted_in<F: AgentFiles>(
+    alloc: Global,
+    files: &mut F,
+    input: Option<Input<'_>>,
+    quote: &Quote<'_>,
+) -> Result<(ExpectedValues, Vec<Expected>), RunFault>
+    ensures counted { IfOk result (λ found. AreCounted (F.known files.old) (option_map place_of input.entry) (quote_of quote.now)
+        found.0 found.1.items) }
+    ensures fault { IfErr result (λ fault. IsNotStated (F.known files.old) (option_map place_of input.entry) fault ⊎ (fault ≡ runs.Memory)) }
+    ensures known { F.known files.new ≡ F.known files.old }
+    ensures saved { F.saved files.new ≡ F.saved files.old }
+{
+    let Some(input) = input else {
+        return Ok((ExpectedValues::NotGiven, Vec::new(alloc)));
     };
-    let report = report_on(alloc, judged, &next, quote, request.is_signed)?;
-    Ok(answered(report, next))
+    let text = load_at(alloc, files, input)?;
+    let mut expected = read_expected(alloc, text.bytes())?;
+    let values = keep_confirmed(quote, &mut expected);
+    Ok((values, expected))
+}
+
+// The state to go on from, if there is one, which must be of the boot of this quote.
+fn state_by<F: AgentFiles>(
+    alloc: Global,
+    files: &mut F,
+    wanted: Wanted<'_>,
+    quote: &Quote<'_>,
+) -> Result<Option<SavedState>, RunFault>
+    ensures state { IfOk result (IsKnown (F.known files.old) (resume_of (judgement_of wanted.entry))) }
+    ensures boot { IfOk result (λ state. IfSome state (IsOfQuote (quote_of quote.now))) }
+    ensures fault { IfErr result (IsNotKnown (F.known files.old) (quote_of quote.now) (resume_of (judgement_of wanted.entry))) }
+    ensures known { F.known files.new ≡ F.known files.old }
+    ensures saved { F.saved files.new ≡ F.saved files.old }
+{
+    let state = state_in(alloc, files, wanted)?;
+    if is_of_quote(state, quote) {
+        Ok(state)
+    } else {
+        Err(RunFault::Checkpoint(NotResumed::OtherCounts))
+    }
+}
+
+// Whether the state, if there is one, is of the boot of this quote.
+fn is_of_quote(state: Option<SavedState>, quote: &Quote<'_>) -> bool
+    ensures { IsTrue result ↔ IfSome state (IsOfQuote (quote_of quote.now)) }
+{
+    match state {
+        None => true,
+        Some(state) => state.is_of(Boot::of(quote)),
+    }
 }
 
 // The verdict on log and list, as it is asked for where registers are expected.
@@ -124,51 +178,35 @@ fn comparison_of(request: Attesting<'_>) -> Comparison<'_>
     }
 }
 
-// The report on what was judged. Fails only for want of memory.
-fn report_on(
+/// The report by this quote on what was judged, after which this is known. Fails only for want of memory.
+pub(crate) fn report_on(
     alloc: Global,
-    judged: Answer,
+    judged: Judged,
     next: &Checkpoint,
     quote: &Quote<'_>,
     is_signed: bool,
+    values: ExpectedValues,
 ) -> Result<AttestReport, RunFault>
-    ensures report { IfOk result (λ report. IsReportOn judged next.now (quote_of quote.now) is_signed (attest_verdict_of report)) }
+    ensures report { IfOk result (λ report. attest_verdict_of report ≡ told_by (quote_of quote.now) is_signed values next.now judged) }
     ensures fault { IfErr result (λ fault. fault ≡ runs.Memory) }
 {
     let quoted = Quoted::of(alloc, quote)?;
     let (report, prefix) = match judged {
-        Answer::Report(report) => (report, None),
-        Answer::Prefix(prefix) => {
+        Judged::Whole(report) => (report, None),
+        Judged::Prefix(prefix) => {
             let whole = Whole {
                 entries: prefix.entries,
                 unconfirmed: prefix.unconfirmed,
             };
             (prefix.report, Some(whole))
         }
-        _ => return Err(RunFault::Memory),
     };
     Ok(AttestReport {
         quoted,
         report,
         prefix,
+        expected: values,
         is_quoted: quote.is_of(&next.after),
         is_signed,
     })
-}
-
-// The answer with this report. Nobody goes on from it, unless all is well.
-fn answered(report: AttestReport, next: Checkpoint) -> Answered
-    ensures answer { result.answer ≡ answers.Attestation report }
-    ensures requirement { result.requirement ≡ None }
-    ensures well { result.is_well ≡ is_well Nothing None result.answer }
-    ensures next { result.next ≡ (if result.is_well then Some next else None) }
-{
-    let answer = Answer::Attestation(report);
-    let is_well = is_well(Required::Nothing, None, &answer);
-    Answered {
-        answer,
-        requirement: None,
-        is_well,
-        next: if is_well { Some(next) } else { None },
-    }
 }

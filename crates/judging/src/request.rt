@@ -1,8 +1,8 @@
 //! What is asked of a log and a list, and the answer, before it is written.
 
-ghost use Rattle.std.specs.Prelude.{◌≡◌, option_map};
+ghost use Rattle.std.specs.Prelude.{◌≡◌, None, if◌then◌else◌, option_map};
 ghost use Rattle.boot_verdict.specs.Verdicts.{verdict_of};
-ghost use Rattle.judging.specs.Answering.{alone, is_match, is_well};
+ghost use Rattle.judging.specs.Answering.{alone, is_match, is_well, state_after};
 ghost use Rattle.judging.specs.Requests.{requires_of};
 
 use crate::inputs::Input;
@@ -13,6 +13,7 @@ use boot_verdict::{
     Checkpoint, Expected, ListReport, Located, PrefixReport, RegisterRange, Report, Requirement,
     all_found, required_found,
 };
+use growing_lists::{Boot, SavedState};
 use pcr_banks::Banks;
 
 /// What the answer is, with what only it is of.
@@ -77,6 +78,8 @@ pub struct Attesting<'a> {
     pub takes_sha1: bool,
     /// Whether the caller has verified the message's signature. Without that nothing is attested.
     pub is_signed: bool,
+    /// The text of expected registers, if there is one: nobody has signed it. If the quote confirms their values, the report has rows of them.
+    pub expected: Option<Input<'a>>,
     /// Which part of the list is judged.
     pub scope: Scope,
     /// The checkpoint to go on from, if there is one.
@@ -142,6 +145,15 @@ pub struct Registers {
     pub now: Banks,
 }
 
+/// What a verdict is on, before it is answered.
+#[derive(Drop)]
+pub(crate) enum Judged {
+    /// All of a list.
+    Whole(Report),
+    /// Its confirmed prefix.
+    Prefix(PrefixReport),
+}
+
 /// An answer, and what it is worth.
 #[derive(Drop)]
 pub struct Answered {
@@ -151,8 +163,8 @@ pub struct Answered {
     pub requirement: Option<Requirement>,
     /// Whether all is well: the verdict is `match`, or each register was located; and what has to be among them is.
     pub is_well: bool,
-    /// Where to go on, if all is well: the checkpoint of what a verdict is on.
-    pub next: Option<Checkpoint>,
+    /// Where to go on, if all is well: the checkpoint of what a verdict is on, and the boot, if a quote confirmed it.
+    pub next: Option<SavedState>,
 }
 
 /// An answer, or why there is none.
@@ -172,9 +184,46 @@ impl Answered {
     }
 }
 
-/// Whether all is well where this has to be among the expected registers, of which the text spells these; so it is with an answer that
-/// compares nothing.
-pub(crate) fn is_well(required: Required<'_>, ranges: Option<&Requirement>, answer: &Answer) -> bool
+/// This answer, and what it is worth where this has to be among the expected registers, of which the text spells these. If all is well,
+/// another goes on from the checkpoint, if there is one, in this boot.
+pub(crate) fn weighed(
+    required: Required<'_>,
+    requirement: Option<Requirement>,
+    answer: Answer,
+    next: Option<Checkpoint>,
+    boot: Option<Boot>,
+) -> Answered
+    ensures answer { result.answer ≡ answer }
+    ensures requirement { result.requirement ≡ requirement }
+    ensures well { result.is_well ≡ is_well (requires_of required.entry) requirement answer }
+    ensures next { result.next ≡ (if result.is_well then state_after boot next else None) }
+{
+    let is_well = is_well(required, requirement.as_ref(), &answer);
+    Answered {
+        answer,
+        requirement,
+        is_well,
+        next: if is_well {
+            state_after(boot, next)
+        } else {
+            None
+        },
+    }
+}
+
+// The checkpoint, if there is one, with this boot.
+fn state_after(boot: Option<Boot>, next: Option<Checkpoint>) -> Option<SavedState>
+    ensures { result ≡ state_after boot next }
+{
+    match next {
+        None => None,
+        Some(checkpoint) => Some(SavedState { checkpoint, boot }),
+    }
+}
+
+// Whether all is well where this has to be among the expected registers, of which the text spells these; so it is with an answer that
+// compares nothing.
+fn is_well(required: Required<'_>, ranges: Option<&Requirement>, answer: &Answer) -> bool
     ensures { result ≡ is_well (requires_of required.entry) (option_map (λ ranges. ranges.now) ranges.entry) answer.now }
 {
     match (answer, ranges) {

@@ -5,29 +5,30 @@ ghost use Rattle.boot_verdict.specs.Verdicts.{IsVerdict, verdict_of};
 ghost use Rattle.growing_lists.specs.Goals.{aim_of};
 ghost use Rattle.growing_lists.specs.Sessions.{HasTaken};
 ghost use Rattle.agent_inputs.specs.declared.fault.RunFault.TheVariants as runs;
-ghost use Rattle.judging.specs.Answering.{IsCheckpointText, IsNoCheckpoint, aim_in, evidence_of, CanBeReadBack, FindsFrom, IsLogRefused, IsStarted, JudgesFrom, seeks_prefix};
+ghost use Rattle.judging.specs.Answering.{IsCheckpointText, IsNoCheckpoint, aim_in, evidence_of, CanBeReadBack, IsAnswerOn, FindsFrom, IsLogRefused, IsStarted, JudgesFrom, seeks_prefix};
 ghost use Rattle.judging.specs.Requests.{VerdictOf, place_of};
 ghost use Rattle.judging.specs.Inputs.{Where};
 
 use crate::answers::{Evidence, Finding};
+use crate::attesting::report_on;
 use crate::inputs::{Input, limit_of, refusal};
-use crate::request::Answer;
+use crate::request::{Answer, Judged};
 use agent_inputs::{NotResumed, RunFault};
 use agent_plans::Scope;
 use boot_verdict::{Checkpoint, CheckpointFault, Expected, PrefixReport, Report, ResumeFault};
 use byte_streams::Source;
 use growing_lists::laws::counted_checkpoint_is_possible;
-use growing_lists::{Goal, Session, leaves_room, read_checkpoint};
+use growing_lists::{Goal, SavedState, Session, leaves_room, read_checkpoint};
 use ima_list::laws::{entries_to_the_end_are_the_reading, no_bytes_have_two_readings};
 use std::alloc::{AllocError, Global};
 
-/// The checkpoint whose text this is.
-pub(crate) fn checkpoint_in(alloc: Global, text: &[u8]) -> Result<Checkpoint, RunFault>
+/// The checkpoint whose text this is, and its boot.
+pub(crate) fn checkpoint_in(alloc: Global, text: &[u8]) -> Result<SavedState, RunFault>
     ensures found { IfOk result (IsCheckpointText text.now) }
     ensures fault { IfErr result (IsNoCheckpoint text.now) }
 {
     match read_checkpoint(alloc, text) {
-        Ok(known) => Ok(known),
+        Ok(state) => Ok(state),
         Err(CheckpointFault::Damaged) => Err(RunFault::Checkpoint(NotResumed::Damaged)),
         Err(CheckpointFault::Version) => Err(RunFault::Checkpoint(NotResumed::Version)),
         Err(CheckpointFault::Memory) => Err(RunFault::Memory),
@@ -47,8 +48,30 @@ impl Evidence<'_> {
             (R.state source.old) (R.state source.new) result }
     {
         let mut session = session_of(self.log.bytes(), self.known)?;
-        let answer = self.judge_from(alloc, &mut session, source, list, scope)?;
-        Ok((answer, Some(next_of(&session)?)))
+        let judged = self.judge_from(alloc, &mut session, source, list, scope)?;
+        let next = next_of(&session)?;
+        let answer = self.answer_on(alloc, judged, &next)?;
+        Ok((answer, Some(next)))
+    }
+
+    // The report on what was judged, after which this is known. It fails only if memory runs out.
+    fn answer_on(
+        &self,
+        alloc: Global,
+        judged: Judged,
+        next: &Checkpoint,
+    ) -> Result<Answer, RunFault>
+        ensures answer { IfOk result (IsAnswerOn (evidence_of self.now).quote self.now.is_signed self.now.values judged next.now) }
+        ensures fault { IfErr result (λ fault. fault ≡ runs.Memory) }
+    {
+        match (self.quote, judged) {
+            (None, Judged::Whole(report)) => Ok(Answer::Report(report)),
+            (None, Judged::Prefix(report)) => Ok(Answer::Prefix(report)),
+            (Some(quote), judged) => {
+                let report = report_on(alloc, judged, next, quote, self.is_signed, self.values)?;
+                Ok(Answer::Attestation(report))
+            }
+        }
     }
 
     // Has the session take the list, or its confirmed prefix if that is sought, and reports on it.
@@ -59,23 +82,23 @@ impl Evidence<'_> {
         source: &mut R,
         list: Input<'_>,
         scope: Scope,
-    ) -> Result<Answer, RunFault>
+    ) -> Result<Judged, RunFault>
         ensures { JudgesFrom scope (place_of list.entry) (evidence_of self.now) (R.state source.old) (R.state source.new)
             session.old session.new result }
     {
         if self.seeks_prefix(scope) {
             match session.confirm(alloc, source, limit_of(list), self.goal()) {
-                Ok(Some(confirmed)) => Ok(Answer::Prefix(PrefixReport {
+                Ok(Some(confirmed)) => Ok(Judged::Prefix(PrefixReport {
                     report: report(alloc, session, &self.expected)?,
                     entries: confirmed.entries,
                     unconfirmed: confirmed.unconfirmed,
                 })),
-                Ok(None) => Ok(Answer::Report(report(alloc, session, &self.expected)?)),
+                Ok(None) => Ok(Judged::Whole(report(alloc, session, &self.expected)?)),
                 Err(fault) => Err(refusal(alloc, list, fault)),
             }
         } else {
             match session.more(alloc, source, limit_of(list)) {
-                Ok(()) => Ok(Answer::Report(report(alloc, session, &self.expected)?)),
+                Ok(()) => Ok(Judged::Whole(report(alloc, session, &self.expected)?)),
                 Err(fault) => Err(refusal(alloc, list, fault)),
             }
         }

@@ -1,5 +1,5 @@
 -- Answers as text or JSON, and their exit statuses.
-use Rattle.std.specs.Prelude.{ℕ, Bool, List, ◌++◌, Option, Some, None, flat_map, ◌≡◌, ◌⊎◌, if◌then◌else◌, []}
+use Rattle.std.specs.Prelude.{ℕ, Bool, true, false, List, ◌++◌, Option, Some, None, flat_map, ◌≡◌, ◌⊎◌, if◌then◌else◌, []}
 use Rattle.boot_verdict.specs.declared.requirement.BankRange.{BankRange}
 use Rattle.boot_verdict.specs.ListVerdicts.{list_verdict_of}
 use Rattle.attestations.specs.Reports.{attest_verdict_of}
@@ -27,7 +27,7 @@ use Rattle.ima_list.specs.Lines.{line_of as entry_text}
 use Rattle.json_texts.specs.ItemLines.{entry_lines}
 use Rattle.measure_book.specs.Books.{exported}
 use Rattle.measuring.specs.declared.file_book.Measured.{Measured}
-use Rattle.boot_verdict.specs.declared.checkpoint.Checkpoint.{Checkpoint}
+use Rattle.growing_lists.specs.declared.saved_state.SavedState.{SavedState}
 use Rattle.growing_lists.specs.CheckpointTexts.{checkpoint_text}
 use Rattle.agent_inputs.specs.declared.fault.RunFault.{RunFault}
 use Rattle.agent_inputs.specs.declared.fault.RunFault.TheVariants as runs
@@ -78,36 +78,42 @@ print_measured forms.Json print given = entry_lines given.book.entries
 
 -- ---- outputs
 
--- What is shown is the answer to what is asked for, in this form; its exit status is 0 if all is well, else 1; and this is where to go on.
-pub record IsShown (inputs : Inputs) (request : Requested) (form : Form) (shown : List ℕ) (status : ℕ) (next : Option Checkpoint) : Type 0 where
+-- The exit status of an answer: 0 if all is well; 4 where nobody verified the signature of a quote, whatever else holds; else 1.
+abbrev pub answer_status : Bool → Answer → ℕ
+answer_status true answer = 0
+answer_status false (Attestation report) = if (attest_verdict_of report).is_signed then 1 else 4
+answer_status false answer = 1
+
+-- What is shown is the answer to what is asked for, in this form; this is its exit status; and this is where to go on.
+pub record IsShown (inputs : Inputs) (request : Requested) (form : Form) (shown : List ℕ) (status : ℕ) (next : Option SavedState) : Type 0 where
   pub given : Answered
   pub answer : IsAnswer inputs request given
   pub text_is : shown ≡ render form given
-  pub status_is : status ≡ (if given.is_well then 0 else 1)
+  pub status_is : status ≡ answer_status given.is_well given.answer
   pub next_is : next ≡ given.next
 
 -- The file of this name, if one is given, was replaced by the text of this checkpoint, if there is one, and no other was.
-abbrev pub HasSaved : Saved → Saved → Option (List ℕ) → Option Checkpoint → Type 0
+abbrev pub HasSaved : Saved → Saved → Option (List ℕ) → Option SavedState → Type 0
 HasSaved old new (Some name) (Some next) = HasReplaced old new (record { name = name; bytes = checkpoint_text next })
 HasSaved old new name next = new ≡ old
 
 -- The answer is shown. If all is well, the checkpoint of what it is on is saved, if a name is given for it; nothing else is.
 abbrev pub ShowsAnswer : Inputs → Requested → Option (List ℕ) → Form → Saved → Saved → List ℕ → ℕ → Type 0
 ShowsAnswer inputs request save form old new shown status =
-    (next : Option Checkpoint) × IsShown inputs request form shown status next × HasSaved old new save next
+    (next : Option SavedState) × IsShown inputs request form shown status next × HasSaved old new save next
 
 -- The text of a checkpoint, if there is one.
-abbrev pub state_of : Option Checkpoint → List ℕ
+abbrev pub state_of : Option SavedState → List ℕ
 state_of None = []
 state_of (Some next) = checkpoint_text next
 
 -- The answer is given; and, if all is well, the text of the checkpoint of what it is on.
 abbrev pub GivesAnswer : Inputs → Requested → Form → List ℕ → ℕ → List ℕ → Type 0
 GivesAnswer inputs request form shown status state =
-    (next : Option Checkpoint) × IsShown inputs request form shown status next × (state ≡ state_of next)
+    (next : Option SavedState) × IsShown inputs request form shown status next × (state ≡ state_of next)
 
 -- There is a checkpoint to be written under a name that is given, and it could not be; or memory ran out.
-abbrev pub IsNotSaved : Option (List ℕ) → Option Checkpoint → RunFault → Type 0
+abbrev pub IsNotSaved : Option (List ℕ) → Option SavedState → RunFault → Type 0
 IsNotSaved (Some name) (Some next) fault = IsNotWritten name fault ⊎ (fault ≡ runs.Memory)
 IsNotSaved name next fault = ⊥
 

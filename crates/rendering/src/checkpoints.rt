@@ -4,9 +4,8 @@ ghost use Rattle.std.specs.Prelude.{◌≡◌, option_map, IfErr, OnErr, OnOk};
 ghost use Rattle.rendering.specs.Rendering.{HasSaved, IsNotSaved};
 
 use agent_inputs::{AgentFiles, RunFault, not_written};
-use boot_verdict::Checkpoint;
 use byte_streams::Failed;
-use growing_lists::write_checkpoint;
+use growing_lists::{SavedState, write_checkpoint};
 use std::alloc::Global;
 
 /// Saves the checkpoint, if there is one, under this name, if there is one.
@@ -14,7 +13,7 @@ pub(crate) fn save<F: AgentFiles>(
     alloc: Global,
     files: &mut F,
     name: Option<&str>,
-    next: Option<Checkpoint>,
+    next: Option<SavedState>,
 ) -> Result<(), RunFault>
     ensures saved { OnOk result (HasSaved (F.saved files.old) (F.saved files.new) (option_map (λ name. name.now) name.entry) next) }
     ensures kept { OnErr result (F.saved files.new ≡ F.saved files.old) }

@@ -10,8 +10,7 @@ use crate::no_files::NoFiles;
 use crate::renderer::{Output, render};
 use agent_inputs::{AgentFiles, RunFault};
 use agent_plans::Form;
-use boot_verdict::Checkpoint;
-use growing_lists::write_checkpoint;
+use growing_lists::{SavedState, write_checkpoint};
 use judging::{Request, answer_request};
 use std::alloc::{AllocError, Global};
 
@@ -56,8 +55,8 @@ pub fn output_on(alloc: Global, request: Request<'_>, form: Form) -> Result<Give
     Ok(Given { output, checkpoint })
 }
 
-// The text of a checkpoint, if there is one.
-fn text_of(alloc: Global, next: Option<Checkpoint>) -> Result<Vec<u8>, AllocError>
+// The text of a checkpoint and its boot, if there is one.
+fn text_of(alloc: Global, next: Option<SavedState>) -> Result<Vec<u8>, AllocError>
     ensures { IfOk result (λ text. text.items ≡ state_of next) }
 {
     match next {

@@ -1,10 +1,10 @@
 //! Answers as text or JSON, and what the program writes if nothing is refused.
 
-ghost use Rattle.std.specs.Prelude.{◌≡◌, ◌++◌, if◌then◌else◌, None, IfOk, OnOk};
+ghost use Rattle.std.specs.Prelude.{◌≡◌, ◌++◌, None, IfOk, OnOk};
 ghost use Rattle.byte_streams.specs.Streams.{Sends};
 ghost use Rattle.json_texts.specs.JsonValues.{line_of};
 ghost use Rattle.judging.specs.declared.request.Answer.TheVariants as answers;
-ghost use Rattle.rendering.specs.Rendering.{json_of, lines_of, render};
+ghost use Rattle.rendering.specs.Rendering.{answer_status, json_of, lines_of, render};
 
 use agent_plans::Form;
 use boot_verdict::{Report, write_expected, write_registers};
@@ -26,8 +26,8 @@ use verdict_texts::{
 pub struct Output {
     /// The text, or a binary list.
     pub text: Vec<u8>,
-    /// The exit status once all of it is written: 0; 1 for a verdict that does not match or a value that was not reached; or that of the
-    /// fault that a text of JSON lines ends with.
+    /// The exit status once all of it is written: 0; 1 for a verdict that does not match or a value that was not reached; 4 for a quote whose
+    /// signature nobody verified; or that of the fault that a text of JSON lines ends with.
     pub status: u8,
 }
 
@@ -38,17 +38,6 @@ impl Output {
     {
         Output { text, status: DONE }
     }
-
-    /// The output of a command that judges: its status says whether all is well.
-    pub fn verdict(text: Vec<u8>, is_well: bool) -> Self
-        ensures text { result.text ≡ text }
-        ensures status { result.status ≡ (if is_well then 0 else 1) }
-    {
-        Output {
-            text,
-            status: if is_well { DONE } else { DIFFERS },
-        }
-    }
 }
 
 // The exit status of success.
@@ -57,16 +46,33 @@ const DONE: u8 = 0;
 // The exit status of a report that does not match.
 const DIFFERS: u8 = 1;
 
-/// The output of an answer in this form: its status says whether all is well.
+// The exit status of a report by a quote whose signature nobody verified.
+const UNSIGNED: u8 = 4;
+
+/// The output of an answer in this form: its status says whether all is well, or that nobody verified the signature of a quote.
 pub fn render(alloc: Global, given: &Answered, form: Form) -> Result<Output, AllocError>
     ensures text { IfOk result (λ output. output.text.items ≡ render form given.now) }
-    ensures status { IfOk result (λ output. output.status ≡ (if given.now.is_well then 0 else 1)) }
+    ensures status { IfOk result (λ output. output.status ≡ answer_status given.now.is_well given.now.answer) }
 {
     let text = match form {
         Form::Text => lines(alloc, given)?,
         Form::Json => line(alloc, given)?,
     };
-    Ok(Output::verdict(text, given.is_well))
+    Ok(Output {
+        text,
+        status: status_of_answer(given),
+    })
+}
+
+// The exit status of an answer.
+fn status_of_answer(given: &Answered) -> u8
+    ensures { result ≡ answer_status given.now.is_well given.now.answer }
+{
+    match (given.is_well, &given.answer) {
+        (true, _) => DONE,
+        (false, Answer::Attestation(report)) if !report.is_signed => UNSIGNED,
+        (false, _) => DIFFERS,
+    }
 }
 
 // The lines of an answer.

@@ -12,7 +12,7 @@ use Rattle.pcr_banks.specs.declared.hasher.Hasher.{Hasher}
 use Rattle.pcr_banks.specs.Hashers.{HasTaken}
 use Rattle.pcr_banks.specs.Hashing.{hash_of}
 use Rattle.pcr_banks.specs.Digests.{bytes_of, digest_of}
-use Rattle.pcr_banks.proofs.BankLaws.{some_digest, no_digest, read_value, read_none}
+use Rattle.pcr_banks.proofs.BankLaws.{some_digest, no_digest}
 use Rattle.pcr_banks.proofs.SetLaws.{bytes_again}
 use Rattle.tpm_quotes.specs.declared.selection.Selection.{Selection}
 use Rattle.tpm_quotes.specs.Spelling.{BankSelection, is_selected, selected, selected_in, selection_of, all_registers}
@@ -116,14 +116,13 @@ also_more old before after values registers more bytes has e update = record {
 
 pub takes_register : (old before after : Hasher) (values : Values) (alg : Alg) (bits : List ℕ) (register : ℕ) (digest : Digest)
     → HasAlso old before values (selected_below alg bits register) → is_selected bits register ≡ true
-    → some_digest digest ≡ option_map (digest_of alg) (values alg register)
+    → Some (bytes_of digest) ≡ values alg register
     → ((a : Alg) (taken : List ℕ) → HasTaken before a taken → HasTaken after a (taken ++ bytes_of digest))
     → HasAlso old after values (selected_below alg bits (register + 1))
 takes_register old before after values alg bits register digest has chosen read update =
-    let value = read_value alg (values alg register) digest read in
     rw (below_taken alg bits register chosen)
     (also_more old before after values (selected_below alg bits register) ((alg, register) ∷ []) (bytes_of digest) has
-    (joined_one values alg register (bytes_of digest) value) update)
+    (joined_one values alg register (bytes_of digest) (sym read)) update)
 
 pub passes_register : (old now : Hasher) (values : Values) (alg : Alg) (bits : List ℕ) (register : ℕ)
     → HasAlso old now values (selected_below alg bits register) → is_selected bits register ≡ false
@@ -132,12 +131,11 @@ passes_register old now values alg bits register has left = rw (below_same alg b
 
 pub lacks_register : (old now : Hasher) (values : Values) (alg : Alg) (bits : List ℕ) (register : ℕ)
     → HasAlso old now values (selected_below alg bits register) → is_selected bits register ≡ true → register < 24
-    → no_digest ≡ option_map (digest_of alg) (values alg register) → joined values (selected_below alg bits 24) ≡ None
+    → None ≡ values alg register → joined values (selected_below alg bits 24) ≡ None
 lacks_register old now values alg bits register has chosen lt read =
-    let none = read_none alg (values alg register) read in
     let here : joined values (selected_below alg bits (register + 1)) ≡ None =
     rw (below_taken alg bits register chosen) (joined_lacks values (selected_below alg bits register) ((alg, register) ∷ []) has.more has.are
-    (lacks_one values alg register none)) in
+    (lacks_one values alg register (sym read))) in
     let all : (register + 1) + (23 - register) ≡ 24 = omega arith in
     rw all at (none_later values alg bits (register + 1) (23 - register) here)
 

@@ -9,8 +9,10 @@ mod fault;
 pub mod laws;
 mod quote;
 mod selection;
+mod values;
 
 pub use clock::Clock;
 pub use fault::QuoteFault;
 pub use quote::{Quote, read_quote};
 pub use selection::Selection;
+pub use values::RegisterValues;

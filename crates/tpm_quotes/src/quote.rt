@@ -6,7 +6,6 @@ ghost use Rattle.pcr_banks.specs.declared.alg.Alg.{Alg};
 ghost use Rattle.pcr_banks.specs.Digests.{digest_of};
 ghost use Rattle.pcr_banks.specs.Hashers.{HasTaken};
 ghost use Rattle.pcr_banks.specs.Hashing.{hash_of};
-ghost use Rattle.pcr_banks.specs.Registers.{value_at};
 ghost use Rattle.tpm_quotes.specs.Spelling.{IsQuote, TpmQuote, digest_with, quote_of, selected, selected_in, selection_of};
 ghost use Rattle.tpm_quotes.specs.Quoting.{joined};
 ghost use Rattle.tpm_quotes.specs.parts.Hashing.{Takes};
@@ -15,8 +14,9 @@ ghost use Rattle.tpm_quotes.specs.Reading.{digest, origin, quote, quote_fault, q
 use crate::clock::{Clock, clock_at};
 use crate::fault::QuoteFault;
 use crate::selection::{Selection, Selections, selections_at};
+use crate::values::RegisterValues;
 use byte_fields::{big_endian_u16_at, big_endian_u64_at, part_at};
-use pcr_banks::{Alg, Banks, Digest, Hasher, REGISTERS};
+use pcr_banks::{Alg, Digest, Hasher, REGISTERS};
 
 /// What a quote begins with: `TPM_GENERATED_VALUE`, with which a restricted key signs only what its TPM made, and
 /// `TPM_ST_ATTEST_QUOTE`.
@@ -158,10 +158,10 @@ impl Quote<'_> {
 
     /// Whether it is of these registers: each that it selects has a value, and the hash of the values, joined in its order, is its
     /// digest.
-    pub fn is_of(&self, banks: &Banks) -> bool
-        ensures { result ≡ confirms (quote_of self.now) (value_at banks.now) }
+    pub fn is_of<V: RegisterValues>(&self, registers: &V) -> bool
+        ensures { result ≡ confirms (quote_of self.now) (V.values registers.now) }
     {
-        match hash_of(self.digest.alg(), &self.selections, banks) {
+        match hash_of(self.digest.alg(), &self.selections, registers) {
             Some(hash) => hash.bytes() == self.digest.bytes(),
             None => false,
         }
@@ -169,25 +169,29 @@ impl Quote<'_> {
 }
 
 // The hash of the values of the selected registers. `None` where one is missing.
-fn hash_of(alg: Alg, selections: &[Selection], banks: &Banks) -> Option<Digest>
+fn hash_of<V: RegisterValues>(alg: Alg, selections: &[Selection], registers: &V) -> Option<Digest>
     ensures { result ≡ option_map (λ bytes. digest_of alg (hash_of alg bytes))
-        (joined (value_at banks.now) (selected (map selection_of selections.now))) }
+        (joined (V.values registers.now) (selected (map selection_of selections.now))) }
 {
     let mut hasher = Hasher::new(alg);
     for selection in selections {
-        hash_selected(&mut hasher, selection, banks)?;
+        hash_selected(&mut hasher, selection, registers)?;
     }
     Some(hasher.finish())
 }
 
 // Hashes the values of the selected registers of a bank. `None` where one is missing.
-fn hash_selected(hasher: &mut Hasher, selection: &Selection, banks: &Banks) -> Option<()>
+fn hash_selected<V: RegisterValues>(
+    hasher: &mut Hasher,
+    selection: &Selection,
+    registers: &V,
+) -> Option<()>
     ensures { (alg : Alg) (taken : List ℕ) → HasTaken hasher.old alg taken
-        → Takes result hasher.new alg taken (joined (value_at banks.now) (selected_in (selection_of selection.now))) }
+        → Takes result hasher.new alg taken (joined (V.values registers.now) (selected_in (selection_of selection.now))) }
 {
     for register in 0..REGISTERS {
         if selection.selects(register) {
-            hasher.update(banks.read(selection.alg, register)?.bytes());
+            hasher.update(registers.value_of(selection.alg, register)?.bytes());
         }
     }
     Some(())

@@ -2,15 +2,18 @@
 use Rattle.std.specs.Prelude.{ℕ, Bool, true, false, if◌then◌else◌, List, [], ◌++◌, codes, decimal, flat_map, Option, Some, None}
 use Rattle.hex.specs.Hex.{encode_lower}
 use Rattle.pcr_banks.specs.Hashing.{name_of}
+use Rattle.boot_verdict.specs.declared.report.Row.{Row}
 use Rattle.boot_verdict.specs.RegisterTexts.{all_registers}
 use Rattle.boot_verdict.specs.Verdicts.{Verdict}
 use Rattle.tpm_quotes.specs.declared.clock.Clock.{Clock}
 use Rattle.tpm_quotes.specs.Spelling.{BankSelection, is_selected, selects_one}
+use Rattle.attestations.specs.declared.expected.ExpectedValues.{ExpectedValues}
+use Rattle.attestations.specs.declared.expected.ExpectedValues.TheVariants.{NotGiven, Confirmed, Unconfirmed}
 use Rattle.attestations.specs.declared.report.Whole.{Whole}
 use Rattle.attestations.specs.Quoted.{Stated}
 use Rattle.attestations.specs.Reports.{AttestVerdict, is_attested}
 use Rattle.verdict_texts.specs.PrefixTexts.{prefix_counts_text}
-use Rattle.verdict_texts.specs.ReportTexts.{aggregate_text, counts_text, verdict_text}
+use Rattle.verdict_texts.specs.ReportTexts.{aggregate_text, counts_text, row_text, verdict_text}
 use Rattle.verdict_texts.specs.RequiredTexts.{strays_text}
 
 -- ---- what the quote states
@@ -58,6 +61,17 @@ abbrev pub attest_counts_text : Verdict → Option Whole → List ℕ
 attest_counts_text verdict None = counts_text verdict.events verdict.locality verdict.entries
 attest_counts_text verdict (Some whole) = prefix_counts_text verdict whole.entries whole.unconfirmed
 
+-- What came of expected values, if some were given; where they are confirmed, a line for each row.
+abbrev pub values_text : ExpectedValues → List Row → List ℕ
+values_text NotGiven rows = []
+values_text Confirmed rows = codes "expected confirmed\n" ++ flat_map row_text rows
+values_text Unconfirmed rows = codes "expected unconfirmed\n"
+
+-- How log and list compare: the boot aggregate, expected values, and what extends a register that is not its own.
+abbrev pub comparison_text : AttestVerdict → List ℕ
+comparison_text report =
+    aggregate_text report.verdict.aggregate ++ (values_text report.expected report.verdict.rows ++ strays_text report.verdict.strays)
+
 -- Whether the quote is of the values to which log and list replay.
 abbrev pub quote_text : Bool → List ℕ
 quote_text true = codes "quote match\n"
@@ -68,12 +82,10 @@ abbrev pub conclusion_text : Bool → Bool → List ℕ
 conclusion_text true is_match = verdict_text is_match
 conclusion_text false is_match = codes "signature not checked\n"
 
--- The report: what the quote states, the counts, the boot aggregate, what extends a register that is not its own, how the quote compares, and
--- the verdict.
+-- The report: what the quote states, the counts, how log and list compare, whether the quote is of them, and the verdict.
 abbrev pub attest_text : AttestVerdict → List ℕ
 attest_text report =
     stated_text report.quoted
     ++ (attest_counts_text report.verdict report.prefix
-    ++ (aggregate_text report.verdict.aggregate
-    ++ (strays_text report.verdict.strays
-    ++ (quote_text report.is_quoted ++ conclusion_text report.is_signed (is_attested report)))))
+    ++ (comparison_text report
+    ++ (quote_text report.is_quoted ++ conclusion_text report.is_signed (is_attested report))))

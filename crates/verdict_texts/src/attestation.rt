@@ -3,16 +3,17 @@
 ghost use Rattle.std.specs.Prelude.{◌≡◌, flat_map, map};
 ghost use Rattle.byte_streams.specs.Streams.{Sends};
 ghost use Rattle.boot_verdict.specs.Verdicts.{verdict_of};
+ghost use Rattle.attestations.specs.declared.expected.ExpectedValues.TheVariants.{Confirmed};
 ghost use Rattle.attestations.specs.Quoted.{bank_selection_of, stated_of};
 ghost use Rattle.attestations.specs.Reports.{attest_verdict_of};
-ghost use Rattle.verdict_texts.specs.AttestTexts.{attest_counts_text, attest_text, clock_text, conclusion_text, firmware_text, number_if_selected, numbers_text, quote_text, safe_text, selection_text, signer_text, stated_text};
+ghost use Rattle.verdict_texts.specs.AttestTexts.{attest_counts_text, attest_text, clock_text, comparison_text, conclusion_text, firmware_text, number_if_selected, numbers_text, quote_text, safe_text, selection_text, signer_text, stated_text, values_text};
 
 use crate::events::write_hexadecimal;
 use crate::prefix_report::write_prefix_counts;
-use crate::report::{verdict_line, write_aggregate, write_counts};
+use crate::report::{verdict_line, write_aggregate, write_counts, write_rows};
 use crate::required::write_strays;
-use attestations::{AttestReport, Quoted, Selected, Whole};
-use boot_verdict::Report;
+use attestations::{AttestReport, ExpectedValues, Quoted, Selected, Whole};
+use boot_verdict::{Report, Row};
 use byte_streams::{Failed, Sink, send, send_pieces};
 use itoa::Buffer;
 use pcr_banks::REGISTERS;
@@ -25,17 +26,18 @@ use tpm_quotes::Clock;
 /// TPM's clock in milliseconds, its counts, and `safe` or `unsafe`. `firmware` and the version of the firmware in decimal.
 ///
 /// Then come the lines of events and locality, of entries and of the boot aggregate, as [`crate::write_report`] writes them; on a prefix of the
-/// list, entries as [`crate::write_prefix_report`] does. If an event extends register 10 or an entry another one, a line says so, as in
-/// [`crate::write_required_report`]. `quote match` or `quote differ`: whether the quote is of the values to which log and list replay. The last
-/// line is `verdict match` or `verdict differ`; it is `signature not checked` if the caller did not say that the signature is verified. After
-/// `Err` the sink has taken a prefix of the text.
+/// list, entries as [`crate::write_prefix_report`] does. If expected registers were given, `expected confirmed` says that the quote is of their
+/// values, and the lines of its registers follow, as [`crate::write_report`] writes them; `expected unconfirmed` says that it is not, and no
+/// register follows. If an event extends register 10 or an entry another one, a line says so, as in [`crate::write_required_report`].
+/// `quote match` or `quote differ`: whether the quote is of the values to which log and list replay. The last line is `verdict match` or
+/// `verdict differ`; it is `signature not checked` if the caller did not say that the signature is verified. After `Err` the sink has taken a
+/// prefix of the text.
 pub fn write_attestation<S: Sink>(report: &AttestReport, sink: &mut S) -> Result<(), Failed>
     ensures { Sends (S.state sink.old) (S.state sink.new) result (attest_text (attest_verdict_of report.now)) }
 {
     write_stated(&report.quoted, sink)?;
     write_list_counts(&report.report, report.prefix, sink)?;
-    write_aggregate(report.report.aggregate, sink)?;
-    write_strays(report.report.strays, sink)?;
+    write_comparison(report, sink)?;
     send(quote_line(report.is_quoted), sink)?;
     let is_match = report.is_attested();
     send(conclusion_line(report.is_signed, is_match), sink)
@@ -151,6 +153,34 @@ fn write_list_counts<S: Sink>(
         None => write_counts(report.events, report.locality, report.entries, sink),
         Some(whole) => write_prefix_counts(report, whole.entries, whole.unconfirmed, sink),
     }
+}
+
+// Writes the boot aggregate, what came of expected values, and what extends a register that is not its own.
+fn write_comparison<S: Sink>(report: &AttestReport, sink: &mut S) -> Result<(), Failed>
+    ensures { Sends (S.state sink.old) (S.state sink.new) result (comparison_text (attest_verdict_of report.now)) }
+{
+    write_aggregate(report.report.aggregate, sink)?;
+    write_values(report.expected, &report.report.rows, sink)?;
+    write_strays(report.report.strays, sink)
+}
+
+// Writes what came of expected values, if some were given.
+fn write_values<S: Sink>(expected: ExpectedValues, rows: &[Row], sink: &mut S) -> Result<(), Failed>
+    ensures { Sends (S.state sink.old) (S.state sink.new) result (values_text expected rows.now) }
+{
+    match expected {
+        ExpectedValues::NotGiven => Ok(()),
+        ExpectedValues::Confirmed => write_confirmed(rows, sink),
+        ExpectedValues::Unconfirmed => send(b"expected unconfirmed\n", sink),
+    }
+}
+
+// Writes that expected values are confirmed, and the lines of their registers.
+fn write_confirmed<S: Sink>(rows: &[Row], sink: &mut S) -> Result<(), Failed>
+    ensures { Sends (S.state sink.old) (S.state sink.new) result (values_text Confirmed rows.now) }
+{
+    send(b"expected confirmed\n", sink)?;
+    write_rows(rows, sink)
 }
 
 fn quote_line(is_quoted: bool) -> &'static [u8]

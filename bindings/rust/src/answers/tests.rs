@@ -1,10 +1,10 @@
 //! What a library may answer, and what not: lines of the forms that `docs/formats.md` shows, changes of them, and buffers.
 
-use super::Answer;
+use super::{Answer, Checkpoint};
 use crate::library::{ask, entries as list_entries, log_registers, zeros, Position, Told};
 use crate::library::{DIFFERS, DONE, MORE, OUT_OF_MEMORY, REFUSED, ROOM, TOO_SHORT};
 use crate::lines::{Lines, Source};
-use crate::{Algorithm, BootAggregate, Clock, Content, Entry, Error, Event, File, Kind, LogAlgorithm, Place, Stray};
+use crate::{Algorithm, Attestation, BootAggregate, Clock, Content, Entry, Error, Event, File, Kind, LogAlgorithm, Place, Stray};
 use ima_verify_sys as c;
 use std::collections::VecDeque;
 
@@ -109,6 +109,15 @@ fn told_of(result: i32, text: &[u8]) -> Told {
 fn answer(result: i32, text: impl AsRef<[u8]>) -> Answer {
     let text = text.as_ref().to_vec();
     Answer { result, told: told_of(result, &text), next: Vec::new(), text }
+}
+
+/// The verdict by a quote on a whole list, with the checkpoint that only a match has.
+fn attestation(result: i32, text: &str, signature_checked: bool) -> Result<Attestation, Error> {
+    let state = "ima-agent checkpoint 3\nentries 3\nbytes 300\nboot_aggregate none\n";
+    let next = if result == DONE { state.into() } else { Vec::new() };
+    let (found, _) =
+        Answer { next, ..answer(result, text) }.attestation(&Checkpoint::default(), 300, false, signature_checked)?;
+    Ok(found)
 }
 
 /// What is made of an answer to a call whose text has this size.
@@ -782,7 +791,7 @@ const ATTESTED: &str = concat!(
 
 #[test]
 fn reports_by_a_quote_are_read() {
-    let found = answer(DONE, ATTESTED).attestation(true).unwrap();
+    let found = attestation(DONE, ATTESTED, true).unwrap();
     let quoted = [(Algorithm::Sha1, vec![10]), (Algorithm::Sha256, vec![0, 1, 10])];
     assert_eq!((found.quoted, found.signer, found.firmware), (quoted.into_iter().collect(), vec![0, 11], 7));
     assert_eq!(found.clock, Clock { milliseconds: 5, resets: 1, restarts: 0, safe: true });
@@ -790,12 +799,12 @@ fn reports_by_a_quote_are_read() {
     assert!(found.matches && found.quote_matches && found.signature_checked && found.extends.is_empty());
     assert_eq!(found.json, ATTESTED.trim_end());
     let unsigned = ATTESTED.replace(r#""checked","verdict":"match""#, r#""not checked","verdict":"signature not checked""#);
-    let found = answer(DIFFERS, &unsigned).attestation(false).unwrap();
+    let found = attestation(DIFFERS, &unsigned, false).unwrap();
     assert_eq!((found.matches, found.quote_matches, found.signature_checked), (false, true, false));
     for (result, text, is_checked) in
         [(DONE, &unsigned[..], false), (DIFFERS, &unsigned, true), (DONE, ATTESTED, false), (DIFFERS, ATTESTED, true)]
     {
-        assert!(is_unexpected(answer(result, text).attestation(is_checked)), "{result} {text}");
+        assert!(is_unexpected(attestation(result, text, is_checked)), "{result} {text}");
     }
 }
 
@@ -842,7 +851,7 @@ fn wrong_reports_by_a_quote_are_none() {
     ] {
         let text = ATTESTED.replacen(old, new, 1);
         assert_ne!(text, ATTESTED, "{old}");
-        assert!(is_unexpected(answer(DONE, &text).attestation(true)), "{text}");
+        assert!(is_unexpected(attestation(DONE, &text, true)), "{text}");
     }
 }
 

@@ -12,7 +12,7 @@ const REPORT: &str = concat!(
     r#""registers":[{"bank":"sha256","register":10,"state":"match"}],"verdict":"match"}"#,
     "\n"
 );
-const STATE: &str = "ima-agent checkpoint 2\nentries 3\nbytes 300\nboot_aggregate none\n";
+const STATE: &str = "ima-agent checkpoint 3\nentries 3\nbytes 300\nboot_aggregate none\n";
 const REPLAY: &str =
     r#""unconfirmed":{"kind":"replay","number":1,"entry":4,"message":"unconfirmed: replay fault 1 at entry 4"},"#;
 const LIST: &str = r#""unconfirmed":{"kind":"list","number":1,"entry":5,"message":"unconfirmed: list fault 1 at entry 5"},"#;
@@ -256,7 +256,7 @@ fn state_that_is_not_that_of_the_report_is_none() {
         ("entries 3", "entries 03"),
         ("entries 3", "entries +3"),
         ("bytes 300", "bytes 301"),
-        ("checkpoint 2", "checkpoint 1"),
+        ("checkpoint 3", "checkpoint 2"),
         ("bytes 300\n", ""),
         ("bytes 300\nboot_aggregate none\n", "bytes 300"),
     ] {

@@ -1,22 +1,22 @@
 //! What the crate answers about a quote of the sample's registers 0 to 10 in the SHA-256 bank.
 
-use crate::{attest, Algorithm, BootAggregate, Clock, Error, Kind, Quote, Stray};
+use crate::{attest, Algorithm, BootAggregate, Clock, Error, Kind, Quote, Session, Stray};
 
 const LAST_ENTRY_SIZE: usize = 95;
 
-fn sample(name: &str) -> Vec<u8> {
+pub(crate) fn sample(name: &str) -> Vec<u8> {
     std::fs::read(format!("{}/../../samples/{name}", env!("CARGO_MANIFEST_DIR"))).unwrap()
 }
 
 /// The files of the sample: the log, the list, the message and the nonce.
-struct Files {
-    log: Vec<u8>,
-    list: Vec<u8>,
-    message: Vec<u8>,
-    nonce: Vec<u8>,
+pub(crate) struct Files {
+    pub(crate) log: Vec<u8>,
+    pub(crate) list: Vec<u8>,
+    pub(crate) message: Vec<u8>,
+    pub(crate) nonce: Vec<u8>,
 }
 
-fn files() -> Files {
+pub(crate) fn files() -> Files {
     let digits = String::from_utf8(sample("quoted/nonce")).unwrap();
     let digits = digits.trim();
     Files {
@@ -28,7 +28,7 @@ fn files() -> Files {
 }
 
 impl Files {
-    fn quote(&self) -> Quote<'_> {
+    pub(crate) fn quote(&self) -> Quote<'_> {
         let Self { message, nonce, .. } = self;
         Quote { message, nonce, require: "sha256:0-10", takes_sha1: false, signature_checked: true }
     }
@@ -104,4 +104,81 @@ fn arguments_that_do_not_suit_a_quote_are_refused() {
     for nonce in [&[][..], &files.nonce[..15]] {
         files.check_refused(&Quote { nonce, ..files.quote() }, Kind::Argument, 0);
     }
+}
+
+/// The state that a quote confirmed, after the list.
+fn quoted_state(files: &Files) -> Vec<u8> {
+    let mut session = Session::by_quotes(&files.log);
+    assert!(session.attest(&files.list, &files.quote()).unwrap().matches);
+    session.state().unwrap().to_vec()
+}
+
+#[track_caller]
+fn check_no_state(log: &[u8], state: &[u8], quote: &Quote<'_>, number: u64) {
+    let mut session = Session::by_quotes(log).resume(state).unwrap();
+    let line = format!("refused: checkpoint fault {number}");
+    let wanted = Error::Refused { line, kind: Kind::Checkpoint, number, place: None };
+    assert_eq!(session.attest(b"", quote).unwrap_err(), wanted);
+    assert_eq!(session.state(), Some(state));
+}
+
+#[test]
+fn list_that_grows_is_attested() {
+    let files = files();
+    let (whole, state) = (attest(&files.log, &files.list, &files.quote()).unwrap(), quoted_state(&files));
+    let end = files.list.len() as u64;
+    let mut session = Session::by_quotes(&files.log).resume(&state).unwrap();
+    assert_eq!(session.offset(), end);
+    assert_eq!(session.attest(b"", &files.quote()).unwrap(), whole);
+    let last = &files.list[files.list.len() - LAST_ENTRY_SIZE..];
+    let mut forged = last.to_vec();
+    forged[4] ^= 1;
+    for (more, entries, line) in [
+        (&[][..], 99, None),
+        (last, 100, None),
+        (b"x", 99, Some("unconfirmed: list fault 1 at entry 99")),
+        (&forged, 100, Some("unconfirmed: replay fault 1 at entry 99")),
+    ] {
+        let longer = [&files.list, more].concat();
+        let session = || Session::by_quotes(&files.log).prefix();
+        for mut session in [session(), session().resume(&state).unwrap()] {
+            let found = session.attest(&longer[session.offset() as usize..], &files.quote()).unwrap();
+            assert_eq!((found.matches, found.confirmed, found.entries), (true, Some(99), entries));
+            assert_eq!(found.unconfirmed.as_ref().map(|fault| &fault.line[..]), line);
+            assert_eq!((session.state(), session.offset()), (Some(&state[..]), end));
+        }
+    }
+}
+
+#[test]
+fn no_match_leaves_the_session_as_it_was() {
+    let files = files();
+    let state = quoted_state(&files);
+    let unsigned = Quote { signature_checked: false, ..files.quote() };
+    for (more, quote) in [(&[][..], &unsigned), (&files.list[files.list.len() - LAST_ENTRY_SIZE..], &files.quote())] {
+        let mut session = Session::by_quotes(&files.log).resume(&state).unwrap();
+        assert!(!session.attest(more, quote).unwrap().matches);
+        assert_eq!(session.state(), Some(&state[..]));
+    }
+}
+
+#[test]
+fn state_of_another_boot_is_refused() {
+    let files = files();
+    let state = quoted_state(&files);
+    let at = 8 + 34 + 2 + files.nonce.len() + 8;
+    for place in [at + 3, at + 7] {
+        let mut message = files.message.clone();
+        message[place] ^= 1;
+        check_no_state(&files.log, &state, &Quote { message: &message, ..files.quote() }, 4);
+    }
+    let event = [&[9, 0, 0, 0, 13, 0, 0, 0, 1, 0, 0, 0, 0x0b][..], &[0; 37]].concat();
+    check_no_state(&[&files.log[..], &event].concat(), &state, &files.quote(), 3);
+    check_no_state(&files.log, &state[..state.len() - 1], &files.quote(), 1);
+    // Verdicts on registers tell no boot.
+    let mut session = Session::new(&files.log, &sample("real-boot/expected.txt"), "sha256:0-10").resume(&state).unwrap();
+    assert!(session.more(b"").unwrap().matches);
+    check_no_state(&files.log, session.state().unwrap(), &files.quote(), 4);
+    let wanted = Error::Refused { line: "refused: command line".into(), kind: Kind::Argument, number: 0, place: None };
+    assert_eq!(Session::by_quotes(&files.log).more(&files.list).unwrap_err(), wanted);
 }

@@ -13,7 +13,7 @@ const TENTHS: [(usize, &str); 5] = [
 const CUTS: [usize; 7] = [0, 1, 2, 50, 97, 98, 99];
 /// Register 10 after the first 60 entries but the fiftieth, and the hash that ends the state after none, by Python's hashlib.
 const FOREIGN_TENTH: &str = "91ee775cae5dee03c7218c11fa254f17575b5bf0d36775f71dc974968209ce24";
-const HASH_OF_NONE: &str = "ddf3fbba98d33327336e7fe2534822e76067e1218ce732d9853e4db5495dfa04";
+const HASH_OF_NONE: &str = "10971c15526944a6b493d1087322f4cdeac1cbafa1521e2b5991acaef5e96c62";
 /// Register 10 after an event that extends it with bytes of 1, and the list, by Python's hashlib.
 const AFTER_EVENT: &str = "44c94d432d9d0c4a4d23cb443dc033e9dbfee95ab439adfeef358307f3afbfa3";
 
@@ -68,8 +68,9 @@ impl Sample {
             let text = String::from_utf8(self.state_after(1)).unwrap();
             let (_, before) = text.split_once("before\n").unwrap();
             let (before, _) = before.split_once("after\n").unwrap();
-            let counts = "ima-agent checkpoint 2\nentries 0\nbytes 0\nboot_aggregate none\n";
-            return format!("{counts}before\n{before}after\n{before}register 10\nentry 0\nsha256 {HASH_OF_NONE}\n").into_bytes();
+            let counts = "ima-agent checkpoint 3\nentries 0\nbytes 0\nboot_aggregate none\n";
+            return format!("{counts}before\n{before}after\n{before}register 10\nentry 0\nboot none\nsha256 {HASH_OF_NONE}\n")
+                .into_bytes();
         }
         let mut session = self.session_of(count);
         assert!(session.more(self.until(count)).unwrap().matches);
@@ -442,8 +443,8 @@ fn state_that_is_not_whole_is_refused() {
     for wrong in [&boot.list, &boot.expected, &[&state[..], b"\n"].concat(), &state.repeat(2), &state.to_ascii_uppercase()] {
         boot.check_no_state(wrong, 1);
     }
-    for version in ["0", "1", "20", "", "2 ", "2\r"] {
-        boot.check_no_state(text.replacen("checkpoint 2\n", &format!("checkpoint {version}\n"), 1).as_bytes(), 2);
+    for version in ["0", "1", "2", "30", "", "3 ", "3\r"] {
+        boot.check_no_state(text.replacen("checkpoint 3\n", &format!("checkpoint {version}\n"), 1).as_bytes(), 2);
     }
     for place in (0..60).chain((60..state.len()).step_by(97)) {
         let mut turned = state.clone();
@@ -478,6 +479,6 @@ fn state_of_another_boot_or_list_gives_no_match() {
         }
     }
     let none = boot.state_after(0);
-    assert!(none.starts_with(b"ima-agent checkpoint 2\nentries 0\nbytes 0\nboot_aggregate none\n"));
+    assert!(none.starts_with(b"ima-agent checkpoint 3\nentries 0\nbytes 0\nboot_aggregate none\n"));
     assert!(boot.session().resume(&none).unwrap().more(&boot.list).unwrap().matches);
 }

@@ -134,12 +134,15 @@ extern "C" {
         told: *mut ima_verify_told,
     ) -> i32;
 
-    /// The verdict on a log and a list by the message of a quote. It verifies no signature: `is_signed` says that the caller has.
+    /// The verdict on a log and a list that grows by the message of a quote, and the checkpoint to continue from. It verifies no
+    /// signature: `is_signed` says that the caller has.
     pub fn ima_verify_raw_attest(
         log: *const u8,
         log_size: usize,
-        list: *const u8,
-        list_size: usize,
+        state: *const u8,
+        state_size: usize,
+        more: *const u8,
+        more_size: usize,
         message: *const u8,
         message_size: usize,
         nonce: *const u8,
@@ -148,7 +151,11 @@ extern "C" {
         require_size: usize,
         takes_sha1: bool,
         is_signed: bool,
+        prefix: bool,
         json: bool,
+        next: *mut u8,
+        next_room: usize,
+        next_size: *mut usize,
         out: *mut u8,
         room: usize,
         told: *mut ima_verify_told,

@@ -6,25 +6,27 @@ ghost use Rattle.hex.specs.Hex.{encode_lower};
 ghost use Rattle.byte_streams.specs.Streams.{Sends};
 ghost use Rattle.std.specs.Prelude.{codes, decimal, flat_map};
 ghost use Rattle.boot_verdict.specs.RegisterTexts.{all_registers};
-ghost use Rattle.growing_lists.specs.CheckpointTexts.{bank_lines, banks_lines, checkpoint_body, checkpoint_text, number_line, seal_line, recorded_line, stray_entry, stray_register, value_line};
+ghost use Rattle.growing_lists.specs.CheckpointTexts.{bank_lines, banks_lines, boot_lines, checkpoint_body, checkpoint_text, data_lines, number_line, seal_line, recorded_line, stray_entry, stray_register, value_line};
 
+use crate::saved_state::{Boot, SavedState};
 use boot_verdict::{Checkpoint, LIST_REGISTER, Stray, digits_of, write_change};
 use byte_streams::{Failed, Sink, VecSink, send, send_pieces};
 use itoa::Buffer;
 use pcr_banks::{Alg, Banks, Digest, MOST_DIGITS, REGISTERS, hash};
 use std::alloc::{AllocError, Global};
 
-/// Makes the text of a checkpoint: a line with the version of this form, one with the number of entries, one with that of bytes, one
-/// with the boot aggregate; the lines of the registers before the list, and of those after it; two of the first entry that extends another
-/// register than that of the list, with the register and the entry (without one, that register and 0); and last the SHA-256 of all this.
+/// Makes the text of a checkpoint and its boot: a line with the version of this form, one with the number of entries, one with that of
+/// bytes, one with the boot aggregate; the lines of the registers before the list, and of those after it; two of the first entry that extends
+/// another register than that of the list, with the register and the entry (without one, that register and 0); two of the boot, with the TPM's
+/// counts of resets and restarts, or one that no quote confirmed this; and last the SHA-256 of all this.
 /// [`crate::read_checkpoint`] reads it.
 ///
 /// Each bank is there, in the order of [`Alg::ALL`]: with a line for each register, as [`boot_verdict::write_registers`] writes it, or
 /// with the line `sha1 none` if it is not active. Fails only if memory runs out.
-pub fn write_checkpoint(alloc: Global, checkpoint: &Checkpoint) -> Result<Vec<u8>, AllocError>
-    ensures { IfOk result (λ text. text.items ≡ checkpoint_text checkpoint.now) }
+pub fn write_checkpoint(alloc: Global, state: &SavedState) -> Result<Vec<u8>, AllocError>
+    ensures { IfOk result (λ text. text.items ≡ checkpoint_text state.now) }
 {
-    let body = body_of(alloc, checkpoint)?;
+    let body = body_of(alloc, state)?;
     let digest = hash(Alg::Sha256, &body);
     let mut text = VecSink::new(body);
     match write_seal(&digest, &mut text) {
@@ -34,18 +36,47 @@ pub fn write_checkpoint(alloc: Global, checkpoint: &Checkpoint) -> Result<Vec<u8
 }
 
 // What stands before the last line.
-fn body_of(alloc: Global, checkpoint: &Checkpoint) -> Result<Vec<u8>, AllocError>
-    ensures { IfOk result (λ body. body.items ≡ checkpoint_body checkpoint.now) }
+fn body_of(alloc: Global, state: &SavedState) -> Result<Vec<u8>, AllocError>
+    ensures { IfOk result (λ body. body.items ≡ checkpoint_body state.now) }
 {
     let mut text = VecSink::new(Vec::new(alloc));
-    match write_body(checkpoint, &mut text) {
+    match write_body(state, &mut text) {
         Ok(()) => Ok(text.into_bytes()),
         Err(Failed) => Err(AllocError),
     }
 }
 
-fn write_body<S: Sink>(checkpoint: &Checkpoint, sink: &mut S) -> Result<(), Failed>
-    ensures { Sends (S.state sink.old) (S.state sink.new) result (checkpoint_body checkpoint.now) }
+fn write_body<S: Sink>(state: &SavedState, sink: &mut S) -> Result<(), Failed>
+    ensures { Sends (S.state sink.old) (S.state sink.new) result (checkpoint_body state.now) }
+{
+    send(b"ima-agent checkpoint 3\n", sink)?;
+    write_data(&state.checkpoint, sink)?;
+    write_boot(state.boot, sink)
+}
+
+// Writes the lines of the boot.
+fn write_boot<S: Sink>(boot: Option<Boot>, sink: &mut S) -> Result<(), Failed>
+    ensures { Sends (S.state sink.old) (S.state sink.new) result (boot_lines boot) }
+{
+    match boot {
+        None => send(b"boot none\n", sink),
+        Some(boot) => {
+            let mut first = Buffer::new();
+            let mut second = Buffer::new();
+            let pieces: [&[u8]; 5] = [
+                b"resets ",
+                first.format(boot.resets).as_bytes(),
+                b"\nrestarts ",
+                second.format(boot.restarts).as_bytes(),
+                b"\n",
+            ];
+            send_pieces(&pieces, sink)
+        }
+    }
+}
+
+fn write_data<S: Sink>(checkpoint: &Checkpoint, sink: &mut S) -> Result<(), Failed>
+    ensures { Sends (S.state sink.old) (S.state sink.new) result (data_lines checkpoint.now) }
 {
     write_counts(checkpoint.entries, checkpoint.bytes, sink)?;
     write_recorded(&checkpoint.recorded, sink)?;
@@ -55,13 +86,13 @@ fn write_body<S: Sink>(checkpoint: &Checkpoint, sink: &mut S) -> Result<(), Fail
 }
 
 fn write_counts<S: Sink>(entries: usize, bytes: u64, sink: &mut S) -> Result<(), Failed>
-    ensures { Sends (S.state sink.old) (S.state sink.new) result (codes "ima-agent checkpoint 2\nentries "
+    ensures { Sends (S.state sink.old) (S.state sink.new) result (codes "entries "
         ++ (decimal entries ++ (codes "\nbytes " ++ (decimal bytes ++ codes "\n")))) }
 {
     let mut first = Buffer::new();
     let mut second = Buffer::new();
     let pieces: [&[u8]; 5] = [
-        b"ima-agent checkpoint 2\nentries ",
+        b"entries ",
         first.format(entries).as_bytes(),
         b"\nbytes ",
         second.format(bytes).as_bytes(),

@@ -1,9 +1,12 @@
 //! A log and a list, judged by a quote; and what is against others.
 
-use super::real_boot::{FIRMWARE_LOG, IMA_LIST};
-use attestations::{AttestFault, Cause, Policy, PolicyFault, QuoteRefusal, attest, quote_for};
+use super::real_boot::{EXPECTED, FIRMWARE_LOG, IMA_LIST};
+use attestations::{
+    AttestFault, Cause, ExpectedValues, Policy, PolicyFault, QuoteRefusal, attest, keep_confirmed,
+    quote_for,
+};
 use boot_log::LogFault;
-use boot_verdict::{Requirement, RequirementFault, VerifyFault};
+use boot_verdict::{ExpectFault, Requirement, RequirementFault, VerifyFault, read_expected};
 use ima_list::{ListFault, ReplayFault};
 use pcr_banks::Alg;
 use std::alloc::{AllocError, Global};
@@ -31,10 +34,12 @@ fn changed(alloc: Global, bytes: &[u8], at: usize, byte: u8) -> Result<Vec<u8>, 
     joined(alloc, &[before, &[byte], after])
 }
 
-/// The log and the list of a real boot, by the quote of the TPM into which both were extended.
+/// The log and the list of a real boot, by the quote of the TPM into which both were extended. It confirms the values of registers 0 to 10, and
+/// none if one of them is left out.
 #[test]
 fn real_boot_is_attested(rt: HostRuntime) -> Result<(), Fail> {
-    let required = required(rt.alloc(), b"sha256:0-10")?;
+    let alloc = rt.alloc();
+    let required = required(alloc, b"sha256:0-10")?;
     let policy = Policy {
         nonce: QUOTE_NONCE,
         required: &required,
@@ -45,6 +50,18 @@ fn real_boot_is_attested(rt: HostRuntime) -> Result<(), Fail> {
     assert_eq!(rt; attested.locality, 0);
     assert_eq!(rt; attested.entries, 99);
     assert_eq!(rt; attested.quote.clock.resets, 1);
+    let mut expected = once_more(ExpectFault::Memory, || read_expected(alloc, EXPECTED))?;
+    assert_eq!(rt;
+        keep_confirmed(&attested.quote, &mut expected),
+        ExpectedValues::Confirmed
+    );
+    assert_eq!(rt; expected.len(), 11);
+    expected.pop();
+    assert_eq!(rt;
+        keep_confirmed(&attested.quote, &mut expected),
+        ExpectedValues::Unconfirmed
+    );
+    assert!(rt; expected.is_empty());
     Ok(())
 }
 

@@ -65,4 +65,4 @@ returns c =
     let fifth = c.in_ok-after.ensures known.after (after_after known rest) possible.after fourth.1 in
     let stray = stray_fits known.entries known.stray (omega (arith, possible.counted.size, possible.counted.room)) possible.counted.stray in
     let sixth = c.in_ok-stray.ensures known.stray rest stray fifth.1 in
-    record { entries = first.0; bytes = second.0; recorded = third.0; before = fourth.0; after = fifth.0; stray = sixth.0 }
+    (record { entries = first.0; bytes = second.0; recorded = third.0; before = fourth.0; after = fifth.0; stray = sixth.0 }, sixth.1)

@@ -9,9 +9,9 @@ returns-in-Ok c =
     let fits : SFits w32 c.put.result = search rules in
     rw (to_z-of_z fits) (record {
       text = c.in-Ok.given.output.text.items;
-      status = c.in-Ok.given.output.status;
+      status = c.answer_of_status.result;
       fault = None;
-      is_answer = (c.in-Ok.given.checkpoint.items, inl (refl, c.in-Ok.ensures.shown));
+      is_answer = (c.in-Ok.given.checkpoint.items, inl (refl, (c.in-Ok.given.output.status, c.in-Ok.ensures.shown, c.answer_of_status.ensures)));
       given = rw c.deref.ensures.value at c.put.ensures;
     })
 

@@ -1,8 +1,21 @@
-use Rattle.std.proofs.Common.{rules, w32}
+use Rattle.std.proofs.Common.{None, refl, inl, rules, w32}
 use mir.Val.{SFits}
 use Rattle.std.proofs.Math.Facts.{to_z-of_z}
+use Rattle.ima_verify_c.specs.Answers.{answer_of_status}
 use Rattle.ima_verify_c.proofs.GivingLaws.{gives_no_next}
 use Rattle.ima_verify_c.proofs.replies.give_both.Goals as goal
+
+pub returns-in-Ok : goal.returns-in-Ok
+returns-in-Ok c =
+    let fits : SFits w32 c.put_both.result = search rules in
+    rw (to_z-of_z fits) (record {
+      text = c.in-Ok.given.output.text.items;
+      status = answer_of_status c.in-Ok.given.output.status;
+      fault = None;
+      state = c.in-Ok.given.checkpoint.items;
+      is_answer = inl (refl, (c.in-Ok.given.output.status, c.in-Ok.ensures.shown, refl));
+      given = c.put_both.ensures;
+    })
 
 pub returns-in-Err : goal.returns-in-Err
 returns-in-Err c =

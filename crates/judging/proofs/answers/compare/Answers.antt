@@ -1,8 +1,7 @@
-use Rattle.std.proofs.Common.{refl, inl, inr}
+use Rattle.std.proofs.Common.{inl, inr}
 use Rattle.std.proofs.lemmas.Result.{err_from_is_err_and}
 use Rattle.judging.specs.Answering.{evidence_of}
 use Rattle.judging.proofs.answers.compare.Goals as goal
-use Rattle.judging.proofs.answers.compare.Goals.{then-is_well, else-is_well}
 
 pub returns-in_err-evidence-clause-fault : goal.returns-in_err-evidence-clause-fault
 returns-in_err-evidence-clause-fault g c =
@@ -24,11 +23,8 @@ returns-clause-answer g c = record {
   evidence = evidence_of c.in_ok-evidence.evidence;
   next = c.in_ok-answer.next;
   evidence_is = c.in_ok-evidence.ensures.evidence;
-  requirement_is = refl;
-  judged = rw c.in_ok-evidence.ensures.known at c.in_ok-answer.ensures.found;
-  well_is = rw c.as_ref.ensures.value at c.is_well-is_well.ensures;
-  next_is = elim c.if-is_well.branch [
-    | then-is_well w ↦ rw w.if-is_well.true w.result-is
-    | else-is_well w ↦ rw w.if-is_well.false w.result-is
-  ];
+  requirement_is = c.weighed.ensures.requirement;
+  judged = rw c.weighed.ensures.answer (rw c.in_ok-evidence.ensures.known at c.in_ok-answer.ensures.found);
+  well_is = rw (c.weighed.ensures.answer, c.weighed.ensures.requirement) c.weighed.ensures.well;
+  next_is = c.weighed.ensures.next;
 }

@@ -2,11 +2,11 @@ use Rattle.std.proofs.Common.{inl, inr}
 use Rattle.std.proofs.lemmas.Result.{err_from_is_err_and}
 use Rattle.judging.proofs.answers.evidence_of.Goals as goal
 
-pub returns-in_err-known-clause-fault : goal.returns-in_err-known-clause-fault
-returns-in_err-known-clause-fault g c =
-    let p = err_from_is_err_and c.from_residual-in_err-known.result c.from_residual-in_err-known.ensures.1 in
+pub returns-in_err-state-clause-fault : goal.returns-in_err-state-clause-fault
+returns-in_err-state-clause-fault g c =
+    let p = err_from_is_err_and c.from_residual-in_err-state.result c.from_residual-in_err-state.ensures.1 in
     rw (p.1, p.2)
     (inr (inr (inr (inl (
       (_, (_, rw c.in_ok-log.ensures.known at c.in_ok-text.ensures.all, rw c.bytes.ensures at c.in_ok-expected.ensures.found)),
-      rw (c.in_ok-text.ensures.known, c.in_ok-log.ensures.known) at c.in_err-known.ensures.fault,
+      rw (c.in_ok-text.ensures.known, c.in_ok-log.ensures.known) at c.in_err-state.ensures.fault,
     )))))

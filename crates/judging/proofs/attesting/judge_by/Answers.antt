@@ -4,24 +4,46 @@ use Rattle.tpm_quotes.specs.Spelling.{quote_of}
 use Rattle.judging.specs.Requests.{held_bytes}
 use Rattle.judging.proofs.attesting.judge_by.Goals as goal
 
-pub returns-in_err-known-clause-fault : goal.returns-in_err-known-clause-fault
-returns-in_err-known-clause-fault g c =
-    let p = err_from_is_err_and c.from_residual-in_err-known.result c.from_residual-in_err-known.ensures.1 in
-    let why = rw (c.in_ok-log.ensures.known, c.comparison_of-comparison.ensures.wanted) at c.in_err-known.ensures.fault in
-    rw (p.1, p.2) (inl (inr (inl why)))
+pub returns-in_err-state-clause-fault : goal.returns-in_err-state-clause-fault
+returns-in_err-state-clause-fault g c =
+    let p = err_from_is_err_and c.from_residual-in_err-state.result c.from_residual-in_err-state.ensures.1 in
+    let why = rw (c.in_ok-values.ensures.known, c.in_ok-log.ensures.known, c.comparison_of-comparison.ensures.wanted) at c.in_err-state.ensures.fault in
+    let counted = rw c.in_ok-log.ensures.known at c.in_ok-values.ensures.counted in
+    rw (p.1, p.2) (inl (inr (inr (inl ((counted.stated, counted.stated_is), why)))))
 
-pub returns-in_err-judged-clause-fault : goal.returns-in_err-judged-clause-fault
-returns-in_err-judged-clause-fault g c =
-    let p = err_from_is_err_and c.from_residual-in_err-judged.result c.from_residual-in_err-judged.ensures.1 in
-    let known = rw (c.in_ok-log.ensures.known, c.comparison_of-comparison.ensures.wanted) at c.in_ok-known.ensures.checkpoint in
+pub returns-in_err-values-clause-fault : goal.returns-in_err-values-clause-fault
+returns-in_err-values-clause-fault g c =
+    let p = err_from_is_err_and c.from_residual-in_err-values.result c.from_residual-in_err-values.ensures.1 in
+    let why = rw c.in_ok-log.ensures.known at c.in_err-values.ensures.fault in
+    rw (p.1, p.2) (elim why [
+      | inl stated ↦ inl (inr (inl stated))
+      | inr memory ↦ inr memory
+    ])
+
+pub returns-in_err-answer-clause-fault : goal.returns-in_err-answer-clause-fault
+returns-in_err-answer-clause-fault g c =
+    let p = err_from_is_err_and c.from_residual-in_err-answer.result c.from_residual-in_err-answer.ensures.1 in
+    let known = rw (c.in_ok-values.ensures.known, c.in_ok-log.ensures.known, c.comparison_of-comparison.ensures.wanted) at c.in_ok-state.ensures.state in
     let why = rw (
-      c.in_ok-known.ensures.known,
+      c.in_ok-state.ensures.known,
+      c.in_ok-values.ensures.known,
       c.in_ok-log.ensures.known,
       c.comparison_of-comparison.ensures.wanted,
       c.comparison_of-comparison.ensures.list,
-      c.new.ensures.items,
-    ) at c.in_err-judged.ensures.found in
-    rw (p.1, p.2) (inl (inr (inr (held_bytes c.in_ok-log.log, c.in_ok-known.known, c.in_ok-log.ensures.all, known, why))))
+      c.checkpoint_of.ensures,
+    ) at c.in_err-answer.ensures.found in
+    rw (p.1, p.2)
+    (inl (inr (inr (inr (
+      held_bytes c.in_ok-log.log,
+      c.in_ok-values.values,
+      c.in_ok-values.expected.items,
+      c.in_ok-state.state,
+      c.in_ok-log.ensures.all,
+      rw c.in_ok-log.ensures.known at c.in_ok-values.ensures.counted,
+      known,
+      c.in_ok-state.ensures.boot,
+      why,
+    )))))
 
 pub returns-clause-answer : goal.returns-clause-answer
 returns-clause-answer g c =
@@ -29,25 +51,25 @@ returns-clause-answer g c =
       ranges = ranges;
       quote = quote_of c.args.quote.now;
       log = held_bytes c.in_ok-log.log;
-      known = c.in_ok-known.known;
-      judged = c.in_ok-judged.judged;
-      next = c.in-Some.next;
-      report = c.in_ok-report.report;
+      values = c.in_ok-values.values;
+      counted = c.in_ok-values.expected.items;
+      state = c.in_ok-state.state;
+      next = c.in_ok-answer.next;
       taken = taken;
       asked_for = asked;
       log_is = c.in_ok-log.ensures.all;
-      known_is = rw (c.in_ok-log.ensures.known, c.comparison_of-comparison.ensures.wanted) at c.in_ok-known.ensures.checkpoint;
-      judged_is = rw (
-        c.in_ok-known.ensures.known,
+      counted_are = rw c.in_ok-log.ensures.known at c.in_ok-values.ensures.counted;
+      state_is = rw (c.in_ok-values.ensures.known, c.in_ok-log.ensures.known, c.comparison_of-comparison.ensures.wanted) at c.in_ok-state.ensures.state;
+      boot_is = c.in_ok-state.ensures.boot;
+      judged = rw c.weighed.ensures.answer (rw (
+        c.in_ok-state.ensures.known,
+        c.in_ok-values.ensures.known,
         c.in_ok-log.ensures.known,
         c.comparison_of-comparison.ensures.wanted,
         c.comparison_of-comparison.ensures.list,
-        c.new.ensures.items,
-        c.in-Some.is,
-      ) at c.in_ok-judged.ensures.found;
-      report_is = c.in_ok-report.ensures.report;
-      answer_is = c.answered.ensures.answer;
-      none_required = c.answered.ensures.requirement;
-      well_is = c.answered.ensures.well;
-      next_is = c.answered.ensures.next;
+        c.checkpoint_of.ensures,
+      ) at c.in_ok-answer.ensures.found);
+      none_required = c.weighed.ensures.requirement;
+      well_is = rw c.weighed.ensures.answer c.weighed.ensures.well;
+      next_is = rw c.of-boot.ensures at c.weighed.ensures.next;
     }

@@ -1,0 +1,259 @@
+-- What an answer by a quote tells.
+use Rattle.std.proofs.Common.{◌≡◌, ℕ, Bool, true, false, ◌&&◌, not, ◌≤◌, List, [], ◌++◌, length, Option, Some, None, Ok, refl, sym, ap, subst, ◌∙◌, arith, inl, inr}
+use Rattle.std.specs.Prelude.{is_some}
+use Rattle.std.proofs.lemmas.Bool.{true≢false}
+use Rattle.pcr_banks.specs.declared.sets.AlgSet.{AlgSet}
+use Rattle.pcr_banks.specs.Registers.{value_at}
+use Rattle.boot_log.specs.declared.header.Row.{Row as TableRow}
+use Rattle.boot_log.specs.Replaying.{IsFirmware}
+use Rattle.boot_log.specs.Spelling.{LogEvent, IsLog, algs_in}
+use Rattle.boot_log.proofs.LogLaws.{one_reading}
+use Rattle.ima_list.specs.ListEntry.{ListEntry}
+use Rattle.ima_list.specs.Replaying.{AreGenuine, IsReplayed}
+use Rattle.ima_list.specs.Spelling.{IsReading, list_spelling}
+use Rattle.ima_list.proofs.ListLaws.{written_reading}
+use Rattle.boot_verdict.specs.declared.checkpoint.Checkpoint.{Checkpoint}
+use Rattle.boot_verdict.specs.declared.expected.Expected.{Expected}
+use Rattle.boot_verdict.specs.declared.prefix_report.PrefixReport.{PrefixReport}
+use Rattle.boot_verdict.specs.declared.report.Report.{Report}
+use Rattle.boot_verdict.specs.Isolation.{are_none, first_extending, first_stray}
+use Rattle.boot_verdict.specs.Verdicts.{IsVerdict, Verdict, aggregate_of, is_good, pcr_after_log_and_list, recorded_aggregate, verdict_of, verdict_on}
+use Rattle.boot_verdict.proofs.ReplayLaws.{one_list}
+use Rattle.tpm_quotes.specs.Quoting.{confirms}
+use Rattle.tpm_quotes.specs.Spelling.{IsQuote, TpmQuote}
+use Rattle.attestations.specs.declared.expected.ExpectedValues.{ExpectedValues}
+use Rattle.attestations.specs.declared.report.AttestReport.{AttestReport}
+use Rattle.attestations.specs.Attesting.{IsAttested}
+use Rattle.attestations.specs.Judging.{attestation_on, cause_against, quote_refusal}
+use Rattle.attestations.specs.Policies.{Terms, policy_fault}
+use Rattle.attestations.specs.Quoted.{stated_by, stated_of}
+use Rattle.attestations.specs.Reports.{AttestVerdict, attest_verdict_of, is_attested}
+use Rattle.attestations.proofs.JudgeLaws.{attested_by, values_same}
+use Rattle.growing_lists.specs.declared.saved_state.SavedState.{SavedState}
+use Rattle.agent_inputs.specs.Loading.{Inputs}
+use Rattle.agent_plans.specs.declared.plan.Scope.{Scope}
+use Rattle.agent_plans.specs.declared.plan.Scope.TheVariants.{Whole}
+use Rattle.judging.specs.declared.request.Answer.TheVariants as answers
+use Rattle.judging.specs.declared.request.Answered.{Answered}
+use Rattle.judging.specs.Answering.{Evidence, IsAnswerOn, IsAttestation, IsJudged, IsKnown, IsNext, IsPrefixOf, IsTaken, IsVerdictOn, OfList, OfMore, checkpoint_of, is_well, most_more, quoted_evidence, seeks_prefix, terms_with, told_by}
+use Rattle.judging.specs.Inputs.{OfInput, Where}
+use Rattle.judging.specs.Requests.{Attested, Nothing, VerdictOf}
+use Rattle.judging_laws.specs.AttestedAnswers.{is_on_prefix, TellsAttested, TellsPrefixAttested, TellsSomeAttested}
+
+-- ---- Booleans
+
+both_true : (a b : Bool) → (a && b) ≡ true → (a ≡ true) × (b ≡ true)
+both_true true b e = (refl, e)
+both_true false b e = absurd cc
+
+none_of : {A : Type 0} (found : Option A) → not (is_some found) ≡ true → found ≡ None
+none_of None e = refl
+none_of (Some x) e = absurd cc
+
+-- ---- nothing is against it
+
+no_cause : (algs : AlgSet) (events : List LogEvent) (entries : List ListEntry) (quote : TpmQuote) → first_extending events ≡ None
+    → first_stray entries ≡ None → is_good (aggregate_of algs events (recorded_aggregate entries)) ≡ true
+    → confirms quote (pcr_after_log_and_list algs events entries) ≡ true → cause_against algs events entries quote ≡ None
+no_cause algs events entries quote event entry good same = rw (event, entry, good, same) refl
+
+-- ---- a report by a quote, where all is well with it
+
+-- What was judged is good, and so are the registers after it.
+record AreGood (verdict : Verdict) (quote : TpmQuote) (next : Checkpoint) : Type 0 where
+  aggregate : is_good verdict.aggregate ≡ true
+  apart : are_none verdict.strays ≡ true
+  quoted : confirms quote (value_at next.after) ≡ true
+
+well_told : (told : AttestVerdict) (quote : TpmQuote) (next : Checkpoint) (is_signed : Bool) → (told.is_signed && is_attested told) ≡ true
+    → told.is_signed ≡ is_signed → told.is_quoted ≡ confirms quote (value_at next.after) → (is_signed ≡ true) × AreGood told.verdict quote next
+well_told told quote next is_signed well signed_is quoted_is =
+    let signed = both_true told.is_signed (is_attested told) well in
+    let good = both_true (is_good told.verdict.aggregate) (are_none told.verdict.strays && told.is_quoted) signed.1 in
+    let last = both_true (are_none told.verdict.strays) told.is_quoted good.1 in
+    (sym signed_is ∙ signed.0, record { aggregate = good.0; apart = last.0; quoted = sym quoted_is ∙ last.1 })
+
+-- ---- the attestation
+
+attested_on : (log list message : List ℕ) (terms : Terms) (quote : TpmQuote) (expected : List Expected) (table : List TableRow)
+    (events : List LogEvent) (entries : List ListEntry) (verdict : Verdict) (next : Checkpoint) → policy_fault terms ≡ None
+    → IsQuote message quote → quote_refusal quote terms ≡ None → IsLog log table events → IsReading list (Ok entries) → AreGenuine entries
+    → verdict ≡ verdict_on (algs_in table) events entries expected → IsNext log list next → AreGood verdict quote next
+    → IsAttested log list message terms (attestation_on events entries quote)
+attested_on log list message terms quote expected table events entries verdict next sound message_is taken log_is list_is genuine same next_is good =
+    let boot = next_is.boot in
+    let logs = one_reading log boot.table table boot.events events boot.log_is log_is in
+    let firmware : IsFirmware (algs_in table) events next.before =
+    subst (λ (p : List TableRow × List LogEvent). IsFirmware (algs_in p.0) p.1 next.before) (λ i. (logs.0 i, logs.1 i)) boot.start in
+    let lists : next_is.checkpoint.entries ≡ entries = one_list next_is.checkpoint.list_is list_is in
+    let replayed : IsReplayed next.before entries next.after =
+    subst (λ (es : List ListEntry). IsReplayed next.before es next.after) lists next_is.checkpoint.replayed in
+    let values = values_same (algs_in table) events entries next.before next.after quote firmware replayed in
+    let aggregate : is_good (aggregate_of (algs_in table) events (recorded_aggregate entries)) ≡ true =
+    subst (λ (v : Verdict). is_good v.aggregate ≡ true) same good.aggregate in
+    let apart : (not (is_some (first_extending events)) && not (is_some (first_stray entries))) ≡ true =
+    subst (λ (v : Verdict). are_none v.strays ≡ true) same good.apart in
+    let none = both_true (not (is_some (first_extending events))) (not (is_some (first_stray entries))) apart in
+    attested_by log list message terms table events entries quote (attestation_on events entries quote) sound message_is taken log_is list_is genuine
+    (no_cause (algs_in table) events entries quote (none_of (first_extending events) none.0) (none_of (first_stray entries) none.1) aggregate
+    (sym values ∙ good.quoted)) refl
+
+-- ---- what was judged
+
+-- The verdict is on a log and the whole list of this input, and this is where to go on.
+abbrev WholeOn : Inputs → Where → Evidence → Verdict → Checkpoint → Type 0
+WholeOn inputs list evidence verdict next =
+    OfMore inputs list evidence.known (λ taken more. (length more ≤ most_more evidence.known list)
+    × IsVerdict evidence.log (taken ++ more) evidence.expected verdict × IsNext evidence.log (taken ++ more) next)
+
+abbrev PrefixOn : Inputs → Where → Evidence → PrefixReport → Checkpoint → Type 0
+PrefixOn inputs list evidence report next = OfList inputs list evidence.known (λ all. IsPrefixOf evidence all report next)
+
+-- What follows from a verdict on the whole list, and from one on its prefix, follows from the verdict that an answer tells. (What was
+-- judged has a type that its own crate alone can name.)
+of_each : (inputs : Inputs) (scope : Scope) (list : Where) (evidence : Evidence) (next : Checkpoint) (quote : TpmQuote) (is_signed : Bool)
+    (values : ExpectedValues) (on : _) (Q : Verdict → Bool → Type 0)
+    → ((report : Report) → WholeOn inputs list evidence (verdict_of report) next → Q (verdict_of report) false)
+    → ((report : PrefixReport) → seeks_prefix scope evidence ≡ true → PrefixOn inputs list evidence report next → Q (verdict_of report.report) true)
+    → IsVerdictOn inputs scope list evidence on next
+    → Q (told_by quote is_signed values next on).verdict (is_some (told_by quote is_signed values next on).prefix)
+of_each inputs scope list evidence next quote is_signed values on Q whole part is = grind (arith, whole, part)
+
+told_signed : (quote : TpmQuote) (is_signed : Bool) (values : ExpectedValues) (next : Checkpoint) (on : _)
+    → (told_by quote is_signed values next on).is_signed ≡ is_signed
+told_signed quote is_signed values next on = grind arith
+
+told_quoted : (quote : TpmQuote) (is_signed : Bool) (values : ExpectedValues) (next : Checkpoint) (on : _)
+    → (told_by quote is_signed values next on).is_quoted ≡ confirms quote (value_at next.after)
+told_quoted quote is_signed values next on = grind arith
+
+told_stated : (quote : TpmQuote) (is_signed : Bool) (values : ExpectedValues) (next : Checkpoint) (on : _)
+    → (told_by quote is_signed values next on).quoted ≡ stated_by quote
+told_stated quote is_signed values next on = grind arith
+
+-- ---- the answer
+
+-- Nothing was taken before, where nothing is gone on from.
+pub from_nothing : (inputs : Inputs) (asked : Attested) (given : Answered) (is : IsAttestation inputs asked given) → asked.resume ≡ None
+    → IsTaken (checkpoint_of is.state) []
+from_nothing inputs asked given is resume =
+    let none : is.state ≡ None = subst (λ (r : Option Where). IsKnown inputs r is.state) resume is.state_is in
+    subst (λ (s : Option SavedState). IsTaken (checkpoint_of s) []) (sym none) refl
+
+module _ (inputs : Inputs) (asked : Attested) (given : Answered) (is : IsAttestation inputs asked given) (well : given.is_well ≡ true) where
+  abbrev evidence : Evidence
+  evidence = quoted_evidence is.log is.quote asked.is_signed is.values is.counted (checkpoint_of is.state)
+
+  -- The answer is a report with this verdict, on the whole list or on a prefix, and all is well with it.
+  record Says (verdict : Verdict) (on_prefix : Bool) (next : Checkpoint) : Type 0 where
+    report : AttestReport
+    answer_is : given.answer ≡ answers.Attestation report
+    quoted : stated_of report.quoted ≡ stated_by is.quote
+    verdict_is : verdict_of report.report ≡ verdict
+    prefix_is : is_on_prefix given.answer ≡ on_prefix
+    signed : asked.is_signed ≡ true
+    good : AreGood verdict is.quote next
+
+  said : (on : _) (next : Checkpoint) → IsAnswerOn (Some is.quote) asked.is_signed is.values on next given.answer
+      → Says (told_by is.quote asked.is_signed is.values next on).verdict (is_some (told_by is.quote asked.is_signed is.values next on).prefix) next
+  said on next answer =
+      let told = told_by is.quote asked.is_signed is.values next on in
+      let report = answer.0 in
+      let here : (report.is_signed && is_attested (attest_verdict_of report)) ≡ true =
+      ap (is_well Nothing None) (sym answer.1) ∙ sym is.well_is ∙ well in
+      let there : (told.is_signed && is_attested told) ≡ true =
+      subst (λ (v : AttestVerdict). (v.is_signed && is_attested v) ≡ true) answer.2 here in
+      let good = well_told told is.quote next asked.is_signed there (told_signed is.quote asked.is_signed is.values next on)
+      (told_quoted is.quote asked.is_signed is.values next on) in
+      record {
+        report = report;
+        answer_is = answer.1;
+        quoted = ap (λ (v : AttestVerdict). v.quoted) answer.2 ∙ told_stated is.quote asked.is_signed is.values next on;
+        verdict_is = ap (λ (v : AttestVerdict). v.verdict) answer.2;
+        prefix_is = ap is_on_prefix answer.1 ∙ ap (λ (v : AttestVerdict). is_some v.prefix) answer.2;
+        signed = good.0;
+        good = good.1;
+      }
+
+  tells_on : (list : List ℕ) (table : List TableRow) (events : List LogEvent) (entries : List ListEntry) (verdict : Verdict)
+      (on_prefix : Bool) (next : Checkpoint) → IsLog is.log table events → IsReading list (Ok entries) → AreGenuine entries
+      → verdict ≡ verdict_on (algs_in table) events entries is.counted → IsNext is.log list next → Says verdict on_prefix next
+      → TellsAttested inputs asked given is list
+  tells_on list table events entries verdict on_prefix next log_is list_is genuine same next_is says =
+      let message = is.asked_for.0 in
+      record {
+        message = message.0;
+        attestation = attestation_on events entries is.quote;
+        signed = says.signed;
+        log_is = is.log_is;
+        message_is = message.1;
+        attested = attested_on is.log list message.0 (terms_with asked is.ranges) is.quote is.counted table events entries verdict next is.taken.1
+            message.2 is.asked_for.1 log_is list_is genuine same next_is says.good;
+        quote_is = refl;
+        report_is = record {
+          report = says.report;
+          answer_is = says.answer_is;
+          quoted = says.quoted;
+          events = ap (λ (v : Verdict). v.events) (says.verdict_is ∙ same);
+          locality = ap (λ (v : Verdict). v.locality) (says.verdict_is ∙ same);
+          entries = ap (λ (v : Verdict). v.entries) (says.verdict_is ∙ same);
+        };
+      }
+
+  whole_tells : (report : Report) (next : Checkpoint) (taken : List ℕ) → IsTaken (checkpoint_of is.state) taken
+      → WholeOn inputs asked.list evidence (verdict_of report) next → Says (verdict_of report) false next
+      → OfInput inputs asked.list (λ more. TellsAttested inputs asked given is (taken ++ more))
+  whole_tells report next taken before on says =
+      let more = on taken before in
+      let found = more.2.1 in (
+        more.0,
+        more.1,
+        tells_on (taken ++ more.0) found.table found.events found.entries (verdict_of report) false next found.log_is found.list_is found.genuine
+            found.verdict_is more.2.2 says,
+      )
+
+  prefix_tells : (report : PrefixReport) (next : Checkpoint) (taken : List ℕ) → IsTaken (checkpoint_of is.state) taken
+      → PrefixOn inputs asked.list evidence report next → Says (verdict_of report.report) true next
+      → OfInput inputs asked.list (λ more. TellsPrefixAttested inputs asked given is (taken ++ more))
+  prefix_tells report next taken before on says =
+      let more = on taken before in
+      let found = more.2 in (
+        more.0,
+        more.1,
+        record {
+          prefix = found.prefix;
+          rest = found.rest;
+          begins = found.begins;
+          tells = tells_on (list_spelling found.prefix) found.table found.events found.prefix (verdict_of report.report) true next found.log_is
+              (written_reading found.prefix found.begins.are) found.confirmed.genuine found.verdict_is found.next_is says;
+        },
+      )
+
+  abbrev IsFound : Option Checkpoint → Type 0
+  IsFound next = IsJudged inputs (VerdictOf asked.log asked.scope asked.resume) asked.list evidence given.answer next
+
+  pub whole_attested : asked.scope ≡ Whole → OfList inputs asked.list (checkpoint_of is.state) (TellsAttested inputs asked given is)
+  whole_attested scope taken before = by is.next is.judged
+    where
+      no_prefix : seeks_prefix asked.scope evidence ≡ true → ⊥
+      no_prefix sought = true≢false (sym (subst (λ (s : Scope). seeks_prefix s evidence ≡ true) scope sought))
+
+      by : (next : Option Checkpoint) → IsFound next → OfInput inputs asked.list (λ more. TellsAttested inputs asked given is (taken ++ more))
+      by None judged = absurd judged
+      by (Some next) judged =
+          let Q : Verdict → Bool → Type 0 = λ verdict on_prefix. Says verdict on_prefix next → OfInput inputs asked.list (λ more. TellsAttested inputs asked given is (taken ++ more)) in
+          of_each inputs asked.scope asked.list evidence next is.quote asked.is_signed is.values judged.0 Q
+          (λ report on says. whole_tells report next taken before on says) (λ report sought on says. absurd (no_prefix sought)) judged.1
+          (said judged.0 next judged.2)
+
+  pub prefix_attested : OfList inputs asked.list (checkpoint_of is.state) (TellsSomeAttested inputs asked given is)
+  prefix_attested taken before = by is.next is.judged
+    where
+      by : (next : Option Checkpoint) → IsFound next → OfInput inputs asked.list (λ more. TellsSomeAttested inputs asked given is (taken ++ more))
+      by None judged = absurd judged
+      by (Some next) judged =
+          let Q : Verdict → Bool → Type 0 = λ verdict on_prefix. Says verdict on_prefix next → OfInput inputs asked.list (λ more. TellsSomeAttested inputs asked given is (taken ++ more)) in
+          of_each inputs asked.scope asked.list evidence next is.quote asked.is_signed is.values judged.0 Q
+          (λ report on says. let all = whole_tells report next taken before on says in (all.0, all.1, inl (says.prefix_is, all.2)))
+          (λ report sought on says. let part = prefix_tells report next taken before on says in (part.0, part.1, inr (says.prefix_is, part.2))) judged.1
+          (said judged.0 next judged.2)
