@@ -21,7 +21,7 @@ BRACKETED = re.compile(rf" \((?:in |by )?{LINK.pattern}\)")
 # What the repository's pages say of the repository, and what it becomes.
 RULES = (
     (re.compile(r"(?<![\w/])\./ima-agent\b"), "ima-agent"),
-    (re.compile(r" \(here it is \[`attest/verify`\]\(\.\./attest/verify\)\)"), ""),
+    (re.compile(r" \(here they are `collect`, `enroll` and `verify` of \[`attest/`\]\(\.\./attest\)\)"), ""),
     (re.compile(r"`ima_agent_program` there \(\[README\]\(\.\./README\.md\) says from where\), and call it in place of `ima-agent`"),
      "`ima-agent` there"),
     (re.compile(r", as the\s+definitions in `crates/\*/specs/` do(?: \(\[definitions\.md\]\(definitions\.md\)\))?"), ""),

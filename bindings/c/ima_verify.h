@@ -74,8 +74,8 @@ enum ima_verify_result {
     IMA_VERIFY_TOO_SHORT = 4,
     /* The text has whole lines of entries or events, and there are more: call again. */
     IMA_VERIFY_MORE = 5,
-    /* A pointer is NULL whose size is not 0, or a form, an origin or a position is none. Nothing was read or
-     * written. */
+    /* A pointer is NULL whose size is not 0, or a form, an origin, a purpose or a position is none. Nothing was read
+     * or written. */
     IMA_VERIFY_MISUSED = 6
 };
 
@@ -107,7 +107,9 @@ enum ima_verify_fault_kind {
     IMA_VERIFY_MEMORY = 7,
     /* The message of the quote: it is none, or has another nonce (11), or does not select a register that is required
      * (12). */
-    IMA_VERIFY_QUOTE = 8
+    IMA_VERIFY_QUOTE = 8,
+    /* The public area of a key: it is none (1 to 10), or the key lacks what its purpose needs (11 to 22). */
+    IMA_VERIFY_KEY = 9
 };
 
 /* The place of a fault that names none. */
@@ -170,9 +172,9 @@ struct ima_verify_quoted {
     struct ima_verify_bytes require;
     /* Whether a register may be required in the bank of SHA-1 alone. */
     bool takes_sha1;
-    /* Whether the caller has verified the message's signature with the machine's attestation key, which must be a
-     * restricted one that its TPM made and never gives away. With `false`, which is what a member that is left out has, nothing is attested, and the report
-     * ends in `signature not checked`. */
+    /* Whether the caller has verified the message's signature with the machine's attestation key: the PEM that
+     * ima_verify_key gives of a public area whose credential was activated. With `false`, which is what a member that
+     * is left out has, nothing is attested, and the report ends in `signature not checked`. */
     bool signature_checked;
 };
 
@@ -229,6 +231,8 @@ int32_t ima_verify_raw_expected(const uint8_t *printed, size_t printed_size, con
                                 struct ima_verify_told *told);
 int32_t ima_verify_raw_registers(const uint8_t *bytes, size_t size, bool of_list, bool json, uint8_t *out,
                                  size_t room, struct ima_verify_told *told);
+int32_t ima_verify_raw_key(const uint8_t *area, size_t area_size, bool endorsement, bool json, uint8_t *out,
+                           size_t room, struct ima_verify_told *told);
 int32_t ima_verify_raw_events(const uint8_t *log, size_t log_size, size_t *offset, size_t *number, uint8_t *out,
                               size_t room, struct ima_verify_told *told);
 int32_t ima_verify_raw_entries(const uint8_t *list, size_t list_size, size_t *offset, size_t *number, bool json,
@@ -381,7 +385,7 @@ ima_verify_more(const struct ima_verify_evidence *evidence, struct ima_verify_by
  * there is one: the shortest after which the registers are those of the quote.
  *
  * This function verifies no signature: the caller does, before the call. A key that is not restricted, or
- * that was imported into the TPM, also signs messages that no TPM made.
+ * that was imported into the TPM, also signs messages that no TPM made: ima_verify_key refuses both.
  *
  * The first fault is reported, in this order: `require` and the nonce, the message (`refused: quote fault 1` to `12`),
  * the text of the checkpoint (`refused: checkpoint fault 1` or `2`), whether it is of the quote's boot (`refused:
@@ -458,6 +462,36 @@ ima_verify_registers(enum ima_verify_origin origin, struct ima_verify_bytes byte
                            ima_verify_raw_registers(ima_verify_data(bytes), bytes.size,
                                                     origin == IMA_VERIFY_OF_LIST, form == IMA_VERIFY_JSON,
                                                     ima_verify_room(output, &none), output->room, &told),
+                           &told);
+}
+
+/* What a key of a TPM is for. */
+enum ima_verify_purpose {
+    /* It signs quotes: it is restricted, does not decrypt, and has a signing scheme by SHA-256, SHA-384 or SHA-512. */
+    IMA_VERIFY_ATTESTATION = 0,
+    /* Credentials are made to it: it is restricted, decrypts, and does not sign. */
+    IMA_VERIFY_ENDORSEMENT = 1
+};
+
+/* The name of a key, its type and size, its scheme and its PEM, by its public area: a TPM2B_PUBLIC, the file that
+ * `tpm2_createak -u` and `tpm2_createek -u` write. IMA_VERIFY_DONE if the key never leaves the TPM that made it, is
+ * restricted and strong, and is fit for its purpose; the text is what `ima-agent key` prints. Else it is refused
+ * (`refused: key fault 1` to `22`).
+ *
+ * An area says nothing of whose TPM it is, and anyone can write one. Take the PEM of an attestation key only after a
+ * credential was activated that was made to this name and to the machine's endorsement key, as `ima-enroll` does. */
+IMA_VERIFY_USE_RESULT static inline enum ima_verify_result
+ima_verify_key(struct ima_verify_bytes area, enum ima_verify_purpose purpose, enum ima_verify_form form,
+               struct ima_verify_output *output) {
+    uint8_t none;
+    struct ima_verify_told told;
+    if (!ima_verify_is_given(area) || (purpose != IMA_VERIFY_ATTESTATION && purpose != IMA_VERIFY_ENDORSEMENT)
+        || !ima_verify_is_output(form, output))
+        return IMA_VERIFY_MISUSED;
+    return ima_verify_tell(output,
+                           ima_verify_raw_key(ima_verify_data(area), area.size, purpose == IMA_VERIFY_ENDORSEMENT,
+                                              form == IMA_VERIFY_JSON, ima_verify_room(output, &none),
+                                              output->room, &told),
                            &told);
 }
 

@@ -280,6 +280,21 @@ func (a answer) registers() ([]Register, error) {
 	})
 }
 
+// key reads the key that an answer states, for its purpose.
+func (a answer) key(isEndorsement bool) (Key, error) {
+	return read(a, func(r *reader, o object) Key {
+		k := r.key(o)
+		r.require(a.result == done && (isEndorsement || k.isSigning()))
+		return k
+	})
+}
+
+// isSigning is whether the key has a scheme that signs, by another hash than SHA-1.
+func (k Key) isSigning() bool {
+	signs := k.Scheme == SchemeRSASSA || k.Scheme == SchemeRSAPSS || k.Scheme == SchemeECDSA
+	return signs && k.Hash != AlgorithmSHA1
+}
+
 // lines gives the lines of expected PCRs, with no more memory than they need.
 func (a answer) lines() ([]byte, error) {
 	if a.result != done || !bytes.HasSuffix(a.text, []byte("\n")) {

@@ -587,6 +587,7 @@ func TestRefusalsAreWhatIsReported(t *testing.T) {
 		{"refused: expected fault 6", faultOf(KindExpected, 6, noPlace), RefusedError{Kind: KindExpected, Number: 6}},
 		{"refused: checkpoint fault 3", faultOf(KindCheckpoint, 3, noPlace), RefusedError{Kind: KindCheckpoint, Number: 3}},
 		{"refused: quote fault 11", faultOf(KindQuote, 11, noPlace), RefusedError{Kind: KindQuote, Number: 11}},
+		{"refused: key fault 22", faultOf(KindKey, 22, noPlace), RefusedError{Kind: KindKey, Number: 22}},
 		{"refused: list fault 1 at entry 18446744073709551614", faultOf(KindList, 1, noPlace-1),
 			RefusedError{Kind: KindList, Number: 1, Place: noPlace - 1, HasPlace: true}},
 		{"refused: command line", faultOf(KindArgument, 0, noPlace), RefusedError{Kind: KindArgument}},
@@ -620,7 +621,7 @@ func TestWrongRefusalsAreNoRefusals(t *testing.T) {
 
 // A result has no error; a refusal has one of the kinds of inputs; memory that ran out has its own kind.
 func TestReportedErrorIsOfTheResult(t *testing.T) {
-	for kind := uint32(0); kind < 10; kind++ {
+	for kind := uint32(0); kind < 11; kind++ {
 		fault := told{kind: kind, number: 1, place: 2, size: uint64(len(listFault))}
 		found := answeredWith(refused, listFault, fault)
 		if _, isKind := kinds[kind]; isKind {
@@ -641,7 +642,7 @@ func TestReportedErrorIsOfTheResult(t *testing.T) {
 			checkUnexpected(t, found, report)
 		}
 	}
-	equal(t, len(kinds), 7)
+	equal(t, len(kinds), 8)
 }
 
 func TestErrorsSayWhatIsWrong(t *testing.T) {

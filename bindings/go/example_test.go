@@ -61,6 +61,25 @@ func ExampleVerifyQuote() {
 	// false true
 }
 
+func ExampleReadKey() {
+	key, err := imaverify.ReadKey(read(filepath.Join("..", "keys", "ak-p256.pub")))
+	if err != nil {
+		log.Fatal(err) // such as "refused: key fault 15", if the key is not restricted
+	}
+	fmt.Println(key.Type, key.Bits, key.Scheme, key.Hash)
+	// (after a credential that was made to this name was activated, the PEM is the machine's)
+	fmt.Println(len(key.Name), bytes.Equal(key.PEM, read(filepath.Join("..", "keys", "ak-p256.pem"))))
+	// Output:
+	// ecc 256 ecdsa sha256
+	// 34 true
+}
+
+func ExampleReadEndorsementKey() {
+	key, err := imaverify.ReadEndorsementKey(read(filepath.Join("..", "keys", "ek-rsa.pub")))
+	fmt.Println(key.Type, key.Bits, key.Scheme, err)
+	// Output: rsa 2048 none <nil>
+}
+
 func ExampleLocate() {
 	places, err := imaverify.Locate(read("firmware.log"), read("ima.list"), read("expected.txt"), "sha256:0-10")
 	if err != nil {

@@ -9,7 +9,7 @@
 // Verify(log, list, expected, "sha256:0-10"). With such a requirement a verdict is a match only if no event of the log extends PCR
 // 10 and each entry of the list names it. Entries and Events go through the inputs themselves. A Session is for a list that grows,
 // and for one that grew after the expected PCRs were read. Attest compares a log and a list with a quote in place of expected PCRs,
-// and VerifyQuote verifies the quote's signature.
+// and VerifyQuote verifies the quote's signature, by the key that ReadKey reads.
 //
 // If an input, a requirement or a range is refused, the error is a *RefusedError. If memory runs out, it is ErrOutOfMemory. If the
 // library's answer is not as its header describes, it is an *UnexpectedError. With any error the result is the zero value, whose
@@ -111,8 +111,7 @@ func (v Verdict) Compared() int {
 // Message is what the TPM signed, a TPMS_ATTEST: the file that `tpm2_quote -m` writes. Nonce is the verifier's own for this quote,
 // used once: 16 bytes or more. Require names the PCRs that must be quoted, at least 0 to 10, such as "sha256:0-10"; one of the SHA-1
 // bank alone is refused unless TakesSHA1. SignatureChecked is what VerifyQuote gives for this Message, or says that the caller has
-// verified the signature otherwise, with the machine's attestation key, which must be a restricted one that its TPM made. If it is
-// false there is no match.
+// verified the signature otherwise, with the machine's attestation key, as VerifyQuote asks for it. If it is false there is no match.
 type Quote struct {
 	Message          []byte
 	Nonce            []byte
@@ -233,6 +232,42 @@ type Register struct {
 	Value     []byte
 }
 
+// KeyType is the type of a TPM's key.
+type KeyType string
+
+const (
+	KeyTypeRSA KeyType = "rsa"
+	KeyTypeECC KeyType = "ecc" // of an elliptic curve
+)
+
+// Scheme is the scheme by which a TPM's key signs or decrypts.
+type Scheme string
+
+const (
+	SchemeNone   Scheme = "none" // whichever is asked for
+	SchemeRSASSA Scheme = "rsassa"
+	SchemeRSAPSS Scheme = "rsapss"
+	SchemeECDSA  Scheme = "ecdsa"
+	SchemeRSAES  Scheme = "rsaes"
+	SchemeOAEP   Scheme = "oaep"
+	SchemeECDH   Scheme = "ecdh"
+)
+
+// Key is what the public area of a key states. Whose TPM the key is in, it does not say.
+//
+// Name is the name by which TPMs know the key: the number of a hash, in two bytes, and that hash of the area. (The Signer of an
+// Attestation is the key's qualified name, which is another.) Bits is the size of the modulus, or 256, 384 or 521 for the curves
+// P-256, P-384 and P-521. Scheme is fixed in the key, and Hash is that of the scheme, or empty if it has none. PEM is the public key
+// as `openssl pkey -pubin` writes it, which VerifyQuote takes.
+type Key struct {
+	Name   []byte
+	Type   KeyType
+	Bits   int
+	Scheme Scheme
+	Hash   Algorithm
+	PEM    []byte
+}
+
 // Kind says what is refused.
 type Kind string
 
@@ -250,6 +285,9 @@ const (
 
 	// The message of a quote: it is none (1 to 10), has another nonce (11), or does not select a required PCR (12).
 	KindQuote Kind = "quote"
+
+	// The public area of a key: it is none (1 to 10), or the key lacks what its purpose needs (11 to 22).
+	KindKey Kind = "key"
 )
 
 // RefusedError is the error of an input that is refused. Kind, Number and Place are as the library reports them; Place is the
@@ -384,4 +422,28 @@ func Registers(log []byte) ([]Register, error) {
 // a log.
 func ListRegisters(list []byte) ([]Register, error) {
 	return askFor(answer.registers, func(out []byte) (int32, told) { return callRegisters(list, true, out) })
+}
+
+// ReadKey gives the attestation key of a public area, a TPM2B_PUBLIC: the file that `tpm2_createak -u` writes.
+//
+// The key is restricted, never leaves the TPM that made it, signs, and does not decrypt. It signs by SHA-256, SHA-384 or SHA-512, and
+// is of RSA with 2048 bits or more, or of the curve P-256, P-384 or P-521; any other is refused with KindKey. Whose TPM it is in, the
+// area does not say, and anyone can write one. Take the PEM for VerifyQuote only after a credential was activated that was made to the
+// Name and to the machine's endorsement key. `ima-enroll` does that, and keeps the PEM.
+func ReadKey(area []byte) (Key, error) {
+	return readKey(area, false)
+}
+
+// ReadEndorsementKey gives the endorsement key of a public area, to which credentials are made: the file that `tpm2_createek -u`
+// writes.
+//
+// The key is restricted, never leaves the TPM that made it, decrypts, and does not sign; any other is refused with KindKey. Nor does
+// its area say whose it is: compare the PEM with the key of a certificate by the TPM's manufacturer.
+func ReadEndorsementKey(area []byte) (Key, error) {
+	return readKey(area, true)
+}
+
+func readKey(area []byte, isEndorsement bool) (Key, error) {
+	read := func(a answer) (Key, error) { return a.key(isEndorsement) }
+	return askFor(read, func(out []byte) (int32, told) { return callKey(area, isEndorsement, out) })
 }

@@ -6,6 +6,7 @@ import (
 	"encoding/json"
 	"fmt"
 	"math"
+	"regexp"
 	"strings"
 )
 
@@ -15,6 +16,17 @@ const (
 )
 
 var digestSizes = map[Algorithm]int{AlgorithmSHA1: 20, AlgorithmSHA256: 32, AlgorithmSHA384: 48, AlgorithmSHA512: 64}
+
+// The hashes of keys' names by their numbers in these, as the TCG assigns them. (One by SHA-1 is refused.)
+var nameHashes = map[string]Algorithm{"\x00\x0b": AlgorithmSHA256, "\x00\x0c": AlgorithmSHA384, "\x00\x0d": AlgorithmSHA512}
+
+// The schemes of each type of key, and whether a hash goes with each.
+var schemes = map[KeyType]map[Scheme]bool{
+	KeyTypeRSA: {SchemeNone: false, SchemeRSAES: false, SchemeRSASSA: true, SchemeRSAPSS: true, SchemeOAEP: true},
+	KeyTypeECC: {SchemeNone: false, SchemeECDSA: true, SchemeECDH: true},
+}
+
+var pemOfKey = regexp.MustCompile(`^-----BEGIN PUBLIC KEY-----\n([A-Za-z0-9+/=]{1,64}\n)+-----END PUBLIC KEY-----\n$`)
 
 type object map[string]json.RawMessage
 
@@ -207,6 +219,20 @@ func (r *reader) entry(o object, number uint64) Entry {
 		e.File.Signature = r.bytes(o, "signature")
 	}
 	return e
+}
+
+func (r *reader) key(o object) Key {
+	k := Key{Name: r.bytes(o, "name"), Type: oneOf(r, o, "type", KeyTypeRSA, KeyTypeECC), Bits: int(r.number(o, "bits", math.MaxUint16)),
+		Scheme: Scheme(member[string](r, o, "scheme")), PEM: []byte(member[string](r, o, "pem"))}
+	if has(o, "hash") {
+		k.Hash = r.algorithm(o, "hash")
+	}
+	hasHash, isScheme := schemes[k.Type][k.Scheme]
+	r.require(isScheme && hasHash == has(o, "hash") && pemOfKey.Match(k.PEM))
+	isCurve := k.Bits == 256 || k.Bits == 384 || k.Bits == 521
+	r.require(k.Type == KeyTypeECC && isCurve || k.Type == KeyTypeRSA && k.Bits >= leastBits && k.Bits%8 == 0)
+	r.require(len(k.Name) > 2 && len(k.Name) == 2+digestSizes[nameHashes[string(k.Name[:2])]])
+	return k
 }
 
 // confirmed is how many of all entries are confirmed, at least the first, or 0, and what is wrong after them.

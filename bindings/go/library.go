@@ -46,6 +46,7 @@ var kinds = map[uint32]Kind{
 	C.IMA_VERIFY_EXPECTED:   KindExpected,
 	C.IMA_VERIFY_CHECKPOINT: KindCheckpoint,
 	C.IMA_VERIFY_QUOTE:      KindQuote,
+	C.IMA_VERIFY_KEY:        KindKey,
 }
 
 // told is what a call reports of its text: the size, and the error that the text is the line of.
@@ -132,6 +133,11 @@ func callExpected(printed, registers, out []byte) (int32, told) {
 func callRegisters(data []byte, ofList bool, out []byte) (int32, told) {
 	var t C.struct_ima_verify_told
 	return givenBy(C.ima_verify_raw_registers(start(data), size(data), C.bool(ofList), true, start(out), size(out), &t), &t)
+}
+
+func callKey(area []byte, isEndorsement bool, out []byte) (int32, told) {
+	var t C.struct_ima_verify_told
+	return givenBy(C.ima_verify_raw_key(start(area), size(area), C.bool(isEndorsement), true, start(out), size(out), &t), &t)
 }
 
 func callEntries(list []byte, at *position, isJSON bool, out []byte) (int32, told) {

@@ -31,14 +31,14 @@ const (
 // VerifyQuote verifies the signature of a quote's message. It gives true only if the signature is by this key and on this message,
 // and otherwise false with an error. The result is what SignatureChecked of a Quote with this same message takes.
 //
-// The key is the machine's attestation key, as `tpm2_readpublic -f pem` writes it: RSA of 2048 bits or more, or of the curve P-256,
-// P-384 or P-521. It must be known as a restricted key that the machine's TPM made (fixedtpm). One that is not restricted, or was
-// imported, also signs messages that no TPM made. The signature is what `tpm2_quote -f plain -s` writes: RSASSA, RSAPSS or ECDSA, by SHA-256, SHA-384 or SHA-512. Without
-// `-f plain` it is a TPMT_SIGNATURE, which is refused.
+// The key is the machine's attestation key: the PEM that ReadKey gives for a public area whose credential was activated. It is of RSA
+// with 2048 bits or more, or of the curve P-256, P-384 or P-521. A key that is not restricted, or was imported, also signs messages
+// that no TPM made, and a PEM does not tell it from another. The signature is what `tpm2_quote -f plain -s` writes: RSASSA, RSAPSS or
+// ECDSA, by SHA-256, SHA-384 or SHA-512. Without `-f plain` it is a TPMT_SIGNATURE, which is refused.
 //
 // The error is ErrSignature, or one that wraps ErrKey if the key is not such a key alone, but perhaps a private key or a certificate.
 func VerifyQuote(key, signature, message []byte) (bool, error) {
-	public, err := readKey(key)
+	public, err := keyInPEM(key)
 	if err != nil {
 		return false, fmt.Errorf("%w: %v", ErrKey, err)
 	}
@@ -50,8 +50,8 @@ func VerifyQuote(key, signature, message []byte) (bool, error) {
 	return false, ErrSignature
 }
 
-// readKey reads the key of a PEM that has nothing else, and has the key in its only encoding.
-func readKey(text []byte) (crypto.PublicKey, error) {
+// keyInPEM reads the key of a PEM that has nothing else, and has the key in its only encoding.
+func keyInPEM(text []byte) (crypto.PublicKey, error) {
 	block, _ := pem.Decode(bytes.TrimSpace(text))
 	if block == nil || block.Type != publicKeyType {
 		return nil, errors.New("not the PEM of a public key")

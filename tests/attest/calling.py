@@ -1,4 +1,4 @@
-"""What the tests of attest/verify share: the arguments of a call and its end, stand-ins for tools, and made logs and lists."""
+"""What the tests of attest/ share: the arguments of a call and its end, stand-ins for tools, and made logs and lists."""
 
 import os
 import shutil
@@ -15,7 +15,9 @@ from reference.measurement_list import IMA_NG, entry_of, list_spelling, read_lis
 from reference.registers import SHA256
 
 QUOTED = ROOT / "samples/quoted"
-NEEDED = ("swtpm", "openssl", "tpm2_flushcontext", "tpm2_pcrread", "tpm2_pcrextend", "tpm2_pcrreset", "tpm2_readpublic", *TOOLS)
+NEEDED = ("swtpm", "openssl", "tpm2_flushcontext", "tpm2_pcrread", "tpm2_pcrextend", "tpm2_pcrreset", "tpm2_readpublic", "tpm2_makecredential",
+          "tpm2_activatecredential", "tpm2_nvdefine", "tpm2_nvread", "tpm2_getcap", *TOOLS)
+SCRIPTS = {"verify": "ima-attest", "enroll": "ima-enroll", "collect": "ima-collect"}
 NONCE = (QUOTED / "nonce").read_text().strip()
 OF_QUOTE = "quote match"
 LOW = f"quoted sha256 {' '.join(map(str, range(11)))}"
@@ -72,7 +74,7 @@ class Ended:
 
 
 class AttestTests(harness.TestCase):
-    """Tests of what is installed in a folder of the class: `ima-attest`, beside `ima-agent`, which is the program."""
+    """Tests of what is installed in a folder of the class: the scripts, beside `ima-agent`, which is the program."""
 
     program, needed = harness.PROGRAM, ()
 
@@ -83,7 +85,8 @@ class AttestTests(harness.TestCase):
         cls.bin, cls.scratch = cls.folder / "bin", cls.folder / "scratch"
         for made in (cls.bin, cls.scratch):
             made.mkdir()
-        shutil.copy(ROOT / "attest/verify", cls.bin / "ima-attest")
+        for script, installed in SCRIPTS.items():
+            shutil.copy(ROOT / "attest" / script, cls.bin / installed)
         cls.agent = cls.bin / "ima-agent"
         cls.agent.symlink_to(cls.program)
         cls.use(os.environ)

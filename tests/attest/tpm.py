@@ -5,6 +5,7 @@ import re
 import shutil
 from dataclasses import replace
 
+from authorities import Authority
 from calling import ENTRIES, LAST_ENTRY, LOG, LOW, NEEDED, NONCE, OF_QUOTE, SECOND_KERNEL, AttestTests, Evidence, executable, moved, turned
 from emulated import BOOT, ROOT, emulated, entry_extensions
 from lists import EXTENDS_TEN
@@ -12,25 +13,30 @@ from reference.measurement_list import Entry, list_spelling
 from reference.registers import ALGORITHMS, SHA1, SHA256
 
 LOWEST = "0,1,2,3,4,5,6,7,8,9"
+BLOCK = re.compile(r"^```sh\n(.*?)^```$", re.MULTILINE | re.DOTALL)
+NAME = "box"  # the machine's
 
 
 class MachineTests(AttestTests):
-    """Tests of a machine that has booted: its TPM, what its kernel shows, and a folder. A test finds these as the tests before it left them."""
+    """Tests of a machine that has booted: its TPM, what its kernel shows, and a folder, and of its verifier's folder. A test finds these as the
+    tests before it left them."""
 
     needed, entries, nonce = NEEDED, ENTRIES, NONCE
 
     @classmethod
     def setUpClass(cls):
         super().setUpClass()
-        cls.home, cls.shown = cls.folder / "machine", cls.folder / "security"
-        for made in (cls.home, cls.shown / "tpm0", cls.shown / "ima"):
+        cls.home, cls.verifier, cls.sys = cls.folder / "machine", cls.folder / "verifier", cls.folder / "sys"
+        cls.keys, cls.shown = cls.verifier / "keys", cls.sys / "kernel/security"
+        for made in (cls.home, cls.keys, cls.shown / "tpm0", cls.shown / "ima"):
             made.mkdir(parents=True)
         shutil.copy(BOOT / "firmware.log", cls.shown / "tpm0/binary_bios_measurements")
         cls.has(cls.entries)
         cls.use(cls.enter(emulated(list_spelling(cls.entries))))
+        cls.vendor = Authority(cls.folder, "vendor")
         section = re.search(r"^## With a quote\n(.*?)^## ", (ROOT / "docs/guide.md").read_text(), re.MULTILINE | re.DOTALL)[1]
-        blocks = re.findall(r"^```sh\n(.*?)^```$", section, re.MULTILINE | re.DOTALL)
-        cls.key_block, cls.nonce_block, cls.quote_block, cls.verdict_block = blocks
+        cls.key_block, cls.challenge_block, cls.answer_block, cls.keep_block, *blocks = BLOCK.findall(section)
+        cls.nonce_block, cls.quote_block, cls.verdict_block = blocks
 
     @classmethod
     def has(cls, entries):
@@ -38,24 +44,77 @@ class MachineTests(AttestTests):
         cls.shown.joinpath("ima/binary_runtime_measurements").write_bytes(list_spelling(entries))
         cls.shown.joinpath("ima/runtime_measurements_count").write_text(f"{len(entries)}\n")
 
-    def do(self, block, **settings):
-        """Runs a block in the machine's folder, where the kernel's files and the key are those of this machine."""
-        words = ["sh", "-c", block.replace("/sys/kernel/security", str(self.shown))]
-        return self.call(words, folder=self.home, **{"key": str(self.home / "AK.pem"), **settings})
+    def left_in_tpm(self):
+        """The objects and sessions in the TPM that do not stay there."""
+        kinds = ("transient", "loaded-session", "saved-session")
+        return [self.call(["tpm2_getcap", f"handles-{kind}"]).output for kind in kinds]
 
-    def verdict(self):
-        return self.do(self.verdict_block, nonce=self.nonce)
+    def on_machine(self, block, sys=None, **settings):
+        """Runs a block on the machine, whose kernel's files are these, with the tools as they are, and sees what is left in the TPM."""
+        block = re.sub(r"ima-collect(?! --(?:enroll|credential))", f"ima-collect --sys '{sys or self.sys}'", block)
+        self.must("room is made", "tpm2_flushcontext", "--transient-object")
+        ended = self.call(["bash", "-c", block], folder=self.home, **{"PATH": f"{self.bin}:{os.environ['PATH']}", **settings})
+        if (left := self.left_in_tpm()) != ["", "", ""]:
+            self.check(f"nothing is left in the TPM by {block}", left, ["", "", ""])
+        return ended
+
+    def on_verifier(self, block, folder=None, **settings):
+        """Runs a block on the verifier, which has no TPM."""
+        own = {"keys": str(self.keys), "name": NAME, "vendor": str(self.vendor.certificate), "TPM2TOOLS_TCTI": "none"}
+        return self.call(["bash", "-c", block], folder=folder or self.verifier, **{**own, **settings})
+
+    def send(self, name):
+        """Copies a folder of the machine to the verifier."""
+        shutil.rmtree(self.verifier / name, ignore_errors=True)
+        shutil.copytree(self.home / name, self.verifier / name)
+
+    def give_certificate(self):
+        """The TPM gets a certificate of its endorsement key, as its maker gives it."""
+        self.must("an endorsement key", "tpm2_createek", "-c", "ek.ctx", "-G", "rsa", "-f", "pem", "-u", "ek.pem")
+        certificate = self.vendor.certify(self.home / "ek.pem")
+        self.home.joinpath("certificate").write_bytes(certificate)
+        flags = "platformcreate|ppwrite|ppread|ownerread|authread|no_da"
+        self.must("room for it", "tpm2_nvdefine", "0x1c00002", "-C", "p", "-s", str(len(certificate)), "-a", flags)
+        self.must("a certificate", "tpm2_nvwrite", "0x1c00002", "-C", "p", "-i", "certificate")
+
+    def enroll(self, title):
+        """The blocks of the guide by which the machine's key comes to the verifier."""
+        self.give_certificate()
+        self.check_quiet(f"{title}: a key is made", self.on_machine(self.key_block))
+        self.send("enroll")
+        self.check_quiet(f"{title}: the TPM is challenged", self.on_verifier(self.challenge_block))
+        shutil.copy(self.verifier / "enroll/credential", self.home)
+        self.check_quiet(f"{title}: it answers", self.on_machine(self.answer_block))
+        self.send("answer")
+        self.check_quiet(f"{title}: the key is kept", self.on_verifier(self.keep_block))
+
+    def check_quiet(self, title, ended):
+        """A call ends well, and says nothing."""
+        self.check(title, (ended.status, ended.output, ended.errors), (0, "", ""))
+
+    def verdict(self, **settings):
+        return self.on_verifier(self.verdict_block, folder=self.verifier / "evidence", **{"nonce": self.nonce, **settings})
 
     def verdict_on_quote(self, title):
         """The verdict on a new quote."""
-        self.check(f"{title}: the quote", self.do(self.quote_block, nonce=self.nonce).status, 0)
+        shutil.rmtree(self.home / "evidence", ignore_errors=True)
+        self.check_quiet(f"{title}: the quote", self.on_machine(self.quote_block, nonce=self.nonce))
+        self.send("evidence")
         return self.verdict()
 
     @property
     def sent(self):
         """What the machine sent."""
-        names = {"key": "AK.pem", "quote": "quote.msg", "signature": "quote.sig", "log": "firmware.log", "list": "ima.list"}
-        return Evidence(nonce=self.nonce, **{field: self.home / name for field, name in names.items()})
+        names = {"quote": "quote.msg", "signature": "quote.sig", "log": "firmware.log", "list": "ima.list"}
+        files = {field: self.verifier / "evidence" / name for field, name in names.items()}
+        return Evidence(nonce=self.nonce, key=self.keys / NAME / f"{NAME}.pem", **files)
+
+    def make_key(self, name, handle, scheme="rsassa"):
+        """Another key of the machine's TPM, at a handle, and its public part."""
+        self.must("an endorsement key", "tpm2_createek", "-c", "ek.ctx", "-G", "rsa")
+        made = ("-G", "rsa", "-g", "sha256", "-s", scheme, "-u", f"{name}.pem", "-f", "pem")
+        self.must(f"a key: {name}", "tpm2_createak", "-C", "ek.ctx", "-c", f"{name}.ctx", *made)
+        self.must(f"{name} stays", "tpm2_evictcontrol", "-c", f"{name}.ctx", handle)
 
     def quoted(self, selection, name, handle="0x81010002", nonce=None, scheme="rsassa", hashed="sha256"):
         """A quote of other registers, by another key, or with another nonce."""
@@ -81,16 +140,19 @@ class Machine(MachineTests):
 
     def test_flow(self):
         """The blocks of the guide, in their order. All other tests go on from here."""
-        self.check("the guide: the key", self.do(self.key_block).status, 0)
-        ended = self.do(self.nonce_block)
+        self.enroll("the guide")
+        ended = self.on_verifier(self.nonce_block)
         nonce = Machine.nonce = ended.output.strip()
         self.check("the guide: the nonce", (ended.status, bool(re.fullmatch("[0-9a-f]{40}", nonce))), (0, True))
-        self.check("the guide: another nonce each time", self.do(self.nonce_block).output.strip() != nonce)
+        self.check("the guide: another nonce each time", self.on_verifier(self.nonce_block).output.strip() != nonce)
         self.check_match("the guide: the verdict", self.verdict_on_quote("the guide"))
-        self.check_refused("the guide: no nonce", self.do(self.verdict_block), 64, "--nonce is missing or empty")
-        self.check_refused("the guide: no key", self.do(self.verdict_block, nonce=nonce, key=""), 64, "--key is missing or empty")
+        self.check_refused("the guide: no nonce", self.verdict(nonce=""), 64, "--nonce is missing or empty")
+        self.check_refused("the guide: no such machine", self.verdict(name="other"), 3, "no regular file has this name")
         stale = nonce.translate(str.maketrans("0123456789abcdef", "123456789abcdef0"))
-        self.check_fault("the guide: a stale nonce", self.do(self.verdict_block, nonce=stale), 11)
+        self.check_fault("the guide: a stale nonce", self.verdict(nonce=stale), 11)
+        ended = self.attest(self.sent, expected=self.verifier / "evidence/expected.txt")
+        self.check_match("the guide: with the registers that the kernel shows", ended)
+        self.check("the guide: these are the quoted ones", "\nexpected confirmed\n" in ended.output)
 
     def test_missing_files(self):
         """Each input is empty, missing, a folder, or another one."""
@@ -113,8 +175,7 @@ class Machine(MachineTests):
         sent = self.sent
         message = sent.quote.read_bytes()
         self.check_refused("a changed hash of the values", self.attest(sent, quote=self.put("changed", turned(message))))
-        other_key = self.key_block.replace("AK", "other").replace("0x81010002", "0x81010003")
-        self.check("another key is made", self.do(other_key).status, 0)
+        self.make_key("other", "0x81010003")
         self.check_refused("another key", self.attest(sent, key=self.home / "other.pem"))
         other = self.quoted(f"sha256:{LOWEST},10", "by-other", handle="0x81010003")
         self.check_refused("another key's quote", self.attest(sent, **other))
@@ -148,19 +209,6 @@ class Machine(MachineTests):
             self.check_differ(title, self.attest(sent, list=self.put("list", changed)), f"boot_aggregate {state}")
         ended = self.attest(sent, list=self.put("list", measurements.replace(b"/bin/helper", b"/bin/helpex")))
         self.check("a changed list", (ended.status, ended.output), (2, "refused: replay fault 1 at entry 5\n"))
-
-    def test_failing_blocks(self):
-        """Each block fails where a step of it does."""
-        key = self.sent.key.read_bytes()
-        self.check("a block fails: there is a key", self.do(self.key_block).status != 0)
-        self.check("the key stays", self.sent.key.read_bytes(), key)
-        self.check("a block fails: a quote without a nonce", self.do(self.quote_block).status != 0)
-        never = self.key_block.replace("0x81010002", "0x81010004").replace("AK", "never")  # (a handle at which no key is)
-        for tool, block in (("tpm2_createek", never), ("tpm2_createak", never), ("tpm2_evictcontrol", never), ("tpm2_readpublic", never),
-                            ("openssl", self.nonce_block), ("tpm2_quote", self.quote_block), ("cat", self.quote_block)):
-            ended = self.do(block, nonce=NONCE, **self.stand_in(tool, "exit 1"))
-            self.check(f"a block fails: {tool} does", ended.status != 0)
-        self.check("no key comes of a block that failed", self.home.joinpath("never.pem").exists(), False)
 
     def test_forged_quotes(self):
         """A restricted key signs a message that no TPM made, unless that begins as one that a TPM made."""
@@ -268,7 +316,7 @@ class Unmeasured(MachineTests):
     def test_events_in_list(self):
         """The list has more: entries of register 11, or an event that the log lacks."""
         aggregate, *others = ENTRIES
-        self.check("a machine without a policy: the key", self.do(self.key_block).status, 0)
+        self.enroll("a machine without a policy")
 
         def attested(title, *more):
             self.has([aggregate, *more])
@@ -290,7 +338,8 @@ class Polled(MachineTests):
 
     def test_poll(self):
         """Each poll begins where the last match ended."""
-        self.check("a polled machine: the key", self.do(self.key_block).status, 0)
+        self.enroll("a polled machine")
+        self.check_match("a polled machine: the first verdict", self.verdict_on_quote("a polled machine"))
         state, following = self.folder / "state", self.folder / "next"
         entries = list(ENTRIES)
 

@@ -1,9 +1,11 @@
-/* Holds the library to what ima_verify.h promises of wrong calls, room, faults, requirements, quotes, sessions by them, pieces and the stack.
+/* Holds the library to what ima_verify.h promises of wrong calls, room, faults, requirements, quotes, sessions by them, keys, pieces and the
+ * stack.
  *
- *     header LOG LIST EXPECTED PRINTED MESSAGE NONCE [STACK]
+ *     header LOG LIST EXPECTED PRINTED MESSAGE NONCE AREA PEM [STACK]
  *
  * The files are those of the sample boot; PRINTED is what tpm2_pcrread printed, MESSAGE is the message of a quote of registers 0 to 10 in
- * the SHA-256 bank, and NONCE has its nonce in hexadecimal. Each function is called in a thread with so many bytes of stack, by default
+ * the SHA-256 bank, and NONCE has its nonce in hexadecimal. AREA is the public area of an attestation key of RSA, 2048 bits, that signs by
+ * RSASSA with SHA-256, and PEM is that key. Each function is called in a thread with so many bytes of stack, by default
  * the 512 KiB of the header. Prints a line for each check that fails, how much stack was used at most, and last 'N passed, M failed'. The
  * status is 1 if one failed. */
 #define _GNU_SOURCE
@@ -29,8 +31,9 @@ enum {
 /* All that a function may be given. */
 struct given {
     struct ima_verify_evidence evidence;
-    struct ima_verify_bytes state, printed, registers, message, nonce;
+    struct ima_verify_bytes state, printed, registers, message, nonce, area, pem;
     enum ima_verify_origin origin;
+    enum ima_verify_purpose purpose;
     struct ima_verify_position position;
     bool prefix, takes_sha1, signature_checked;
 };
@@ -101,6 +104,10 @@ static enum ima_verify_result call_registers(const struct given *given, enum ima
     return ima_verify_registers(given->origin, is_log ? given->evidence.log : given->evidence.list, form, to);
 }
 
+static enum ima_verify_result call_key(const struct given *given, enum ima_verify_form form) {
+    return ima_verify_key(given->area, given->purpose, form, to);
+}
+
 static enum ima_verify_result call_entries(const struct given *given, enum ima_verify_form form) {
     return ima_verify_entries(given->evidence.list, at, form, to);
 }
@@ -120,8 +127,9 @@ enum inputs {
     OF_REGISTERS = 64,
     OF_MESSAGE = 128,
     OF_NONCE = 256,
+    OF_AREA = 512,
     ALL = 15,
-    INPUTS = 9
+    INPUTS = 10
 };
 
 /* Each function, and which inputs it looks at. */
@@ -138,13 +146,14 @@ static const struct function {
     {"attest_more", call_attest_more, OF_LOG | OF_LIST | OF_REQUIRE | OF_STATE | OF_MESSAGE | OF_NONCE},
     {"expected", call_expected, OF_PRINTED | OF_REGISTERS},
     {"registers", call_registers, OF_LOG},
+    {"key", call_key, OF_AREA},
     {"entries", call_entries, OF_LIST},
     {"events", call_events, OF_LOG},
 };
 enum { FUNCTIONS = sizeof functions / sizeof functions[0] };
 static const struct function *const more = &functions[3], *const attest = &functions[4], *const attest_more = &functions[5];
-static const struct function *const expecting = &functions[6], *const registers = &functions[7];
-static const struct function *const entries = &functions[8], *const events = &functions[9];
+static const struct function *const expecting = &functions[6], *const registers = &functions[7], *const key = &functions[8];
+static const struct function *const entries = &functions[9], *const events = &functions[10];
 
 static bool gives_checkpoint(const struct function *function) {
     return function == more || function == attest_more;
@@ -153,7 +162,7 @@ static bool gives_checkpoint(const struct function *function) {
 static struct ima_verify_bytes *input(struct given *given, int number) {
     struct ima_verify_bytes *inputs[INPUTS] = {
         &given->evidence.log, &given->evidence.list, &given->evidence.expected, &given->evidence.require, &given->state,
-        &given->printed,      &given->registers,     &given->message,           &given->nonce,
+        &given->printed,      &given->registers,     &given->message,           &given->nonce,            &given->area,
     };
     return inputs[number];
 }
@@ -230,6 +239,8 @@ static void check_wrong_calls(const struct given *sample) {
     struct given given = *sample;
     given.origin = (enum ima_verify_origin)no_form;
     check_misused(ask(registers, &given, IMA_VERIFY_TEXT, ROOM), "registers", "an origin that is none");
+    given.purpose = (enum ima_verify_purpose)no_form;
+    check_misused(ask(key, &given, IMA_VERIFY_TEXT, ROOM), "key", "a purpose that is none");
     given.position = (struct ima_verify_position){given.evidence.list.size + 1, 0};
     check_misused(ask(entries, &given, IMA_VERIFY_TEXT, ROOM), "entries", "a position behind the list");
     given.position.offset = given.evidence.log.size + 1;
@@ -551,6 +562,57 @@ static void check_quoted_sessions(const struct given *sample) {
     check_refusal(attest_more, &given, "refused: quote fault 1\n", IMA_VERIFY_QUOTE, 1, IMA_VERIFY_NO_PLACE);
 }
 
+/* The text of a key has its name, type, size, scheme and PEM, and JSON the same as members. */
+static void check_key(const struct given *sample) {
+    static const char first[] = "name 000b", second[] = "\nkey rsa 2048\nscheme rsassa sha256\n";
+    enum { NAME = 5, DIGITS = 2 * (2 + 32) };
+    char name[DIGITS + 1] = "", member[DIGITS + 80];
+    ask(key, sample, IMA_VERIFY_TEXT, ROOM);
+    size_t lines = NAME + DIGITS + strlen(second);
+    bool has_both = out.size == lines + sample->pem.size && memcmp(text, first, strlen(first)) == 0
+                    && memcmp(text + NAME + DIGITS, second, strlen(second)) == 0;
+    check(result == IMA_VERIFY_DONE && has_no_fault() && has_both, "key", "the sample");
+    check(has_both && memcmp(text + lines, sample->pem.data, sample->pem.size) == 0, "key", "the PEM");
+    memcpy(name, text + NAME, DIGITS);
+    ask(key, sample, IMA_VERIFY_JSON, ROOM);
+    snprintf(member, sizeof member, "{\"name\":\"%s\",\"type\":\"rsa\",\"bits\":2048,\"scheme\":\"rsassa\",\"hash\":\"sha256\",\"pem\":\"", name);
+    bool is_json = out.size > strlen(member) && memcmp(text, member, strlen(member)) == 0;
+    check(result == IMA_VERIFY_DONE && has_no_fault() && is_json && ends_with("-----END PUBLIC KEY-----\\n\"}\n"), "key", "as JSON");
+}
+
+static void check_key_fault(const struct given *given, uint32_t number) {
+    char line[SHOWN];
+    snprintf(line, sizeof line, "refused: key fault %u\n", number);
+    check_refusal(key, given, line, IMA_VERIFY_KEY, number, IMA_VERIFY_NO_PLACE);
+}
+
+/* A key is refused if its area is cut or longer, if it lacks an attribute, or if it is for another purpose. */
+static void check_changed_keys(const struct given *sample) {
+    /* (after the size, the type and the hash of the name come the attributes, whose last byte has the bits 0 to 7) */
+    static const struct {
+        int byte, bit;
+        uint32_t number;
+    } attributes[] = {{9, 1, 12}, {9, 4, 13}, {9, 5, 14}, {7, 0, 15}, {7, 2, 17}, {7, 1, 18}};
+    static uint8_t changed[ROOM];
+    struct given given;
+    struct ima_verify_bytes area = sample->area;
+
+    for (area.size = 0; area.size < sample->area.size; area.size++)
+        check_key_fault(WITH(area, area), 1);
+    memcpy(changed, area.data, area.size);
+    area = (struct ima_verify_bytes){changed, area.size + 1};
+    check_key_fault(WITH(area, area), 10);
+    area.size--;
+    for (size_t i = 0; i < sizeof attributes / sizeof attributes[0]; i++) {
+        changed[attributes[i].byte] ^= (uint8_t)(1 << attributes[i].bit);
+        check_key_fault(WITH(area, area), attributes[i].number);
+        changed[attributes[i].byte] = sample->area.data[attributes[i].byte];
+    }
+    changed[3] ^= 0x20;
+    check_key_fault(WITH(area, area), 2);
+    check_key_fault(WITH(purpose, IMA_VERIFY_ENDORSEMENT), 21);
+}
+
 /* The line of register 10, which the sample's list alone extends. */
 static struct ima_verify_bytes tenth_of(struct ima_verify_bytes expected) {
     const uint8_t *line = memmem(expected.data, expected.size, "sha256 10 ", 10), *next = line;
@@ -602,7 +664,7 @@ static void check_strays(const struct given *sample) {
 /* Lines one by one, and all at once; and there is nothing after the last. */
 static void check_pieces(const struct given *sample) {
     static uint8_t whole[ROOM];
-    for (int i = 8 * 2; i < FUNCTIONS * 2; i++) {
+    for (int i = 9 * 2; i < FUNCTIONS * 2; i++) {
         const struct function *function = &functions[i / 2];
         enum ima_verify_form form = i % 2 ? IMA_VERIFY_JSON : IMA_VERIFY_TEXT;
         struct given given = *sample;
@@ -710,6 +772,7 @@ static void check_stack(const struct given *sample, size_t stack) {
                    "all registers");
         check_deep(function, WITH(prefix, true), form, stack, "the confirmed front");
         check_deep(function, WITH(origin, IMA_VERIFY_OF_LIST), form, stack, "of the list");
+        check_deep(function, WITH(purpose, IMA_VERIFY_ENDORSEMENT), form, stack, "another purpose");
         check_deep(function, WITH(evidence.list, ((struct ima_verify_bytes){front, list.size})), form, stack, "a changed list");
         check_deep(function, WITH(evidence.log, ima_verify_none()), form, stack, "no log");
     }
@@ -752,7 +815,7 @@ static struct ima_verify_bytes spelled(struct ima_verify_bytes digits) {
 }
 
 int main(int count, char **words) {
-    if (count < 7)
+    if (count < 9)
         return 2;
     struct given sample = {
         .evidence = {load(words[1]), load(words[2]), load(words[3]), ima_verify_text("sha256:0-10")},
@@ -761,6 +824,8 @@ int main(int count, char **words) {
         .registers = ima_verify_text("0-10"),
         .message = load(words[5]),
         .nonce = spelled(load(words[6])),
+        .area = load(words[7]),
+        .pem = load(words[8]),
         .signature_checked = true,
     };
     check(ima_verify_version() >= IMA_VERIFY_VERSION, "version", "older than the header");
@@ -773,9 +838,11 @@ int main(int count, char **words) {
     check_quote_refusals(&sample);
     check_quote(&sample);
     check_quoted_sessions(&sample);
+    check_key(&sample);
+    check_changed_keys(&sample);
     check_pieces(&sample);
     fflush(stdout);
-    check_stack(&sample, count > 7 ? strtoul(words[7], NULL, 10) : STACK);
+    check_stack(&sample, count > 9 ? strtoul(words[9], NULL, 10) : STACK);
     printf("%ld passed, %ld failed\n", passed, failed);
     return failed != 0;
 }

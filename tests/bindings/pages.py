@@ -140,7 +140,7 @@ def hiding_inputs():
 
 
 def doc_samples():
-    """The files that Rust's doc tests read, by name: a small boot whose registers 0 to 10 match, with one violation."""
+    """The files that Rust's doc tests read, by name: a small boot whose registers 0 to 10 match, with one violation; and a key's public area."""
     measured = [(0, 8, b"1\0"), *((register, 4, bytes(4)) for register in range(8)), (9, inputs.EV_EVENT_TAG, b"kernel")]
     events = [Event(register, kind, {SHA256.identifier: SHA256.hash(data)}, data) for register, kind, data in measured]
     log = Log({SHA256.identifier: SHA256.size}, events)
@@ -148,7 +148,7 @@ def doc_samples():
     entries = inputs.made_entries(log, [*files, (b"/var/log/open", bytes(SHA256.size))])
     entries[-1] = entries[-1]._replace(template_digest=VIOLATION)
     expected = inputs.expected_text(inputs.expected_after(log, entries)[:11])
-    return dict(zip(FILES, (log.spelling(), list_spelling(entries), expected)))
+    return {**dict(zip(FILES, (log.spelling(), list_spelling(entries), expected))), "AK.pub": (ROOT / "samples/keys/ak-p256.pub").read_bytes()}
 
 
 def made_folder(folder, log, entries, known=()):

@@ -40,6 +40,8 @@ TEXTS = {"verdict": NONE_REQUIRED, "locate": NONE_REQUIRED, "replay": NONE_REQUI
 MORE_OPTIONS, MORE_FLAGS = ("--require", "--resume", "--save"), ("--json", "--prefix")
 # What `attest` has beside it, of which `ima_verify_attest_more` answers.
 QUOTED_OPTIONS, QUOTED_FLAGS = ("--nonce", *MORE_OPTIONS), ("--sha1", "--signature-checked", *MORE_FLAGS)
+# What `key` has, of which `ima_verify_raw_key` answers: it gives all that there is.
+KEY_OPTIONS, KEY_FLAGS, WHOLE_KEY = ("--print",), ("--json", "--endorsement"), "all"
 # The status of the program where the quote is refused, or nobody says that its signature was checked. The library has none of its own for these.
 NOT_ATTESTED = 4
 ROOM = 16 * 1024
@@ -54,7 +56,7 @@ DONE, DIFFERS, REFUSED, OUT_OF_MEMORY, TOO_SHORT, MORE = (
     CONSTANTS[name] for name in ("DONE", "DIFFERS", "REFUSED", "OUT_OF_MEMORY", "TOO_SHORT", "MORE")
 )
 NO_FAULT, NO_PLACE = (CONSTANTS["NO_FAULT"], 0, (1 << 64) - 1), (1 << 64) - 1
-KINDS = {"command line": "ARGUMENT", **{name.lower(): name for name in ("LOG", "LIST", "REPLAY", "EXPECTED", "CHECKPOINT", "QUOTE")}}
+KINDS = {"command line": "ARGUMENT", **{name.lower(): name for name in ("LOG", "LIST", "REPLAY", "EXPECTED", "CHECKPOINT", "QUOTE", "KEY")}}
 FAULT = re.compile(r"refused: (command line|\w+)(?: fault (\d+))?(?: at \w+ (\d+))?")
 
 
@@ -95,17 +97,19 @@ class Library:
     def takes(self, words, folder, most_bytes=MOST_BYTES):
         """Whether there is a function for a command, and it is given files of at most so many bytes, texts of options and nothing else; and
         a file that it saves can be written."""
-        call = more_of(words) or by_quote_of(words) or call_of(words)
+        call = more_of(words) or by_quote_of(words) or key_of(words) or call_of(words)
         if call is None or not all(is_input(file, folder, most_bytes) for file in call.inputs()):
             return False
-        return isinstance(call, Call) or call.save is None or is_writable(call.save, folder)
+        return not isinstance(call, More) or call.save is None or is_writable(call.save, folder)
 
     def answer(self, words, folder):
         """What the function for a command answers. The checkpoint that the command saves is written as there."""
         try:
-            more, by_quote = more_of(words), by_quote_of(words)
+            more, by_quote, key = more_of(words), by_quote_of(words), key_of(words)
             if by_quote:
                 return self.answer_by_quote(by_quote, folder)
+            if key:
+                return self.ask_for_key((folder / key.file).read_bytes(), key.is_endorsement, key.is_json)
             return self.answer_more(more, folder) if more else self.answer_to(call_of(words), folder)
         except Unlike as cause:
             return None, f"not answered: {cause}".encode()
@@ -130,6 +134,10 @@ class Library:
         status, text, told, checkpoint = self.ask_more("attest", inputs, [takes_sha1, is_signed, prefix, is_json])
         is_unsigned = status == DIFFERS and not is_signed
         return NOT_ATTESTED if is_unsigned or told.kind == CONSTANTS["QUOTE"] else status, text, checkpoint
+
+    def ask_for_key(self, area, is_endorsement, is_json):
+        """The status and the text of the function for a key."""
+        return self.ask_with_room("key", [area], [is_endorsement, is_json])[:2]
 
     def ask_with_room(self, function, inputs, between):
         """The status, the text, and what else is told, of a call, which is made again if there was too little room."""
@@ -300,8 +308,20 @@ class ByQuote(More):
     is_signed: bool
 
 
-def given_in(words, options, flag_names):
-    """Of words after a command the files, the values of these options and these flags; or None if they are not three files, or one of the
+@dataclass(frozen=True)
+class Key:
+    """A call of the function for a key: the file of its public area, whether it is to be an endorsement key, and whether JSON is asked for."""
+
+    file: str
+    is_endorsement: bool
+    is_json: bool
+
+    def inputs(self):
+        return [self.file]
+
+
+def given_in(words, options, flag_names, count=3):
+    """Of words after a command the files, the values of these options and these flags; or None if they are not so many files, or one of the
     others has no value or comes twice."""
     files, values, flags, rest = [], {}, [], iter(words)
     for word in rest:
@@ -312,7 +332,7 @@ def given_in(words, options, flag_names):
             flags.append(word)
         else:
             files.append(word)
-    is_form = len(files) == 3 and "" not in values.values() and len(set(flags)) == len(flags)
+    is_form = len(files) == count and "" not in values.values() and len(set(flags)) == len(flags)
     return (files, values, flags) if is_form else None
 
 
@@ -326,6 +346,16 @@ def by_quote_of(words):
     files, values, flags = given
     more = (encoded(values["--require"]), "--prefix" in flags, values.get("--resume"), values.get("--save"), "--json" in flags)
     return ByQuote(files, *more, bytes.fromhex(values["--nonce"]), "--sha1" in flags, "--signature-checked" in flags)
+
+
+def key_of(words):
+    """The call that answers `key`, or None."""
+    name, *rest = words or [""]
+    given = given_in(rest, KEY_OPTIONS, KEY_FLAGS, 1) if name == "key" else None
+    if given is None or given[1].get("--print", WHOLE_KEY) != WHOLE_KEY:
+        return None
+    [file], _, flags = given
+    return Key(file, "--endorsement" in flags, "--json" in flags)
 
 
 def more_of(words):

@@ -129,6 +129,9 @@ def commands(folder):
     yield from ([*quoted, *evidence, "quote.msg"], [*quoted, "--signature-checked", *evidence, "quote.msg"], [*quoted, *evidence, "none"])
     yield from ([*quoted, "--signature-checked", "--prefix", "firmware.log", name, "quote.msg"] for name in ("many", "forged", "longer"))
     yield from ([*quoted, "--signature-checked", log, "crossed", "quote.msg"] for log in ("firmware.log", "banks.log"))
+    for area in sorted((ROOT / "samples/keys").glob("*.pub")):
+        (folder / area.name).write_bytes(area.read_bytes())
+        yield from (["key", *purpose, "--print", part, area.name] for purpose in ([], ["--endorsement"]) for part in ("all", "name", "pem"))
     yield ["measure", "--workers", "1", "firmware.log", "many", "few", "ima.list"]
     yield ["measure", "--workers", "1", "--print", "registers", "firmware.log", "many"]
     yield from (["registers", "banks.log"], ["events", "banks.log"], ["verify", "--require", "sha512:0-23", "banks.log", "many", "few"])
@@ -183,6 +186,14 @@ def rows_by_quote(value):
     return [*rows, f"quote {value['quote']}", f"verdict {verdict}" if value["signature"] == "checked" else verdict]
 
 
+def rows_of_key(value):
+    """The lines of the text that a key has, or a part of it."""
+    if len(value) == 1:
+        return "".join(value.values()).splitlines()
+    scheme = f"{value['scheme']} {value['hash']}" if "hash" in value else value["scheme"]
+    return [f"name {value['name']}", f"key {value['type']} {value['bits']}", f"scheme {scheme}", *value["pem"].splitlines()]
+
+
 def is_told(words, values, text):
     """Whether values tell what the text without `--json` does: as many entries and events, the same words of registers."""
     rows = text.decode(errors="surrogateescape").splitlines()
@@ -190,6 +201,8 @@ def is_told(words, values, text):
         return values[-1]["fault"]["message"] == rows[0]
     if words[0] == "attest":
         return rows_by_quote(values[0]) == rows
+    if words[0] == "key":
+        return rows_of_key(values[0]) == rows
     if words[0] in ("registers", "expected") or words[0] == "replay" and "registers" in values[0] and "verdict" not in values[0]:
         return [f"{row['bank']} {row['register']} {row['value']}" for row in values[0]["registers"]] == rows
     if words[0] == "verify" or "verdict" in values[0]:

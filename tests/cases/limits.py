@@ -107,6 +107,7 @@ NAMES = b"f\nL\n"
 # The message of the sample's quote, but of the registers after this log and list.
 SAMPLE = ROOT / "samples/quoted"
 QUOTE = (SAMPLE / "quote.msg").read_bytes()[: -SHA256.size] + SHA256.hash(b"".join(REGISTERS.value(SHA256, register) for register in range(11)))
+AREA = (ROOT / "samples/keys/ak-rsassa.pub").read_bytes()
 ATTEST = f"attest --nonce {(SAMPLE / 'nonce').read_text().strip()} --require sha256:0-10 --signature-checked"
 
 
@@ -131,6 +132,7 @@ INPUTS = (
         "locate L input expected", f"{ATTEST} L input quote", f"{ATTEST} --prefix L input quote",
     )),
     Input("message that goes on after a quote", lambda size: QUOTE + bytes(size - len(QUOTE)), (f"{ATTEST} L list input",), QUOTE + b"\0"),
+    Input("public area and bytes after it", lambda size: AREA + bytes(size - len(AREA)), ("key input", "key --endorsement input"), AREA + b"\0"),
     Input("96 expected registers after empty lines", with_empty_lines(EXPECTED.encode()), (
         "verify L list input", f"verify --require {REQUIRE} L list input", "locate L list input", f"replay --require {REQUIRE} list input",
     ), EXPECTED.encode()),

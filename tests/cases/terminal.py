@@ -53,6 +53,7 @@ INPUTS = {
     "attest": ["log", "list", "quote", "expected"],
     "locate": ["log", "list", "expected"],
     "expected": ["expected"],
+    "key": ["key"],
     "registers": ["log"],
     "events": ["log"],
     "show": ["list"],
@@ -60,8 +61,8 @@ INPUTS = {
 }
 
 # The sentences of docs/formats.md's tables of faults, by number; those of expected registers from 4 on name no line.
-LOG, LIST, REPLAY, EXPECTED, QUOTE, CHECKPOINT, BOOK = map(
-    form.sentences_of, ("Log", "List", "Replay", "Expected", "Quote", "Checkpoint", "Book"))
+LOG, LIST, REPLAY, EXPECTED, QUOTE, KEY, CHECKPOINT, BOOK = map(
+    form.sentences_of, ("Log", "List", "Replay", "Expected", "Quote", "Key", "Checkpoint", "Book"))
 
 # What clap says of wrong arguments, or the program in its form where clap takes them.
 MORE = "\nFor more information, try '--help'.\n"
@@ -76,6 +77,8 @@ USAGES = [
     (["measure", "--alg", "sm3", "L"],
      f"error: invalid value 'sm3' for '--alg <A>'\n  [possible values: sha1, sha256, sha384, sha512]\n{MORE}"),
     (["measure", "--json", "--print", "binary", "L"], "error: invalid value 'binary' for '--print <P>' with '--json'\n"),
+    (["key", "--print", "ascii", "L"],
+     f"error: invalid value 'ascii' for '--print <P>'\n  [possible values: all, name, pem]\n{MORE}"),
     (["\x1b[31m\nred"], f"error: unrecognized subcommand '\\x1b[31m\\x0ared'\n\nUsage: ima-agent <COMMAND>\n{MORE}"),
     (["verify", "--require", "sha256", "L", "M", "N"], f"error: invalid value 'sha256' for '{REQUIRE}': {MALFORMED}\n"),
     (["locate", "--require=\x9b2J", "L", "M", "N"], f"error: invalid value '\\xc2\\x9b2J' for '{REQUIRE}': {MALFORMED}\n"),
@@ -204,6 +207,8 @@ def fault_in_words(line, words, folder):
         return inputs["expected"], f"line {found[2]}: {EXPECTED[int(found[1])]}"
     if found := re.fullmatch(r"refused: quote fault (\d+)", line):
         return inputs["quote"], quote_sentence(int(found[1]), words, folder)
+    if found := re.fullmatch(r"refused: key fault (\d+)", line):
+        return inputs["key"], KEY[int(found[1])]
     if found := re.fullmatch(r"refused: checkpoint fault (\d+)", line):
         return inputs["checkpoint"], CHECKPOINT[int(found[1])]
     if found := re.fullmatch(r"refused: book fault (\d+)", line):

@@ -3,7 +3,8 @@
 - ima-agent.1: commands, synopses, options with their values and defaults, statuses and tables of faults are those of the program's help.
   The fault lines are those of docs/formats.md.
 - ima_verify.3: functions with their types, and constants, are those of the header. It names no other function.
-- ima-attest.1, fleet-verify.1: the options are those of the usage. The statuses of fleet-verify.1 are those of docs/fleet.md."""
+- ima-attest.1, ima-enroll.1, ima-collect.1, fleet-verify.1: the options are those of the usage. The statuses of fleet-verify.1 are those of
+  docs/fleet.md."""
 
 import re
 import subprocess
@@ -174,9 +175,10 @@ def said_by(*words):
 
 
 def faults(program, fleet):
-    """Where the pages differ from this program, the header, ima-attest, and the fleet's command, which the words in `fleet` call."""
+    """Where the pages differ from this program, the header, the scripts of attest/, and the fleet's command, which the words in `fleet` call."""
     yield from check_program(program)
     yield from check_library()
-    yield from check_usage("ima-attest.1", said_by(ROOT / "attest/verify"))
+    for name, script in (("ima-attest.1", "verify"), ("ima-enroll.1", "enroll"), ("ima-collect.1", "collect")):
+        yield from check_usage(name, said_by(ROOT / "attest" / script))
     yield from check_usage("fleet-verify.1", said_by(*fleet, "--help"))
     yield from check_statuses("fleet-verify.1", "fleet.md")

@@ -1,6 +1,7 @@
 #!/usr/bin/env python3
-"""Compares what the library for C and `tests/reference/` answer on damaged inputs: each prefix of the sample's log, of its list and of the
-message of its quote, and each of the three with the lowest bit of one byte turned; and 100,000 small boots that are changed at random.
+"""Compares what the library for C and `tests/reference/` answer on damaged inputs: each prefix of the sample's log, of its list, of the message
+of its quote and of public areas of keys, and each of these with the lowest bit of one byte turned; and 100,000 small boots that are changed at
+random.
 
 tests/faults/damaged.py [LIBRARY]: a libima_verify.so; without it `dist/library` makes one, which builds what is not up to date.
 
@@ -24,6 +25,7 @@ from c_library import Call, Library, Unlike  # noqa: E402
 from harness import ROOT  # noqa: E402
 from reference.attestations import attest_report  # noqa: E402
 from reference.faults import Fault  # noqa: E402
+from reference.keys import read_key  # noqa: E402
 from reference.log import read_log  # noqa: E402
 from reference.measurement_list import read_list  # noqa: E402
 from reference.texts import read_expected  # noqa: E402
@@ -36,6 +38,7 @@ MESSAGE = (ROOT / "samples/quoted/quote.msg").read_bytes()
 NONCE = bytes.fromhex((ROOT / "samples/quoted/nonce").read_text())
 TENTH = next(line for line in (BOOT / "expected.txt").read_bytes().splitlines() if line.startswith(b"sha256 10 "))
 ROOM = 65536
+RSA_AREA, CURVE_AREA, ENDORSEMENT_AREA = ((ROOT / "samples/keys" / f"{name}.pub").read_bytes() for name in ("ak-rsassa", "ak-p256", "ek-rsa"))
 SEEDS, BOOTS_OF_A_SEED = 20, 5000
 
 
@@ -66,6 +69,14 @@ def shown(listed):
     return b"".join(entry.line() for entry in read_list(listed)), True
 
 
+def key(area):
+    return read_key(area).text(), True
+
+
+def endorsement_key(area):
+    return read_key(area, is_endorsement=True).text(), True
+
+
 # For each kind of input: the library's function, what else it is given, and the same of the reference.
 KINDS = {
     "registers after the log": (LOG, "registers", lambda log: [log], registers),
@@ -73,6 +84,9 @@ KINDS = {
     "entries of the list": (LIST, "entries", lambda listed: [listed], shown),
     "verdict on the log and the list": (LIST, "verdict", lambda listed: [LOG, listed, TENTH], judged),
     "verdict by a quote": (MESSAGE, "attest", lambda message: [LOG, LIST, message, NONCE, b"sha256:0-10"], attested),
+    "key of RSA": (RSA_AREA, "key", lambda area: [area], key),
+    "key of a curve": (CURVE_AREA, "key", lambda area: [area], key),
+    "endorsement key": (ENDORSEMENT_AREA, "endorsement key", lambda area: [area], endorsement_key),
 }
 # What a function takes beside the inputs: a requirement, and its form.
 NOTHING_REQUIRED, AS_TEXT, OF_LOG = b"none", False, False
@@ -92,6 +106,8 @@ def library_answer(library, function, inputs):
         if function == "attest":
             log, *others = inputs
             return library.ask_by_quote([log, NO_STATE, *others], SHA1_IS_NOT_TAKEN, IS_SIGNED, OF_WHOLE, AS_TEXT)[:2]
+        if function in ("key", "endorsement key"):
+            return library.ask_for_key(*inputs, function != "key", AS_TEXT)
         if function == "registers":
             return library.ask(function, inputs, [OF_LOG, AS_TEXT], ROOM)[:2]
         return library.ask(function, [*inputs, NOTHING_REQUIRED], [AS_TEXT], ROOM)[:2]

@@ -3,11 +3,12 @@
  *     library FUNCTION RESULT TEXT ROOM NEXT NEXT_ROOM INPUT..
  *
  * FUNCTION is the name of a function without ima_verify_. After it can stand :json for that form, :prefix if the confirmed front is asked
- * for, :list for the registers of a list, and :signed if a quote's signature was checked. INPUT are its files, and ROOM is the size of its
- * buffer. RESULT and the file TEXT are the answer that it has with ample memory, and the file NEXT is the checkpoint that it gives in a
- * buffer of NEXT_ROOM bytes; a function that gives none has no such buffer. In the Nth turn the Nth allocation is refused, until a turn ends
- * with none refused. Each turn calls twice: the call whose allocation is refused has the answer, or says that memory ran out, and then leaves
- * the checkpoint's buffer as it was; the next one has the answer. The fault that a call tells must be that of its text.
+ * for, :list for the registers of a list, :signed if a quote's signature was checked, and :endorsement for a key of that purpose. INPUT are
+ * its files, and ROOM is the size of its buffer. RESULT and the file TEXT are the answer that it has with ample memory, and the file NEXT is
+ * the checkpoint that it gives in a buffer of NEXT_ROOM bytes; a function that gives none has no such buffer. In the Nth turn the Nth
+ * allocation is refused, until a turn ends with none refused. Each turn calls twice: the call whose allocation is refused has the answer, or
+ * says that memory ran out, and then leaves the checkpoint's buffer as it was; the next one has the answer. The fault that a call tells must
+ * be that of its text.
  *
  * Of entries and events a turn calls until the last line has come: by pieces for which there is ROOM, or, if that is too short for a line,
  * by single lines. What comes must be TEXT, also where a call in between says that memory ran out.
@@ -186,7 +187,8 @@ static int inputs_of(const char *function) {
         const char *name;
         int inputs;
     } functions[] = {{"verdict", 4},     {"locate", 4},   {"replay", 3},    {"more", 5},    {"attest", 5},
-                     {"attest_more", 6}, {"expected", 2}, {"registers", 1}, {"entries", 1}, {"events", 1}};
+                     {"attest_more", 6}, {"expected", 2}, {"registers", 1}, {"entries", 1}, {"events", 1},
+                     {"key", 1}};
     for (size_t i = 0; i < sizeof functions / sizeof functions[0]; i++)
         if (is(function, functions[i].name))
             return functions[i].inputs;
@@ -210,6 +212,8 @@ static enum ima_verify_result call(const char *function, const struct ima_verify
         return ima_verify_events(in[0], position, out);
     if (is(function, "registers"))
         return ima_verify_registers(has(function, ":list") ? IMA_VERIFY_OF_LIST : IMA_VERIFY_OF_LOG, in[0], form, out);
+    if (is(function, "key"))
+        return ima_verify_key(in[0], has(function, ":endorsement") ? IMA_VERIFY_ENDORSEMENT : IMA_VERIFY_ATTESTATION, form, out);
     if (is(function, "expected"))
         return ima_verify_expected(in[0], in[1], form, out);
     if (is(function, "replay")) {
@@ -262,7 +266,7 @@ static bool has_text(struct ima_verify_bytes text, const struct room *room, bool
 
 /* The fault that a line says. */
 static struct ima_verify_fault fault_in(struct ima_verify_bytes line) {
-    static const char *const kinds[] = {"", "command", "log", "list", "replay", "expected", "checkpoint", "", "quote"};
+    static const char *const kinds[] = {"", "command", "log", "list", "replay", "expected", "checkpoint", "", "quote", "key"};
     struct ima_verify_fault fault = {IMA_VERIFY_NO_FAULT, 0, IMA_VERIFY_NO_PLACE};
     char text[LINE] = "", kind[LINE] = "";
     unsigned number = 0;

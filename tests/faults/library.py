@@ -30,7 +30,7 @@ SECONDS = 60
 MEMORY = b"failed: memory\n"
 JSON_MEMORY = b'{"fault":{"kind":"memory","message":"failed: memory"}}\n'
 # The command of each function that has another name, and the option that the last of its inputs is the value of.
-COMMANDS = {"entries": "show", "verdict": "verify", "registers:list": "replay"}
+COMMANDS = {"entries": "show", "verdict": "verify", "registers:list": "replay", "key:endorsement": "key --endorsement"}
 OPTIONS = {"verdict": "--require", "locate": "--require", "replay": "--require", "expected": "--registers"}
 # The program's status where nothing is attested, what it then prints of a quote that it refuses, and the library's results.
 NOT_ATTESTED, QUOTE_REFUSED = 4, b"refused: quote fault"
@@ -84,7 +84,7 @@ class Case:
             log, state, listed, expected, require = self.inputs
             flags += [f"--resume={state}"] if state.read_bytes() else []
             return ["verify", *json, *flags, *option_of("--require", require), log, listed, expected]
-        command = [COMMANDS.get(self.name, self.name), *json]
+        command = [*COMMANDS.get(self.name, self.name).split(), *json]
         if self.name not in OPTIONS:
             return [*command, *self.inputs]
         *files, value = self.inputs
@@ -129,6 +129,7 @@ def made_files(folder, program):
     boot = ROOT / "samples/real-boot"
     log, listed, expected = ((boot / name).read_bytes() for name in ("firmware.log", "ima.list", "expected.txt"))
     message, nonce = ((ROOT / "samples/quoted" / name).read_bytes() for name in ("quote.msg", "nonce"))
+    area, curve, endorsement = ((ROOT / "samples/keys" / name).read_bytes() for name in ("ak-rsassa.pub", "ak-p521.pub", "ek-rsa.pub"))
     nonce = bytes.fromhex(nonce.decode())
     made = {
         "log": log,
@@ -157,6 +158,11 @@ def made_files(folder, program):
         "nonce": nonce,
         "another nonce": nonce[::-1],
         "short nonce": nonce[:15],
+        "area": area,
+        "area of a curve": curve,
+        "cut area": area[:-1],
+        "longer area": area + b"\0",
+        "endorsement": endorsement,
         "low": b"sha256:0-10",
         "all": b"sha256:0-23",
         "ten": b"sha256:10",
@@ -274,6 +280,10 @@ CASES = (
     )),
     (("registers",), BOTH, (
         ("the real boot", "log"), ("one event", "one event"), ("a log that is cut short", "cut log"), ("an empty log", "empty"),
+    )),
+    (("key", "key:endorsement"), BOTH, (
+        ("an attestation key", "area"), ("a key of a curve", "area of a curve"), ("an endorsement key", "endorsement"),
+        ("an area that is cut short", "cut area"), ("an area with more after it", "longer area"), ("an empty area", "empty"),
     )),
     (("events",), ("",), (
         ("the real boot", "log"), ("one event", "one event"), ("a log that is cut short", "cut log"),

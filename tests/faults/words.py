@@ -26,6 +26,7 @@ NUMBERED = {
     "boot_verdict ExpectFault": ("Expected", "line"),
     "tpm_quotes QuoteFault": ("Quote", None),
     "attestations QuoteRefusal": ("Quote", None),
+    "tpm_keys KeyFault": ("Key", None),
     "agent_inputs NotResumed": ("Checkpoint", None),
     "measure_book BookFault": ("Book", None),
     "measure_book GatherFault": ("Gather", None),

@@ -1,6 +1,6 @@
 #!/usr/bin/env python3
-"""Runs the guide's recipes with jq, as they are on the page, on lists and logs that try to evade them; its check of a key from afar, on
-emulated TPMs; and the examples of README and guide, which must print what is below them.
+"""Runs the guide's recipes with jq, as they are on the page, on lists and logs that try to evade them; and the examples of README and guide,
+which must print what is below them.
 
 tests/pages/recipes.py PROGRAM: the program that is installed as `ima-agent`. A recipe must show what is due as JSON, by `tests/reference/`. It
 must fail with an empty, a cut and a missing input, and with a program that dies after its last line. Each runs in a folder in which a machine
@@ -15,11 +15,9 @@ import sys
 from pathlib import Path
 
 TESTS = Path(__file__).resolve().parents[1]
-sys.path[:0] = [str(TESTS), str(TESTS / "attest")]
+sys.path[:0] = [str(TESTS)]
 
 import harness  # noqa: E402
-from emulated import TOOLS as TPM_TOOLS  # noqa: E402
-from emulated import emulated  # noqa: E402
 from harness import ROOT  # noqa: E402
 from reference.fields import with_length  # noqa: E402
 from reference.log import EV_NO_ACTION, read_log  # noqa: E402
@@ -27,7 +25,6 @@ from reference.measurement_list import IMA, IMA_NG, IMA_SIG, VIOLATION, Entry, e
 from reference.registers import BY_NAME, SHA1  # noqa: E402
 
 [PROGRAM] = (Path(name).resolve() for name in sys.argv[1:])
-KEY_TOOLS = ("swtpm", "openssl", "tpm2_print", "tpm2_makecredential", "tpm2_activatecredential", *TPM_TOOLS)
 BLOCK = re.compile(r"^```sh\n(.*?)^```$", re.MULTILINE | re.DOTALL)
 EXAMPLES = re.compile(r"(?:^    \$ .*\n(?:^    .*\n)*)", re.MULTILINE)
 EXAMPLE = re.compile(r"^\$ ((?:.*\\\n)*.*)\n((?:(?!\$ ).*\n)*)", re.MULTILINE)
@@ -35,7 +32,6 @@ EXAMPLE = re.compile(r"^\$ ((?:.*\\\n)*.*)\n((?:(?!\$ ).*\n)*)", re.MULTILINE)
 JUDGE, TAKE, EVENTS = "--rawfile known", "--argjson confirmed", "diff before.events"
 AGGREGATE, PATHS = "--arg aggregate", 'select(has("payload"))'
 JUDGED, MEASURED = "ima-agent verify --require sha256:0-10 firmware.log ima.list expected.txt", "--files-from names"
-KEY, PUBLIC, CHALLENGE, ANSWER = "tpm2_createek", "tpm2_getekcertificate", "tpm2_makecredential", "tpm2_activatecredential"
 
 SAMPLE = ROOT / "samples/real-boot"
 LOG = read_log((SAMPLE / "firmware.log").read_bytes())
@@ -164,88 +160,6 @@ def lay_out(folder):
         shutil.copy(sample, folder)
 
 
-class Vendor:
-    """A maker of TPMs, or who claims to be one: an authority that gives certificates."""
-
-    def __init__(self, folder, name):
-        self.key, self.certificate = folder / f"{name}.key", folder / f"{name}.crt"
-        subprocess.run(["openssl", "req", "-x509", "-newkey", "rsa:2048", "-nodes", "-subj", f"/CN={name}", "-days", "2",
-                        "-keyout", self.key, "-out", self.certificate], check=True, capture_output=True)
-
-    def certify(self, public):
-        """The certificate of a TPM with this endorsement key."""
-        given = subprocess.run(["openssl", "x509", "-new", "-force_pubkey", public, "-subj", "/CN=TPM", "-days", "2", "-outform", "der",
-                                "-CA", self.certificate, "-CAkey", self.key], check=True, capture_output=True)
-        return given.stdout
-
-
-class Machine:
-    """A folder of a machine with an emulated TPM, where blocks of the guide and other tools are run."""
-
-    def __init__(self, recipes, folder, environment):
-        self.recipes, self.folder, self.environment = recipes, folder, environment
-        folder.mkdir()
-
-    def run(self, *words):
-        return subprocess.run(words, cwd=self.folder, env=self.environment, capture_output=True, timeout=60).returncode
-
-    def must(self, *words):
-        if status := self.run(*words):
-            raise RuntimeError(f"status {status}: {words}")
-
-    def block(self, mark):
-        """The status of a block, with room for its objects, as Linux makes it at /dev/tpmrm0."""
-        self.must("tpm2_flushcontext", "--transient-object")
-        return self.run("bash", "-c", self.recipes.block(mark))
-
-    def begin(self, vendor):
-        """Makes the key, gives the TPM a certificate of its own, and shows what the verifier gets; whether the blocks end well."""
-        is_made = self.block(KEY) == 0
-        self.must("tpm2_readpublic", "-c", "ek.ctx", "-f", "pem", "-o", "ek.pem")
-        certificate = vendor.certify(self.folder / "ek.pem")
-        self.folder.joinpath("certificate").write_bytes(certificate)
-        flags = "platformcreate|ppwrite|ppread|ownerread|authread|no_da"
-        self.must("tpm2_nvdefine", "0x1c00002", "-C", "p", "-s", str(len(certificate)), "-a", flags)
-        self.must("tpm2_nvwrite", "0x1c00002", "-C", "p", "-i", "certificate")
-        is_done = is_made and self.block(PUBLIC) == 0
-        return is_done, {name: self.folder.joinpath(name).read_bytes() for name in ("AK.pub", "ek.der")}
-
-    def answers(self, credential, secret):
-        """Whether the TPM opens a credential to what is in this file."""
-        self.folder.joinpath("answer").unlink(missing_ok=True)
-        self.folder.joinpath("credential").write_bytes(credential)
-        status, answer = self.block(ANSWER), self.folder / "answer"
-        return status == 0 and answer.read_bytes() == secret.read_bytes()
-
-
-def other_keys(machine, public):
-    """Public areas that are not that of the machine's key, and whether the verifier makes a credential for one."""
-    for what, flags in (
-        ("a key that signs anything", "fixedtpm|fixedparent|sensitivedataorigin|userwithauth|sign"),
-        ("a key that can be copied", "sensitivedataorigin|userwithauth|restricted|sign"),
-    ):
-        words = ["tpm2_createprimary", "-C", "o", "-G", "rsa2048:rsassa-sha256:null", "-a", flags, "-c", "other.ctx"]
-        machine.must("tpm2_flushcontext", "--transient-object")
-        machine.must(*words)
-        machine.must("tpm2_readpublic", "-c", "other.ctx", "-f", "tss", "-o", "other.pub")
-        yield what, machine.folder.joinpath("other.pub").read_bytes(), False
-    for what, number, byte in (("no attributes", 9, 0), ("a key that may decrypt, too", 7, 7), ("one that signs X.509, too", 7, 13)):
-        yield what, public[:number] + bytes([byte]) + public[number + 1 :], False
-    yield "a key that no TPM has", public[:-1] + bytes([public[-1] ^ 1]), True
-    yield "another hash of names", public[:5] + b"\x0c" + public[6:], True
-    yield "a byte more", public + b"\0", True
-    yield from (("a byte less", public[:-1], False), ("no public area", b"", False))
-
-
-def trusting(folder, authority):
-    """A folder of certificates that a system trusts, as OpenSSL names them."""
-    made = folder / "trusted"
-    made.mkdir()
-    name = subprocess.run(["openssl", "x509", "-in", authority.certificate, "-noout", "-hash"], check=True, capture_output=True, text=True)
-    shutil.copy(authority.certificate, made / f"{name.stdout.strip()}.0")
-    return made
-
-
 class Recipes(harness.TestCase):
     """Runs recipes in a folder with what a machine sent. What the verifier keeps, and what is installed, are elsewhere."""
 
@@ -294,18 +208,6 @@ class Recipes(harness.TestCase):
     def fails(self, mark, files, agent="", **settings):
         """Whether the recipe fails, and with another status than those of answers (4: no entry, of jq)."""
         return self.ran(mark, files, agent, **settings)[0] not in (0, 1, 4)
-
-    def is_taken(self, machine, vendor, sent, **settings):
-        """Whether the verifier makes a credential, and whether the machine's TPM opens it."""
-        status, _ = self.ran(CHALLENGE, sent, vendor=str(vendor.certificate), TPM2TOOLS_TCTI="none", **settings)
-        credential = self.sent / "credential"
-        if status or not credential.exists():
-            return False, False
-        return True, machine.answers(credential.read_bytes(), self.sent / "secret")
-
-    def is_key_of(self, machine):
-        """Whether the key that the verifier keeps is the one at the machine's handle."""
-        return self.sent.joinpath("AK.pem").read_bytes() == machine.folder.joinpath("AK.pem").read_bytes()
 
     def test_judged(self):
         """the recipe for known digests"""
@@ -486,30 +388,6 @@ class Recipes(harness.TestCase):
             self.check(what, self.fails(PATHS, files))
         for what, agent in (("that dies", DYING), ("that dies before its first line", " > /dev/null" + DYING), ("with other JSON", FOREIGN)):
             self.check(f"a program {what}", self.fails(PATHS, of_list(of_template(b"x", b"")), agent))
-
-    def test_certified(self):
-        """a key from afar"""
-        self.needs(*KEY_TOOLS)
-        home = self.sent.parent
-        vendor, stranger = Vendor(home, "vendor"), Vendor(home, "stranger")
-        with emulated() as first, emulated() as second:
-            machine, other = Machine(self, home / "first", first), Machine(self, home / "second", second)
-            (is_done, sent), (_, foreign) = machine.begin(vendor), other.begin(vendor)
-            self.check("the blocks of the machine", is_done)
-            self.check("the machine's key", self.is_taken(machine, vendor, sent) == (True, True) and self.is_key_of(machine))
-            left = {"AK.pem": other.folder.joinpath("AK.pem").read_bytes(), "secret": b"secret", "answer": b"secret"}
-            self.check("a key beside it", self.is_taken(machine, vendor, sent | left) == (True, True) and self.is_key_of(machine))
-            self.check("another TPM's certificate", self.is_taken(machine, vendor, sent | {"ek.der": foreign["ek.der"]}), (True, False))
-            self.check("another TPM's key", self.is_taken(machine, vendor, sent | {"AK.pub": foreign["AK.pub"]}), (True, False))
-            for what, public, is_challenged in other_keys(machine, sent["AK.pub"]):
-                self.check(what, self.is_taken(machine, vendor, sent | {"AK.pub": public}), (is_challenged, False))
-            own = {"ek.der": stranger.certify(machine.folder / "ek.pem")}
-            self.check("a certificate of a stranger", self.is_taken(machine, vendor, sent | own), (False, False))
-            trusted = {"SSL_CERT_FILE": str(stranger.certificate), "SSL_CERT_DIR": str(trusting(home, stranger))}
-            self.check("whom the system trusts", self.is_taken(machine, vendor, sent | own, **trusted), (False, False))
-            for name in ("AK.pub", "ek.der"):
-                rest = {each: data for each, data in sent.items() if each != name}
-                self.check(f"no {name}", self.is_taken(machine, vendor, rest), (False, False))
 
     def test_examples(self):
         """an example of a page"""

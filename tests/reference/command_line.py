@@ -81,6 +81,11 @@ COMMANDS = {
     }),
     "locate": Command(3, 3, {"--require": Option(str, None), "--json": Option(FLAG, False)}),
     "expected": Command(1, 1, {"--registers": Option(str, "0-23"), "--json": Option(FLAG, False)}),
+    "key": Command(1, 1, {
+        "--endorsement": Option(FLAG, False),
+        "--print": Option(one_of("all", "name", "pem"), "all"),
+        "--json": Option(FLAG, False),
+    }),
     "registers": Command(1, 1, {"--json": Option(FLAG, False)}),
     "events": Command(1, 1, {"--data": Option(FLAG, False), "--json": Option(FLAG, False)}),
     "show": Command(1, 1, {"--json": Option(FLAG, False)}),

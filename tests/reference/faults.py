@@ -61,6 +61,19 @@ def quote_fault(name):
     return Fault(f"refused: quote fault {number}", "quote", status=4, number=number)
 
 
+# The faults of a key by name, from 1 on: those of a public area, those of any key, of an attestation key, and of an endorsement key.
+KEY_FAULTS = ("Truncated", "OtherType", "UnknownHash", "OtherSymmetric", "UnknownScheme", "OtherExponent", "UnknownCurve", "KeyDerivation",
+              "KeySize", "Trailing",
+              "WeakName", "LeavesTpm", "LeavesParent", "NotMadeByTpm", "Unrestricted", "ShortKey",
+              "DoesNotSign", "Decrypts", "NoSigningScheme", "WeakHash",
+              "Signs", "DoesNotDecrypt")
+
+
+def key_fault(name):
+    number = KEY_FAULTS.index(name) + 1
+    return Fault(f"refused: key fault {number}", "key", number=number)
+
+
 class ReplayFault(IntEnum):
     BAD_TEMPLATE_DIGEST = 1
 

@@ -25,6 +25,7 @@ from .faults import (
     not_written,
     too_long,
 )
+from .keys import read_key
 from .log import read_log, read_log_front
 from .measurement_list import (
     BOOT_AGGREGATE,
@@ -225,6 +226,11 @@ def expected_command(inputs, values, text):
     return Told(lambda: "".join(row.line() for row in rows), lambda: [registers_value(rows)])
 
 
+def key_command(inputs, values, area):
+    key, part = read_key(inputs.load(area), values["--endorsement"]), values["--print"]
+    return Told(lambda: key.text(part), lambda: [key.as_json(part)])
+
+
 def read_boot(inputs, values, log, listed, read_state=read_checkpoint):
     """What a log of these bytes states, the checkpoint from which its list goes on, the entries that follow, and the fault that ends these, or
     None."""
@@ -348,6 +354,7 @@ COMMANDS = {
     "attest": attest_command,
     "locate": locate_command,
     "expected": expected_command,
+    "key": key_command,
     "registers": registers_command,
     "events": events_command,
     "show": show_command,

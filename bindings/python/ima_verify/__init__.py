@@ -18,7 +18,8 @@ Each verdict takes `require`: the registers that must be among the expected ones
 none, and then a verdict covers only the registers that `expected` names. A verdict on no registers is no match. With `require` a verdict is a
 match only if no event of the log extends register 10 and each entry of the list names it.
 
-`attest` compares a log and a list with a quote in place of expected registers, and `verify_quote` verifies the quote's signature.
+`attest` compares a log and a list with a quote in place of expected registers, and `verify_quote` verifies the quote's signature, by the key
+that `read_key` reads.
 
 `entries(measurements)` and `events(log)` go through the inputs themselves. A `Session` is for a list that grows, and for one that grew after
 the expected registers were read.
@@ -42,8 +43,8 @@ from ._errors import Error, InvalidSignature, Kind, LibraryError, LoadError, Mis
 from ._library import JSON, TEXT, BytesLike
 from ._listings import Entries, Events
 from ._results import (
-    Algorithm, Attestation, BootAggregate, Clock, Entry, Event, ListVerdict, LogAlgorithm, Place, PlaceRow, Places, Register, Report, Row,
-    State, Stray, Unconfirmed, Verdict,
+    Algorithm, Attestation, BootAggregate, Clock, Entry, Event, Key, KeyType, ListVerdict, LogAlgorithm, Place, PlaceRow, Places, Register,
+    Report, Row, Scheme, State, Stray, Unconfirmed, Verdict,
 )
 
 if TYPE_CHECKING:
@@ -52,10 +53,11 @@ if TYPE_CHECKING:
 __version__ = "1.0.0"
 
 __all__ = [
-    "Algorithm", "Attestation", "BootAggregate", "BytesLike", "Clock", "Entries", "Entry", "Error", "Event", "Events", "InvalidSignature", "Kind",
-    "LibraryError", "ListVerdict", "LoadError", "LogAlgorithm", "Misuse", "NOTHING", "Nothing", "OutOfMemory", "Place", "PlaceRow", "Places",
-    "Refused", "Register", "Report", "Row", "Session", "State", "Stray", "Unconfirmed", "Verdict", "VersionError", "attest", "entries", "events",
-    "expected", "list_registers", "locate", "registers", "replay", "report", "show", "verify", "verify_quote", "version",
+    "Algorithm", "Attestation", "BootAggregate", "BytesLike", "Clock", "Entries", "Entry", "Error", "Event", "Events", "InvalidSignature", "Key",
+    "KeyType", "Kind", "LibraryError", "ListVerdict", "LoadError", "LogAlgorithm", "Misuse", "NOTHING", "Nothing", "OutOfMemory", "Place",
+    "PlaceRow", "Places", "Refused", "Register", "Report", "Row", "Scheme", "Session", "State", "Stray", "Unconfirmed", "Verdict", "VersionError",
+    "attest", "entries", "events", "expected", "list_registers", "locate", "read_endorsement_key", "read_key", "registers", "replay", "report",
+    "show", "verify", "verify_quote", "version",
 ]
 
 
@@ -75,6 +77,7 @@ Text = Union[BytesLike, str]
 Required = Union[str, Nothing]
 
 _OF_LOG, _OF_LIST = False, True
+_ATTESTATION, _ENDORSEMENT = False, True
 _NONCE_BYTES = 16
 
 
@@ -232,9 +235,9 @@ def verify_quote(key: Union[BytesLike, str, "PublicKey"], signature: BytesLike, 
     package's extra `quotes` asks.
 
     Args:
-        key: The machine's attestation key: the PEM that `tpm2_readpublic -f pem` writes, or such a key as `cryptography` loads it. RSA of
-            2048 bits or more, or of the curve P-256, P-384 or P-521. It must be known as a *restricted* key that the machine's TPM made
-            (`fixedtpm`). One that is not restricted, or was imported, also signs messages that no TPM made.
+        key: The machine's attestation key: the `pem` that `read_key` gives for a public area whose credential was activated, or such a key
+            as `cryptography` loads it. RSA of 2048 bits or more, or of the curve P-256, P-384 or P-521. A key that is not restricted, or was
+            imported, also signs messages that no TPM made, and a PEM does not tell it from another.
         signature: The file that `tpm2_quote -f plain -s` writes: RSASSA, RSAPSS or ECDSA, by SHA-256, SHA-384 or SHA-512. Without
             `-f plain` it is a TPMT_SIGNATURE, which is refused.
         message: What the TPM signed, as for `attest`.
@@ -272,8 +275,7 @@ def attest(
         nonce: The verifier's own nonce for this quote, used once: 16 bytes or more.
         require: The registers that must be quoted, at least 0 to 10, such as `sha256:0-10`.
         signature_checked: `verify_quote(key, signature, message)`, of this same message; or whether the caller has verified it otherwise,
-            with the machine's attestation key, which must be a restricted one that its TPM made. There is no default; if it is False, there
-            is no match.
+            with the machine's attestation key, as `verify_quote` asks for it. There is no default; if it is False, there is no match.
         takes_sha1: Whether a register may be required in the SHA-1 bank alone.
 
     Raises:
@@ -321,6 +323,49 @@ def replay(measurements: BytesLike, expected: Text, *, require: Required) -> Lis
     True
     """
     return _answers.read_list_verdict(*_judged("replay", (measurements,), expected, require))
+
+
+def read_key(area: BytesLike) -> Key:
+    """The attestation key of a public area.
+
+    It is restricted, never leaves the TPM that made it, signs, and does not decrypt. It signs by SHA-256, SHA-384 or SHA-512, and is of RSA with
+    2048 bits or more, or of the curve P-256, P-384 or P-521. Whose TPM it is in, the area does not say, and anyone can write one. Take its `pem`
+    for `verify_quote` only after a credential was activated that was made to its `name` and to the machine's endorsement key. `ima-enroll` does
+    that, and keeps the PEM.
+
+    Args:
+        area: A TPM2B_PUBLIC: the file that `tpm2_createak -u` writes.
+
+    Raises:
+        Refused: The area is none (KEY, 1 to 10), or the key lacks something (11 to 20).
+
+    >>> key = ima_verify.read_key(Path("../keys/ak-rsassa.pub").read_bytes())
+    >>> key.type.value, key.bits, key.scheme.value, key.hash.value, key.pem == Path("../keys/ak-rsassa.pem").read_text()
+    ('rsa', 2048, 'rsassa', 'sha256', True)
+    >>> ima_verify.read_key(Path("../keys/unrestricted.pub").read_bytes())
+    Traceback (most recent call last):
+    ima_verify._errors.Refused: refused: key fault 15
+    """
+    return _answers.read_key(*_library.call("key", (area,), (_ATTESTATION, JSON)), _ATTESTATION)
+
+
+def read_endorsement_key(area: BytesLike) -> Key:
+    """The endorsement key of a public area, to which credentials are made.
+
+    It is restricted, never leaves the TPM that made it, decrypts, and does not sign. Nor does its area say whose it is: compare its `pem` with the
+    key of a certificate by the TPM's manufacturer.
+
+    Args:
+        area: A TPM2B_PUBLIC: the file that `tpm2_createek -u` writes.
+
+    Raises:
+        Refused: The area is none (KEY, 1 to 10), or the key lacks something (11 to 16, 21 and 22).
+
+    >>> key = ima_verify.read_endorsement_key(Path("../keys/ek-p256.pub").read_bytes())
+    >>> key.type.value, key.bits, key.scheme.value, key.hash
+    ('ecc', 256, 'none', None)
+    """
+    return _answers.read_key(*_library.call("key", (area,), (_ENDORSEMENT, JSON)), _ENDORSEMENT)
 
 
 def expected(printed: Text, registers: Optional[str] = None) -> bytes:

@@ -8,8 +8,8 @@ from typing import Any, Dict, Iterator, List, NamedTuple, Optional, Tuple, Type,
 from ._errors import Kind, Refused
 from ._library import DIFFERS, DONE, unexpected
 from ._results import (
-    Algorithm, Attestation, BootAggregate, Clock, Entry, Event, ListVerdict, LogAlgorithm, Place, PlaceRow, Places, Register, Report, Row,
-    State, Stray, Unconfirmed, Verdict,
+    Algorithm, Attestation, BootAggregate, Clock, Entry, Event, Key, KeyType, ListVerdict, LogAlgorithm, Place, PlaceRow, Places, Register,
+    Report, Row, Scheme, State, Stray, Unconfirmed, Verdict,
 )
 
 REGISTERS, LIST_REGISTER = 24, 10
@@ -29,6 +29,17 @@ _NUMBER = "(0|[1-9][0-9]{0,19})"
 _COUNTS = re.compile(_CHECKPOINT + _CHECKPOINT_VERSION + f"entries {_NUMBER}\nbytes {_NUMBER}\n".encode())
 MOST_BYTES = 2**63 - 1
 DAMAGED, OTHER_VERSION = 1, 2
+
+# The hashes of keys' names by their numbers in these, as the TCG assigns them. (One by SHA-1 is refused.)
+_NAME_HASHES = {b"\0\x0b": Algorithm.SHA256, b"\0\x0c": Algorithm.SHA384, b"\0\x0d": Algorithm.SHA512}
+# The schemes of each type of key, and whether a hash goes with each; and those that sign.
+_SCHEMES = {
+    KeyType.RSA: {Scheme.NONE: False, Scheme.RSAES: False, Scheme.RSASSA: True, Scheme.RSAPSS: True, Scheme.OAEP: True},
+    KeyType.ECC: {Scheme.NONE: False, Scheme.ECDSA: True, Scheme.ECDH: True},
+}
+_SIGNING = Scheme.RSASSA, Scheme.RSAPSS, Scheme.ECDSA
+_LEAST_BITS, _CURVE_BITS = 2048, (256, 384, 521)
+_PEM = re.compile("-----BEGIN PUBLIC KEY-----\n(?:[A-Za-z0-9+/=]{1,64}\n)+-----END PUBLIC KEY-----\n")
 
 Object = Dict[str, Any]
 _Member = TypeVar("_Member", str, int, bool, List[Any], Object)
@@ -165,6 +176,20 @@ def read_registers(result: int, text: bytes) -> Tuple[Register, ...]:
     with _reading(result, text):
         _require(result == DONE)
         return tuple(map(_register_of, _member(_object_of(text), "registers", list)))
+
+
+def read_key(result: int, text: bytes, is_endorsement: bool) -> Key:
+    """The key that an answer states, for its purpose."""
+    with _reading(result, text):
+        answer = _object_of(text)
+        name, kind, scheme = _bytes(answer, "name"), KeyType(answer["type"]), Scheme(answer["scheme"])
+        bits, hashed = _number(answer, "bits", UINT16), Algorithm(answer["hash"]) if "hash" in answer else None
+        pem = _member(answer, "pem", str)
+        _require(result == DONE and len(name) == 2 + _NAME_HASHES[name[:2]].digest_size)
+        _require(bits in _CURVE_BITS if kind is KeyType.ECC else bits >= _LEAST_BITS and bits % 8 == 0)
+        _require(_SCHEMES[kind][scheme] == (hashed is not None) and _PEM.fullmatch(pem) is not None)
+        _require(is_endorsement or (scheme in _SIGNING and hashed is not Algorithm.SHA1))
+        return Key(name, kind, bits, scheme, hashed, pem)
 
 
 def read_lines(result: int, text: bytes) -> bytes:

@@ -15,6 +15,7 @@ class Kind(str, enum.Enum):
     EXPECTED = "expected"  # the expected registers, or what tpm2-tools printed
     CHECKPOINT = "checkpoint"  # a session's state: it is damaged (1), of another version (2), or of another boot by the log (3) or by a quote (4)
     QUOTE = "quote"  # the message of a quote: it is none (1 to 10), has another nonce (11), or lacks a required register (12)
+    KEY = "key"  # the public area of a key: it is none (1 to 10), or the key lacks what its purpose needs (11 to 22)
 
 
 class Error(Exception):

@@ -22,8 +22,8 @@ TEXT, JSON = False, True
 
 # The kinds of faults, by their numbers; `NO_PLACE` is the place of a fault that has none.
 NO_FAULT, ARGUMENT, MEMORY = 0, 1, 7
-KINDS = {2: Kind.LOG, 3: Kind.LIST, 4: Kind.REPLAY, 5: Kind.EXPECTED, 6: Kind.CHECKPOINT, 8: Kind.QUOTE}
-WITHOUT_PLACES = Kind.CHECKPOINT, Kind.QUOTE
+KINDS = {2: Kind.LOG, 3: Kind.LIST, 4: Kind.REPLAY, 5: Kind.EXPECTED, 6: Kind.CHECKPOINT, 8: Kind.QUOTE, 9: Kind.KEY}
+WITHOUT_PLACES = Kind.CHECKPOINT, Kind.QUOTE, Kind.KEY
 NO_PLACE = c_uint64(-1).value
 
 # 4 banks have 96 registers, and no row of these has more than 256 bytes.
@@ -53,6 +53,7 @@ FUNCTIONS = {
     "attest": (6, (c_bool, c_bool, c_bool, c_bool, c_void_p, c_size_t, _SIZE)),
     "expected": (2, (c_bool,)),
     "registers": (1, (c_bool, c_bool)),
+    "key": (1, (c_bool, c_bool)),
     "events": (1, (_SIZE, _SIZE)),
     "entries": (1, (_SIZE, _SIZE, c_bool)),
 }

@@ -258,6 +258,47 @@ class Attestation:
         return self.matches
 
 
+class KeyType(enum.Enum):
+    """The type of a key of a TPM."""
+
+    RSA = "rsa"
+    ECC = "ecc"  # of an elliptic curve
+
+
+class Scheme(enum.Enum):
+    """By which scheme a key of a TPM signs or decrypts."""
+
+    NONE = "none"  # whichever is asked for
+    RSASSA = "rsassa"
+    RSAPSS = "rsapss"
+    ECDSA = "ecdsa"
+    RSAES = "rsaes"
+    OAEP = "oaep"
+    ECDH = "ecdh"
+
+
+@dataclass(frozen=True)
+class Key:
+    """What the public area of a key states. Whose TPM the key is in, it does not say.
+
+    Attributes:
+        name: The name by which TPMs know the key: the number of a hash, in two bytes, and that hash of the area. (The `signer` of a quote is the
+            key's qualified name, which is another.)
+        type: Whether it is of RSA or of an elliptic curve.
+        bits: The size of the modulus, or 256, 384 or 521 for the curves P-256, P-384 and P-521.
+        scheme: The scheme that is fixed in it.
+        hash: The hash of the scheme, or None if it has none.
+        pem: The public key as `openssl pkey -pubin` writes it, which `verify_quote` takes.
+    """
+
+    name: bytes
+    type: KeyType
+    bits: int
+    scheme: Scheme
+    hash: Optional[Algorithm]
+    pem: str
+
+
 @dataclass(frozen=True)
 class PlaceRow:
     """Where an expected register first has its value, or that a required one is missing.

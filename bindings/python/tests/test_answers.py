@@ -636,6 +636,7 @@ class Failures(unittest.TestCase):
             (Kind.LIST, 1, 2, "refused: list fault 1 at entry 2"), (Kind.REPLAY, 1, 2, "refused: replay fault 1 at entry 2"),
             (Kind.EXPECTED, 1, 2, "refused: expected fault 1 at line 2"), (Kind.EXPECTED, 6, NONE, "refused: expected fault 6"),
             (Kind.CHECKPOINT, 3, NONE, "refused: checkpoint fault 3"), (Kind.QUOTE, 11, NONE, "refused: quote fault 11"),
+            (Kind.KEY, 22, NONE, "refused: key fault 22"),
             (Kind.LIST, 1, 0, "refused: list fault 1 at entry 0"),
             (Kind.LIST, 2**32 - 1, 2**64 - 2, "refused: list fault 4294967295 at entry 18446744073709551614"),
         ):
@@ -652,10 +653,11 @@ class Failures(unittest.TestCase):
             ("registers", (b"",)), ("registers", (bytes(32),)), ("registers", (LOG[:-1],)), ("verdict", (LOG, LIST[:-1], EXPECTED, b"none")),
             ("verdict", (LOG, LIST.replace(b"/bin/helper", b"/bin/helpex"), EXPECTED, b"none")), ("verdict", (LOG, LIST, b"x", b"none")),
             ("expected", (b"", b"")), ("expected", (b"sha256:\n  0 : x\n", b"")), ("attest", (LOG, b"", LIST, b"", bytes(16), b"sha256:0-10")),
+            ("key", (b"",)), ("key", (LOG,)),
         ):
             room, size = ctypes.create_string_buffer(1), ctypes.c_size_t()
             quoted = False, True, False, False, room, 1, ctypes.byref(size)
-            options, line = {"registers": (False, False), "attest": quoted}.get(name, (False,)), []
+            options, line = {"registers": (False, False), "key": (False, False), "attest": quoted}.get(name, (False,)), []
             answered = _library.answered
 
             def noted(*words):
@@ -668,9 +670,10 @@ class Failures(unittest.TestCase):
             self.assertEqual([f"{caught.exception}\n"], line)
 
     def test_wrong_refusals_are_no_refusals(self):
-        for fault in (fake.NO_FAULT, (8, 1, 2), (9, 1, NONE), (99, 1, NONE), (_library.MEMORY, 0, NONE), (_library.ARGUMENT, 0, NONE),
+        for fault in (fake.NO_FAULT, (8, 1, 2), (10, 1, NONE), (99, 1, NONE), (_library.MEMORY, 0, NONE), (_library.ARGUMENT, 0, NONE),
                       fake.fault_of(Kind.LIST, 0, 2), fake.fault_of(Kind.LOG, 0), fake.fault_of(Kind.CHECKPOINT, 3, 3),
-                      fake.fault_of(Kind.CHECKPOINT, 0), fake.fault_of(Kind.QUOTE, 11, 3), fake.fault_of(Kind.QUOTE, 0)):
+                      fake.fault_of(Kind.CHECKPOINT, 0), fake.fault_of(Kind.QUOTE, 11, 3), fake.fault_of(Kind.QUOTE, 0),
+                      fake.fault_of(Kind.KEY, 1, 3), fake.fault_of(Kind.KEY, 0)):
             self.check_wrong(REFUSED, fault)
         for result in (-1, TOO_SHORT, MISUSED, 7, 1 << 30):
             self.check_wrong(result)

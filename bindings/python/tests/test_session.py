@@ -821,7 +821,7 @@ class Answers(unittest.TestCase):
             refused = caught.exception
             self.assertEqual((refused.kind, refused.number, refused.place), ("checkpoint", number, None))
             self.assertEqual((refused.kind, refused.message), (Kind.CHECKPOINT, f"refused: checkpoint fault {number}"))
-        for kind, number, place in ((6, 0, NONE), (6, 3, 3), (0, 0, NONE), (7, 0, NONE), (9, 3, NONE)):
+        for kind, number, place in ((6, 0, NONE), (6, 3, 3), (0, 0, NONE), (7, 0, NONE), (10, 3, NONE)):
             self.check_wrong(2, FAULT, fault=(kind, number, place))
 
 

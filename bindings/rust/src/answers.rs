@@ -1,8 +1,8 @@
 //! Reads the library's answers. What is not as `docs/formats.md` says is an `Unexpected`.
 
 use crate::library::{Told, DIFFERS, DONE, MORE, OUT_OF_MEMORY, REFUSED};
-use crate::{Algorithm, Attestation, BootAggregate, Clock, Content, Entry, Error, Event, File, Kind, ListVerdict, LogAlgorithm};
-use crate::{Place, PlaceRow, Places, Register, Row, State, Stray, Unconfirmed, Verdict};
+use crate::{Algorithm, Attestation, BootAggregate, Clock, Content, Entry, Error, Event, File, Key, KeyType, Kind, ListVerdict};
+use crate::{LogAlgorithm, Place, PlaceRow, Places, Register, Row, Scheme, State, Stray, Unconfirmed, Verdict};
 use ima_verify_sys as c;
 use serde::de::{DeserializeOwned, Error as _};
 use serde::{Deserialize, Deserializer};
@@ -11,6 +11,7 @@ use std::collections::BTreeMap;
 const REGISTERS: u8 = 24;
 /// The PCR that IMA alone extends.
 const LIST_REGISTER: u8 = 10;
+const LEAST_BITS: u16 = 2048;
 
 /// What the library gives to a call: a result, what it reports of an error, a next checkpoint, and a text.
 #[derive(Debug)]
@@ -41,6 +42,7 @@ impl Answer {
             c::IMA_VERIFY_EXPECTED => Kind::Expected,
             c::IMA_VERIFY_CHECKPOINT => Kind::Checkpoint,
             c::IMA_VERIFY_QUOTE => Kind::Quote,
+            c::IMA_VERIFY_KEY => Kind::Key,
             _ => return None,
         };
         let place = Some(self.told.fault_place).filter(|place| *place != c::IMA_VERIFY_NO_PLACE);
@@ -165,6 +167,14 @@ impl Answer {
             let Registers { registers, .. } = object(&answer.text)?;
             let fit = registers.iter().all(|register| register.value.len() == register.algorithm.digest_size());
             (answer.result == DONE && fit).then_some(registers)
+        })
+    }
+
+    /// The key that an answer states, for its purpose.
+    pub(crate) fn key(self, is_endorsement: bool) -> Result<Key, Error> {
+        self.read(|answer| {
+            let key = object::<KeyLine>(&answer.text)?.key()?;
+            (answer.result == DONE && (is_endorsement || is_signing(&key))).then_some(key)
         })
     }
 
@@ -395,6 +405,66 @@ struct Registers {
     registers: Vec<Register>,
     #[serde(default, rename = "fault")]
     _fault: NoFault,
+}
+
+#[derive(Deserialize)]
+struct KeyLine {
+    name: Bytes,
+    #[serde(rename = "type")]
+    key_type: KeyType,
+    bits: u16,
+    scheme: Scheme,
+    #[serde(default, deserialize_with = "told")]
+    hash: Option<Algorithm>,
+    pem: String,
+    #[serde(default, rename = "fault")]
+    _fault: NoFault,
+}
+
+impl KeyLine {
+    fn key(self) -> Option<Key> {
+        let Self { name: Bytes(name), key_type, bits, scheme, hash, pem, .. } = self;
+        let has_size = match key_type {
+            KeyType::Rsa => bits >= LEAST_BITS && bits % 8 == 0,
+            KeyType::Ecc => matches!(bits, 256 | 384 | 521),
+        };
+        let fits = is_name(&name) && has_size && has_hash(key_type, scheme)? == hash.is_some() && is_pem(&pem);
+        fits.then_some(Key { name, key_type, bits, scheme, hash, pem })
+    }
+}
+
+/// Whether these bytes are the number of a hash, as the TCG assigns it, and a digest by that. (A name by SHA-1 is refused.)
+fn is_name(name: &[u8]) -> bool {
+    let algorithm = match name {
+        [0, 0x0b, ..] => Algorithm::Sha256,
+        [0, 0x0c, ..] => Algorithm::Sha384,
+        [0, 0x0d, ..] => Algorithm::Sha512,
+        _ => return false,
+    };
+    name.len() == 2 + algorithm.digest_size()
+}
+
+/// Whether a hash goes with a scheme, if keys of this type have that.
+fn has_hash(key_type: KeyType, scheme: Scheme) -> Option<bool> {
+    match (key_type, scheme) {
+        (_, Scheme::None) | (KeyType::Rsa, Scheme::Rsaes) => Some(false),
+        (KeyType::Rsa, Scheme::Rsassa | Scheme::Rsapss | Scheme::Oaep) => Some(true),
+        (KeyType::Ecc, Scheme::Ecdsa | Scheme::Ecdh) => Some(true),
+        _ => None,
+    }
+}
+
+/// Whether a key has a scheme that signs, by another hash than SHA-1.
+fn is_signing(key: &Key) -> bool {
+    matches!(key.scheme, Scheme::Rsassa | Scheme::Rsapss | Scheme::Ecdsa) && key.hash != Some(Algorithm::Sha1)
+}
+
+fn is_pem(text: &str) -> bool {
+    let body =
+        text.strip_prefix("-----BEGIN PUBLIC KEY-----\n").and_then(|rest| rest.strip_suffix("\n-----END PUBLIC KEY-----\n"));
+    let is_digit = |byte: u8| byte.is_ascii_alphanumeric() || b"+/=".contains(&byte);
+    let is_line = |line: &str| (1..=64).contains(&line.len()) && line.bytes().all(is_digit);
+    body.map_or(false, |body| body.split('\n').all(is_line))
 }
 
 #[derive(Deserialize)]

@@ -19,7 +19,7 @@
 //! With such a requirement a verdict is a match only if no event of the log extends PCR 10 and each entry of the list names it.
 //! [`entries`] and [`events`] go through the inputs themselves. A [`Session`] is for a list that grows, and for one that grew after
 //! the expected PCRs were read. [`attest`] compares a log and a list with a quote in place of expected PCRs, and `verify_quote`, with
-//! the feature `quotes`, verifies the quote's signature.
+//! the feature `quotes`, verifies the quote's signature, by the key that [`read_key`] reads.
 //!
 //! Any number of threads may call at once.
 
@@ -216,7 +216,7 @@ pub struct Quote<'a> {
     /// Whether a PCR may be required in the SHA-1 bank alone.
     pub takes_sha1: bool,
     /// What `verify_quote` gives for this message; or whether the caller has verified the signature otherwise, with the machine's
-    /// attestation key, which must be a restricted one that its TPM made. If it is false there is no match.
+    /// attestation key, as `verify_quote` asks for it. If it is false there is no match.
     pub signature_checked: bool,
 }
 
@@ -365,6 +365,57 @@ pub struct Register {
     pub value: Vec<u8>,
 }
 
+/// The type of a TPM's key.
+#[derive(Debug, Clone, Copy, PartialEq, Eq, Hash, Deserialize)]
+#[serde(rename_all = "lowercase")]
+#[non_exhaustive]
+pub enum KeyType {
+    /// RSA.
+    Rsa,
+    /// An elliptic curve.
+    Ecc,
+}
+
+/// The scheme by which a TPM's key signs or decrypts.
+#[derive(Debug, Clone, Copy, PartialEq, Eq, Hash, Deserialize)]
+#[serde(rename_all = "lowercase")]
+#[non_exhaustive]
+pub enum Scheme {
+    /// Whichever is asked for.
+    None,
+    /// RSASSA, which signs.
+    Rsassa,
+    /// RSAPSS, which signs.
+    Rsapss,
+    /// ECDSA, which signs.
+    Ecdsa,
+    /// RSAES, which decrypts.
+    Rsaes,
+    /// OAEP, which decrypts.
+    Oaep,
+    /// ECDH, which decrypts.
+    Ecdh,
+}
+
+/// What the public area of a key states. Whose TPM the key is in, it does not say.
+#[derive(Debug, Clone, PartialEq, Eq, Hash)]
+#[non_exhaustive]
+pub struct Key {
+    /// The name by which TPMs know the key: the number of a hash, in two bytes, and that hash of the area. ([`Attestation::signer`]
+    /// is the key's qualified name, which is another.)
+    pub name: Vec<u8>,
+    /// Whether it is of RSA or of an elliptic curve.
+    pub key_type: KeyType,
+    /// The size of the modulus, or 256, 384 or 521 for the curves P-256, P-384 and P-521.
+    pub bits: u16,
+    /// The scheme that is fixed in it.
+    pub scheme: Scheme,
+    /// The hash of the scheme, if it has one.
+    pub hash: Option<Algorithm>,
+    /// The public key as `openssl pkey -pubin` writes it, which `verify_quote` takes.
+    pub pem: String,
+}
+
 /// An entry of a measurement list; entries count from 0.
 #[derive(Debug, Clone, PartialEq, Eq, Hash)]
 #[non_exhaustive]
@@ -508,6 +559,8 @@ pub enum Kind {
     Checkpoint,
     /// The message of a quote: it is none (1 to 10), has another nonce (11), or does not select a required PCR (12).
     Quote,
+    /// The public area of a key: it is none (1 to 10), or the key lacks what its purpose needs (11 to 22).
+    Key,
 }
 
 /// Why there is no result.
@@ -681,6 +734,44 @@ pub fn registers(log: &[u8]) -> Result<Vec<Register>, Error> {
 /// [`Error::Refused`] if the list is damaged, or the template digest of an entry is not valid; otherwise as for [`verify`].
 pub fn list_registers(list: &[u8]) -> Result<Vec<Register>, Error> {
     ask(|out| library::list_registers(list, out))?.registers()
+}
+
+/// The attestation key of a public area, a TPM2B_PUBLIC: the file that `tpm2_createak -u` writes.
+///
+/// The key is restricted, never leaves the TPM that made it, signs, and does not decrypt. It signs by SHA-256, SHA-384 or SHA-512, and
+/// is of RSA with 2048 bits or more, or of the curve P-256, P-384 or P-521. Whose TPM it is in, the area does not say, and anyone can
+/// write one. Take the PEM for `verify_quote` only after a credential was activated that was made to the name and to the machine's
+/// endorsement key. `ima-enroll` does that, and keeps the PEM.
+///
+/// ```
+/// # fn main() -> Result<(), Box<dyn std::error::Error>> {
+/// # let area = std::fs::read("samples/AK.pub")?;
+/// let key = ima_verify::read_key(&area)?;
+/// assert_eq!((key.key_type, key.bits), (ima_verify::KeyType::Ecc, 256));
+/// assert_eq!((key.scheme, key.hash), (ima_verify::Scheme::Ecdsa, Some(ima_verify::Algorithm::Sha256)));
+/// assert!(key.name.starts_with(&[0x00, 0x0b]) && key.pem.starts_with("-----BEGIN PUBLIC KEY-----\n"));
+/// assert_eq!(ima_verify::read_endorsement_key(&area).unwrap_err().to_string(), "refused: key fault 21"); // (it signs)
+/// # Ok(())
+/// # }
+/// ```
+///
+/// # Errors
+///
+/// [`Error::Refused`] with [`Kind::Key`] if the area is none, or the key lacks something; otherwise as for [`verify`].
+pub fn read_key(area: &[u8]) -> Result<Key, Error> {
+    ask(|out| library::key(area, out))?.key(false)
+}
+
+/// The endorsement key of a public area, to which credentials are made: the file that `tpm2_createek -u` writes.
+///
+/// The key is restricted, never leaves the TPM that made it, decrypts, and does not sign. Nor does its area say whose it is: compare
+/// the PEM with the key of a certificate by the TPM's manufacturer.
+///
+/// # Errors
+///
+/// As for [`read_key`].
+pub fn read_endorsement_key(area: &[u8]) -> Result<Key, Error> {
+    ask(|out| library::endorsement_key(area, out))?.key(true)
 }
 
 /// The entries of a measurement list, one after another. Each says whether its template digest is valid; no entry says that the list

@@ -44,6 +44,8 @@ calls! {
     expected = ima_verify_raw_expected(printed, registers; false);
     log_registers = ima_verify_raw_registers(log; false, true);
     list_registers = ima_verify_raw_registers(list; true, true);
+    key = ima_verify_raw_key(area; false, true);
+    endorsement_key = ima_verify_raw_key(area; true, true);
 }
 
 /// The inputs of a session's call.

@@ -26,10 +26,11 @@ const WANTED: &str = "a key is of RSA, with 2048 bits or more and an odd exponen
 /// Verifies the signature of a quote's message: `Ok(true)` if it is by this key and on this message, and an error otherwise. It is
 /// never `Ok(false)`: the result is what `signature_checked` of a [`Quote`](crate::Quote) with this same message takes.
 ///
-/// The key is the machine's attestation key, as `tpm2_readpublic -f pem` writes it: RSA of 2048 bits or more, or of the curve P-256,
-/// P-384 or P-521. It must be known as a *restricted* key that the machine's TPM made (`fixedtpm`). One that is not restricted, or was
-/// imported, also signs messages that no TPM made. The signature is what `tpm2_quote -f plain -s` writes: RSASSA, RSAPSS or ECDSA, by SHA-256, SHA-384 or SHA-512.
-/// Without `-f plain` it is a TPMT_SIGNATURE, which is refused.
+/// The key is the machine's attestation key: the PEM that [`read_key`](crate::read_key) gives for a public area whose credential was
+/// activated. It is of RSA with 2048 bits or more, or of the curve P-256, P-384 or P-521. A key that is not restricted, or was
+/// imported, also signs messages that no TPM made, and a PEM does not tell it from another. The signature is what
+/// `tpm2_quote -f plain -s` writes: RSASSA, RSAPSS or ECDSA, by SHA-256, SHA-384 or SHA-512. Without `-f plain` it is a
+/// TPMT_SIGNATURE, which is refused.
 ///
 /// This is there with the feature `quotes`.
 ///
@@ -47,7 +48,7 @@ const WANTED: &str = "a key is of RSA, with 2048 bits or more and an odd exponen
 /// [`Error::Signature`] if the signature is not by this key or not on this message, or of another form; [`Error::Key`] if the key is
 /// not such a key alone, but perhaps a private key or a certificate.
 pub fn verify_quote(key: &[u8], signature: &[u8], message: &[u8]) -> Result<bool, Error> {
-    let key = read_key(key)?;
+    let key = key_in(key)?;
     // (OpenSSL would take a signature of RSAPSS without its leading zeros)
     let has_size = key.id() != Id::RSA || signature.len() == key.size();
     let mut hashes = [MessageDigest::sha256(), MessageDigest::sha384(), MessageDigest::sha512()].into_iter();
@@ -58,7 +59,7 @@ pub fn verify_quote(key: &[u8], signature: &[u8], message: &[u8]) -> Result<bool
 }
 
 /// The key of a PEM that has nothing else, and has the key in its only encoding.
-fn read_key(text: &[u8]) -> Result<PKey<Public>, Error> {
+fn key_in(text: &[u8]) -> Result<PKey<Public>, Error> {
     let text = std::str::from_utf8(text).unwrap_or_default().trim();
     if !is_pem_of_public_key(text) {
         return Err(Error::Key("it is not the PEM of a public key alone (-----BEGIN PUBLIC KEY-----)"));

@@ -1,5 +1,6 @@
 //! What the crate answers, by the library.
 
+mod keys;
 mod listing;
 pub(crate) mod quoted;
 mod sample;

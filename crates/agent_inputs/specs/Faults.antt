@@ -17,6 +17,7 @@ use Rattle.boot_verdict.specs.declared.expected.ExpectFault.{ExpectFault}
 use Rattle.boot_verdict.specs.declared.expected.ExpectFault.TheVariants as expects
 use Rattle.boot_verdict.specs.ExpectFaults.{expect_fault_line, expect_fault_number}
 use Rattle.attestations.specs.Judging.{quote_refusal_number}
+use Rattle.tpm_keys.specs.Faults.{key_fault_number}
 use Rattle.agent_inputs.specs.declared.fault.FaultHead.{FaultHead}
 use Rattle.agent_inputs.specs.declared.fault.FaultKind.{FaultKind}
 use Rattle.agent_inputs.specs.declared.fault.FaultKind.TheVariants as kinds
@@ -85,6 +86,7 @@ fault_head (runs.List fault) = head_with kinds.List (Some (list_fault_number fau
 fault_head (runs.Replay fault) = head_with kinds.Replay (Some (replay_fault_number fault)) (Some (replay_fault_entry fault))
 fault_head (runs.Expect fault) = head_with kinds.Expect (Some (expect_fault_number fault)) (expect_fault_line fault)
 fault_head (runs.Quote refusal) = head_with kinds.Quote (Some (quote_refusal_number refusal)) None
+fault_head (runs.Key fault) = head_with kinds.Key (Some (key_fault_number fault)) None
 fault_head (runs.Checkpoint fault) = head_with kinds.Checkpoint (Some (not_resumed_number fault)) None
 fault_head (runs.Book fault) = head_with kinds.Book (Some (fault_number fault)) None
 fault_head (runs.Outcome job fault) = head_with kinds.Outcome (Some (fault_number fault)) (Some job)

@@ -2,7 +2,7 @@
 
 ghost use Rattle.std.specs.Prelude.{◌≡◌};
 ghost use Rattle.agent_inputs.specs.Faults.{fault_head, fault_of_expected, fault_of_list, fault_of_log, fault_of_arguments, not_resumed_number};
-ghost use Rattle.agent_inputs.specs.declared.fault.RunFault.TheVariants.{Memory, Quote};
+ghost use Rattle.agent_inputs.specs.declared.fault.RunFault.TheVariants.{Key, Memory, Quote};
 
 use agent_plans::ArgumentsFault;
 use attestations::QuoteRefusal;
@@ -13,6 +13,7 @@ use measure_book::{BookFault, GatherFault};
 use std::alloc::{AllocError, AllocFailed};
 use std::fmt;
 use thiserror::Error;
+use tpm_keys::KeyFault;
 
 /// Why there is no going on from a checkpoint.
 #[derive(Clone, Copy, Debug, PartialEq, Eq, Error)]
@@ -62,6 +63,8 @@ pub enum RunFault {
     Expect(ExpectFault),
     /// An input is not the quote that is asked for.
     Quote(QuoteRefusal),
+    /// An input is not the public area of a key that is asked for.
+    Key(KeyFault),
     /// There is no going on from a checkpoint.
     Checkpoint(NotResumed),
     /// The book could not be opened.
@@ -97,6 +100,7 @@ pub enum FaultKind {
     Replay,
     Expect,
     Quote,
+    Key,
     Checkpoint,
     Book,
     Outcome,
@@ -144,6 +148,7 @@ impl RunFault {
             }
             RunFault::Expect(fault) => (FaultKind::Expect, Some(fault.number()), fault.line()),
             RunFault::Quote(refusal) => (FaultKind::Quote, Some(refusal.number()), None),
+            RunFault::Key(fault) => (FaultKind::Key, Some(fault.number()), None),
             RunFault::Checkpoint(fault) => (FaultKind::Checkpoint, Some(fault.number()), None),
             RunFault::Book(fault) => (FaultKind::Book, Some(fault.number()), None),
             RunFault::Outcome { job, fault } => {
@@ -178,6 +183,7 @@ impl fmt::Display for RunFault {
             RunFault::Replay(fault) => say_fault("", fault, f),
             RunFault::Expect(fault) => say_fault("", fault, f),
             RunFault::Quote(refusal) => say_fault("", refusal, f),
+            RunFault::Key(fault) => say_fault("", fault, f),
             RunFault::Checkpoint(fault) => say_fault("", fault, f),
             RunFault::Book(fault) => say_fault("", fault, f),
             RunFault::Outcome { job, fault } => say_outcome(*job, *fault, f),
@@ -270,6 +276,14 @@ impl From<QuoteRefusal> for RunFault {
 
     fn from(refusal: QuoteRefusal) -> Self {
         RunFault::Quote(refusal)
+    }
+}
+
+impl From<KeyFault> for RunFault {
+    ghost from_gives = { λ key_fault fault. fault ≡ Key key_fault };
+
+    fn from(fault: KeyFault) -> Self {
+        RunFault::Key(fault)
     }
 }
 

@@ -8,6 +8,7 @@ ghost use Rattle.agent_plans.specs.declared.plan.Task.TheVariants as tasks;
 
 use ima_list::Template;
 use pcr_banks::Alg;
+use tpm_keys::{KeyPart, Purpose};
 
 /// What a measurement prints.
 #[derive(Clone, Copy, PartialEq, Eq)]
@@ -149,7 +150,7 @@ pub struct Measurement {
     pub names: Option<Names>,
 }
 
-/// What is asked of a log, of a list or of a text of registers.
+/// What is asked of a log, of a list, of a text of registers or of a key.
 #[derive(Drop)]
 pub enum Question {
     /// The registers after a firmware event log.
@@ -172,6 +173,15 @@ pub enum Question {
         printed: String,
         /// The text of the range of registers to show, as `0-10`; none for all of them. It is any text here.
         registers: Option<String>,
+    },
+    /// What is told of a key of a TPM, if it is one for a purpose.
+    Key {
+        /// The name of the file that has its public area.
+        area: String,
+        /// What it must be for.
+        purpose: Purpose,
+        /// What is shown of it.
+        part: KeyPart,
     },
 }
 

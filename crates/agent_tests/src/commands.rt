@@ -8,7 +8,7 @@ use test_kit::samples::{
 };
 
 /// The files, by their names; `-` is standard input, and has `log` in hexadecimal.
-pub static FILES: [(&str, &[u8]); 12] = [
+pub static FILES: [(&str, &[u8]); 13] = [
     (
         "-",
         b"00000000 03000000 0000000000000000000000000000000000000000 21000000
@@ -27,6 +27,7 @@ pub static FILES: [(&str, &[u8]); 12] = [
     ("entry", MEASUREMENT),
     ("ten", MEASUREMENT_REGISTERS),
     ("printed", PRINTED),
+    ("key", KEY),
     ("/bin/sh", b"abc"),
     ("names", b"/bin/sh\nentry\nprinted\n"),
     ("shell", b"/bin/sh\n"),
@@ -38,6 +39,14 @@ pub struct Command {
     pub status: u8,
     pub output: &'static [u8],
 }
+
+/// The public area of an attestation key of P-256, as `tpm2_createak -G ecc -g sha256 -s ecdsa -u` wrote it, and its name, by `-n`.
+const KEY: &[u8] = b"\
+\x00\x58\x00\x23\x00\x0b\x00\x05\x00\x72\x00\x00\x00\x10\x00\x18\x00\x0b\x00\x03\x00\x10\x00\x20\xef\xe5\x6e\xdf\xe2\x58\
+\x22\x20\xd7\xb3\xf7\x39\x3b\xc3\x06\x1a\x8a\x3e\x08\xea\x2f\x06\x25\x2e\x5f\x19\x44\x87\x74\x68\x37\x85\x00\x20\xcf\x2b\
+\x29\x86\xdb\xa9\xfd\x38\x4b\xe2\xa1\xcf\xc8\xee\xdf\x37\x57\x1a\x94\xa2\x81\x23\x57\x84\xb8\x1a\x0a\x10\xc0\xae\x9a\x9d";
+
+const KEY_NAME: &[u8] = b"000b55660a0937bd86bbb4da300f3cc9a84b131184912cb72fcf5409aad30927450e\n";
 
 /// PCR 10 after the boot aggregate of registers at reset, and `/bin/sh` with `abc`.
 const SHELL_LINE: &[u8] =
@@ -51,7 +60,7 @@ pub const MEASURE: Command = Command {
 };
 
 /// Every command.
-pub static COMMANDS: [Command; 13] = [
+pub static COMMANDS: [Command; 14] = [
     Command {
         arguments: &[],
         status: 0,
@@ -94,6 +103,11 @@ verdict match
         arguments: &["expected", "printed"],
         status: 0,
         output: PRINTED_LINE,
+    },
+    Command {
+        arguments: &["key", "--print=name", "key"],
+        status: 0,
+        output: KEY_NAME,
     },
     Command {
         arguments: &["verify", "log", "list", "values"],

@@ -30,6 +30,10 @@ use Rattle.agent_plans.specs.declared.plan.Question.TheVariants as questions
 use Rattle.agent_plans.specs.declared.plan.Scope.TheVariants.{Whole, Prefix}
 use Rattle.agent_plans.specs.declared.plan.Task.{Task}
 use Rattle.agent_plans.specs.declared.plan.Task.TheVariants as tasks
+use Rattle.tpm_keys.specs.declared.kinds.KeyPart.{KeyPart}
+use Rattle.tpm_keys.specs.declared.kinds.KeyPart.TheVariants as parts
+use Rattle.tpm_keys.specs.declared.kinds.Purpose.{Purpose}
+use Rattle.tpm_keys.specs.declared.kinds.Purpose.TheVariants.{Attestation, Endorsement}
 
 -- ---- the commands
 
@@ -40,6 +44,7 @@ pub record Parsers : Type 0 where
   pub workers : ValueParser
   pub limit : ValueParser
   pub prints : ValueParser
+  pub parts : ValueParser
 
 -- A required argument. (The rule of one that may be left out is `new_rule`.)
 abbrev pub required : Text → Rule
@@ -118,6 +123,7 @@ table parsers = (
     )
     ∷ (codes "locate", without_default (codes "require") ∷ flag (codes "json") ∷ required (codes "LOG") ∷ required (codes "LIST") ∷ required (codes "EXPECTED") ∷ [])
     ∷ (codes "expected", without_default (codes "registers") ∷ flag (codes "json") ∷ required (codes "PCRREAD") ∷ [])
+    ∷ (codes "key", flag (codes "endorsement") ∷ optional (codes "print") (codes "all") parsers.parts ∷ flag (codes "json") ∷ required (codes "FILE") ∷ [])
     ∷ (codes "registers", flag (codes "json") ∷ required (codes "LOG") ∷ [])
     ∷ (codes "events", flag (codes "data") ∷ flag (codes "json") ∷ required (codes "LOG") ∷ [])
     ∷ (codes "show", flag (codes "json") ∷ required (codes "LIST") ∷ [])
@@ -195,6 +201,17 @@ pub record HasAttest (rows : List Row) (attest : Attest) : Type 0 where
   pub resume_is : IsGivenAs (codes "resume") rows attest.resume
   pub save_is : IsGivenAs (codes "save") rows attest.save
 
+abbrev pub part_name : KeyPart → Text
+part_name parts.All = codes "all"
+part_name parts.Name = codes "name"
+part_name parts.Pem = codes "pem"
+
+-- The matches have the name and the options of this question of a key: its public area's file, what it must be for, and what is shown of it.
+pub record HasKey (rows : List Row) (area : String Global) (purpose : Purpose) (part : KeyPart) : Type 0 where
+  pub area_is : IsGivenAs (codes "FILE") rows (Some area)
+  pub purpose_is : IsFlag (codes "endorsement") rows Attestation Endorsement purpose
+  pub part_is : first_of (codes "print") rows ≡ Some (part_name part)
+
 -- ---- commands and their tasks
 
 -- The command of this name judges this, and the matches have the options and names that only this has.
@@ -225,6 +242,7 @@ HasQuestion command rows (questions.Judge judge) =
 HasQuestion command rows (questions.Attest attest) = (command ≡ codes "attest") × HasAttest rows attest
 HasQuestion command rows (questions.Expected printed registers) =
     (command ≡ codes "expected") × IsGivenAs (codes "PCRREAD") rows (Some printed) × IsGivenAs (codes "registers") rows registers
+HasQuestion command rows (questions.Key area purpose part) = (command ≡ codes "key") × HasKey rows area purpose part
 
 -- The command of this name does this, and the matches have its options and names.
 abbrev pub HasValues : Text → List Row → Task → Type 0

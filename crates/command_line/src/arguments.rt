@@ -13,7 +13,7 @@ ghost use Rattle.agent_plans.specs.declared.plan.Question.TheVariants as questio
 ghost use Rattle.agent_plans.specs.declared.plan.Task.TheVariants.{Version};
 
 use crate::commands::{KnownNames, VERSION, all_commands};
-use crate::values::{attest_of, flag_of, measurement_of, name_of, text_if_given};
+use crate::values::{attest_of, flag_of, key_of, measurement_of, name_of, text_if_given};
 use agent_plans::{ArgumentsFault, DataShown, Form, Judge, Judged, Plan, Question, Scope, Task};
 use clap::error::ErrorKind;
 use clap::{ArgMatches, Error};
@@ -188,6 +188,7 @@ fn question_of(
             printed: name_of(alloc, matches, "PCRREAD")?,
             registers: text_if_given(alloc, matches, "registers")?,
         }),
+        "key" => key_of(alloc, matches),
         "registers" => Ok(Question::LogRegisters {
             log: name_of(alloc, matches, "LOG")?,
         }),

@@ -87,7 +87,7 @@ const JSON: ArgumentRow<'static> =
     row!("json", Form::Flag; "Print the result as JSON, one object on one line");
 
 /// The commands, in the order of the help. `table` of specs/Plans.antt has the same.
-pub(crate) static COMMANDS: [CommandRow; 9] = [
+pub(crate) static COMMANDS: [CommandRow; 10] = [
     CommandRow {
         name: "measure",
         about: "Measures files into the registers left by a firmware event log, and prints the result",
@@ -172,6 +172,20 @@ boot: LIST then has only the bytes after it"),
             JSON,
             row!("PCRREAD", Form::Required;
                 "Text that tpm2_pcrread or tpm2_checkquote printed, at most 64 MiB; no text tells whether a quote holds"),
+        ],
+    },
+    CommandRow {
+        name: "key",
+        about: "Prints the name and the PEM of a TPM's key, if the TPM signs with it only what it made",
+        arguments: &[
+            row!("endorsement", Form::Flag; "\
+Take an endorsement key: the TPM decrypts with it only what is meant
+for it, and signs nothing"),
+            row!("print", Form::Defaulted("P", "all", Values::Parsed(ValueParser::Names(&["all", "name", "pem"]))); "\
+What to print: name, kind, scheme and PEM; the name alone; or the PEM
+alone\n"),
+            JSON,
+            row!("FILE", Form::Required; "Public area of the key, as `tpm2_createak -u` or `tpm2_readpublic -o` writes it, at most 64 MiB"),
         ],
     },
     CommandRow {

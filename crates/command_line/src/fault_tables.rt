@@ -75,6 +75,34 @@ Quote faults (refused: quote fault N):
  12  the quote does not select register R of a bank in which it is required
 " "\n"; $($more)*; $end)
     };
+    // The faults of a public area.
+    ($($begun:literal)*; key $($more:ident)*; $end:literal) => {
+        with_fault_tables!($($begun)* "\
+Key faults (refused: key fault N; 17 to 20 are of an attestation key, 21 and 22 of an endorsement key):
+  1  the public area is cut short
+  2  the public area is of neither an RSA nor an ECC key
+  3  the public area names a hash that is not known
+  4  the key's symmetric algorithm is neither none nor AES
+  5  the key's scheme is not known
+  6  the key's exponent is not 65,537
+  7  the key's curve is not P-256, P-384 or P-521
+  8  the key has a key derivation
+  9  the key has not the size that is stated, or that its curve has
+ 10  bytes follow the public area
+ 11  the key's name is by SHA-1
+ 12  the key may leave its TPM
+ 13  the key may be moved below another key
+ 14  the key was not made by its TPM
+ 15  the key is not restricted: its TPM signs or decrypts with it what anyone gives it
+ 16  the key is an RSA key of fewer than 2,048 bits
+ 17  the key does not sign
+ 18  the key decrypts, as an attestation key does not
+ 19  the key's scheme is not RSASSA, RSAPSS or ECDSA
+ 20  the key's signatures are by SHA-1
+ 21  the key signs, as an endorsement key does not
+ 22  the key does not decrypt
+" "\n"; $($more)*; $end)
+    };
     // The faults of a book.
     ($($begun:literal)*; book $($more:ident)*; $end:literal) => {
         with_fault_tables!($($begun)* "\

@@ -87,6 +87,7 @@ pub(crate) fn help_end_of<'a>(command: &str) -> &'a str {
             help_end!("ima-agent locate firmware.log ima.list expected.txt"; log list replay expected),
         "expected" =>
             help_end!("ima-agent expected --registers 0-10 pcrread.txt > expected.txt"; expected),
+        "key" => help_end!("ima-agent key --print pem ak.pub > ak.pem"; key),
         "registers" => help_end!("ima-agent registers firmware.log"; log),
         "events" => help_end!("ima-agent events --data firmware.log"; log),
         "show" => help_end!("ima-agent show ima.list"; list),

@@ -3,15 +3,18 @@
 ghost use Rattle.std.specs.Prelude.{◌≡◌, ◌<◌, ◌≤◌, ◌^◌, [], Some, codes, map, string_bytes, unwrap_or, vec_len, IfOk};
 ghost use Rattle.clap.specs.Words.{all_of, first_of, found_of, rows_of};
 ghost use Rattle.agent_plans.specs.Plans.{HasForm, IsWithinLimits};
-ghost use Rattle.command_line.specs.Arguments.{AreFurtherNames, HasAttest, HasBytes, HasMeasure, HasNumber, IsFlag, IsGivenAs, print_name};
+ghost use Rattle.command_line.specs.Arguments.{AreFurtherNames, HasAttest, HasBytes, HasMeasure, HasNumber, HasQuestion, IsFlag, IsGivenAs, part_name, print_name};
 
 use crate::command_table::{MOST_RECORDS, MOST_WORKERS};
-use agent_plans::{ArgumentsFault, Attest, Form, Measurement, NameEnd, Names, Print, Scope};
+use agent_plans::{
+    ArgumentsFault, Attest, Form, Measurement, NameEnd, Names, Print, Question, Scope,
+};
 use clap::ArgMatches;
 use hex::FromHexError;
 use ima_list::Template;
 use pcr_banks::Alg;
 use std::alloc::Global;
+use tpm_keys::{KeyPart, Purpose};
 
 /// The options and names of `measure`. Refuses the binary list as JSON.
 pub(crate) fn measurement_of(
@@ -53,6 +56,34 @@ pub(crate) fn attest_of(alloc: Global, matches: &ArgMatches) -> Result<Attest, A
         resume: text_if_given(alloc, matches, "resume")?,
         save: text_if_given(alloc, matches, "save")?,
     })
+}
+
+/// What `key` asks.
+pub(crate) fn key_of(alloc: Global, matches: &ArgMatches) -> Result<Question, ArgumentsFault>
+    ensures { IfOk result (HasQuestion (codes "key") (rows_of (found_of matches.now))) }
+{
+    Ok(Question::Key {
+        area: name_of(alloc, matches, "FILE")?,
+        purpose: flag_of(
+            matches,
+            "endorsement",
+            Purpose::Attestation,
+            Purpose::Endorsement,
+        )?,
+        part: part_of(matches)?,
+    })
+}
+
+// What is shown of a key.
+fn part_of(matches: &ArgMatches) -> Result<KeyPart, ArgumentsFault>
+    ensures { IfOk result (λ part. first_of (codes "print") (rows_of (found_of matches.now)) ≡ Some (part_name part)) }
+{
+    match text_of(matches, "print")? {
+        "all" => Ok(KeyPart::All),
+        "name" => Ok(KeyPart::Name),
+        "pem" => Ok(KeyPart::Pem),
+        _ => Err(ArgumentsFault::Usage),
+    }
 }
 
 // The bytes that the first value of this argument spells, two hexadecimal digits of either case for each.

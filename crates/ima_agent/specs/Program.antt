@@ -23,7 +23,7 @@ use Rattle.agent_plans.specs.declared.plan.Task.{Task}
 use Rattle.agent_plans.specs.declared.plan.Task.TheVariants as tasks
 use Rattle.agent_plans.specs.Plans.{IsWithinRanges, task_of}
 use Rattle.command_line.specs.Arguments.{IsRequestedBy}
-use Rattle.judging.specs.Requests.{Any, Attested, Attests, Requested, Compared, Compares, ExpectedOf, Judgement, ListRegistersOf, ListVerdictOf, LogRegistersOf, Nothing, PositionsOf, Requires, These, VerdictOf}
+use Rattle.judging.specs.Requests.{Any, Attested, Attests, Requested, Compared, Compares, ExpectedOf, Judgement, KeyOf, ListRegistersOf, ListVerdictOf, LogRegistersOf, Nothing, PositionsOf, Requires, These, VerdictOf}
 use Rattle.judging.specs.Inputs.{FileOf, Where}
 use Rattle.measuring.specs.declared.file_book.Measured.{Measured}
 use Rattle.measuring.specs.Measuring.{IsMeasured, IsMeasuringFault}
@@ -84,6 +84,7 @@ requested_by (questions.ListRegisters list) = ListRegistersOf (file_of list)
 requested_by (questions.Judge judge) = Compares (compared_by judge)
 requested_by (questions.Attest attest) = Attests (attested_by attest)
 requested_by (questions.Expected printed registers) = ExpectedOf (file_of printed) (option_map string_bytes registers)
+requested_by (questions.Key area purpose part) = KeyOf (file_of area) purpose part
 
 -- The name under which the checkpoint is saved, if it is.
 abbrev pub save_of : Judged → Option (List ℕ)

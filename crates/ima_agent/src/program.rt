@@ -88,7 +88,7 @@ fn exits_with(status: u8) -> ExitCode
 /// reset values. With arguments, as [`crate::read_words`] reads them: `measure` measures files into the registers of a log, and
 /// writes the list or the registers; `verify` writes the report on a log, a list and expected registers, and `locate` where in the log
 /// and the list each of these registers first has its value; `expected` writes the lines of expected registers, from what tpm2-tools
-/// printed; `registers` writes the registers that differ from their reset values after a log, and `replay` those after a list alone,
+/// printed; `key` writes what is told of a TPM's key; `registers` writes the registers that differ from their reset values after a log, and `replay` those after a list alone,
 /// or the report on the list alone and expected registers; `events` writes the lines of a log's events, and `show` those of a list's
 /// entries; `--help` writes the help, and `--version` the version.
 ///

@@ -1,4 +1,4 @@
-//! What questions ask of logs and lists.
+//! What questions ask of their inputs.
 
 ghost use Rattle.std.specs.Prelude.{◌≡◌, option_map};
 ghost use Rattle.judging.specs.Requests.{requested_of, place_of, attested_of, compared_of, judgement_of, requires_of};
@@ -26,6 +26,15 @@ pub(crate) fn request_of(question: &Question) -> Request<'_>
                 None => None,
                 Some(range) => Some(range.as_bytes()),
             },
+        },
+        Question::Key {
+            area,
+            purpose,
+            part,
+        } => Request::Key {
+            area: Input::File(area),
+            purpose: *purpose,
+            part: *part,
         },
     }
 }

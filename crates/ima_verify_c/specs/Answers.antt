@@ -4,7 +4,7 @@ use Rattle.agent_plans.specs.declared.plan.Scope.{Scope}
 use Rattle.agent_plans.specs.declared.plan.Scope.TheVariants.{Prefix, Whole}
 use Rattle.agent_plans.specs.declared.plan.Form.{Form}
 use Rattle.agent_plans.specs.declared.plan.Form.TheVariants.{Json, Text}
-use Rattle.judging.specs.Requests.{Any, Attests, Requested, Compares, Judgement, ListRegistersOf, ListVerdictOf, LogRegistersOf, Nothing, PositionsOf, Requires, These, VerdictOf}
+use Rattle.judging.specs.Requests.{Any, Attests, Requested, Compares, Judgement, KeyOf, ListRegistersOf, ListVerdictOf, LogRegistersOf, Nothing, PositionsOf, Requires, These, VerdictOf}
 use Rattle.judging.specs.Inputs.{BytesOf, Where}
 use Rattle.agent_inputs.specs.declared.fault.FaultKind.{FaultKind}
 use Rattle.agent_inputs.specs.declared.fault.FaultKind.TheVariants as kinds
@@ -19,6 +19,9 @@ use Rattle.pieces.specs.declared.piece.Piece.{Piece}
 use Rattle.pieces.specs.declared.piece.Position.{Position}
 use Rattle.pieces.specs.Pieces.{AreEntriesBefore, FailsAfterEntries, IsEntryPiece, AreEventsBefore, FailsAfterEvents, IsEventPiece, is_within}
 use Rattle.rendering.specs.FaultTexts.{fault_line, said_of, IsFaultAsJson}
+use Rattle.tpm_keys.specs.declared.kinds.KeyPart.TheVariants.{All}
+use Rattle.tpm_keys.specs.declared.kinds.Purpose.{Purpose}
+use Rattle.tpm_keys.specs.declared.kinds.Purpose.TheVariants.{Attestation, Endorsement}
 use Rattle.ima_verify_c.specs.declared.told.Told.{Told}
 
 abbrev pub interface_version : ℕ
@@ -90,6 +93,14 @@ requested_of_attestation log state more message nonce require takes_sha1 is_sign
 abbrev pub requested_of_registers : Bool → List ℕ → Requested
 requested_of_registers of_list bytes = if of_list then ListRegistersOf (BytesOf bytes) else LogRegistersOf (BytesOf bytes)
 
+-- What the key must be for.
+abbrev pub purpose_of : Bool → Purpose
+purpose_of endorsement = if endorsement then Endorsement else Attestation
+
+-- All that is told of the key of this public area, if it is an endorsement key, or an attestation key.
+abbrev pub requested_of_key : List ℕ → Bool → Requested
+requested_of_key area endorsement = KeyOf (BytesOf area) (purpose_of endorsement) All
+
 -- ---- what a caller is told of a text
 
 -- The size of the text; and of its fault the kind, the number, or 0, and the place: 2^64 - 1 where it names none.
@@ -111,6 +122,7 @@ head_told size kinds.Expect number place = told_with size 5 number place
 head_told size kinds.Checkpoint number place = told_with size 6 number place
 head_told size kinds.Memory number place = told_with size 7 number place
 head_told size kinds.Quote number place = told_with size 8 number place
+head_told size kinds.Key number place = told_with size 9 number place
 head_told size kind number place = told_with size 0 None None
 
 -- What is told of a text of this size, which is the line of the fault, if there is one.

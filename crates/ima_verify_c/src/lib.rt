@@ -1,5 +1,5 @@
-//! The verifier for callers in C: verdicts, positions, expected registers, registers, and by pieces entries and events, from bytes in the caller's
-//! memory to a text in the caller's room. `bindings/c/ima_verify.h` says it to C, and has the functions that call these.
+//! The verifier for callers in C: verdicts, positions, expected registers, registers, keys of a TPM, and by pieces entries and events, from bytes in
+//! the caller's memory to a text in the caller's room. `bindings/c/ima_verify.h` says it to C, and has the functions that call these.
 //!
 //! Each call returns a number: 0 or 1 as the command of the same name exits, with its output in the room; 2 if an input is refused, or 3 if
 //! memory ran out, with the line of the fault in the room; 4 if there is too little room, which is then as it was; for lines 5 if there are more,
@@ -15,11 +15,11 @@ mod told;
 ghost use Rattle.std.specs.Prelude.{◌≡◌};
 ghost use Rattle.judging.specs.Requests.{ExpectedOf};
 ghost use Rattle.judging.specs.Inputs.{BytesOf};
-ghost use Rattle.ima_verify_c.specs.Answers.{Answers, AnswersMore, GivesEntries, GivesEvents, IsAnswerAndNext, IsAnswerTo, requested_of_attestation, requested_of_list, requested_of_more, requested_of_positions, requested_of_registers, requested_of_verdict, form_of, given_bytes, interface_version};
+ghost use Rattle.ima_verify_c.specs.Answers.{Answers, AnswersMore, GivesEntries, GivesEvents, IsAnswerAndNext, IsAnswerTo, requested_of_attestation, requested_of_key, requested_of_list, requested_of_more, requested_of_positions, requested_of_registers, requested_of_verdict, form_of, given_bytes, interface_version};
 
 use crate::replies::{give, give_both, give_lines};
 use crate::requests::{
-    form_of, given_bytes, registers_on, requested_by, resume_of, scope_of, verdict_of,
+    form_of, given_bytes, key_in, registers_on, requested_by, resume_of, scope_of, verdict_of,
 };
 use agent_plans::Form;
 use judging::{Attesting, Input, Request, Required, Wanted};
@@ -197,6 +197,23 @@ pub extern "C" fn ima_verify_raw_registers(
     ensures { Answers (IsAnswerTo (requested_of_registers of_list bytes.now) (form_of json)) result told.new out.old out.new }
 {
     let request = registers_on(of_list, bytes);
+    give(alloc, request, form_of(json), out, told)
+}
+
+/// What is told of the key of a TPM whose public area (TPM2B_PUBLIC) this is, as `key` writes it, if the TPM signs with it only what it made; with
+/// `endorsement`, if the TPM only decrypts with it, what is meant for it.
+#[unsafe(no_mangle)]
+pub extern "C" fn ima_verify_raw_key(
+    alloc: Global,
+    area: &[u8],
+    endorsement: bool,
+    json: bool,
+    out: &mut [u8],
+    told: &mut Told,
+) -> i32
+    ensures { Answers (IsAnswerTo (requested_of_key area.now endorsement) (form_of json)) result told.new out.old out.new }
+{
+    let request = key_in(area, endorsement);
     give(alloc, request, form_of(json), out, told)
 }
 

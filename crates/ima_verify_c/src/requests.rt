@@ -2,10 +2,11 @@
 
 ghost use Rattle.std.specs.Prelude.{◌≡◌, option_map};
 ghost use Rattle.judging.specs.Requests.{requested_of, judgement_of, place_of, requires_of};
-ghost use Rattle.ima_verify_c.specs.Answers.{requested_by, requested_of_registers, form_of, given_bytes, required_by, resume_of, scope_of, verdict_of};
+ghost use Rattle.ima_verify_c.specs.Answers.{requested_by, requested_of_key, requested_of_registers, form_of, given_bytes, purpose_of, required_by, resume_of, scope_of, verdict_of};
 
 use agent_plans::{Form, Scope};
 use judging::{Comparison, Input, Request, Required, Wanted};
+use tpm_keys::{KeyPart, Purpose};
 
 /// JSON, or lines of text.
 pub(crate) fn form_of(json: bool) -> Form
@@ -90,5 +91,27 @@ pub(crate) fn registers_on(of_list: bool, bytes: &[u8]) -> Request<'_>
         Request::LogRegisters {
             log: Input::Bytes(bytes),
         }
+    }
+}
+
+/// All that is told of the key of this public area, if it is an endorsement key, or an attestation key.
+pub(crate) fn key_in(area: &[u8], endorsement: bool) -> Request<'_>
+    ensures { requested_of result ≡ requested_of_key area.now endorsement }
+{
+    Request::Key {
+        area: Input::Bytes(area),
+        purpose: purpose_of(endorsement),
+        part: KeyPart::All,
+    }
+}
+
+// What the key must be for.
+fn purpose_of(endorsement: bool) -> Purpose
+    ensures { result ≡ purpose_of endorsement }
+{
+    if endorsement {
+        Purpose::Endorsement
+    } else {
+        Purpose::Attestation
     }
 }

@@ -42,6 +42,7 @@ impl Told {
             FaultKind::Checkpoint => 6,
             FaultKind::Memory => 7,
             FaultKind::Quote => 8,
+            FaultKind::Key => 9,
             _ => return Told::with(size, 0, None, None),
         };
         Told::with(size, kind, head.number, head.place)

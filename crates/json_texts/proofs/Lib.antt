@@ -5,5 +5,6 @@ pub mod SameEntryLaws
 pub mod ValueLaws
 pub mod FaultMemberLaws
 pub mod AttestLaws
+pub mod KeyLaws
 pub mod SentLaws
 pub mod SentEventLaws

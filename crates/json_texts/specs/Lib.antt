@@ -7,4 +7,5 @@ pub mod ItemLines
 pub mod SentEntries
 pub mod SentEvents
 pub mod AttestJson
+pub mod KeyJson
 pub mod parts

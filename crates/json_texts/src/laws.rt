@@ -19,6 +19,9 @@ ghost use Rattle.boot_verdict.specs.Words.{unconfirmed_entry};
 ghost use Rattle.boot_verdict.specs.ListVerdicts.{ListVerdict};
 ghost use Rattle.boot_verdict.specs.Verdicts.{Verdict};
 ghost use Rattle.attestations.specs.Reports.{AttestVerdict};
+ghost use Rattle.tpm_keys.specs.declared.kinds.KeyPart.{KeyPart};
+ghost use Rattle.tpm_keys.specs.declared.report.KeyReport.{KeyReport};
+ghost use Rattle.tpm_keys.specs.Reports.{kind_bits};
 ghost use Rattle.json.specs.Find.{get};
 ghost use Rattle.json_texts.specs.declared.faults.FaultPlace.{FaultPlace};
 ghost use Rattle.json_texts.specs.JsonValues.{IsCount, IsOneLine, line_of, object_of};
@@ -26,6 +29,7 @@ ghost use Rattle.json_texts.specs.EntryJson.{HasBytes, IsKnown, entry_json, is_g
 ghost use Rattle.json_texts.specs.EventJson.{algorithms_json, event_json};
 ghost use Rattle.json_texts.specs.FaultJson.{fault_json, fault_members, number_at};
 ghost use Rattle.json_texts.specs.AttestJson.{IsCountedClock, IsCountedWhole, attest_json};
+ghost use Rattle.json_texts.specs.KeyJson.{key_json};
 ghost use Rattle.json_texts.specs.ReportJson.{AreCounted, IsCountedPosition, positions_json, expected_json, registers_json, prefix_report_json, list_report_json, report_json};
 
 use ima_list::EntryRef;
@@ -53,6 +57,7 @@ pub fn each_value_is_one_line()
         → IsCount report.verdict.events → IsCount report.verdict.locality → IsCount report.verdict.entries
         → IfSome report.prefix IsCountedWhole → AreCounted report.verdict.strays
         → AllByRecursion (λ row. IsCount row.expected.register) report.verdict.rows → IsOneLine (attest_json report) }
+    ensures key { (part : KeyPart) (report : KeyReport) → IsCount (kind_bits report.kind) → IsOneLine (key_json part report) }
     ensures positions { (required : Option (List BankRange)) (located : List Located)
         → AllByRecursion (λ row. IsCount row.expected.register × IsCountedPosition row.position) located
         → IsOneLine (positions_json required located) }
@@ -76,6 +81,7 @@ pub fn only_faults_have_a_fault()
     ensures list_report { (required : Option (List BankRange)) (verdict : ListVerdict)
         → get (codes "fault") (list_report_json required verdict) ≡ None }
     ensures attestation { (report : AttestVerdict) → get (codes "fault") (attest_json report) ≡ None }
+    ensures key { (part : KeyPart) (report : KeyReport) → get (codes "fault") (key_json part report) ≡ None }
     ensures positions { (required : Option (List BankRange)) (located : List Located)
         → get (codes "fault") (positions_json required located) ≡ None }
 {}

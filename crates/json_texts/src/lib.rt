@@ -1,4 +1,5 @@
-//! What this project tells, as lines of JSON (RFC 8259): reports, also by a quote, positions, registers, a log's events, a list's entries, and faults.
+//! What this project tells, as lines of JSON (RFC 8259): reports, also by a quote, positions, registers, a log's events, a list's entries, keys,
+//! and faults.
 //!
 //! Each value is an object on one line, in UTF-8. Its members have a fixed order. Numbers are JSON numbers; digests and data are strings
 //! of lower case hexadecimal digits. A line is appended to a vector of the caller's; [`send_entries`] sends the lines of a list to a sink,
@@ -11,6 +12,7 @@ mod entry_lines;
 mod event_lines;
 mod events;
 mod faults;
+mod keys;
 pub mod laws;
 mod lines;
 mod members;
@@ -25,6 +27,7 @@ pub use entry_lines::{EntriesFault, send_entries};
 pub use event_lines::{EventsFault, send_events};
 pub use events::{append_algorithms, append_event};
 pub use faults::{FaultPlace, FaultText, append_fault};
+pub use keys::append_key;
 pub use lines::Written;
 pub use positions::{append_positions, finds};
 pub use registers::{append_expected, append_registers};

@@ -1,5 +1,5 @@
 -- Attestations.
-use Rattle.std.proofs.Common.{◌≡◌, ◌⊎◌, List, Bool, true, false, Option, None, Some, Ok, Err, refl, sym, ◌∙◌, ap}
+use Rattle.std.proofs.Common.{◌≡◌, ◌⊎◌, List, Bool, true, false, Option, None, Some, Ok, Err, refl, sym, ◌∙◌, ap, inl, inr}
 use Rattle.std.specs.Prelude.{IfErr, IfOk, IfSome, IsSomeAnd, Result, is_some}
 use Rattle.std.proofs.lemmas.Bool.{both_ways, true≢false}
 use Rattle.boot_verdict.specs.declared.requirement.BankRange.{BankRange}
@@ -12,8 +12,8 @@ use Rattle.judging.specs.declared.request.Answered.{Answered}
 use Rattle.growing_lists.specs.declared.saved_state.SavedState.{SavedState}
 use Rattle.tpm_quotes.specs.Spelling.{TpmQuote}
 use Rattle.agent_inputs.specs.Loading.{Inputs}
-use Rattle.judging.specs.Answering.{AreTaken, IsCheckpointText, IsKnown, IsOfQuote, terms_with}
-use Rattle.judging.specs.Inputs.{OfInput, Where}
+use Rattle.judging.specs.Answering.{AreTaken, IsCheckpointText, IsKnown, IsNoCheckpoint, IsNotKnown, IsOfQuote, terms_with}
+use Rattle.judging.specs.Inputs.{IsInputFault, OfInput, Where}
 use Rattle.judging.specs.Requests.{Attested}
 
 -- What holds of an answer, or of a fault, so far as it is one.
@@ -39,6 +39,14 @@ not_taken asked ranges other taken spells refused =
     let same : other ≡ ranges = ranges_once asked.required other ranges taken.0.0 spells.0 in
     let none : policy_fault (terms_with asked ranges) ≡ None = rw same at taken.1 in
     both_ways (is_some (policy_fault (terms_with asked ranges))) (ap (λ (f : Option PolicyFault). is_some f) none) refused
+
+-- Why no state is read is why none of the quote's boot is known.
+pub not_known : (inputs : Inputs) (quote : TpmQuote) (resume : Option Where) (fault : RunFault)
+    → IsSomeAnd resume (λ place. IsInputFault inputs place fault ⊎ OfInput inputs place (λ text. IsNoCheckpoint text fault))
+    → IsNotKnown inputs quote resume fault
+not_known inputs quote None fault why = why
+not_known inputs quote (Some place) fault (inl input) = inl input
+not_known inputs quote (Some place) fault (inr text) = inr (inl text)
 
 -- If a state is not of the quote's boot, there is one.
 pub other_counts : (inputs : Inputs) (resume : Option Where) (state : Option SavedState) (quote : TpmQuote) → IsKnown inputs resume state

@@ -34,6 +34,10 @@ use Rattle.attestations.specs.Judging.{quote_refusal}
 use Rattle.attestations.specs.Policies.{Terms, policy_fault}
 use Rattle.attestations.specs.Quoted.{stated_by}
 use Rattle.attestations.specs.Reports.{AttestVerdict, attest_verdict_of, is_attested}
+use Rattle.tpm_keys.specs.declared.fault.KeyFault.{KeyFault}
+use Rattle.tpm_keys.specs.declared.kinds.Purpose.{Purpose}
+use Rattle.tpm_keys.specs.Reading.{key_fault}
+use Rattle.tpm_keys.specs.Reports.{IsKey}
 use Rattle.growing_lists.specs.declared.session.Session.{Session}
 use Rattle.growing_lists.specs.declared.saved_state.Boot.{Boot}
 use Rattle.growing_lists.specs.declared.saved_state.SavedState.{SavedState}
@@ -52,7 +56,7 @@ use Rattle.judging.specs.declared.request.Answer.{Answer}
 use Rattle.judging.specs.declared.request.Answer.TheVariants as answers
 use Rattle.judging.specs.declared.request.Judged.{Judged}
 use Rattle.judging.specs.declared.request.Judged.TheVariants as judged
-use Rattle.judging.specs.Requests.{Attested, Attests, Judgement, ListVerdictOf, PositionsOf, VerdictOf, Requested, Compared, Compares, ExpectedOf, ListRegistersOf, LogRegistersOf, Nothing, Requires, These, held_bytes, log_of, resume_of}
+use Rattle.judging.specs.Requests.{Attested, Attests, Judgement, ListVerdictOf, PositionsOf, VerdictOf, Requested, Compared, Compares, ExpectedOf, KeyOf, ListRegistersOf, LogRegistersOf, Nothing, Requires, These, held_bytes, log_of, resume_of}
 use Rattle.judging.specs.Inputs.{IsFaultAt, IsReadFailure, MayFail, OfInput, Where, held_in, limit_of, Holds, IsInputFault}
 use Rattle.pcr_banks.specs.declared.banks.Banks.{Banks}
 use Rattle.pcr_banks.specs.Registers.{IsReset, register_count, value_at}
@@ -560,6 +564,13 @@ IsNotPrintedWithin range text fault =
     ⊎ ((expected : List Expected) × IsPrintedText text expected × (those_within range expected ≡ []) × (fault ≡ runs.Expect NoRegister))
     ⊎ (fault ≡ runs.Memory)
 
+-- ---- keys
+
+-- Why the bytes are no key for this purpose: their first fault, or else the first thing that the key lacks; or memory ran out.
+abbrev pub IsNoKey : Purpose → List ℕ → RunFault → Type 0
+IsNoKey purpose content fault =
+    ((first : KeyFault) × (key_fault purpose content ≡ Some first) × (fault ≡ runs.Key first)) ⊎ (fault ≡ runs.Memory)
+
 -- ---- what is asked for
 
 -- All is well with an answer that compares nothing, and nobody goes on from it.
@@ -574,6 +585,7 @@ IsAlone inputs (ListRegistersOf list) (answers.Registers registers) =
     OfInput inputs list (λ content. AreListRegisters content registers.start registers.now)
 IsAlone inputs (ExpectedOf printed text) (answers.Expected expected range) =
     IsRequested text range × OfInput inputs printed (λ content. IsPrintedWithin range content expected.items)
+IsAlone inputs (KeyOf area purpose part) (answers.Key report shown) = (shown ≡ part) × OfInput inputs area (λ content. IsKey content purpose report)
 IsAlone inputs request answer = ⊥
 
 -- This is the answer to what is asked for. Where nothing is compared, all is well with any.
@@ -583,7 +595,7 @@ IsAnswer inputs (Compares compare) given = IsComparison inputs compare given
 IsAnswer inputs request given = (answer : Answer) × IsAlone inputs request answer × (given ≡ alone answer)
 
 -- Why there is no answer: an input was not loaded or read; the bytes are no log; the list is refused; the text spells no range, or the
--- other states no register within it, as tpm2-tools prints them; or memory ran out.
+-- other states no register within it, as tpm2-tools prints them; the bytes are no key for the purpose; or memory ran out.
 abbrev pub IsRefusal : Inputs → Requested → RunFault → Type 0
 IsRefusal inputs (Attests asked) fault = IsNoAttestation inputs asked fault
 IsRefusal inputs (Compares compare) fault = IsNoComparison inputs compare fault
@@ -594,3 +606,4 @@ IsRefusal inputs (ExpectedOf printed text) fault =
     IsRangeFault text fault
     ⊎ ((range : RegisterRange) × IsRequested text range
     × (IsInputFault inputs printed fault ⊎ OfInput inputs printed (λ content. IsNotPrintedWithin range content fault)))
+IsRefusal inputs (KeyOf area purpose part) fault = IsInputFault inputs area fault ⊎ OfInput inputs area (λ content. IsNoKey purpose content fault)

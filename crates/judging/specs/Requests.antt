@@ -1,6 +1,8 @@
 -- What is asked for: what is judged, and what the answer says of it.
 use Rattle.std.specs.Prelude.{ℕ, Bool, List, Option, None, Some, option_map}
 use Rattle.agent_plans.specs.declared.plan.Scope.{Scope}
+use Rattle.tpm_keys.specs.declared.kinds.KeyPart.{KeyPart}
+use Rattle.tpm_keys.specs.declared.kinds.Purpose.{Purpose}
 use Rattle.judging.specs.Inputs.{Where, FileOf, BytesOf}
 use Rattle.judging.specs.declared.inputs.Input.{Input}
 use Rattle.judging.specs.declared.inputs.Input.TheVariants as inputs
@@ -51,14 +53,16 @@ pub record Attested : Type 0 where
   pub scope : Scope
   pub resume : Option Where
 
--- What is asked for: whether a quote is of a log and a list; what a list is worth against expected registers; the registers after a log, or after a list alone; or the expected
--- registers that a text has, as tpm2-tools printed it, of those within the range that another text spells, if there is one.
+-- What is asked for: whether a quote is of a log and a list; what a list is worth against expected registers; the registers after a log, or after
+-- a list alone; the expected registers that a text has, as tpm2-tools printed it, of those within the range that another text spells, if there is
+-- one; or what is told of a key of a TPM, if it is one for this purpose, and what of that is wanted.
 pub data Requested : Type 0 where
   Attests : Attested → Requested
   Compares : Compared → Requested
   LogRegistersOf : Where → Requested
   ListRegistersOf : Where → Requested
   ExpectedOf : Where → Option (List ℕ) → Requested
+  KeyOf : Where → Purpose → KeyPart → Requested
 
 -- Where the log is, if there is one.
 abbrev pub log_of : Judgement → Option Where
@@ -120,3 +124,4 @@ requested_of (requests.Comparison comparison) = Compares (compared_of comparison
 requested_of (requests.LogRegisters log) = LogRegistersOf (place_of log)
 requested_of (requests.ListRegisters list) = ListRegistersOf (place_of list)
 requested_of (requests.Expected printed range) = ExpectedOf (place_of printed) (option_map (λ text. text.now) range)
+requested_of (requests.Key area purpose part) = KeyOf (place_of area) purpose part

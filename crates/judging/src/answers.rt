@@ -7,6 +7,7 @@ ghost use Rattle.judging.specs.Inputs.{Holds, IsInputFault, OfInput};
 
 use crate::attesting::attest;
 use crate::inputs::{Held, Input, limit_of, load_at, refusal};
+use crate::keys::told_of_key;
 use crate::printed_registers::printed_within;
 use crate::registers::{after_list, after_log};
 use crate::request::{Answer, Answered, Answering, Comparison, Request, Required, Wanted, weighed};
@@ -39,6 +40,11 @@ pub fn answer_request<F: AgentFiles>(
         Request::LogRegisters { log } => after_log(alloc, files, log),
         Request::ListRegisters { list } => after_list(alloc, files, list),
         Request::Expected { printed, range } => printed_within(alloc, files, printed, range),
+        Request::Key {
+            area,
+            purpose,
+            part,
+        } => told_of_key(alloc, files, area, purpose, part),
     }
 }
 

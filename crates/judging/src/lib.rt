@@ -4,6 +4,7 @@
 mod answers;
 mod attesting;
 mod inputs;
+mod keys;
 mod printed_registers;
 mod registers;
 mod request;

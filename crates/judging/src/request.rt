@@ -15,6 +15,7 @@ use boot_verdict::{
 };
 use growing_lists::{Boot, SavedState};
 use pcr_banks::Banks;
+use tpm_keys::{KeyPart, KeyReport, Purpose};
 
 /// What the answer is, with what only it is of.
 #[derive(Clone, Copy)]
@@ -110,6 +111,15 @@ pub enum Request<'a> {
         /// The text of the range of registers that are wanted, as `0-10`; none for all of them.
         range: Option<&'a [u8]>,
     },
+    /// What is told of a key of a TPM, if it is one for a purpose.
+    Key {
+        /// Its public area.
+        area: Input<'a>,
+        /// What it must be for.
+        purpose: Purpose,
+        /// What is wanted of it.
+        part: KeyPart,
+    },
 }
 
 /// What is answered.
@@ -133,6 +143,13 @@ pub enum Answer {
         expected: Vec<Expected>,
         /// The range of those that are wanted; at least one is within it.
         range: RegisterRange,
+    },
+    /// What is told of a key.
+    Key {
+        /// All that is told.
+        report: KeyReport,
+        /// What of it is wanted.
+        part: KeyPart,
     },
 }
 
@@ -236,7 +253,7 @@ fn is_well(required: Required<'_>, ranges: Option<&Requirement>, answer: &Answer
         (Answer::ListReport(report), None) => report.matches(),
         (Answer::ListReport(report), Some(requirement)) => report.meets(requirement),
         (Answer::Attestation(report), _) => report.is_signed && report.is_attested(),
-        (Answer::Registers(_) | Answer::Expected { .. }, _) => true,
+        (Answer::Registers(_) | Answer::Expected { .. } | Answer::Key { .. }, _) => true,
     }
 }
 

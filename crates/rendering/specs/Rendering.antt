@@ -12,12 +12,14 @@ use Rattle.verdict_texts.specs.RequiredTexts.{required_positions_text, required_
 use Rattle.boot_verdict.specs.Verdicts.{verdict_of}
 use Rattle.boot_verdict.specs.WrittenTexts.{expected_text}
 use Rattle.verdict_texts.specs.PrefixTexts.{prefix_report_text, required_prefix_report_text}
+use Rattle.tpm_keys.specs.Reports.{key_text}
 use Rattle.json.specs.Json.{Json}
 use Rattle.json_texts.specs.AttestJson.{attest_json}
 use Rattle.json_texts.specs.JsonValues.{line_of}
+use Rattle.json_texts.specs.KeyJson.{key_json}
 use Rattle.json_texts.specs.ReportJson.{positions_json, expected_json, registers_json, prefix_report_json, list_report_json, report_json}
 use Rattle.judging.specs.declared.request.Answer.{Answer}
-use Rattle.judging.specs.declared.request.Answer.TheVariants.{Attestation, Report, Prefix, Positions, ListReport, Registers, Expected}
+use Rattle.judging.specs.declared.request.Answer.TheVariants.{Attestation, Report, Prefix, Positions, ListReport, Registers, Expected, Key}
 use Rattle.judging.specs.declared.request.Answered.{Answered}
 use Rattle.agent_plans.specs.declared.plan.Form.{Form}
 use Rattle.agent_plans.specs.declared.plan.Form.TheVariants as forms
@@ -49,6 +51,7 @@ lines_of well None (ListReport report) = list_report_text (list_verdict_of repor
 lines_of well (Some ranges) (ListReport report) = required_list_report_text ranges (list_verdict_of report)
 lines_of well required (Registers registers) = registers_text registers.now registers.start
 lines_of well required (Expected expected range) = expected_text range expected.items
+lines_of well required (Key report part) = key_text part report
 
 -- An answer as JSON.
 abbrev pub json_of : Bool → Option (List BankRange) → Answer → Json
@@ -59,6 +62,7 @@ json_of well required (Positions positions) = positions_json required positions.
 json_of well required (ListReport report) = list_report_json required (list_verdict_of report)
 json_of well required (Registers registers) = registers_json registers.now registers.start
 json_of well required (Expected expected range) = expected_json range expected.items
+json_of well required (Key report part) = key_json part report
 
 -- The answer in this form.
 abbrev pub render : Form → Answered → List ℕ

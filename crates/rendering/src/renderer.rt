@@ -10,11 +10,12 @@ use agent_plans::Form;
 use boot_verdict::{Report, write_expected, write_registers};
 use byte_streams::{Failed, Sink, VecSink};
 use json_texts::{
-    append_attestation, append_expected, append_list_report, append_positions,
+    append_attestation, append_expected, append_key, append_list_report, append_positions,
     append_prefix_report, append_registers, append_report,
 };
 use judging::{Answer, Answered};
 use std::alloc::{AllocError, Global};
+use tpm_keys::write_key;
 use verdict_texts::{
     write_attestation, write_counts, write_list_report, write_outcome, write_positions,
     write_prefix_report, write_required_list_report, write_required_positions,
@@ -104,6 +105,7 @@ fn write_lines<S: Sink>(given: &Answered, sink: &mut S) -> Result<(), Failed>
         (Answer::ListReport(list), Some(ranges)) => write_required_list_report(list, ranges, sink),
         (Answer::Registers(banks), _) => write_registers(&banks.now, &banks.start, sink),
         (Answer::Expected { expected, range }, _) => write_expected(expected, *range, sink),
+        (Answer::Key { report, part }, _) => write_key(report, *part, sink),
     }
 }
 
@@ -138,5 +140,6 @@ fn append_line(alloc: Global, given: &Answered, line: &mut Vec<u8>) -> Result<()
         Answer::ListReport(report) => append_list_report(alloc, report, requirement, line),
         Answer::Registers(banks) => append_registers(alloc, &banks.now, &banks.start, line),
         Answer::Expected { expected, range } => append_expected(alloc, expected, *range, line),
+        Answer::Key { report, part } => append_key(alloc, report, *part, line),
     }
 }

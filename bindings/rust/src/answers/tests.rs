@@ -4,7 +4,8 @@ use super::{Answer, Checkpoint};
 use crate::library::{ask, entries as list_entries, log_registers, zeros, Position, Told};
 use crate::library::{DIFFERS, DONE, MORE, OUT_OF_MEMORY, REFUSED, ROOM, TOO_SHORT};
 use crate::lines::{Lines, Source};
-use crate::{Algorithm, Attestation, BootAggregate, Clock, Content, Entry, Error, Event, File, Kind, LogAlgorithm, Place, Stray};
+use crate::{Algorithm, Attestation, BootAggregate, Clock, Content, Entry, Error, Event, File, Key, KeyType, Kind, LogAlgorithm};
+use crate::{Place, Scheme, Stray};
 use ima_verify_sys as c;
 use std::collections::VecDeque;
 
@@ -866,6 +867,7 @@ fn refusals_are_what_is_reported() {
         ("refused: expected fault 6", fault(c::IMA_VERIFY_EXPECTED, 6, None), Kind::Expected, 6, None),
         ("refused: checkpoint fault 3", fault(c::IMA_VERIFY_CHECKPOINT, 3, None), Kind::Checkpoint, 3, None),
         ("refused: quote fault 11", fault(c::IMA_VERIFY_QUOTE, 11, None), Kind::Quote, 11, None),
+        ("refused: key fault 22", fault(c::IMA_VERIFY_KEY, 22, None), Kind::Key, 22, None),
         ("refused: list fault 1", fault(c::IMA_VERIFY_LIST, 1, Some(u64::MAX - 1)), Kind::List, 1, Some(u64::MAX - 1)),
         ("refused: command line", fault(c::IMA_VERIFY_ARGUMENT, 0, None), Kind::Argument, 0, None),
         // (kind, number and place are not those that the line spells, but those that are reported)
@@ -913,9 +915,9 @@ fn wrong_refusals_are_no_refusals() {
 
 #[test]
 fn reported_error_is_of_the_result() {
-    for kind in 0..10 {
+    for kind in 0..11 {
         let told = |text: &str| Told { size: text.len(), ..fault(kind, 1, Some(2)) };
-        let is_input = (c::IMA_VERIFY_ARGUMENT..=c::IMA_VERIFY_CHECKPOINT).contains(&kind) || kind == c::IMA_VERIFY_QUOTE;
+        let is_input = (c::IMA_VERIFY_ARGUMENT..=c::IMA_VERIFY_KEY).contains(&kind) && kind != c::IMA_VERIFY_MEMORY;
         let refusal = answered_with(REFUSED, LIST_FAULT, told(LIST_FAULT)).unwrap_err();
         assert_eq!(matches!(refusal, Error::Refused { number: 1, place: Some(2), .. }), is_input, "{kind}");
         assert_eq!(matches!(refusal, Error::Unexpected { .. }), !is_input, "{kind}");
@@ -1025,4 +1027,74 @@ fn text_that_is_cut_is_none() {
         });
         assert!(is_unexpected(found), "{result}");
     }
+}
+
+const SIGNING: &str = r#""scheme":"rsassa","hash":"sha256""#;
+
+fn pem_digits() -> String {
+    format!("{}\\nAAA=", "A".repeat(64))
+}
+
+fn key_name() -> String {
+    format!("000b{}", "a".repeat(64))
+}
+
+fn rsa_line() -> String {
+    let (name, pem) = (key_name(), pem_digits());
+    let front = format!(r#"{{"name":"{name}","type":"rsa","bits":2048,{SIGNING},"pem":"-----BEGIN PUBLIC KEY-----\n{pem}"#);
+    format!("{front}\\n-----END PUBLIC KEY-----\\n\"}}\n")
+}
+
+fn curve_line() -> String {
+    rsa_line().replace(r#""rsa","bits":2048,"scheme":"rsassa""#, r#""ecc","bits":521,"scheme":"ecdsa""#)
+}
+
+#[test]
+fn right_answers_are_keys() {
+    let pem = format!("-----BEGIN PUBLIC KEY-----\n{}\n-----END PUBLIC KEY-----\n", pem_digits().replace("\\n", "\n"));
+    for is_endorsement in [false, true] {
+        let name = [&[0, 0x0b][..], &[0xaa; 32]].concat();
+        let (key_type, scheme, hash) = (KeyType::Rsa, Scheme::Rsassa, Some(Algorithm::Sha256));
+        let wanted = Key { name, key_type, bits: 2048, scheme, hash, pem: pem.clone() };
+        assert_eq!(answer(DONE, rsa_line()).key(is_endorsement).unwrap(), wanted);
+        assert_eq!(answer(DONE, rsa_line().replacen('{', r#"{"more":1,"#, 1)).key(is_endorsement).unwrap(), wanted);
+        assert_eq!(answer(DONE, curve_line()).key(is_endorsement).unwrap().bits, 521);
+        for (hash, size) in [("000c", 48), ("000d", 64)] {
+            let line = rsa_line().replace(&key_name(), &format!("{hash}{}", "aa".repeat(size)));
+            assert_eq!(answer(DONE, line).key(is_endorsement).unwrap().name.len(), 2 + size);
+        }
+    }
+    let decrypting = answer(DONE, rsa_line().replace(SIGNING, r#""scheme":"none""#)).key(true).unwrap();
+    assert_eq!((decrypting.scheme, decrypting.hash), (Scheme::None, None));
+    assert!(answer(DONE, rsa_line().replace("sha256", "sha1")).key(true).is_ok());
+}
+
+#[test]
+fn wrong_answers_are_no_keys() {
+    for is_endorsement in [false, true] {
+        let (read, line, name) = (|answer: Answer| answer.key(is_endorsement), rsa_line(), key_name());
+        #[rustfmt::skip]
+        let changes = [
+            ("}\n", "}"), (r#""name""#, r#""names""#), ("000b", "0004"), ("000b", "0b"), ("000b", "000c"), ("aa", "AA"), ("aa", ""),
+            (&name, ""), (&name, "000b"), (r#""rsa""#, r#""ecc""#), (r#""rsa""#, r#""dsa""#), (r#""rsa""#, "1"), ("2048", "2047"),
+            ("2048", "2040"), ("2048", "-2048"), ("2048", r#""2048""#), ("2048", "2048.5"), ("2048", "65536"), ("2048", "521"),
+            (r#""rsassa""#, r#""ecdsa""#), (r#""rsassa""#, r#""none""#), (r#""rsassa""#, r#""x""#), (r#""rsassa""#, "null"),
+            (r#""sha256""#, r#""md5""#), (r#""sha256""#, "null"), (r#""hash":"sha256","#, ""), ("-----BEGIN", "----BEGIN"),
+            ("PUBLIC", "PRIVATE"), ("-----\\n\"", "-----\""), ("AAA=", "AA.="), ("\\nAAA=", "AAA="), (r#""pem""#, r#""key""#),
+            ("{", r#"{"fault":null,"#), ("{", r#"{"fault":{"kind":"key","number":1,"message":"refused: key fault 1"},"#),
+            (&line, ""), (&line, "name 000b\n"),
+        ];
+        check_changes(read, DONE, &line, &changes);
+        let changes = [("521", "520"), ("521", "2048"), (r#""ecc""#, r#""rsa""#), (r#""ecdsa""#, r#""rsassa""#)];
+        check_changes(read, DONE, &curve_line(), &changes);
+        assert!(is_unexpected(read(answer(DIFFERS, rsa_line()))) && is_unexpected(read(answer(MORE, rsa_line()))));
+    }
+}
+
+#[test]
+fn key_that_does_not_sign_well_is_no_attestation_key() {
+    let changes =
+        [("sha256", "sha1"), (r#""rsassa""#, r#""oaep""#), (SIGNING, r#""scheme":"none""#), (SIGNING, r#""scheme":"rsaes""#)];
+    check_changes(|answer| answer.key(false), DONE, &rsa_line(), &changes);
+    check_changes(|answer| answer.key(false), DONE, &curve_line(), &[("ecdsa", "ecdh")]);
 }

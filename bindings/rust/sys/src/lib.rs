@@ -43,6 +43,8 @@ pub const IMA_VERIFY_CHECKPOINT: u32 = 6;
 pub const IMA_VERIFY_MEMORY: u32 = 7;
 /// The message of a quote.
 pub const IMA_VERIFY_QUOTE: u32 = 8;
+/// The public area of a key.
+pub const IMA_VERIFY_KEY: u32 = 9;
 
 /// The place of an error that names none.
 pub const IMA_VERIFY_NO_PLACE: u64 = u64::MAX;
@@ -178,6 +180,17 @@ extern "C" {
         bytes: *const u8,
         size: usize,
         of_list: bool,
+        json: bool,
+        out: *mut u8,
+        room: usize,
+        told: *mut ima_verify_told,
+    ) -> i32;
+
+    /// The key of a public area, for attestation or as an endorsement key.
+    pub fn ima_verify_raw_key(
+        area: *const u8,
+        area_size: usize,
+        endorsement: bool,
         json: bool,
         out: *mut u8,
         room: usize,

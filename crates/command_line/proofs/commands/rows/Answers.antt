@@ -2,7 +2,7 @@ use Rattle.std.proofs.Common.{refl}
 use Rattle.clap.specs.declared.builder.ValueParser.TheVariants.{Names, Unsigned}
 use Rattle.command_line.proofs.commands.rows.Goals as goal
 
--- The rows in the code are the rows of the definition, with these parsers. That of `--print` has no name here, since it refers to
+-- The rows in the code are the rows of the definition, with these parsers. Those of `--print` have no name here, since they refer to
 -- texts in a static.
 pub returns : goal.returns
 returns c = λ known. (
@@ -12,6 +12,7 @@ returns c = λ known. (
     workers = Unsigned 1 8;
     limit = Unsigned 1 4294967295;
     prints = _;
+    parts = _;
   },
   refl,
 )

@@ -10,6 +10,7 @@ use Rattle.json_texts.specs.JsonValues.{IsCount, optional}
 use Rattle.json_texts.specs.ReportJson.{IsCountedPosition, position_members, changed_register, value_within, stray_members, unconfirmed_members}
 use Rattle.json_texts.proofs.AttestLaws.{attest_line}
 use Rattle.json_texts.proofs.EntryLaws.{entry_line}
+use Rattle.json_texts.proofs.KeyLaws.{key_line}
 use Rattle.json_texts.proofs.LineLaws.{members_joined, one_line}
 use Rattle.json_texts.proofs.ValueLaws.{algorithm_plain, change_plain, digests_plain, each_plain, mapped_plain, of_each_register, position_plain, report_plain, rows_plain, strays_plain, text_plain, told_plain, unconfirmed_plain, within_plain}
 use Rattle.json_texts.proofs.laws.each_value_is_one_line.Goals as goal
@@ -53,6 +54,7 @@ returns c = record {
       let told = members_joined 2 (stray_members required verdict.strays) _ (strays_plain required verdict.strays strays) (tt, tt) in
       one_line _ ((verdict.entries, entries, refl), (report_plain required verdict.rows rows, told));
   attestation = attest_line;
+  key = key_line;
   positions = λ required located fit.
       let rows = rows_plain (λ row. IsCount row.expected.register × IsCountedPosition row.position) (codes "place") (λ row. row.expected)
       (λ row. position_members row.position) (λ row is. (is.0, position_plain row.position is.1)) required located fit in
