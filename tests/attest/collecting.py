@@ -268,7 +268,7 @@ class Collected(CollectTests):
         self.must("the session ends", "tpm2_flushcontext", "others.session")
 
     def test_unreachable(self):
-        """No TPM, and one that is locked."""
+        """No TPM; one that answers, and quotes in the same call; and one that is locked."""
         self.check_failed("no TPM", self.make(WITH_NONCE, TPM2TOOLS_TCTI="swtpm:host=127.0.0.1,port=1"), "no TPM 2.0 answers")
         ended = self.make("ima-collect --enroll --handle 0x81010009 made", TPM2TOOLS_TCTI="device:/dev/none")
         self.check_failed("no TPM for a key", ended, "no TPM 2.0 answers")
@@ -277,6 +277,14 @@ class Collected(CollectTests):
         name = self.home.joinpath("name").read_bytes().hex()
         self.home.joinpath("secret").write_bytes(bytes(32))
         self.must("a credential", "tpm2_makecredential", "-T", "none", "-u", "EK.pub", "-s", "secret", "-n", name, "-o", "credential")
+        self.check_made("an answer", self.make("ima-collect --credential credential made"), ["answer"])
+        self.check("the answer", self.home.joinpath("made/answer").read_bytes(), bytes(32))
+        for words in (f"--nonce {NONCE} --credential credential", f"--handle {HANDLE} --credential credential --nonce {NONCE}"):
+            block = f"ima-collect {words} made"
+            self.check_made("an answer and a quote", self.make(block), ["answer", *QUOTED])
+            self.check("the answer beside a quote", self.home.joinpath("made/answer").read_bytes(), bytes(32))
+            message = self.home.joinpath("made/quote.msg").read_bytes()
+            self.check("the quote beside an answer", bytes.fromhex(NONCE) in message)
         self.must("a lock", "tpm2_dictionarylockout", "-s", "-n", "1", "-t", "10000", "-l", "10000")
         self.must("a parent", "tpm2_createprimary", "-C", "o", "-c", "parent.ctx")
         self.must("a key with a password", "tpm2_create", "-C", "parent.ctx", "-p", "right", "-G", "rsa", "-c", "child.ctx")
@@ -294,7 +302,7 @@ class CollectCalls(AttestTests):
         for title, words in (
             ("no arguments", []), ("no folder", ["--enroll"]), ("an empty folder", [""]), ("two folders", ["a", "b"]),
             ("an unknown option", ["-x", "a"]), ("a key twice", ["--enroll", "--enroll", "a"]),
-            ("a key and a quote", ["--enroll", "--nonce", NONCE, "a"]), ("a quote and a credential", ["--nonce", NONCE, "--credential", "b", "a"]),
+            ("a key and a quote", ["--enroll", "--nonce", NONCE, "a"]), ("a key and an answer", ["--enroll", "--credential", "b", "a"]),
             ("a nonce twice", ["--nonce", NONCE, "--nonce", NONCE, "a"]), ("a value for --enroll", ["--enroll=1", "a"]),
             ("a short nonce", ["--nonce", "00" * 15, "a"]), ("a long nonce", ["--nonce", "00" * 65, "a"]),
             ("half a byte", ["--nonce", "0" * 33, "a"]), ("a nonce that is none", ["--nonce", "g" * 40, "a"]),
