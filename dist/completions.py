@@ -9,7 +9,7 @@ from pathlib import Path
 from help import read_program
 
 # What the help calls the value of an option that names a file.
-FILE_VALUES = ("FILE", "NAME")
+FILE_VALUES = ("FILE", "NAME", "EXPECTED")
 
 BASH = """\
 # What bash completes after ima-agent.

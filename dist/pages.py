@@ -12,7 +12,7 @@ from pathlib import Path
 
 ROOT = Path(__file__).resolve().parent.parent
 DOCS, SAMPLES = "share/doc/ima-agent", "share/ima-agent/samples"
-PAGES = ("guide.md", "formats.md", "trust.md", "trust.svg")
+PAGES = ("guide.md", "investigate.md", "formats.md", "trust.md", "trust.svg")
 FLEET_PAGE, FLEET = "fleet.md", "share/ima-agent/python/fleet_verify-*.whl"
 
 LINK = re.compile(r"(!?)\[((?:[^][]|\[[^][]*\])*)\]\(([^()\s]+)\)")

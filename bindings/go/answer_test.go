@@ -1,6 +1,7 @@
 package imaverify
 
 import (
+	"encoding/json"
 	"errors"
 	"fmt"
 	"math"
@@ -43,7 +44,7 @@ var (
 	otherLine = `{"entry":1,"register":10,"template_hex":"ff0a","template_digest":"` + strings.Repeat("0", 40) +
 		`","violation":true,"genuine":true,"payload":"00"}` + "\n"
 	eventLine = `{"event":1,"register":0,"type":"EV_SEPARATOR","type_number":4,"digests":{"sha1":"` + strings.Repeat("a", 40) +
-		`"},"data":"00"}` + "\n"
+		`"},"data":"00","measured":{"sha1":"data"},"content":{"unknown":true}}` + "\n"
 )
 
 // The errors whose lines these are.
@@ -423,8 +424,8 @@ func TestEntryThatContradictsItselfIsNone(t *testing.T) {
 func TestEntriesAreRead(t *testing.T) {
 	digest := []byte(strings.Repeat("\xaa", 20))
 	wanted := []Entry{
-		{0, 10, "ima-sig", []byte(strings.Repeat("\x11", 20)), false, true, &File{AlgorithmSHA1, digest, "/a", []byte{}}, nil},
-		{1, 10, "\xff\n", make([]byte, 20), true, true, nil, []byte{0}},
+		{0, 10, "ima-sig", []byte(strings.Repeat("\x11", 20)), false, true, &File{AlgorithmSHA1, digest, "/a", []byte{}}, nil, nil},
+		{1, 10, "\xff\n", make([]byte, 20), true, true, nil, []byte{0}, nil},
 	}
 	for _, pieces := range [][]answer{{of(done, entryLine+otherLine)}, {of(moreLines, entryLine), of(done, otherLine)}} {
 		found, err := entriesOf(pieces...)
@@ -436,12 +437,14 @@ func TestEntriesAreRead(t *testing.T) {
 
 func TestEventsAreRead(t *testing.T) {
 	digests := map[Algorithm][]byte{AlgorithmSHA1: []byte(strings.Repeat("\xaa", 20))}
+	measured, content := map[Algorithm]Part{AlgorithmSHA1: PartData}, json.RawMessage(`{"unknown":true}`)
+	event := Event{1, 0, "EV_SEPARATOR", 4, digests, []byte{0}, measured, content}
 	for _, pieces := range [][]answer{{of(done, algorithms+eventLine)}, {of(moreLines, algorithms), of(done, eventLine)}} {
 		events, err := eventsOf(linesOf(false, scripted(pieces)))
 		equal(t, err, nil)
 		equal(t, events.Algorithms(), []LogAlgorithm{{"", 18, 1}, {"sha1", 4, 20}})
 		found, err := drainedEvents(events, nil)
-		equal(t, []interface{}{found, err}, []interface{}{[]Event{{1, 0, "EV_SEPARATOR", 4, digests, []byte{0}}}, nil})
+		equal(t, []interface{}{found, err}, []interface{}{[]Event{event}, nil})
 	}
 	found, err := eventsIn(of(done, algorithms+strings.Replace(eventLine, `"type":"EV_SEPARATOR",`, "", 1)))
 	equal(t, []interface{}{found[0].Type, err}, []interface{}{"", nil})
@@ -570,6 +573,10 @@ func TestWrongAnswersAreNoEvents(t *testing.T) {
 		{`[`, `[1,`}, {`[`, `[null,`}, {`"event":1`, `"event":0`}, {`"event":1`, `"event":2`}, {`"event":1,`, ``},
 		{`"register":0`, `"register":4294967296`}, {`"EV_SEPARATOR"`, `4`}, {`"type_number":4,`, ``}, {`"digests":`, `"digest":`},
 		{`{"sha1":`, `{"sm3":`}, {`aa`, `a`}, {`"aa`, `"`}, {`,"data":"00"`, ``}, {`"data":"00"`, `"data":"0"`}, {`{"sha1":"a`, `null,"x":{"sha1":"a`},
+		{`"measured":{"sha1":"data"},`, ``}, {`{"sha1":"data"}`, `{"sha256":"data"}`}, {`"sha1":"data"`, `"sha1":"value"`},
+		{`"sha1":"data"`, `"sha1":"command"`}, {`"sha1":"data"`, `"sha1":"none"`}, {`"measured":{"sha1":"data"}`, `"measured":[]`},
+		{`,"content":{"unknown":true}`, ``}, {`{"unknown":true}`, `{}`}, {`{"unknown":true}`, `{"unknown":true,"text":""}`},
+		{`{"unknown":true}`, `true`},
 	})
 }
 

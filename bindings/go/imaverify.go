@@ -19,6 +19,7 @@
 package imaverify
 
 import (
+	"encoding/json"
 	"errors"
 	"fmt"
 )
@@ -326,7 +327,8 @@ func (u *UnexpectedError) Error() string {
 // Entry is one of a measurement list; entries count from 0.
 //
 // If the payload has the fields of its template, File has them, and Payload is nil. Otherwise File is nil, and Payload is the
-// whole. An entry is Genuine if its template digest is valid, or if it is a Violation, whose file's digest may be anything.
+// whole; and if it is the fields of another of the kernel's templates, Fields is an object of JSON with what they say (docs/formats.md
+// names the members). An entry is Genuine if its template digest is valid, or if it is a Violation, whose file's digest may be anything.
 // Template may be any bytes.
 type Entry struct {
 	Number         uint64
@@ -337,6 +339,7 @@ type Entry struct {
 	Genuine        bool
 	File           *File
 	Payload        []byte
+	Fields         json.RawMessage
 }
 
 // File is what an entry says of a file. Path may be any bytes without a NUL. Signature is nil unless the template is ima-sig, and
@@ -351,6 +354,10 @@ type File struct {
 // Event is one of a firmware event log; events count from 1. Register is the PCR that it names: one of the type EV_NO_ACTION extends
 // none, whatever digests it states, so no PCR confirms it. Type is the name of the type, or empty if it has none. Digests has those of
 // the log's banks.
+//
+// Measured has the part of the data whose hash is the digest, for each bank of which there is one; what is not measured is only what
+// the log claims, and so is the type. Content is what the data says, by the type: an object of JSON with one member, named by the form
+// ("text", "variable", "image", ..; docs/formats.md has them), which is "unknown" if the data has no form that the library knows.
 type Event struct {
 	Number     uint64
 	Register   uint32
@@ -358,7 +365,20 @@ type Event struct {
 	TypeNumber uint32
 	Digests    map[Algorithm][]byte
 	Data       []byte
+	Measured   map[Algorithm]Part
+	Content    json.RawMessage
 }
+
+// Part is a part of an event's data. If a PCR has the value that the log gives it, a part that is measured was hashed at the event's
+// place in the PCR.
+type Part string
+
+// The parts of an event's data.
+const (
+	PartData    Part = "data"    // all of it
+	PartValue   Part = "value"   // the value of a variable, in PCR 1; its name and its vendor are only claimed
+	PartCommand Part = "command" // the text of a command of GRUB, in PCR 8; its kind is only claimed
+)
 
 // LogAlgorithm is an algorithm of a log's header. Name is empty if it is unknown here; Size is that of its digests, in bytes.
 type LogAlgorithm struct {

@@ -211,6 +211,10 @@ func (r *reader) entry(o object, number uint64) Entry {
 	r.require(e.Violation == bytes.Equal(e.TemplateDigest, make([]byte, digestSizes[AlgorithmSHA1])) && (e.Genuine || !e.Violation))
 	if has(o, "payload") {
 		e.Payload = r.bytes(o, "payload")
+		if has(o, "fields") {
+			r.require(member[object](r, o, "fields") != nil)
+			e.Fields = o["fields"]
+		}
 		return e
 	}
 	algorithm := r.algorithm(o, "algorithm")
@@ -273,7 +277,7 @@ func (r *reader) algorithms(o object, _ uint64) []LogAlgorithm {
 
 func (r *reader) event(o object, number uint64) Event {
 	e := Event{Number: number, Register: uint32(r.number(o, "register", math.MaxUint32)), Digests: map[Algorithm][]byte{},
-		TypeNumber: uint32(r.number(o, "type_number", math.MaxUint32)), Data: r.bytes(o, "data")}
+		Measured: map[Algorithm]Part{}, TypeNumber: uint32(r.number(o, "type_number", math.MaxUint32)), Data: r.bytes(o, "data")}
 	r.require(r.number(o, "event", math.MaxUint64) == number)
 	if has(o, "type") {
 		e.Type = member[string](r, o, "type")
@@ -284,5 +288,13 @@ func (r *reader) event(o object, number uint64) Event {
 		r.require(digestSizes[algorithm] != 0)
 		e.Digests[algorithm] = r.digest(digests, name, algorithm)
 	}
+	measured := member[object](r, o, "measured")
+	for name := range measured {
+		part := oneOf(r, measured, name, PartData, PartValue, PartCommand)
+		r.require(has(digests, name) && (part != PartValue || e.Register == 1) && (part != PartCommand || e.Register == 8))
+		e.Measured[Algorithm(name)] = part
+	}
+	r.require(len(member[object](r, o, "content")) == 1)
+	e.Content = o["content"]
 	return e
 }

@@ -5,6 +5,7 @@ import (
 	"crypto/sha1"
 	"crypto/sha256"
 	"encoding/binary"
+	"encoding/json"
 	"fmt"
 	"strings"
 	"testing"
@@ -71,10 +72,10 @@ func TestTemplatesThatAreKnownHaveFiles(t *testing.T) {
 	list := joined(entryOf("ima-ng", first), entryOf("ima-sig", second), entryOf("ima-sig", third),
 		entryWith("ima", joined(ones, withLength([]byte("/w"))), covered))
 	equal(t, entriesIn(t, list), []Entry{
-		{0, 10, "ima-ng", digestOf(first), false, true, &File{AlgorithmSHA512, sha512, "/x", nil}, nil},
-		{1, 10, "ima-sig", digestOf(second), false, true, &File{AlgorithmSHA1, ones, "/y", []byte{3, 0, 0xff}}, nil},
-		{2, 10, "ima-sig", digestOf(third), false, true, &File{AlgorithmSHA1, ones, "/z", []byte{}}, nil},
-		{3, 10, "ima", covered, false, true, &File{AlgorithmSHA1, ones, "/w", nil}, nil},
+		{0, 10, "ima-ng", digestOf(first), false, true, &File{AlgorithmSHA512, sha512, "/x", nil}, nil, nil},
+		{1, 10, "ima-sig", digestOf(second), false, true, &File{AlgorithmSHA1, ones, "/y", []byte{3, 0, 0xff}}, nil, nil},
+		{2, 10, "ima-sig", digestOf(third), false, true, &File{AlgorithmSHA1, ones, "/z", []byte{}}, nil, nil},
+		{3, 10, "ima", covered, false, true, &File{AlgorithmSHA1, ones, "/w", nil}, nil, nil},
 	})
 }
 
@@ -82,11 +83,20 @@ func TestTemplatesThatAreKnownHaveFiles(t *testing.T) {
 func TestOtherAndRenamedTemplatesHaveTheirPayloadsWhole(t *testing.T) {
 	payload := joined(ng("sha1", ones, "/x"), withLength([]byte{3}))
 	for _, template := range []string{"ima-ng", "ima-modsig", "ima-sig\x00", "ima\x00", "", "\xff\n", "\xed\xa0\x80", "ima-sig\n", `"`, "\u00e9"} {
-		equal(t, entriesIn(t, entryOf(template, payload)), []Entry{{0, 10, template, digestOf(payload), false, true, nil, payload}})
+		equal(t, entriesIn(t, entryOf(template, payload)), []Entry{{0, 10, template, digestOf(payload), false, true, nil, payload, nil}})
 	}
 	for _, payload := range [][]byte{{}, payload[:10], joined(payload, []byte("x")), ng("md5", make([]byte, 16), "/x"), ng("sha256", ones, "/x"),
 		ng("sha1", ones, "/\x00x")} {
-		equal(t, entriesIn(t, entryOf("ima-ng", payload)), []Entry{{0, 10, "ima-ng", digestOf(payload), false, true, nil, payload}})
+		equal(t, entriesIn(t, entryOf("ima-ng", payload)), []Entry{{0, 10, "ima-ng", digestOf(payload), false, true, nil, payload, nil}})
+	}
+}
+
+func TestFieldsOfOtherTemplatesAreTold(t *testing.T) {
+	payload := joined(withLength(joined([]byte("verity:sha1:\x00"), ones)), withLength([]byte("/x\x00")))
+	told := json.RawMessage(`{"digest_type":"verity","algorithm":"sha1","digest":"` + fmt.Sprintf("%x", ones) + `","path":"/x"}`)
+	equal(t, entriesIn(t, entryOf("ima-ngv2", payload)), []Entry{{0, 10, "ima-ngv2", digestOf(payload), false, true, nil, payload, told}})
+	for _, wrong := range [][]byte{payload[1:], joined(payload, []byte{0}), ng("sha1", ones, "/x")} {
+		equal(t, entriesIn(t, entryOf("ima-ngv2", wrong)), []Entry{{0, 10, "ima-ngv2", digestOf(wrong), false, true, nil, wrong, nil}})
 	}
 }
 
@@ -94,15 +104,15 @@ func TestViolationMayHaveADigest(t *testing.T) {
 	known := sha256.Sum256([]byte("abc"))
 	list := joined(entryWith("ima-ng", ng("sha256", known[:], "/x"), zeros), entryWith("ima-new", []byte{1}, zeros))
 	equal(t, entriesIn(t, list), []Entry{
-		{0, 10, "ima-ng", zeros, true, true, &File{AlgorithmSHA256, known[:], "/x", nil}, nil},
-		{1, 10, "ima-new", zeros, true, true, nil, []byte{1}},
+		{0, 10, "ima-ng", zeros, true, true, &File{AlgorithmSHA256, known[:], "/x", nil}, nil, nil},
+		{1, 10, "ima-new", zeros, true, true, nil, []byte{1}, nil},
 	})
 }
 
 func TestForgedEntriesAreNotGenuine(t *testing.T) {
 	forged := bytes.Repeat([]byte{5}, 20)
 	equal(t, entriesIn(t, entryWith("ima-ng", ng("sha1", ones, "/x"), forged)),
-		[]Entry{{0, 10, "ima-ng", forged, false, false, &File{AlgorithmSHA1, ones, "/x", nil}, nil}})
+		[]Entry{{0, 10, "ima-ng", forged, false, false, &File{AlgorithmSHA1, ones, "/x", nil}, nil, nil}})
 	for k, e := range entriesIn(t, changed) {
 		equal(t, e.Genuine, k != 5)
 	}
@@ -158,7 +168,16 @@ func TestEventsOfTheSample(t *testing.T) {
 	equal(t, len(found), 24)
 	// (the first event of the file, after the header of 65 bytes: register 0, type 8, one digest of SHA-256, 2 bytes of data)
 	equal(t, bootLog[65:79], joined(number(0), number(8), number(1), []byte{0x0b, 0}))
-	equal(t, found[0], Event{1, 0, "EV_S_CRTM_VERSION", 8, map[Algorithm][]byte{AlgorithmSHA256: bootLog[79:111]}, bootLog[115:117]})
+	equal(t, found[0], Event{1, 0, "EV_S_CRTM_VERSION", 8, map[Algorithm][]byte{AlgorithmSHA256: bootLog[79:111]}, bootLog[115:117],
+		map[Algorithm]Part{AlgorithmSHA256: PartData}, json.RawMessage(`{"text":""}`)})
+	// (the state of Secure Boot: tpm2_eventlog tells the same)
+	equal(t, string(found[3].Content),
+		`{"variable":{"guid":"8be4df61-93ca-11d2-aa0d-00e098032b8c","name":"SecureBoot","value":"00","flag":0}}`)
+	parts := map[Part][]uint64{}
+	for _, event := range found {
+		parts[event.Measured[AlgorithmSHA256]] = append(parts[event.Measured[AlgorithmSHA256]], event.Number)
+	}
+	equal(t, []interface{}{parts[PartValue], parts[""]}, []interface{}{[]uint64{11, 12}, []uint64{2, 3, 10, 21, 22}})
 	fourth := make([]byte, 32)
 	for k, event := range found {
 		equal(t, event.Number, uint64(k+1))
@@ -181,9 +200,10 @@ func TestEventsWithoutNamesOrDigests(t *testing.T) {
 	equal(t, events.Algorithms(), []LogAlgorithm{{"", 18, 1}, {"sha1", 4, 20}})
 	found, err := drainedEvents(events, nil)
 	equal(t, err, nil)
+	unknown := json.RawMessage(`{"unknown":true}`)
 	equal(t, found, []Event{
-		{1, 0x01020304, "EV_NO_ACTION", 3, map[Algorithm][]byte{}, []byte{}},
-		{2, 0, "", 255, map[Algorithm][]byte{AlgorithmSHA1: ones}, []byte("\"\n")},
+		{1, 0x01020304, "EV_NO_ACTION", 3, map[Algorithm][]byte{}, []byte{}, map[Algorithm]Part{}, unknown},
+		{2, 0, "", 255, map[Algorithm][]byte{AlgorithmSHA1: ones}, []byte("\"\n"), map[Algorithm]Part{}, unknown},
 	})
 }
 

@@ -21,6 +21,9 @@ import harness  # noqa: E402
 import reference  # noqa: E402
 from c_library import MOST_BYTES, Library  # noqa: E402
 from harness import ROOT  # noqa: E402
+from reference.event_texts import guid_text  # noqa: E402
+from reference.fields import number  # noqa: E402
+from reference.json_texts import json_text  # noqa: E402
 from reference.log import Event, Log  # noqa: E402
 from reference.measurement_list import BOOT_AGGREGATE, IMA_NG, Entry, entry_of, list_spelling, list_text, replay  # noqa: E402
 from reference.registers import ALGORITHMS, SHA1, SHA256, Registers, register_line  # noqa: E402
@@ -38,6 +41,7 @@ SIZES = (63 * MEBIBYTE, MOST_BYTES, MOST_BYTES + 1, 65 * MEBIBYTE)
 LIBRARY_SIZES = (SIZES[0], SIZES[-1])
 FILES = 250_000
 MISSING = 8_000_000
+CONTENT_BYTES = 16 * MEBIBYTE
 # (nearly as many as the system takes)
 WORDS = 200_000
 # (an argument is shorter than 128 KiB)
@@ -124,7 +128,7 @@ class Input:
 
 INPUTS = (
     Input("log of one event", log_of_size, (
-        "registers input", "events input", "events --data input", "verify input list expected", "locate input list expected",
+        "registers input", "events input", "events --data input", "events --explain input", "verify input list expected", "locate input list expected",
         "measure input f", f"{ATTEST} input list quote",
     )),
     Input("list with a long payload", list_of_size, (
@@ -135,6 +139,7 @@ INPUTS = (
     Input("public area and bytes after it", lambda size: AREA + bytes(size - len(AREA)), ("key input", "key --endorsement input"), AREA + b"\0"),
     Input("96 expected registers after empty lines", with_empty_lines(EXPECTED.encode()), (
         "verify L list input", f"verify --require {REQUIRE} L list input", "locate L list input", f"replay --require {REQUIRE} list input",
+        "events --explain --expected input L",
     ), EXPECTED.encode()),
     Input("96 registers of tpm2_pcrread after empty lines", with_empty_lines(PRINTED.encode()), ("expected input",), PRINTED.encode()),
     Input("96 registers of tpm2_pcrread after another bank", printed_of_size, (
@@ -155,6 +160,29 @@ def many_events(size, event):
     head, spelling = Log(BANK, []).spelling(), event.spelling()
     count = (size - len(head)) // len(spelling)
     return Log(BANK, [event] * count), head + spelling * count
+
+
+def variable(vendor, name, value):
+    """The data of a variable."""
+    name = name.encode("utf-16-le")
+    return vendor + number(len(name) // 2, 8) + number(len(value), 8) + name + value
+
+
+def contents(size):
+    """Data with as many parts as some bytes can have: what these are, a type that has this form, the data, and what it says."""
+    nodes, image = size // 4, {"location": "0x0", "size": "0x0", "link_address": "0x0"}
+    path = "/".join(["Path(1,7)"] * nodes)
+    yield "nodes", 0x80000003, bytes(24) + number(4 * nodes, 8) + b"\1\7\4\0" * nodes, {"image": {**image, "path": path}}
+    listed, vendor = bytes(16) + number(28) + number(0) + number(16), bytes.fromhex("cbb219d73a3d9645a3bcdad00e67656f")
+    value, lists = listed * (size // 28), [{"type": guid_text(bytes(16)), "count": 0, "owners": []}] * (size // 28)
+    says = {"guid": guid_text(vendor), "name": "db", "value": value.hex(), "lists": lists}
+    yield "lists of signatures", 0x80000001, variable(vendor, "db", value), {"variable": says}
+    entry = bytes(56) + "a".encode("utf-16-le") * 36
+    partition = {"type": guid_text(bytes(16)), "guid": guid_text(bytes(16)), "first": "0x0", "last": "0x0", "attributes": "0x0", "name": "a" * 36}
+    table = b"EFI PART" + bytes(76) + number(128) + bytes(4) + number(size // 128, 8) + entry * (size // 128)
+    yield "partitions", 0x80000006, table, {"gpt": {"disk": guid_text(bytes(16)), "partitions": [partition] * (size // 128)}}
+    yield "characters", 5, b"\1" * size, {"text": "\1" * size}
+    yield "units", 5, b"\xff\0" * (size // 2) + b"\0\0", {"text": "\xff" * (size // 2)}
 
 
 def many_entries(size, entry, file):
@@ -253,6 +281,15 @@ class Limits(harness.TestCase):
         log, spelling = many_events(30 * MEBIBYTE, event)
         (self.room / "hexadecimal").write_bytes(spelling.hex().encode())
         self.ask(f"{len(log.events)} events in hexadecimal", [], (0, log.registers().text()), "hexadecimal")
+
+    def test_contents(self):
+        """Events whose data has very many parts, with what it says."""
+        for title, kind, data, content in contents(CONTENT_BYTES):
+            event = Event(5, kind, {SHA256.identifier: bytes(SHA256.size)}, data)
+            (self.room / "log").write_bytes(Log(BANK, [event]).spelling())
+            self.ask_of_parts(f"very many {title}", {
+                "events --explain log": (0, f"{Log(BANK, []).text()}{event.head(1)} claimed\n  {json_text(content)}\n"),
+            })
 
     def test_entries(self):
         """Lists with an entry again and again: one with a payload of a MiB, a measurement, and, for two commands, the shortest violation."""

@@ -77,6 +77,9 @@ USAGES = [
     (["measure", "--alg", "sm3", "L"],
      f"error: invalid value 'sm3' for '--alg <A>'\n  [possible values: sha1, sha256, sha384, sha512]\n{MORE}"),
     (["measure", "--json", "--print", "binary", "L"], "error: invalid value 'binary' for '--print <P>' with '--json'\n"),
+    *((["events", "--explain", other, "L"], f"error: the argument '--explain' cannot be used with '{other}'\n") for other in ("--data", "--json")),
+    *((["events", *more, "--expected", "E", "L"],
+       "error: the argument '--expected <EXPECTED>' cannot be used without '--explain' or '--json'\n") for more in ([], ["--data"])),
     (["key", "--print", "ascii", "L"],
      f"error: invalid value 'ascii' for '--print <P>'\n  [possible values: all, name, pem]\n{MORE}"),
     (["\x1b[31m\nred"], f"error: unrecognized subcommand '\\x1b[31m\\x0ared'\n\nUsage: ima-agent <COMMAND>\n{MORE}"),
@@ -238,7 +241,8 @@ def names_of(words):
         return {"log": "standard input"}, []
     asked = read_words(words)
     kinds = INPUTS[asked.command]
-    return {**dict(zip(kinds, asked.names)), "checkpoint": asked.values.get("--resume")}, asked.names[len(kinds):]
+    named = {"checkpoint": asked.values.get("--resume"), "expected": asked.values.get("--expected")}
+    return {**named, **dict(zip(kinds, asked.names))}, asked.names[len(kinds):]
 
 
 def unread(name, folder):
@@ -261,7 +265,7 @@ def unread(name, folder):
 
 def fault_line_of(words, text):
     """The line of the fault that these words' output is, as it is without `--json`; or None. (The lines of entries or events as
-    JSON may stand before it.)"""
+    JSON, or of events that are explained, may stand before it.)"""
     if text.startswith((b"refused: ", b"failed: ")):
         return text[:-1]
     last = text.splitlines()[-1] if words[0] in ("show", "events") and text else text

@@ -5,8 +5,8 @@ tests/faults/sweep.py [ROOT]: the tree with the test binaries and the program th
 
 Each test whose name contains `each_allocation_refused`, and a command of each kind that the cases have, runs again and again. In the
 Nth run its Nth allocation is refused (tests/faults/refuse.c), until a run ends with none refused. A test must pass each time. A command must
-answer as its case wants, or with `failed: memory`, which `--json` has as JSON, and status 3. `show` and `events` with `--json` may print lines
-that are due before that. A test or command without a refused allocation fails, and so does a run that crashes or takes longer than a minute.
+answer as its case wants, or with `failed: memory`, which `--json` has as JSON, and status 3. `show` and `events` with `--json`, and `events`
+with `--explain`, may print lines that are due before that. A test or command without a refused allocation fails, and so does a run that crashes or takes longer than a minute.
 Allocations of a test's binary that runs no test do not count: a test makes as many before it begins. What a test allocates to prepare its
 call does count, since nothing outside shows where that begins.
 
@@ -104,9 +104,9 @@ class CommandRun:
         return (OUT_OF_MEMORY, OUT_OF_MEMORY_AS_JSON) if "--json" in self.command.words else (OUT_OF_MEMORY,)
 
     def output_of_memory(self, output):
-        """What is due out of memory, of an output: of a list's or a log's lines of JSON the last, if those before it are the first that the
-        case wants."""
-        if self.command.words[:1] not in (["show"], ["events"]) or "--json" not in self.command.words:
+        """What is due out of memory, of an output: of a list's or a log's lines of JSON, or those of events that are explained, the last, if
+        those before it are the first that the case wants."""
+        if self.command.words[:1] not in (["show"], ["events"]) or not {"--json", "--explain"} & set(self.command.words):
             return output
         *lines, last = output.splitlines(keepends=True) or [b""]
         wanted = [line.encode() + b"\n" for line in self.command.wanted[: len(lines)]]
@@ -128,7 +128,7 @@ def request_of(command, folder):
     names, given = read_arguments(COMMANDS[command.words[0]], command.words[1:])
     listed = folder / given.pop("--files-from", "")
     has_listed = listed.is_file() and listed.stat().st_size > 0
-    given |= {name: True for name in ("--save", "--resume", "--nonce") if name in given}
+    given |= {name: True for name in ("--save", "--resume", "--nonce", "--expected") if name in given}
     options = frozenset((name, value if isinstance(value, str) else value == 1) for name, value in given.items())
     return options, min(len(names), 3), has_listed
 

@@ -392,7 +392,7 @@ class Recipes(harness.TestCase):
     def test_examples(self):
         """an example of a page"""
         self.needs("openssl")
-        for page in ("README.md", "docs/guide.md"):
+        for page in ("README.md", "docs/guide.md", "docs/investigate.md"):
             blocks = [re.sub("^    ", "", block, flags=re.MULTILINE) for block in EXAMPLES.findall((ROOT / page).read_text())]
             folder, found = self.folder(), EXAMPLE.findall("".join(blocks))
             lay_out(folder)

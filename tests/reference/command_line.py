@@ -87,7 +87,12 @@ COMMANDS = {
         "--json": Option(FLAG, False),
     }),
     "registers": Command(1, 1, {"--json": Option(FLAG, False)}),
-    "events": Command(1, 1, {"--data": Option(FLAG, False), "--json": Option(FLAG, False)}),
+    "events": Command(1, 1, {
+        "--data": Option(FLAG, False),
+        "--explain": Option(FLAG, False),
+        "--expected": Option(str, None),
+        "--json": Option(FLAG, False),
+    }),
     "show": Command(1, 1, {"--json": Option(FLAG, False)}),
     "replay": Command(1, 2, {"--require": Option(str, None), "--json": Option(FLAG, False)}),
 }
@@ -114,7 +119,7 @@ def read_words(words):
     names, values = read_arguments(command, rest)
     if len(names) < command.fewest_names or lacks_another(name, names, values) or lacks_required(command, values):
         raise USAGE
-    if is_json_of_binary(values) or not is_hexadecimal(values.get("--nonce", "")):
+    if is_json_of_binary(values) or has_wrong_pair(values) or not is_hexadecimal(values.get("--nonce", "")):
         raise USAGE
     defaults = {option: it.default for option, it in command.options.items()}
     return Words(name, names, {**defaults, **values})
@@ -140,6 +145,13 @@ def is_hexadecimal(text):
 def is_json_of_binary(values):
     """Whether the binary list shall be JSON, which it never is."""
     return "--json" in values and values.get("--print") == "binary"
+
+
+def has_wrong_pair(values):
+    """Whether events are to be explained in another form, or expected registers are given where nothing is said of them."""
+    if "--explain" in values:
+        return "--data" in values or "--json" in values
+    return "--expected" in values and "--json" not in values
 
 
 def read_arguments(command, words):

@@ -1,6 +1,5 @@
 """What the program answers ('The command line', "The program's input", "The program's output")."""
 
-import json
 import os
 import re
 import shutil
@@ -25,8 +24,10 @@ from .faults import (
     not_written,
     too_long,
 )
+from .json_texts import json_lines
 from .keys import read_key
 from .log import read_log, read_log_front
+from .measured_data import matching_registers
 from .measurement_list import (
     BOOT_AGGREGATE,
     IMA,
@@ -173,12 +174,16 @@ def registers_command(inputs, values, log):
 
 
 def events_command(inputs, values, log):
-    log, fault = read_log_front(inputs.load(log))
-    if fault and not values["--json"]:
+    data = inputs.load(log)
+    expected = None if values["--expected"] is None else read_expected(inputs.load(values["--expected"]))
+    log, fault = read_log_front(data)
+    if fault and (not values["--json"] or expected is not None):
         raise fault
-    shown = log.values() if log else []
+    matching = None if expected is None else matching_registers(log.registers(), expected)
+    shown = log.values(matching) if log and values["--json"] else []
     ended = [fault.as_json()] if fault else []
-    return Told(lambda: log.text(values["--data"]), lambda: shown + ended, fault.status if fault else 0)
+    text = (lambda: log.explained(matching)) if values["--explain"] else (lambda: log.text(values["--data"]))
+    return Told(text, lambda: shown + ended, fault.status if fault else 0)
 
 
 def show_command(inputs, values, listed):
@@ -399,8 +404,3 @@ def version_lines():
     if logic is None:
         raise Unanswered("the logic: the kit names none")
     return f"ima-agent {version}\n{logic[0]}\n"
-
-
-def json_lines(values):
-    """Values as lines of JSON."""
-    return "".join(json.dumps(value, separators=(",", ":"), ensure_ascii=False) + "\n" for value in values)

@@ -43,7 +43,7 @@ from ._errors import Error, InvalidSignature, Kind, LibraryError, LoadError, Mis
 from ._library import JSON, TEXT, BytesLike
 from ._listings import Entries, Events
 from ._results import (
-    Algorithm, Attestation, BootAggregate, Clock, Entry, Event, Key, KeyType, ListVerdict, LogAlgorithm, Place, PlaceRow, Places, Register,
+    Algorithm, Attestation, BootAggregate, Clock, Entry, Event, Key, KeyType, ListVerdict, LogAlgorithm, Part, Place, PlaceRow, Places, Register,
     Report, Row, Scheme, State, Stray, Unconfirmed, Verdict,
 )
 
@@ -54,7 +54,7 @@ __version__ = "1.0.0"
 
 __all__ = [
     "Algorithm", "Attestation", "BootAggregate", "BytesLike", "Clock", "Entries", "Entry", "Error", "Event", "Events", "InvalidSignature", "Key",
-    "KeyType", "Kind", "LibraryError", "ListVerdict", "LoadError", "LogAlgorithm", "Misuse", "NOTHING", "Nothing", "OutOfMemory", "Place",
+    "KeyType", "Kind", "LibraryError", "ListVerdict", "LoadError", "LogAlgorithm", "Misuse", "NOTHING", "Nothing", "OutOfMemory", "Part", "Place",
     "PlaceRow", "Places", "Refused", "Register", "Report", "Row", "Scheme", "Session", "State", "Stray", "Unconfirmed", "Verdict", "VersionError",
     "attest", "entries", "events", "expected", "list_registers", "locate", "read_endorsement_key", "read_key", "registers", "replay", "report",
     "show", "verify", "verify_quote", "version",

@@ -8,11 +8,13 @@ from typing import Any, Dict, Iterator, List, NamedTuple, Optional, Tuple, Type,
 from ._errors import Kind, Refused
 from ._library import DIFFERS, DONE, unexpected
 from ._results import (
-    Algorithm, Attestation, BootAggregate, Clock, Entry, Event, Key, KeyType, ListVerdict, LogAlgorithm, Place, PlaceRow, Places, Register,
+    Algorithm, Attestation, BootAggregate, Clock, Entry, Event, Key, KeyType, ListVerdict, LogAlgorithm, Part, Place, PlaceRow, Places, Register,
     Report, Row, Scheme, State, Stray, Unconfirmed, Verdict,
 )
 
 REGISTERS, LIST_REGISTER = 24, 10
+# The one register in which a part that is not all of the data counts.
+_REGISTER_OF = {Part.VALUE: 1, Part.COMMAND: 8}
 UINT16, UINT32, UINT64 = 2**16 - 1, 2**32 - 1, 2**64 - 1
 
 # A report of a match as libraries write it, which need not be taken apart: its counts, and its rows as one. (Larger numbers are rare.)
@@ -331,7 +333,8 @@ def _entry_of(entry: Object, number: int) -> Entry:
     _require(violation == (not any(digest_of_template)) and (genuine or not violation))
     front = number, _number(entry, "register", REGISTERS - 1), template, digest_of_template, violation, genuine
     if "payload" in entry:
-        return Entry(*front, payload=_bytes(entry, "payload"))
+        fields = _member(entry, "fields", dict) if "fields" in entry else None
+        return Entry(*front, payload=_bytes(entry, "payload"), fields=fields)
     algorithm, path = Algorithm(entry["algorithm"]), _name(entry, "path")
     signature = _bytes(entry, "signature") if template == "ima-sig" else None
     digest = _bytes(entry, "digest", algorithm.digest_size)
@@ -340,14 +343,20 @@ def _entry_of(entry: Object, number: int) -> Entry:
 
 def _event_of(event: Object, number: int) -> Event:
     _require(_number(event, "event") == number)
-    digests = {Algorithm(name): name for name in _member(event, "digests", dict)}
+    register, digests = _number(event, "register", UINT32), {Algorithm(name): name for name in _member(event, "digests", dict)}
+    measured = {Algorithm(name): Part(part) for name, part in _member(event, "measured", dict).items()}
+    _require(all(bank in digests and _REGISTER_OF.get(part, register) == register for bank, part in measured.items()))
+    content = _member(event, "content", dict)
+    _require(len(content) == 1)
     return Event(
         number,
-        _number(event, "register", UINT32),
+        register,
         _member(event, "type", str) if "type" in event else None,
         _number(event, "type_number", UINT32),
         {bank: _bytes(event["digests"], name, bank.digest_size) for bank, name in digests.items()},
         _bytes(event, "data"),
+        measured,
+        content,
     )
 
 

@@ -2,7 +2,7 @@
 
 import enum
 from dataclasses import dataclass
-from typing import Dict, Optional, Tuple, Union
+from typing import Any, Dict, Optional, Tuple, Union
 
 from ._errors import Kind, spelled
 
@@ -345,6 +345,7 @@ class Entry:
         algorithm, digest, path: Those of the file, if the payload has the fields of its template.
         signature: The file's signature, which may be empty, of `ima-sig` with these fields.
         payload: The whole payload, if it does not have these fields.
+        fields: What the fields of another of the kernel's templates say, if the payload is these (docs/formats.md names them).
     """
 
     number: int
@@ -358,6 +359,21 @@ class Entry:
     path: Optional[bytes] = None
     signature: Optional[bytes] = None
     payload: Optional[bytes] = None
+    fields: Optional[Dict[str, Any]] = None
+
+
+class Part(enum.Enum):
+    """The part of an event's data whose hash is the event's digest.
+
+    If a register has the value that the log gives it, this part was hashed at the event's place in the register.
+    """
+
+    DATA = "data"
+    """All of it."""
+    VALUE = "value"
+    """The value of a variable, in register 1. Its name and its vendor are only what the log claims."""
+    COMMAND = "command"
+    """The text of a command of GRUB, in register 8. Its kind is only what the log claims."""
 
 
 @dataclass(frozen=True)
@@ -372,6 +388,10 @@ class Event:
         type_number: The number of its type.
         digests: Its digest for each bank of the log.
         data: Its data.
+        measured: The part of its data whose hash is its digest, for each bank of which there is one. What is not measured is only what the
+            log claims, and so is the type.
+        content: What its data says, by its type: one member, named by the form ("text", "variable", "image", ..; docs/formats.md has
+            them), which is "unknown" if the data has no form that the library knows.
     """
 
     number: int
@@ -380,6 +400,8 @@ class Event:
     type_number: int
     digests: Dict[Algorithm, bytes]
     data: bytes
+    measured: Dict[Algorithm, Part]
+    content: Dict[str, Any]
 
 
 @dataclass(frozen=True)

@@ -49,7 +49,8 @@ ENTRY = (b'{"entry":0,"register":10,"template":"ima-sig","template_digest":"' + 
 OTHER = (b'{"entry":1,"register":10,"template_hex":"ff0a","template_digest":"' + 40 * b"0" + b'","violation":true,"genuine":true,'
          b'"payload":"00"}\n')
 ALGORITHMS = b'{"algorithms":[{"id":18,"size":1},{"name":"sha1","id":4,"size":20}]}\n'
-EVENT = (b'{"event":1,"register":0,"type":"EV_SEPARATOR","type_number":4,"digests":{"sha1":"' + 40 * b"a" + b'"},"data":"00"}\n')
+EVENT = (b'{"event":1,"register":0,"type":"EV_SEPARATOR","type_number":4,"digests":{"sha1":"' + 40 * b"a" + b'"},"data":"00",'
+         b'"measured":{"sha1":"data"},"content":{"unknown":true}}\n')
 FAULT = b'{"fault":{"kind":"list","number":1,"entry":2,"message":"refused: list fault 1 at entry 2"}}\n'
 MEMORY = b'{"fault":{"kind":"memory","message":"failed: memory"}}\n'
 DONE, DIFFERS, REFUSED, OUT_OF_MEMORY, TOO_SHORT, MORE, MISUSED = range(7)
@@ -465,9 +466,17 @@ class Listings(unittest.TestCase):
         self.assertEqual(self.read("entries", [ENTRY, OTHER]), [first, second])
         self.assertEqual(self.read("entries", []), [])
 
+    def test_fields_are_read(self):
+        for member, fields in ((b',"fields":{}', {}), (b',"fields":{"digest_type":"ima","uid":5}', {"digest_type": "ima", "uid": 5})):
+            (_, entry) = self.entries(ENTRY + OTHER.replace(b"}", member + b"}"))
+            self.assertEqual((entry.payload, entry.fields), (b"\0", fields))
+        for member in (b'"fields":[]', b'"fields":null', b'"fields":"a"'):
+            self.check_wrong("entries", [ENTRY + OTHER.replace(b"}", b"," + member + b"}")])
+
     def test_events_are_read(self):
         log_algorithm = ima_verify.LogAlgorithm
-        event = ima_verify.Event(1, 0, "EV_SEPARATOR", 4, {ima_verify.Algorithm.SHA1: 20 * b"\xaa"}, b"\0")
+        event = ima_verify.Event(1, 0, "EV_SEPARATOR", 4, {ima_verify.Algorithm.SHA1: 20 * b"\xaa"}, b"\0",
+                                 {ima_verify.Algorithm.SHA1: ima_verify.Part.DATA}, {"unknown": True})
         for pieces in ([ALGORITHMS + EVENT], [ALGORITHMS, EVENT]):
             library, size = self.given("events", pieces)
             with library:
@@ -612,6 +621,10 @@ class Listings(unittest.TestCase):
             (b'"event":1', b'"event":0'), (b'"event":1', b'"event":2'), (b'"event":1,', b""), (b'"register":0', b'"register":4294967296'),
             (b'"EV_SEPARATOR"', b"4"), (b'"type_number":4,', b""), (b'"digests":', b'"digest":'), (b'"sha1"', b'"sm3"'), (b"aa", b"a"),
             (b'"aa', b'"'), (b',"data":"00"', b""), (b'"data":"00"', b'"data":"0"'), (b"}\n", b"\n"), (b"}\n", b"}"),
+            (b'"measured":{"sha1":"data"},', b""), (b'{"sha1":"data"}', b'{"sha256":"data"}'), (b'"sha1":"data"', b'"sha1":"value"'),
+            (b'"sha1":"data"', b'"sha1":"command"'), (b'"sha1":"data"', b'"sha1":"none"'), (b'"measured":{"sha1":"data"}', b'"measured":[]'),
+            (b',"content":{"unknown":true}', b""), (b'{"unknown":true}', b"{}"), (b'{"unknown":true}', b'{"unknown":true,"text":""}'),
+            (b'{"unknown":true}', b"true"),
         ):
             self.assertIn(old, EVENT)
             self.check_wrong("events", [ALGORITHMS + EVENT.replace(old, new, 1)])

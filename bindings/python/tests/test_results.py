@@ -19,7 +19,7 @@ sys.path[:0] = [str(ROOT / "bindings/python"), str(ROOT / "tools/bench")]
 
 import ima_verify
 import inputs
-from ima_verify import NOTHING, Algorithm, BootAggregate, Entry, Event, Kind, Place, PlaceRow, Register, Row, State, Stray
+from ima_verify import NOTHING, Algorithm, BootAggregate, Entry, Event, Kind, Part, Place, PlaceRow, Register, Row, State, Stray
 from ima_verify import _library
 from reference.log import EV_NO_ACTION, read_log
 from reference.log import Event as LogEvent
@@ -568,6 +568,13 @@ class Entries(unittest.TestCase):
                         ng(b"sha1", bytes(20), b"/\0x"), b'"\n'):
             self.check(entry(b"ima-ng", payload), Entry(0, 10, "ima-ng", hashlib.sha1(payload).digest(), False, True, payload=payload))
 
+    def test_fields_of_other_templates_are_told(self):
+        payload = with_length(b"verity:sha1:\0" + 20 * b"\1") + with_length(b"/x\0")
+        told = {"digest_type": "verity", "algorithm": "sha1", "digest": 20 * "01", "path": "/x"}
+        for wrong, fields in ((payload, told), (payload[1:], None), (payload + b"\0", None), (ng(b"sha1", 20 * b"\1", b"/x"), None)):
+            wanted = Entry(0, 10, "ima-ngv2", hashlib.sha1(wrong).digest(), False, True, payload=wrong, fields=fields)
+            self.check(entry(b"ima-ngv2", wrong), wanted)
+
     def test_renamed_template_does_not_pass_for_another(self):
         """The name is no part of what the template digest covers: an entry may be renamed, and stays genuine."""
         signed = ng(b"sha1", 20 * b"\1", b"/x") + with_length(b"\3")
@@ -749,7 +756,16 @@ class LogEvents(unittest.TestCase):
         first, *found = events
         # (the first event of the file, after the header of 65 bytes: register 0, type 8, one digest of SHA-256, 2 bytes of data)
         self.assertEqual(LOG[65:79], number(0) + number(8) + number(1) + b"\x0b\0")
-        self.assertEqual(first, Event(1, 0, "EV_S_CRTM_VERSION", 8, {Algorithm.SHA256: LOG[79:111]}, LOG[115:117]))
+        self.assertEqual(first, Event(1, 0, "EV_S_CRTM_VERSION", 8, {Algorithm.SHA256: LOG[79:111]}, LOG[115:117],
+                                      {Algorithm.SHA256: Part.DATA}, {"text": ""}))
+        # (the state of Secure Boot: tpm2_eventlog tells the same)
+        secure_boot = found[2]
+        self.assertEqual((secure_boot.register, secure_boot.measured), (7, {Algorithm.SHA256: Part.DATA}))
+        self.assertEqual(secure_boot.content, {"variable": {"guid": "8be4df61-93ca-11d2-aa0d-00e098032b8c", "name": "SecureBoot",
+                                                            "value": "00", "flag": 0}})
+        self.assertEqual([(event.number, event.measured) for event in found if Part.VALUE in event.measured.values()],
+                         [(place, {Algorithm.SHA256: Part.VALUE}) for place in (11, 12)])
+        self.assertEqual([event.number for event in found if not event.measured], [2, 3, 10, 21, 22])
         self.assertEqual([event.number for event in found], list(range(2, 25)))
         register = bytes(32)
         for event in (first, *found):
@@ -764,8 +780,9 @@ class LogEvents(unittest.TestCase):
         log_algorithm = ima_verify.LogAlgorithm
         self.assertEqual(events.algorithms, (log_algorithm(None, 18, 1), log_algorithm("sha1", 4, 20)))
         self.assertEqual(list(events), [
-            Event(1, 0x01020304, "EV_NO_ACTION", 3, {}, b""), Event(2, 0, None, 255, self.ZEROS, b'"\n'),
-            Event(3, 23, "EV_SEPARATOR", 4, self.ZEROS, bytes(9)),
+            Event(1, 0x01020304, "EV_NO_ACTION", 3, {}, b"", {}, {"unknown": True}),
+            Event(2, 0, None, 255, self.ZEROS, b'"\n', {}, {"unknown": True}),
+            Event(3, 23, "EV_SEPARATOR", 4, self.ZEROS, bytes(9), {}, {"unknown": True}),
         ])
         self.assertEqual(list(ima_verify.events(self.HEADER)), [])
 

@@ -2,7 +2,7 @@
 
 use crate::library::{Told, DIFFERS, DONE, MORE, OUT_OF_MEMORY, REFUSED};
 use crate::{Algorithm, Attestation, BootAggregate, Clock, Content, Entry, Error, Event, File, Key, KeyType, Kind, ListVerdict};
-use crate::{LogAlgorithm, Place, PlaceRow, Places, Register, Row, Scheme, State, Stray, Unconfirmed, Verdict};
+use crate::{LogAlgorithm, Map, Part, Place, PlaceRow, Places, Register, Row, Scheme, State, Stray, Unconfirmed, Value, Verdict};
 use ima_verify_sys as c;
 use serde::de::{DeserializeOwned, Error as _};
 use serde::{Deserialize, Deserializer};
@@ -509,6 +509,7 @@ pub(crate) struct EntryLine {
     path_hex: Option<Bytes>,
     signature: Option<Bytes>,
     payload: Option<Bytes>,
+    fields: Option<Map<String, Value>>,
     #[serde(default, rename = "fault")]
     _fault: NoFault,
 }
@@ -522,6 +523,8 @@ pub(crate) struct EventLine {
     type_number: u32,
     digests: BTreeMap<Algorithm, Bytes>,
     data: Bytes,
+    measured: BTreeMap<Algorithm, Part>,
+    content: Map<String, Value>,
     #[serde(default, rename = "fault")]
     _fault: NoFault,
 }
@@ -579,14 +582,23 @@ pub(crate) fn entry(line: EntryLine, number: u64) -> Option<Entry> {
     let (register, violation, genuine) = (line.register, line.violation, line.genuine);
     let agree = violation == template_digest.iter().all(|byte| *byte == 0) && (genuine || !violation);
     agree.then_some(())?;
-    Some(Entry { number, register, template, template_digest, violation, genuine, content })
+    let fields = line.fields;
+    Some(Entry { number, register, template, template_digest, violation, genuine, content, fields })
 }
 
 pub(crate) fn event(line: EventLine, number: u64) -> Option<Event> {
     (line.event == number).then_some(())?;
     let digests = line.digests.into_iter().map(|(algorithm, bytes)| Some((algorithm, digest(bytes, algorithm)?)));
+    let digests: BTreeMap<_, _> = digests.collect::<Option<_>>()?;
     let (register, name, type_number, data) = (line.register, line.name, line.type_number, line.data.0);
-    Some(Event { number, register, name, type_number, digests: digests.collect::<Option<_>>()?, data })
+    let (measured, content) = (line.measured, line.content);
+    let counts = |(algorithm, part): (&Algorithm, &Part)| match part {
+        Part::Data => digests.contains_key(algorithm),
+        Part::Value => digests.contains_key(algorithm) && register == 1,
+        Part::Command => digests.contains_key(algorithm) && register == 8,
+    };
+    (measured.iter().all(counts) && content.len() == 1).then_some(())?;
+    Some(Event { number, register, name, type_number, digests, data, measured, content })
 }
 
 fn digest(Bytes(bytes): Bytes, algorithm: Algorithm) -> Option<Vec<u8>> {

@@ -46,6 +46,7 @@ mod tests;
 struct Readme;
 
 use serde::Deserialize;
+pub use serde_json::{Map, Value};
 use std::collections::BTreeMap;
 use std::fmt;
 use std::iter::FusedIterator;
@@ -417,7 +418,7 @@ pub struct Key {
 }
 
 /// An entry of a measurement list; entries count from 0.
-#[derive(Debug, Clone, PartialEq, Eq, Hash)]
+#[derive(Debug, Clone, PartialEq, Eq)]
 #[non_exhaustive]
 pub struct Entry {
     /// The entry's number.
@@ -434,6 +435,8 @@ pub struct Entry {
     pub genuine: bool,
     /// What its payload is.
     pub content: Content,
+    /// What the fields of another of the kernel's templates say, if the payload is these (docs/formats.md names them).
+    pub fields: Option<Map<String, Value>>,
 }
 
 impl Entry {
@@ -471,7 +474,7 @@ pub struct File {
 }
 
 /// An event of a firmware event log; events count from 1.
-#[derive(Debug, Clone, PartialEq, Eq, Hash)]
+#[derive(Debug, Clone, PartialEq, Eq)]
 #[non_exhaustive]
 pub struct Event {
     /// The event's number.
@@ -486,6 +489,26 @@ pub struct Event {
     pub digests: BTreeMap<Algorithm, Vec<u8>>,
     /// What the firmware says of the event. No PCR confirms it as such.
     pub data: Vec<u8>,
+    /// The part of the data whose hash is the digest, for each bank of which there is one. What is not measured is only what the log
+    /// claims, and so is the type.
+    pub measured: BTreeMap<Algorithm, Part>,
+    /// What the data says, by the type: one member, named by the form (`text`, `variable`, `image`, ..; docs/formats.md has them), which is
+    /// `unknown` if the data has no form that the library knows.
+    pub content: Map<String, Value>,
+}
+
+/// The part of an event's data whose hash is the event's digest. If a PCR has the value that the log gives it, this part was hashed at
+/// the event's place in the PCR.
+#[derive(Debug, Clone, Copy, PartialEq, Eq, Hash, Deserialize)]
+#[serde(rename_all = "lowercase")]
+#[non_exhaustive]
+pub enum Part {
+    /// All of it.
+    Data,
+    /// The value of a variable, in PCR 1. Its name and its vendor are only claimed.
+    Value,
+    /// The text of a command of GRUB, in PCR 8. Its kind is only claimed.
+    Command,
 }
 
 /// An algorithm of a log's header.

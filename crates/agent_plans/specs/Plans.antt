@@ -1,7 +1,9 @@
 -- What is to be done, and the plans that request it.
-use Rattle.std.specs.Prelude.{◌≡◌, ◌≤◌, ◌<◌, ◌^◌, not, Bool, false, true, Option, None, is_some, String, vec_len}
+use Rattle.std.specs.Prelude.{◌≡◌, ◌≤◌, ◌<◌, ◌^◌, not, Bool, false, true, Option, None, Some, is_some, String, vec_len}
 use Rattle.std.specs.Global.{Global}
 use Rattle.agent_plans.specs.declared.plan.Scope.TheVariants.{Whole}
+pub use Rattle.agent_plans.specs.declared.plan.DataShown.{DataShown}
+use Rattle.agent_plans.specs.declared.plan.DataShown.TheVariants.{Size, Bytes, Meaning}
 pub use Rattle.agent_plans.specs.declared.plan.Form.{Form}
 use Rattle.agent_plans.specs.declared.plan.Form.TheVariants as forms
 pub use Rattle.agent_plans.specs.declared.plan.Judged.{Judged}
@@ -57,6 +59,14 @@ abbrev pub HasForm : Form → Print → Type 0
 HasForm forms.Json Binary = ⊥
 HasForm form print = Unit {0}
 
+-- What is shown of a log's events can be shown in this form, and compared with expected registers if there are some: what data says is shown
+-- as JSON in any case, as text if this is asked for; and registers are compared where it is shown.
+abbrev pub HasEventsForm : Form → DataShown → Option (String Global) → Type 0
+HasEventsForm forms.Json Meaning expected = ⊥
+HasEventsForm forms.Text Size (Some expected) = ⊥
+HasEventsForm forms.Text Bytes (Some expected) = ⊥
+HasEventsForm form shown expected = Unit {0}
+
 -- A measurement has 1 to 8 workers, a limit of at least one record, and fewer than 2^32 files named by arguments.
 abbrev pub IsWithinLimits : Form → Measurement → Type 0
 IsWithinLimits form request =
@@ -64,6 +74,7 @@ IsWithinLimits form request =
 
 abbrev pub IsWithin : Form → Task → Type 0
 IsWithin form (tasks.Measure request) = IsWithinLimits form request
+IsWithin form (tasks.Events log shown expected) = HasEventsForm form shown expected
 IsWithin form task = Unit {0}
 
 -- What the plan requests is within its ranges.

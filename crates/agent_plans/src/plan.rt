@@ -37,6 +37,8 @@ pub enum DataShown {
     Size,
     /// How many bytes there are, and the bytes in hexadecimal.
     Bytes,
+    /// What the bytes say, and which part of them was measured.
+    Meaning,
 }
 
 /// Which part of a list a verdict is on.
@@ -198,8 +200,11 @@ pub enum Task {
     Events {
         /// The name of the firmware event log, binary.
         log: String,
-        /// What to show of their data. In JSON all of it is shown in either case.
+        /// What to show of their data. In JSON all of it is shown, with what it says: then this is not `Meaning`.
         data: DataShown,
+        /// The name of the text of expected registers, which tell what of the data is confirmed, if there is one. There is none where
+        /// what the data says is not shown.
+        expected: Option<String>,
     },
     /// Show the entries of a list.
     Entries {

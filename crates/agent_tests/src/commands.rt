@@ -52,6 +52,10 @@ const KEY_NAME: &[u8] = b"000b55660a0937bd86bbb4da300f3cc9a84b131184912cb72fcf54
 const SHELL_LINE: &[u8] =
     b"sha256 10 5fcef84d490a160058b8f1b7e33abea9f2df325f2b7ccb294d1d28f3459db9d5\n";
 
+/// The event of the log, whose digest is no hash of its data.
+const EXPLAINED_LINES: &[u8] =
+    b"algorithms sha256:32\n1 4 EV_SEPARATOR claimed\n  {\"separator\":0}\n";
+
 /// A measurement, with two workers.
 pub const MEASURE: Command = Command {
     arguments: &["measure", "--print=registers", "header", "/bin/sh"],
@@ -60,7 +64,7 @@ pub const MEASURE: Command = Command {
 };
 
 /// Every command.
-pub static COMMANDS: [Command; 14] = [
+pub static COMMANDS: [Command; 15] = [
     Command {
         arguments: &[],
         status: 0,
@@ -75,6 +79,11 @@ pub static COMMANDS: [Command; 14] = [
         arguments: &["events", "log"],
         status: 0,
         output: EVENT_LINES,
+    },
+    Command {
+        arguments: &["events", "--explain", "--expected", "values", "log"],
+        status: 0,
+        output: EXPLAINED_LINES,
     },
     Command {
         arguments: &["show", "entry"],

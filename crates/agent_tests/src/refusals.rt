@@ -1,5 +1,5 @@
-//! Commands in which an allocation is refused: each answers that memory ran out, or what it answers with ample memory; and then the
-//! same command answers the latter. `tests/faults/sweep.py` refuses the allocations, one in each run.
+//! Commands in which an allocation is refused: each answers that memory ran out, events that are explained after lines of theirs, or what it
+//! answers with ample memory; and then the same command answers the latter. `tests/faults/sweep.py` refuses the allocations, one in each run.
 
 use crate::commands::{COMMANDS, Command, FAULTS, FILES};
 use crate::devices::{PieceFiles, arguments_of};
@@ -29,6 +29,11 @@ fn ran_with_room(
     Ok((status, sink.into_bytes()))
 }
 
+/// Whether the command explains events, the lines of which are written as they are read, and its output begins so.
+fn is_begun(command: &Command, before: &[u8]) -> bool {
+    command.arguments.contains(&"--explain") && command.output.strip_prefix(before).is_some()
+}
+
 /// The program answers so; or it says that memory ran out, and does so when it is asked again.
 fn assert_answered(
     rt: &(impl Threads + Wait + Sync + AllocGlobal + Abort),
@@ -36,8 +41,9 @@ fn assert_answered(
 ) -> Result<(), Fail> {
     let arguments = arguments_of(rt.alloc(), command.arguments)?;
     let mut answer = ran_with_room(rt, &arguments)?;
-    if answer.1.as_slice() == b"failed: memory\n".as_slice() {
+    if let Some(before) = answer.1.strip_suffix(b"failed: memory\n".as_slice()) {
         assert_eq!(rt; answer.0, 3);
+        assert!(rt; before.is_empty() || is_begun(command, before));
         answer = ran_with_room(rt, &arguments)?;
     }
     assert_eq!(rt; answer.0, command.status);

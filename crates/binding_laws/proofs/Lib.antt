@@ -3,3 +3,4 @@ pub mod LogBindingLaws
 pub mod ListBindingLaws
 pub mod QuoteBindingLaws
 pub mod AttestationBindingLaws
+pub mod MeasuredBindingLaws

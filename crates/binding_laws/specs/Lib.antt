@@ -3,3 +3,4 @@ pub mod LogBinding
 pub mod ListBinding
 pub mod QuoteBinding
 pub mod AttestationBinding
+pub mod MeasuredBinding

@@ -9,7 +9,7 @@ use Rattle.std.proofs.lemmas.List.Concat.{flat_map-cons}
 use Rattle.byte_fields.specs.Reading.{◌>>=◌, number_at, number_by, part_at, byte_at, sized_at, items_at}
 use Rattle.byte_fields.specs.Formats.{Format, Begins, IsRead, big_number, number, number_in, part, byte, ◌followed_by◌, seen, viewed, unless, telling, mapped, sized_by, sized, read_by, either, within, whole, AreInTurn, spelled_in_turn, FailInTurn, counted}
 use Rattle.byte_fields.proofs.Steps.{IsBytes, IsBytes-drop, IsBytes-take, bind_ok, guard_ok, test_ok, same_fault, the_ok, ok_is}
-use Rattle.byte_fields.proofs.FieldLaws.{IsWide, wide16, wide32, big16, big32, big64, number_again, part_again}
+use Rattle.byte_fields.proofs.FieldLaws.{IsWide, wide16, wide32, wide64, big16, big32, big64, number_again, part_again}
 
 -- The reader finds what the bytes begin with, or the fault that they fail with, and nothing else; each fault is a `P`.
 pub record Exact {X E : Type 0} (P : E → Type 0) (format : Format X E) : Type 0 where
@@ -79,6 +79,9 @@ number16_exact c p = number_exact c w16 wide16 p
 
 pub number32_exact : {E : Type 0} {P : E → Type 0} (c : E) → P c → Exact P (number c w32)
 number32_exact c p = number_exact c w32 wide32 p
+
+pub number64_exact : {E : Type 0} {P : E → Type 0} (c : E) → P c → Exact P (number c w64)
+number64_exact c p = number_exact c w64 wide64 p
 
 pub big16_exact : {E : Type 0} {P : E → Type 0} (c : E) → P c → Exact P (big_number c w16)
 big16_exact c p = number_exact c w16 big16 p

@@ -7,5 +7,5 @@ mod fields;
 
 pub use fields::{
     big_endian_u16_at, big_endian_u32_at, big_endian_u64_at, part_at, sized_at, u8_at, u16_at,
-    u32_at,
+    u32_at, u64_at,
 };

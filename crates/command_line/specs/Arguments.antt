@@ -13,7 +13,8 @@ use Rattle.ima_list.specs.Templates.{template_name}
 use Rattle.agent_plans.specs.Plans.{IsOneOf, task_of}
 use Rattle.hex.specs.Hex.{decode_of}
 use Rattle.agent_plans.specs.declared.plan.Attest.{Attest}
-use Rattle.agent_plans.specs.declared.plan.DataShown.TheVariants.{Size, Bytes}
+use Rattle.agent_plans.specs.declared.plan.DataShown.{DataShown}
+use Rattle.agent_plans.specs.declared.plan.DataShown.TheVariants.{Bytes, Meaning}
 use Rattle.agent_plans.specs.declared.plan.Form.{Form}
 use Rattle.agent_plans.specs.declared.plan.Form.TheVariants as forms
 use Rattle.agent_plans.specs.declared.plan.Judged.{Judged}
@@ -125,7 +126,15 @@ table parsers = (
     ∷ (codes "expected", without_default (codes "registers") ∷ flag (codes "json") ∷ required (codes "PCRREAD") ∷ [])
     ∷ (codes "key", flag (codes "endorsement") ∷ optional (codes "print") (codes "all") parsers.parts ∷ flag (codes "json") ∷ required (codes "FILE") ∷ [])
     ∷ (codes "registers", flag (codes "json") ∷ required (codes "LOG") ∷ [])
-    ∷ (codes "events", flag (codes "data") ∷ flag (codes "json") ∷ required (codes "LOG") ∷ [])
+    ∷ (
+      codes "events",
+      flag (codes "data")
+          ∷ flag (codes "explain")
+          ∷ without_default (codes "expected")
+          ∷ flag (codes "json")
+          ∷ required (codes "LOG")
+          ∷ [],
+    )
     ∷ (codes "show", flag (codes "json") ∷ required (codes "LIST") ∷ [])
     ∷ (codes "replay", beside (without_default (codes "require")) ∷ flag (codes "json") ∷ required (codes "LIST") ∷ new_rule (codes "EXPECTED") ∷ [])
     ∷ []
@@ -212,6 +221,20 @@ pub record HasKey (rows : List Row) (area : String Global) (purpose : Purpose) (
   pub purpose_is : IsFlag (codes "endorsement") rows Attestation Endorsement purpose
   pub part_is : first_of (codes "print") rows ≡ Some (part_name part)
 
+-- The bytes of an event's data are shown; and what they say is.
+abbrev pub shows_bytes : DataShown → Bool
+shows_bytes Bytes = true
+shows_bytes shown = false
+
+abbrev pub explains : DataShown → Bool
+explains Meaning = true
+explains shown = false
+
+-- This is shown of the data of events: the flags say so, of which no more than one is present.
+abbrev pub IsDataShown : List Row → DataShown → Type 0
+IsDataShown rows shown =
+    IsFlag (codes "data") rows false true (shows_bytes shown) × IsFlag (codes "explain") rows false true (explains shown)
+
 -- ---- commands and their tasks
 
 -- The command of this name judges this, and the matches have the options and names that only this has.
@@ -248,8 +271,11 @@ HasQuestion command rows (questions.Key area purpose part) = (command ≡ codes 
 abbrev pub HasValues : Text → List Row → Task → Type 0
 HasValues command rows (tasks.Answer question) = HasQuestion command rows question
 HasValues command rows (tasks.Measure request) = (command ≡ codes "measure") × HasMeasure rows request
-HasValues command rows (tasks.Events log shown) =
-    (command ≡ codes "events") × IsGivenAs (codes "LOG") rows (Some log) × IsFlag (codes "data") rows Size Bytes shown
+HasValues command rows (tasks.Events log shown expected) =
+    (command ≡ codes "events")
+    × IsGivenAs (codes "LOG") rows (Some log)
+    × IsDataShown rows shown
+    × IsGivenAs (codes "expected") rows expected
 HasValues command rows (tasks.Entries list) = (command ≡ codes "show") × IsGivenAs (codes "LIST") rows (Some list)
 HasValues command rows task = ⊥
 

@@ -13,8 +13,10 @@ ghost use Rattle.agent_plans.specs.declared.plan.Question.TheVariants as questio
 ghost use Rattle.agent_plans.specs.declared.plan.Task.TheVariants.{Version};
 
 use crate::commands::{KnownNames, VERSION, all_commands};
-use crate::values::{attest_of, flag_of, key_of, measurement_of, name_of, text_if_given};
-use agent_plans::{ArgumentsFault, DataShown, Form, Judge, Judged, Plan, Question, Scope, Task};
+use crate::values::{
+    attest_of, events_of, flag_of, key_of, measurement_of, name_of, text_if_given,
+};
+use agent_plans::{ArgumentsFault, Form, Judge, Judged, Plan, Question, Scope, Task};
 use clap::error::ErrorKind;
 use clap::{ArgMatches, Error};
 use hex::FromHexError;
@@ -25,6 +27,15 @@ use std::env::Args;
 
 // What is wrong with `--print binary` beside `--json`.
 const NO_JSON_OF_BYTES: &str = "error: invalid value 'binary' for '--print <P>' with '--json'\n";
+
+// What is wrong with `--explain` beside `--data`, and beside `--json`.
+const EXPLAINED_AS_BYTES: &str = "error: the argument '--explain' cannot be used with '--data'\n";
+
+const EXPLAINED_AS_JSON: &str = "error: the argument '--explain' cannot be used with '--json'\n";
+
+// What is wrong with `--expected` where what data says is not shown.
+const EXPECTED_OF_NOTHING: &str =
+    "error: the argument '--expected <EXPECTED>' cannot be used without '--explain' or '--json'\n";
 
 /// Reads the program's arguments, without its name. Without arguments the plan is `Registers`: the log on standard input. After
 /// `--version` nothing is looked at. Otherwise the first argument is the command, and the rest are its options and names, by `clap`'s
@@ -48,9 +59,9 @@ pub fn read_words(alloc: Global, arguments: &[String]) -> Result<Plan, Arguments
     }
 }
 
-/// What `clap` says of arguments that it refuses, or what is wrong with `--print binary` beside `--json`, or with a nonce that is not
-/// hexadecimal: lines for a person, which may have any bytes of the arguments. `None` if `clap` takes them, and they are no such; of
-/// `--help` and `--version` it is what `clap` shows.
+/// What `clap` says of arguments that it refuses, or what is wrong with `--print binary` beside `--json`, with options of `events` that do
+/// not go together, or with a nonce that is not hexadecimal: lines for a person, which may have any bytes of the arguments. `None` if
+/// `clap` takes them, and they are no such; of `--help` and `--version` it is what `clap` shows.
 pub fn refusal_of(alloc: Global, arguments: &[String]) -> Result<Option<String>, AllocError>
     // Without arguments nothing is refused.
     ensures none { arguments.now ≡ [] → result ≡ Ok None }
@@ -63,10 +74,10 @@ pub fn refusal_of(alloc: Global, arguments: &[String]) -> Result<Option<String>,
         templates: &Template::ALL.map(Template::name),
     };
     match all_commands(alloc, known)?.try_get_matches_from(arguments) {
-        Ok(matches) if is_json_of_bytes(&matches) => {
-            Ok(Some(String::from_str(alloc, NO_JSON_OF_BYTES)?))
-        }
-        Ok(matches) => nonce_refusal(alloc, &matches),
+        Ok(matches) => match wrong_pair(&matches) {
+            Some(text) => Ok(Some(String::from_str(alloc, text)?)),
+            None => nonce_refusal(alloc, &matches),
+        },
         Err(error) => refusal_text(alloc, &error),
     }
 }
@@ -88,12 +99,38 @@ fn nonce_refusal(alloc: Global, matches: &ArgMatches) -> Result<Option<String>, 
     }
 }
 
-// Whether a measurement is to print the binary list as JSON, which `clap` takes.
-fn is_json_of_bytes(matches: &ArgMatches) -> bool {
-    let Some(matches) = matches.subcommand_matches("measure") else {
-        return false;
-    };
-    matches.get_str("print") == Some("binary") && matches.get_str("json") == Some("true")
+// What is wrong with options that do not go together, and which `clap` takes.
+fn wrong_pair(matches: &ArgMatches) -> Option<&'static str> {
+    if let Some(matches) = matches.subcommand_matches("measure") {
+        return wrong_pair_of_measure(matches);
+    }
+    wrong_pair_of_events(matches.subcommand_matches("events")?)
+}
+
+// Whether a measurement is to print the binary list as JSON.
+fn wrong_pair_of_measure(matches: &ArgMatches) -> Option<&'static str> {
+    (matches.get_str("print") == Some("binary") && is_set(matches, "json")).then_some(
+        NO_JSON_OF_BYTES,
+    )
+}
+
+// Whether events are to be explained in a form that has no room for it, or expected registers are given to one.
+fn wrong_pair_of_events(matches: &ArgMatches) -> Option<&'static str> {
+    let explains = is_set(matches, "explain");
+    if explains && is_set(matches, "data") {
+        Some(EXPLAINED_AS_BYTES)
+    } else if explains && is_set(matches, "json") {
+        Some(EXPLAINED_AS_JSON)
+    } else if matches.contains_id("expected") && !explains && !is_set(matches, "json") {
+        Some(EXPECTED_OF_NOTHING)
+    } else {
+        None
+    }
+}
+
+// Whether this flag is present.
+fn is_set(matches: &ArgMatches, id: &str) -> bool {
+    matches.get_str(id) == Some("true")
 }
 
 // The text of an error of clap's, unless memory ran out.
@@ -151,10 +188,7 @@ fn task_of(
 {
     match command {
         "measure" => Ok(Task::Measure(measurement_of(alloc, matches, form)?)),
-        "events" => Ok(Task::Events {
-            log: name_of(alloc, matches, "LOG")?,
-            data: flag_of(matches, "data", DataShown::Size, DataShown::Bytes)?,
-        }),
+        "events" => events_of(alloc, matches, form),
         "show" => Ok(Task::Entries {
             list: name_of(alloc, matches, "LIST")?,
         }),

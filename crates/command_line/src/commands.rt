@@ -7,6 +7,7 @@ ghost use Rattle.command_line.specs.parts.Commands.{IsArgument, IsCommand, app_o
 ghost use Rattle.command_line.specs.declared.commands.KnownNames.{KnownNames};
 ghost use Rattle.command_line.specs.Arguments.{Parsers, commands, program_app};
 
+use crate::argument_help::help_of;
 use crate::command_table::{ArgumentRow, COMMANDS, CommandRow, Form, Values};
 use crate::help_texts::{PROGRAM_ABOUT, help_end_of};
 use clap::builder::ValueParser;
@@ -70,7 +71,8 @@ fn command<'a>(alloc: Global, row: &'a CommandRow<'a>, known: KnownNames<'a>) ->
 {
     let mut command = describe(alloc, row.name, row.about);
     for argument_row in row.arguments {
-        command = command.arg(argument(alloc, argument_row, known)?)?;
+        let help = help_of(row.name, argument_row.id);
+        command = command.arg(argument(alloc, argument_row, help, known)?)?;
     }
     Ok(command)
 }
@@ -84,15 +86,16 @@ fn describe<'a>(alloc: Global, name: &'a str, about: &'a str) -> Command<'a>
         .after_help(help_end_of(name))
 }
 
-// The argument of this row.
+// The argument of this row, with this help.
 fn argument<'a>(
     alloc: Global,
     row: &ArgumentRow<'a>,
+    help: &'a str,
     known: KnownNames<'a>,
 ) -> Result<Arg<'a>, AllocError>
     ensures { IfOk result (IsArgument (rule_of_form known.entry row.now.id.now row.now.form)) }
 {
-    let arg = Arg::new(alloc, row.id).help(row.help);
+    let arg = Arg::new(alloc, row.id).help(help);
     match row.form {
         Form::Required => Ok(arg.required(true)),
         Form::Omittable => Ok(arg),

@@ -1,4 +1,4 @@
-//! Texts of the help that several rows of the table share, and the ends of the help.
+//! What the program does, and the ends of the help.
 
 use crate::fault_tables::with_fault_tables;
 
@@ -30,35 +30,6 @@ Exit status:
     };
 }
 
-/// The help of EXPECTED, and what else is to be said of it.
-macro_rules! expected_help {
-    ($($more:literal)?) => {
-        concat!(
-            "\
-Expected registers, at most 64 MiB, one per line, for example `sha256 4 3d45..`:
-algorithm, register in decimal and value in hexadecimal, separated by single
-spaces. `ima-agent expected` writes such lines"
-            $(, ". ", $more)?
-        )
-    };
-}
-
-/// The help of --require, and what else is to be said of it.
-macro_rules! require_help {
-    ($more:literal) => {
-        concat!(
-            "\
-Registers that EXPECTED has to name, for example sha256:0-10 or
-sha256:0-7,sha1:10; register 10 must be among them. Each that EXPECTED
-lacks is a row `missing`, and the ",
-            $more
-        )
-    };
-}
-
-pub(crate) use expected_help;
-pub(crate) use require_help;
-
 /// What the help calls the value of --require.
 pub(crate) const REQUIRED_REGISTERS: &str = "BANK:A-B[,BANK:C-D..]";
 
@@ -89,7 +60,7 @@ pub(crate) fn help_end_of<'a>(command: &str) -> &'a str {
             help_end!("ima-agent expected --registers 0-10 pcrread.txt > expected.txt"; expected),
         "key" => help_end!("ima-agent key --print pem ak.pub > ak.pem"; key),
         "registers" => help_end!("ima-agent registers firmware.log"; log),
-        "events" => help_end!("ima-agent events --data firmware.log"; log),
+        "events" => help_end!("ima-agent events --data firmware.log"; log expected),
         "show" => help_end!("ima-agent show ima.list"; list),
         "replay" =>
             help_end!("ima-agent replay --require sha256:10 ima.list expected.txt"; list replay expected),

@@ -1,6 +1,7 @@
 //! The command line: what its arguments request.
 #![tactic(auto)]
 
+mod argument_help;
 mod arguments;
 mod command_table;
 mod commands;

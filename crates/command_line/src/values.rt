@@ -2,12 +2,13 @@
 
 ghost use Rattle.std.specs.Prelude.{◌≡◌, ◌<◌, ◌≤◌, ◌^◌, [], Some, codes, map, string_bytes, unwrap_or, vec_len, IfOk};
 ghost use Rattle.clap.specs.Words.{all_of, first_of, found_of, rows_of};
-ghost use Rattle.agent_plans.specs.Plans.{HasForm, IsWithinLimits};
-ghost use Rattle.command_line.specs.Arguments.{AreFurtherNames, HasAttest, HasBytes, HasMeasure, HasNumber, HasQuestion, IsFlag, IsGivenAs, part_name, print_name};
+ghost use Rattle.agent_plans.specs.Plans.{HasForm, IsWithin, IsWithinLimits};
+ghost use Rattle.command_line.specs.Arguments.{AreFurtherNames, HasAttest, HasBytes, HasMeasure, HasNumber, HasQuestion, HasValues, IsDataShown, IsFlag, IsGivenAs, part_name, print_name};
 
 use crate::command_table::{MOST_RECORDS, MOST_WORKERS};
 use agent_plans::{
-    ArgumentsFault, Attest, Form, Measurement, NameEnd, Names, Print, Question, Scope,
+    ArgumentsFault, Attest, DataShown, Form, Measurement, NameEnd, Names, Print, Question, Scope,
+    Task,
 };
 use clap::ArgMatches;
 use hex::FromHexError;
@@ -37,6 +38,43 @@ pub(crate) fn measurement_of(
         files: files_of(alloc, matches)?,
         names: further_names_of(alloc, matches)?,
     })
+}
+
+/// What `events` shows in this form. Refuses `--explain` with JSON, and `--expected` where what data says is not shown.
+pub(crate) fn events_of(
+    alloc: Global,
+    matches: &ArgMatches,
+    form: Form,
+) -> Result<Task, ArgumentsFault>
+    ensures values { IfOk result (HasValues (codes "events") (rows_of (found_of matches.now))) }
+    ensures within { IfOk result (IsWithin form) }
+{
+    let log = name_of(alloc, matches, "LOG")?;
+    let data = data_of(matches)?;
+    let expected = text_if_given(alloc, matches, "expected")?;
+    match (form, data, expected) {
+        (Form::Json, DataShown::Meaning, _) => Err(ArgumentsFault::Usage),
+        (Form::Text, DataShown::Size | DataShown::Bytes, Some(_)) => Err(ArgumentsFault::Usage),
+        (_, data, expected) => Ok(Task::Events {
+            log,
+            data,
+            expected,
+        }),
+    }
+}
+
+// What is shown of the data of events. Refuses `--explain` with `--data`.
+fn data_of(matches: &ArgMatches) -> Result<DataShown, ArgumentsFault>
+    ensures { IfOk result (IsDataShown (rows_of (found_of matches.now))) }
+{
+    let has_bytes = flag_of(matches, "data", false, true)?;
+    let explains = flag_of(matches, "explain", false, true)?;
+    match (has_bytes, explains) {
+        (false, false) => Ok(DataShown::Size),
+        (true, false) => Ok(DataShown::Bytes),
+        (false, true) => Ok(DataShown::Meaning),
+        (true, true) => Err(ArgumentsFault::Usage),
+    }
 }
 
 /// The options and names of `attest`. Refuses a nonce that is not hexadecimal.

@@ -2,3 +2,4 @@ pub mod EscapingLaws
 pub mod ShowingLaws
 pub mod StreamingLaws
 pub mod OutcomeLaws
+pub mod MatchingLaws

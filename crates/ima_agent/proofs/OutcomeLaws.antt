@@ -1,12 +1,12 @@
 -- What was sent is what is asked for, and is answered with its status.
 use Rattle.std.proofs.Common.{◌≡◌, ℕ, List, [], ◌++◌, Result, Ok, Err, refl, ap, ◌∙◌, append_assoc, append-nil, inl, inr}
-use Rattle.std.specs.Prelude.{IfErr, IfOk, OnErr, Some, String, string_bytes}
+use Rattle.std.specs.Prelude.{IfErr, IfOk, OnErr, Option, Some, String, option_map, string_bytes}
 use Rattle.std.specs.Global.{Global}
 use Rattle.byte_streams.specs.declared.streams.Failed.{Failed}
 use Rattle.byte_streams.specs.Streams.{Sends, SinkState}
 use Rattle.byte_streams.proofs.SinkLaws.{Sends-none, Sends-then}
 use Rattle.agent_inputs.specs.declared.fault.RunFault.{RunFault}
-use Rattle.agent_inputs.specs.Loading.{Holds, Inputs, IsInputFault, Saved}
+use Rattle.agent_inputs.specs.Loading.{Holds, Inputs, Saved}
 use Rattle.agent_plans.specs.declared.plan.DataShown.{DataShown}
 use Rattle.agent_plans.specs.declared.plan.Form.{Form}
 use Rattle.agent_plans.specs.declared.plan.Form.TheVariants.{Json, Text}
@@ -17,7 +17,12 @@ use Rattle.ima_agent.specs.declared.streams.StreamFault.{StreamFault}
 use Rattle.ima_agent.specs.declared.streams.StreamFault.TheVariants as streams
 use Rattle.rendering.specs.FaultTexts.{IsFailure}
 use Rattle.ima_agent.specs.Program.{Answers, IsFaultOf, IsOutcome, IsOutputFor, SendsOutput, SendsText, Streams, status_after}
-use Rattle.ima_agent.specs.Showing.{ShowsEntriesOf, ShowsEventsIn, ShowsPlainEventsIn}
+use Rattle.measured_data.specs.declared.place.Place.{Place}
+use Rattle.verdict_texts.specs.declared.events.EventData.{EventData}
+use Rattle.ima_agent.specs.declared.events.EventLines.TheVariants as lines
+use Rattle.ima_agent.specs.Matching.{AreMatched, IsKnownFor}
+use Rattle.ima_agent.specs.Showing.{ShowsEntriesOf}
+use Rattle.ima_agent.specs.ShowingEvents.{EventForm, IsReported, ShowsEventsIn, ShowsPlainEventsIn, ShowsToldOf, lines_for}
 
 -- A sink that failed in a text did not take more.
 sent_less : {A B E F : Type 0} (old new : SinkState) (fault : E) (other : F) (text more : List ℕ)
@@ -67,27 +72,36 @@ module _ (inputs : Inputs) (task : Task) (form : Form) (old new : Saved) where
 
 -- ---- outputs that were sent while their input was read
 
-pub not_loaded : (inputs : Inputs) (log : String Global) (requested : DataShown) (form : Form) (fault : RunFault)
-    → IsInputFault inputs (Some (string_bytes log)) fault → IsFaultOf inputs (tasks.Events log requested) form fault
-not_loaded inputs log requested Text fault is = inl is
-not_loaded inputs log requested Json fault is = is
+-- The line of a fault is what is written for it.
+reported_so : (form : Form) (fault : RunFault) (line : List ℕ) (status : ℕ) → IsReported form fault line status → IsFailure form fault line status
+reported_so Text fault line status is = is
+reported_so Json fault line status is = inl is
 
-module _ (inputs : Inputs) (log : String Global) (requested : DataShown) (old new : Saved) (bytes : List ℕ)
-    (held : Holds inputs (Some (string_bytes log)) bytes) (kept : new ≡ old) where
-  pub plain_outcome : (text : List ℕ) (status : ℕ) → ShowsPlainEventsIn bytes requested text status
-      → IsOutcome inputs (tasks.Events log requested) Text old new text status
-  plain_outcome text status (inl (shown, done)) = inl (((bytes, held, shown), done), kept)
-  plain_outcome text status (inr (fault, is, failure)) = inr (inl (fault, inr (bytes, held, is), failure, kept))
+module _ (inputs : Inputs) (log : String Global) (requested : DataShown) (expected : Option (String Global)) (form : Form) (old new : Saved)
+    (bytes : List ℕ) (held : Holds inputs (Some (string_bytes log)) bytes) (kept : new ≡ old) where
+  abbrev Outcome : List ℕ → ℕ → Type 0
+  Outcome = IsOutcome inputs (tasks.Events log requested expected) form old new
 
-  pub events_outcome : (text : List ℕ) (status : ℕ) → ShowsEventsIn bytes text status
-      → IsOutcome inputs (tasks.Events log requested) Json old new text status
-  events_outcome text status (inl all) = inl ((bytes, held, inl all), kept)
-  events_outcome text status (inr (begun, fault, line, inl fails, reported, is)) =
-      inl ((bytes, held, inr (begun, fault, line, fails, reported, is)), kept)
-  events_outcome text status (inr (begun, fault, line, inr (inl out), reported, is)) =
-      inr (inr ((bytes, held, (begun, fault, line, out, reported, is)), kept))
-  events_outcome text status (inr (begun, fault, line, inr (inr (memory, none)), reported, is)) =
-      inr (inl (fault, inr (inr memory), inl (rw (is, none) reported), kept))
+  pub plain_outcome : (shown : EventData) → lines_for form requested ≡ lines.Plain shown → (text : List ℕ) (status : ℕ)
+      → ShowsPlainEventsIn form shown bytes text status → Outcome text status
+  plain_outcome shown is text status (inl all) = inl ((bytes, held, rw is all), kept)
+  plain_outcome shown is text status (inr (fault, none, failure)) = inr (inl (fault, inr (bytes, held, rw is none), failure, kept))
+
+  module _ (told : EventForm) (is : lines_for form requested ≡ lines.Told told) where
+    events_outcome : IsKnownFor told bytes → (matched : Option (List Place)) → AreMatched inputs (option_map string_bytes expected) bytes matched
+        → (text : List ℕ) (status : ℕ) → ShowsEventsIn form told matched bytes text status → Outcome text status
+    events_outcome known matched are text status (inl all) = inl ((bytes, held, rw is (known, (matched, are, inl all))), kept)
+    events_outcome known matched are text status (inr (begun, fault, line, inl fails, reported, ends)) =
+        inl ((bytes, held, rw is (known, (matched, are, inr (begun, fault, line, fails, reported, ends)))), kept)
+    events_outcome known matched are text status (inr (begun, fault, line, inr (inl out), reported, ends)) =
+        inr (inr ((bytes, held, rw is (known, (matched, are, (begun, fault, line, out, reported, ends)))), kept))
+    events_outcome known matched are text status (inr (begun, fault, line, inr (inr (memory, none)), reported, ends)) =
+        inr (inl (fault, inl (inr (inr memory)), rw (ends, none) (reported_so form fault line status reported), kept))
+
+    pub told_outcome : (text : List ℕ) (status : ℕ) → ShowsToldOf inputs form told (option_map string_bytes expected) bytes text status
+        → Outcome text status
+    told_outcome text status (inl (known, (matched, are, shown))) = events_outcome known matched are text status shown
+    told_outcome text status (inr (fault, none, failure)) = inr (inl (fault, inr (bytes, held, rw is none), failure, kept))
 
 pub entries_outcome : (inputs : Inputs) (list : String Global) (old new : Saved) → new ≡ old → (text : List ℕ) (status : ℕ)
     → ShowsEntriesOf inputs (string_bytes list) text status → IsOutcome inputs (tasks.Entries list) Json old new text status

@@ -4,7 +4,6 @@ use Rattle.std.specs.Global.{Global, Vec}
 use Rattle.byte_streams.specs.declared.streams.Failed.{Failed}
 use Rattle.byte_streams.specs.Streams.{SinkState, Sends}
 use Rattle.ima_list.specs.Lines.{line_of}
-use Rattle.verdict_texts.specs.EventTexts.{events_text}
 use Rattle.agent_inputs.specs.declared.fault.RunFault.{RunFault}
 use Rattle.agent_inputs.specs.declared.fault.RunFault.TheVariants as runs
 use Rattle.agent_inputs.specs.Faults.{IsArgumentsFault}
@@ -32,7 +31,8 @@ use Rattle.rendering.specs.Rendering.{IsOutputFault, ShowsAnswer, print_measured
 use Rattle.ima_agent.specs.declared.streams.StreamFault.{StreamFault}
 use Rattle.ima_agent.specs.declared.streams.StreamFault.TheVariants as streams
 use Rattle.rendering.specs.FaultTexts.{fault_line, fault_status, IsFailure, IsReportedAsJson}
-use Rattle.ima_agent.specs.Showing.{AreAllEntries, AreAllEvents, BreaksOffAfterEntries, EndsWithFault, IsNoListFor, IsNoLogFor, IsRefusedFor, RunsOutAfterEvents, ShowsEntries, ShowsHexadecimal, ShowsJsonEvents, data_of, version_text}
+use Rattle.ima_agent.specs.Showing.{AreAllEntries, BreaksOffAfterEntries, EndsWithFault, IsNoListFor, IsRefusedFor, ShowsEntries, ShowsHexadecimal, version_text}
+use Rattle.ima_agent.specs.ShowingEvents.{BreaksOffAfterEvents, IsNoneShownFor, ShowsEvents, lines_for}
 
 -- ---- a question
 
@@ -104,10 +104,9 @@ Shows inputs tasks.Registers form shown status = OfInput inputs None (λ text. S
 Shows inputs (tasks.Answer question) form shown status = ⊥
 Shows inputs (tasks.Measure request) form shown status =
     ((given : Measured) × IsMeasured inputs request given × (shown ≡ print_measured form request.print given)) × (status ≡ 0)
-Shows inputs (tasks.Events log requested) forms.Text shown status =
-    OfInput inputs (Some (string_bytes log)) (λ bytes. AreAllEvents (events_text (data_of requested)) bytes shown) × (status ≡ 0)
-Shows inputs (tasks.Events log requested) forms.Json shown status =
-    OfInput inputs (Some (string_bytes log)) (λ bytes. ShowsJsonEvents bytes shown status)
+Shows inputs (tasks.Events log requested expected) form shown status =
+    OfInput inputs (Some (string_bytes log)) (λ bytes.
+    ShowsEvents inputs form (lines_for form requested) (option_map string_bytes expected) bytes shown status)
 Shows inputs (tasks.Entries list) forms.Text shown status =
     OfInput inputs (Some (string_bytes list)) (λ bytes. AreAllEntries (flat_map line_of) bytes shown) × (status ≡ 0)
 Shows inputs (tasks.Entries list) forms.Json shown status =
@@ -122,15 +121,16 @@ IsOutputFor inputs (tasks.Answer question) form old new shown status =
     ShowsAnswer inputs (requested_by question) (save_by question) form old new shown status
 IsOutputFor inputs task form old new shown status = Shows inputs task form shown status × (new ≡ old)
 
--- The fault may come of the task in this form, with these inputs. As JSON, a damaged log is shown as far as it goes, and any list.
+-- The fault may come of the task in this form, with these inputs. As JSON, any list is shown as far as it goes; and so is a damaged log, unless
+-- registers are compared.
 abbrev pub IsFaultOf : Inputs → Task → Form → RunFault → Type 0
 IsFaultOf inputs tasks.Registers form fault = IsInputFault inputs None fault ⊎ OfInput inputs None (λ text. IsRefusedFor text fault)
 IsFaultOf inputs (tasks.Answer question) form fault = IsOutputFault inputs (requested_by question) (save_by question) fault
 IsFaultOf inputs (tasks.Measure request) form fault = IsMeasuringFault inputs request fault
-IsFaultOf inputs (tasks.Events log requested) forms.Text fault =
+IsFaultOf inputs (tasks.Events log requested expected) form fault =
     IsInputFault inputs (Some (string_bytes log)) fault
-    ⊎ OfInput inputs (Some (string_bytes log)) (λ bytes. IsNoLogFor bytes fault)
-IsFaultOf inputs (tasks.Events log requested) forms.Json fault = IsInputFault inputs (Some (string_bytes log)) fault
+    ⊎ OfInput inputs (Some (string_bytes log)) (λ bytes.
+    IsNoneShownFor inputs (lines_for form requested) (option_map string_bytes expected) bytes fault)
 IsFaultOf inputs (tasks.Entries list) forms.Text fault =
     IsInputFault inputs (Some (string_bytes list)) fault
     ⊎ OfInput inputs (Some (string_bytes list)) (λ bytes. IsNoListFor bytes fault)
@@ -138,8 +138,9 @@ IsFaultOf inputs task form fault = ⊥
 
 -- The output of a task that is written while its input is read, if it fails in between: what was read till then, and then the fault.
 abbrev pub IsBrokenOff : Inputs → Task → Form → List ℕ → ℕ → Type 0
-IsBrokenOff inputs (tasks.Events log requested) forms.Json text status =
-    OfInput inputs (Some (string_bytes log)) (λ bytes. EndsWithFault (RunsOutAfterEvents bytes) IsReportedAsJson text status)
+IsBrokenOff inputs (tasks.Events log requested expected) form text status =
+    OfInput inputs (Some (string_bytes log)) (λ bytes.
+    BreaksOffAfterEvents inputs form (lines_for form requested) (option_map string_bytes expected) bytes text status)
 IsBrokenOff inputs (tasks.Entries list) forms.Json text status = EndsWithFault (BreaksOffAfterEntries inputs (string_bytes list)) IsReportedAsJson text status
 IsBrokenOff inputs task form text status = ⊥
 

@@ -1,30 +1,20 @@
 -- What the tasks show that ask no question: the registers and the events of a log, the entries of a list, the version.
-use Rattle.std.specs.Prelude.{◌≡◌, ℕ, ◌⊎◌, ◌==◌, ◌||◌, not, Bool, List, [], ◌++◌, codes, filter, length, Option, Some, Ok, Err, IsErr}
+use Rattle.std.specs.Prelude.{◌≡◌, ℕ, ◌⊎◌, ◌==◌, ◌||◌, not, Bool, List, ◌++◌, codes, filter, length, Some, Ok, Err, IsErr}
 use Rattle.hex.specs.Hex.{decode_of}
-use Rattle.boot_log.specs.declared.header.Row.{Row}
-use Rattle.boot_log.specs.Spelling.{LogEvent}
-use Rattle.boot_log.specs.Spelling as logs
 use Rattle.ima_list.specs.declared.fault.ListFault.{ListFault}
 use Rattle.ima_list.specs.ListEntry.{ListEntry}
 use Rattle.ima_list.specs.Spelling.{BeginsWith, IsReading}
-use Rattle.verdict_texts.specs.declared.events.EventData.{EventData}
-use Rattle.verdict_texts.specs.declared.events.EventData.TheVariants as texts
-use Rattle.verdict_texts.specs.EventTexts.{events_text}
-pub use Rattle.json_texts.specs.ItemLines.{entry_lines, event_lines, numbered_lines, AreAllEntries, AreAllEvents, EndsWithFault, FailsAfterEntries, FailsAfterEvents, ShowsToFault}
+pub use Rattle.json_texts.specs.ItemLines.{entry_lines, numbered_lines, AreAllEntries, EndsWithFault, FailsAfterEntries, ShowsToFault}
 use Rattle.json_texts.specs.SentEntries.{AreAllIn}
-pub use Rattle.json_texts.specs.SentEvents.{log_lines}
-use Rattle.agent_plans.specs.declared.plan.DataShown.{DataShown}
-use Rattle.agent_plans.specs.declared.plan.DataShown.TheVariants as arguments
 use Rattle.agent_plans.specs.declared.plan.Form.{Form}
-use Rattle.agent_plans.specs.declared.plan.Form.TheVariants.{Text}
 use Rattle.agent_inputs.specs.declared.fault.RunFault.{RunFault}
 use Rattle.agent_inputs.specs.declared.fault.RunFault.TheVariants as runs
-use Rattle.agent_inputs.specs.Faults.{HasLogFault, fault_of_list, fault_of_log}
+use Rattle.agent_inputs.specs.Faults.{HasLogFault, fault_of_list}
 use Rattle.agent_inputs.specs.Loading.{Holds, HoldsTooMuch, Inputs, IsReadFailure, IsTooLong, OfInput, input_limit, unknown}
 use Rattle.judging.specs.Requests.{LogRegistersOf}
 use Rattle.judging.specs.Inputs.{BytesOf}
 use Rattle.rendering.specs.Rendering.{GivesAnswer, IsRefusalOn}
-use Rattle.rendering.specs.FaultTexts.{IsFailure, IsReportedAsJson}
+use Rattle.rendering.specs.FaultTexts.{IsReportedAsJson}
 
 -- The program and its version; and the logic that the proofs rest on, as the kit's `rt version` names it.
 abbrev pub version_text : List ℕ
@@ -57,11 +47,6 @@ IsRefusedFor text fault =
 
 -- ---- events and entries as text
 
--- What an event's line has of its data, as the arguments request it.
-abbrev pub data_of : DataShown → EventData
-data_of arguments.Size = texts.Size
-data_of arguments.Bytes = texts.Bytes
-
 -- Why nothing of a log is shown: the bytes are no log, or memory ran out.
 abbrev pub IsNoLogFor : List ℕ → RunFault → Type 0
 IsNoLogFor log fault = HasLogFault log fault ⊎ (fault ≡ runs.Memory)
@@ -70,22 +55,12 @@ IsNoLogFor log fault = HasLogFault log fault ⊎ (fault ≡ runs.Memory)
 abbrev pub IsNoListFor : List ℕ → RunFault → Type 0
 IsNoListFor list fault = ((first : ListFault) × IsReading list (Err first) × (fault ≡ fault_of_list first)) ⊎ (fault ≡ runs.Memory)
 
--- ---- events and entries as JSON
+-- ---- entries as JSON
 
--- What can be read of the bytes as a log is shown; and as a list.
-abbrev pub ShowsJsonEvents : List ℕ → List ℕ → ℕ → Type 0
-ShowsJsonEvents log shown status =
-    ShowsToFault (AreAllEvents log_lines log) (FailsAfterEvents log_lines fault_of_log log) IsReportedAsJson shown status
-
+-- What can be read of the bytes as a list is shown.
 abbrev pub ShowsEntries : List ℕ → List ℕ → ℕ → Type 0
 ShowsEntries list shown status =
     ShowsToFault (AreAllEntries entry_lines list) (FailsAfterEntries entry_lines fault_of_list list) IsReportedAsJson shown status
-
--- The text is the lines of a header and events that the bytes begin with, and then memory ran out.
-abbrev pub RunsOutAfterEvents : List ℕ → List ℕ → RunFault → Type 0
-RunsOutAfterEvents log text fault =
-    (fault ≡ runs.Memory)
-    × ((table : List Row) × (events : List LogEvent) × (rest : List ℕ) × logs.BeginsWith log table events rest × (text ≡ log_lines table events))
 
 -- Why no more entries of the file of this name are shown, of which the bytes `came` were read. It could not be opened or read, or it is
 -- longer than an input may be and its first bytes came, as many as one may have: then these are all entries of what came, of which none was refused (how much of a file
@@ -108,21 +83,6 @@ pub record BreaksOffAfterEntries (inputs : Inputs) (name text : List ℕ) (fault
   pub text_is : text ≡ entry_lines entries
 
 -- ---- what is shown while its input is read
-
--- The plain lines of the log in these bytes are shown, or why not.
-abbrev pub ShowsPlainEventsIn : List ℕ → DataShown → List ℕ → ℕ → Type 0
-ShowsPlainEventsIn log requested shown status =
-    (AreAllEvents (events_text (data_of requested)) log shown × (status ≡ 0))
-    ⊎ ((fault : RunFault) × IsNoLogFor log fault × IsFailure Text fault shown status)
-
--- Why no more of the log in these bytes is shown than this text: it fails; or memory ran out, after some events or before the first line.
-abbrev pub StopsInLog : List ℕ → List ℕ → RunFault → Type 0
-StopsInLog log text fault =
-    FailsAfterEvents log_lines fault_of_log log text fault ⊎ RunsOutAfterEvents log text fault ⊎ ((fault ≡ runs.Memory) × (text ≡ []))
-
--- The log in these bytes is shown as JSON, as far as it goes.
-abbrev pub ShowsEventsIn : List ℕ → List ℕ → ℕ → Type 0
-ShowsEventsIn log shown status = ShowsToFault (AreAllEvents log_lines log) (StopsInLog log) IsReportedAsJson shown status
 
 -- The file of this name is a list, and the text is the lines of its entries as JSON.
 abbrev pub AreAllInFile : Inputs → List ℕ → List ℕ → Type 0

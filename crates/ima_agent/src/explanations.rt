@@ -219,6 +219,7 @@ fn input_of<'a>(task: &'a Task, fault: &RunFault) -> Option<&'a str> {
         (RunFault::Expect(_), Task::Answer(Question::Attest(attest))) => {
             attest.expected.as_deref()
         }
+        (RunFault::Expect(_), Task::Events { expected, .. }) => expected.as_deref(),
         (RunFault::Quote(_), Task::Answer(Question::Attest(attest))) => Some(attest.quote.as_str()),
         (RunFault::Key(_), Task::Answer(Question::Key { area, .. })) => Some(area.as_str()),
         (RunFault::Checkpoint(_), Task::Answer(Question::Attest(attest))) => {

@@ -4,8 +4,10 @@
 #![tactic(auto)]
 
 mod escapes;
+mod events;
 mod explanations;
 mod hexadecimal;
+mod matches;
 mod program;
 mod progress;
 mod requests;

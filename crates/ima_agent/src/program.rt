@@ -11,10 +11,11 @@ ghost use Rattle.agent_plans.specs.declared.plan.Task.TheVariants as tasks;
 ghost use Rattle.rendering.specs.FaultTexts.{fault_status, IsFailure};
 ghost use Rattle.ima_agent.specs.Program.{Answers, IsFaultOf, IsOutcome, IsOutput, IsOutputFor, IsOutputOf, Streams, status_after};
 
+use crate::events::events_for;
 use crate::explanations::Failure;
 use crate::progress::{NoProgress, Progress};
 use crate::requests::{request_of, save_of};
-use crate::shown::{entries_for, events_for, shown_registers};
+use crate::shown::{entries_for, shown_registers};
 use crate::streams::{DONE, Prepared, Sent, StreamFault, send_output, send_text};
 use crate::version::version_text;
 use agent_inputs::{AgentFiles, RunFault};
@@ -95,7 +96,8 @@ fn exits_with(status: u8) -> ExitCode
 /// The whole output is prepared before its first byte is written; a fault is written as one line. But `events` looks its log through
 /// for a fault, and then writes the lines of the events one after another, so that memory does not grow with them; `show --json` writes the lines of
 /// the entries while it reads the list, so that memory does not grow with the list, and `events --json` those of the events while it
-/// reads the loaded log: a fault's line then comes after those of the entries or events before it, whatever the fault. The status is 0 on success, 1
+/// reads the loaded log: a fault's line then comes after those of the entries or events before it, whatever the fault. With `--expected` the log
+/// is looked through before, and so it is with `--explain`: then only the line of a fault of memory may come after some. The status is 0 on success, 1
 /// if the report does not match, a register's value was not reached, none was looked for or a required one is missing, 2 for refused
 /// input, 3 if memory ran out, outcomes do not account for the book, or a device failed, and 4 for a refused quote, or one whose signature
 /// the caller has not checked. After the sink fails, nothing more is written.
@@ -199,7 +201,11 @@ fn perform<R: Threads + Wait + Sync, F: AgentFiles, S: Sink, P: Progress>(
         Task::Measure(request) => {
             send_output(measure_for(rt, alloc, request, form, files, progress), sink)
         }
-        Task::Events { log, data } => events_for(alloc, files, log, *data, form, sink),
+        Task::Events {
+            log,
+            data,
+            expected,
+        } => events_for(alloc, files, log, *data, expected, form, sink),
         Task::Entries { list } => entries_for(alloc, files, list, form, sink),
         Task::Help(text) => send_text(text.as_bytes(), DONE, sink),
         Task::Version => send_text(version_text(), DONE, sink),

@@ -1,25 +1,22 @@
-//! The registers and the events of a log and the entries of a list, as the program shows them.
+//! The registers of a log and the entries of a list, as the program shows them.
 
 ghost use Rattle.std.specs.Prelude.{◌≡◌, ◌⊎◌, flat_map, None, Some, IfOk, IfErr, OnErr};
 ghost use Rattle.agent_inputs.specs.Loading.{IsInputFault, OfInput};
-ghost use Rattle.agent_plans.specs.declared.plan.Form.TheVariants.{Text};
 ghost use Rattle.agent_plans.specs.declared.plan.Task.TheVariants as tasks;
 ghost use Rattle.ima_list.specs.Lines.{line_of};
 ghost use Rattle.ima_agent.specs.Program.{IsFaultOf, IsOutcome, IsOutputFor, Streams};
-ghost use Rattle.ima_agent.specs.Showing.{AreAllEntries, IsNoListFor, IsRefusedFor, ShowsHexadecimal, ShowsPlainEventsIn, data_of};
+ghost use Rattle.ima_agent.specs.Showing.{AreAllEntries, IsNoListFor, IsRefusedFor, ShowsHexadecimal};
 
 use crate::hexadecimal::decode_hexadecimal;
-use crate::streams::{DONE, Prepared, Sent, StreamFault, send_list, send_log, send_output};
+use crate::streams::{Prepared, Sent, send_list, send_output};
 use agent_inputs::{AgentFiles, RunFault, load_input};
-use agent_plans::{DataShown, Form};
-use boot_log::LogView;
+use agent_plans::Form;
 use byte_streams::Sink;
 use ima_list::EntryRef;
 use ima_list::laws::entries_to_the_end_are_the_reading;
 use judging::{Input, Request};
 use rendering::{Output, output_on};
 use std::alloc::Global;
-use verdict_texts::{EventData, write_events};
 
 /// The registers that differ from their reset values after the log in hexadecimal on standard input, in this form.
 pub(crate) fn shown_registers<F: AgentFiles>(alloc: Global, files: &mut F, form: Form) -> Prepared
@@ -45,28 +42,6 @@ fn registers_in(alloc: Global, text: Vec<u8>, form: Form) -> Prepared
     Ok(given.output)
 }
 
-/// Sends the header and the events of the log in the file of this name, in this form.
-pub(crate) fn events_for<F: AgentFiles, S: Sink>(
-    alloc: Global,
-    files: &mut F,
-    log: &String,
-    requested: DataShown,
-    form: Form,
-    sink: &mut S,
-) -> Sent
-    ensures { Streams form (IsOutcome (F.known files.old) (tasks.Events log.now requested) form (F.saved files.old) (F.saved files.new))
-        (S.state sink.old) (S.state sink.new) result }
-{
-    let bytes = match load_input(alloc, files, Some(log)) {
-        Ok(bytes) => bytes,
-        Err(fault) => return Err(StreamFault::Run(fault)),
-    };
-    match form {
-        Form::Text => write_log(alloc, &bytes, requested, sink),
-        Form::Json => send_log(alloc, &bytes, sink),
-    }
-}
-
 /// Sends the entries of the list in the file of this name, in this form.
 pub(crate) fn entries_for<F: AgentFiles, S: Sink>(
     alloc: Global,
@@ -81,30 +56,6 @@ pub(crate) fn entries_for<F: AgentFiles, S: Sink>(
     match form {
         Form::Text => send_output(shown_list(alloc, files, list), sink),
         Form::Json => send_list(alloc, files, list, sink),
-    }
-}
-
-// Writes the lines of the header and the events of the log in these bytes, which is looked through for its fault before.
-fn write_log<S: Sink>(alloc: Global, bytes: &[u8], requested: DataShown, sink: &mut S) -> Sent
-    ensures { Streams Text (ShowsPlainEventsIn bytes.now requested) (S.state sink.old) (S.state sink.new) result }
-{
-    let log = match LogView::new(bytes) {
-        Ok(log) => log,
-        Err(fault) => return Err(StreamFault::Run(fault.into())),
-    };
-    match write_events(alloc, &log, data_of(requested), sink) {
-        Ok(()) => Ok(DONE),
-        Err(fault) => Err(StreamFault::Sink(fault)),
-    }
-}
-
-// What an event's line has of its data, as the arguments request it.
-fn data_of(requested: DataShown) -> EventData
-    ensures { result ≡ data_of requested }
-{
-    match requested {
-        DataShown::Size => EventData::Size,
-        DataShown::Bytes => EventData::Bytes,
     }
 }
 

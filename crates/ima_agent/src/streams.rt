@@ -1,14 +1,17 @@
 //! Outputs that are sent, some of them while their input is read.
 
-ghost use Rattle.std.specs.Prelude.{◌≡◌};
+ghost use Rattle.std.specs.Prelude.{◌≡◌, option_map};
+ghost use Rattle.agent_plans.specs.declared.plan.Form.{Form};
 ghost use Rattle.agent_plans.specs.declared.plan.Form.TheVariants.{Json};
 ghost use Rattle.ima_agent.specs.Program.{SendsOutput, SendsText, Streams};
-ghost use Rattle.ima_agent.specs.Showing.{ShowsEntriesOf, ShowsEventsIn};
+ghost use Rattle.ima_agent.specs.Showing.{ShowsEntriesOf};
+ghost use Rattle.ima_agent.specs.ShowingEvents.{ShowsEventsIn};
 
 use agent_inputs::{AgentFiles, INPUT_LIMIT, RunFault, not_read, too_long};
 use byte_streams::{Failed, Sink, send};
 use ima_list::laws::entries_to_the_end_are_the_reading;
-use json_texts::{EntriesFault, EventsFault, send_entries, send_events};
+use json_texts::{EntriesFault, EventForm, EventsFault, send_entries, send_events};
+use measured_data::Place;
 use rendering::Output;
 use std::alloc::Global;
 
@@ -50,12 +53,19 @@ pub(crate) fn send_text<S: Sink>(text: &[u8], status: u8, sink: &mut S) -> Sent
     }
 }
 
-/// Sends as JSON the algorithms that the log in these bytes declares, and its events while they are read; of a damaged one those before its
-/// fault.
-pub(crate) fn send_log<S: Sink>(alloc: Global, log: &[u8], sink: &mut S) -> Sent
-    ensures { Streams Json (ShowsEventsIn log.now) (S.state sink.old) (S.state sink.new) result }
+/// Sends in this form the algorithms that the log in these bytes declares, and its events while they are read, with what the registers that
+/// match confirm of them, if registers were compared; of a damaged log those before its fault.
+pub(crate) fn send_log<S: Sink>(
+    alloc: Global,
+    log: &[u8],
+    told: EventForm,
+    matched: Option<&[Place]>,
+    sink: &mut S,
+) -> Sent
+    ensures { (form : Form) → Streams form (ShowsEventsIn form told (option_map (λ places. places.now) matched.entry) log.now)
+        (S.state sink.old) (S.state sink.new) result }
 {
-    match send_events(alloc, log, sink) {
+    match send_events(alloc, log, told, matched, sink) {
         Ok(()) => Ok(DONE),
         Err(EventsFault::Sink) => Err(StreamFault::Sink(Failed)),
         Err(EventsFault::Log(fault)) => Err(StreamFault::Run(fault.into())),

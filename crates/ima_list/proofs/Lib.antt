@@ -7,5 +7,6 @@ pub mod TemplateLaws
 pub mod PartLaws
 pub mod ReplayLaws
 pub mod FieldsLaws
+pub mod KernelFieldLaws
 pub mod AggregateLaws
 pub mod LineLaws

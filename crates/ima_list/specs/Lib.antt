@@ -7,6 +7,7 @@ pub mod Rows
 pub mod Templates
 pub mod Replaying
 pub mod Fields
+pub mod KernelFields
 pub mod Lines
 pub mod Aggregates
 pub mod Pieces

@@ -91,7 +91,7 @@ pub attest_line : (report : AttestVerdict) → IsCountedClock report.quoted.cloc
     → IfSome report.prefix IsCountedWhole → AreCounted report.verdict.strays
     → AllByRecursion (λ row. IsCount row.expected.register) report.verdict.rows → IsOneLine (attest_json report)
 attest_line report clock firmware events locality entries prefix strays rows =
-    let few : 4 ≤ 4 = omega arith in
+    let few : 4 ≤ 8 = omega arith in
     let extends = members_deeper (members_of (extends_members report.verdict.strays)) 2 (extends_plain report.verdict.strays strays) in
     let given = values_plain report.expected report.verdict.rows rows in
     let compared : ArePlain (comparison_members report) 3 =

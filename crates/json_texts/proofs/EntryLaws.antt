@@ -8,9 +8,11 @@ use Rattle.ima_list.specs.declared.template.Template.TheVariants.{Ima, ImaNg, Im
 use Rattle.ima_list.specs.ListEntry.{ListEntry, IsEntry}
 use Rattle.ima_list.specs.FieldKinds.{FileFields}
 use Rattle.ima_list.specs.Fields.{fields_of}
+use Rattle.ima_list.specs.KernelFields.{FieldData, kernel_fields_of}
 use Rattle.ima_list.specs.Templates.{template_named}
 use Rattle.json_texts.specs.JsonValues.{IsOneLine}
 use Rattle.json_texts.specs.EntryJson.{content_members, entry_json, signature_members}
+use Rattle.json_texts.proofs.KernelFieldLaws.{fields_plain}
 use Rattle.json_texts.proofs.LineLaws.{ArePlain, one_line}
 
 pub not_utf8 : (bytes : List ℕ) → (IsUtf8 bytes → ⊥) → is_utf8 bytes ≡ false
@@ -24,9 +26,11 @@ signature_plain (Some ImaNg) sig = tt
 signature_plain (Some ImaSig) sig = (tt, tt)
 signature_plain None sig = tt
 
-content_plain : (template : Option Template) (fields : Option FileFields) (payload : List ℕ) → ArePlain (content_members template fields payload) 2
-content_plain template (Some fields) payload = (tt, (tt, (tt, signature_plain template fields.sig)))
-content_plain template None payload = (tt, tt)
+content_plain : (template : Option Template) (fields : Option FileFields) (others : Option (List FieldData)) (payload : List ℕ)
+    → ArePlain (content_members template fields others payload) 2
+content_plain template (Some fields) others payload = (tt, (tt, (tt, signature_plain template fields.sig)))
+content_plain template None (Some others) payload = (tt, (fields_plain others, tt))
+content_plain template None None payload = (tt, tt)
 
 pub entry_line : (number : ℕ) (entry : ListEntry) → number < 2 ^ 64 → IsEntry entry → IsOneLine (entry_json number entry)
 entry_line number entry fits is =
@@ -42,7 +46,7 @@ entry_line number entry fits is =
               tt,
               (
                 tt,
-                content_plain (template_named entry.name) (fields_of entry) entry.payload,
+                content_plain (template_named entry.name) (fields_of entry) (kernel_fields_of entry) entry.payload,
               ),
             ),
           ),

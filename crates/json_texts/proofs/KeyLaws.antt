@@ -1,5 +1,5 @@
 -- What is told of a key is one line, and has no member `fault`.
-use Rattle.std.proofs.Common.{◌≡◌, List, [], ◌∷◌, ◌++◌, Option, Some, None, codes, refl}
+use Rattle.std.proofs.Common.{◌≡◌, List, ◌++◌, Option, Some, None, codes, refl}
 use Rattle.std.specs.Prelude.{option_map}
 use Rattle.json.specs.Find.{get}
 use Rattle.json.specs.Json.{string}

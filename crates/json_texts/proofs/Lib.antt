@@ -1,10 +1,15 @@
 pub mod LineLaws
 pub mod WrittenLaws
+pub mod KernelFieldLaws
 pub mod EntryLaws
 pub mod SameEntryLaws
 pub mod ValueLaws
 pub mod FaultMemberLaws
 pub mod AttestLaws
 pub mod KeyLaws
+pub mod ContentLaws
+pub mod CountLaws
+pub mod EventLaws
+pub mod SteeringLaws
 pub mod SentLaws
 pub mod SentEventLaws

@@ -168,7 +168,7 @@ mutual
         (joined (quoted k) (58 ∷ []) (quoted_in_line k) refl, All-append InLine (json_tokens j) (members_tokens ms) first.2 rest.2),
       )
 
-pub line_within : (most : ℕ) (j : Json) → most ≤ 4 → IsPlain j most → IsOneLine j
+pub line_within : (most : ℕ) (j : Json) → most ≤ 8 → IsPlain j most → IsOneLine j
 line_within most j few is =
     let parts = tokens j most is in
     record { reads_back = document-print j parts.0 (omega (arith, parts.1, few)); in_line = printed false (json_tokens j) parts.2 }

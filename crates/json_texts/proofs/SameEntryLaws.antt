@@ -10,6 +10,7 @@ use Rattle.ima_list.specs.declared.template.Template.TheVariants.{Ima, ImaNg, Im
 use Rattle.ima_list.specs.ListEntry.{ListEntry}
 use Rattle.ima_list.specs.FieldKinds.{FileFields, no_fields}
 use Rattle.ima_list.specs.Fields.{HasFields, IsMadeOf, fields_of}
+use Rattle.ima_list.specs.KernelFields.{FieldData, kernel_fields_of}
 use Rattle.ima_list.specs.Rows.{row_spelling, row_told}
 use Rattle.ima_list.specs.Templates.{template_name, template_named, template_row}
 use Rattle.json_texts.specs.JsonValues.{line_of, members_of, shown_name, shown_text}
@@ -44,9 +45,9 @@ sig_same Ima f g first second fits others same = ap (λ (x : FileFields). x.sig)
 sig_same ImaNg f g first second fits others same = ap (λ (x : FileFields). x.sig) first ∙ sym (ap (λ (x : FileFields). x.sig) second)
 sig_same ImaSig f g first second fits others same = hex_same f.sig g.sig fits others (cc same)
 
-made_same : (template : Template) (p q : List ℕ) (f g : FileFields) → IsMadeOf template p f → IsMadeOf template q g → HasBytes f → HasBytes g
-    → members_of (content_members (Some template) (Some f) p) ≡ members_of (content_members (Some template) (Some g) q) → p ≡ q
-made_same template p q f g first second fits others same =
+made_same : (template : Template) (p q : List ℕ) (f g : FileFields) (o r : Option (List FieldData)) → IsMadeOf template p f → IsMadeOf template q g → HasBytes f → HasBytes g
+    → members_of (content_members (Some template) (Some f) o p) ≡ members_of (content_members (Some template) (Some g) r q) → p ≡ q
+made_same template p q f g o r first second fits others same =
     let alg = same_name_is f.alg g.alg (cc same) in
     let digest = hex_same f.digest g.digest fits.digest others.digest (cc same) in
     let path = shown_same (codes "path") (codes "path_hex") f.path g.path (λ e. absurd cc) fits.path others.path (cc same) (cc same) in
@@ -66,21 +67,21 @@ has_made : (entry : ListEntry) (fields : FileFields) → HasFields entry fields
     → (template : Template) × (template_named entry.name ≡ Some template) × IsMadeOf template entry.payload fields
 has_made entry fields has = (has.template, ap template_named has.name_is ∙ named_again has.template, has.made)
 
-content_same : (first second : ListEntry) (f g : Option FileFields) → IsKnown first → IsKnown second
+content_same : (first second : ListEntry) (f g : Option FileFields) (o r : Option (List FieldData)) → IsKnown first → IsKnown second
     → fields_of first ≡ f → fields_of second ≡ g → first.name ≡ second.name
-    → members_of (content_members (template_named first.name) f first.payload)
-    ≡ members_of (content_members (template_named second.name) g second.payload) → first.payload ≡ second.payload
-content_same first second (Some f) (Some g) known others is other name same =
+    → members_of (content_members (template_named first.name) f o first.payload)
+    ≡ members_of (content_members (template_named second.name) g r second.payload) → first.payload ≡ second.payload
+content_same first second (Some f) (Some g) o r known others is other name same =
     let made = has_made first f (known.fields f is).0 in
     let again = has_made second g (others.fields g other).0 in
     let both : Some made.0 ≡ Some again.0 = sym made.1 ∙ ap template_named name ∙ again.1 in
     let template : made.0 ≡ again.0 = cc both in
     let made_again = subst (λ (t : Template). IsMadeOf t second.payload g) (sym template) again.2 in
-    made_same made.0 first.payload second.payload f g made.2 made_again (known.fields f is).1 (others.fields g other).1
+    made_same made.0 first.payload second.payload f g o r made.2 made_again (known.fields f is).1 (others.fields g other).1
     (rw (made.1, again.1, ← template) at same)
-content_same first second (Some f) None known others is other name same = absurd cc
-content_same first second None (Some g) known others is other name same = absurd cc
-content_same first second None None known others is other name same =
+content_same first second (Some f) None o r known others is other name same = absurd cc
+content_same first second None (Some g) o r known others is other name same = absurd cc
+content_same first second None None o r known others is other name same =
     hex_same first.payload second.payload known.payload_bytes others.payload_bytes (cc same)
 
 pub same_entry : (place other : ℕ) (first second : ListEntry) → place < 2 ^ 64 → other < 2 ^ 64 → IsKnown first → IsKnown second
@@ -93,5 +94,5 @@ same_entry place other first second fits others known known_other line =
     let name = shown_same (codes "template") (codes "template_hex") first.name second.name (λ e. absurd cc) known.name_bytes
     known_other.name_bytes (cc value) (cc value) in
     let digest = hex_same first.digest second.digest known.digest_bytes known_other.digest_bytes (cc value) in
-    let payload = content_same first second (fields_of first) (fields_of second) known known_other refl refl name (cc value) in
+    let payload = content_same first second (fields_of first) (fields_of second) (kernel_fields_of first) (kernel_fields_of second) known known_other refl refl name (cc value) in
     (decimal_injective place other fits others (cc value), λ i. record { register = register i; digest = digest i; name = name i; payload = payload i })

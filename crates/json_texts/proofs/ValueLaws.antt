@@ -221,8 +221,8 @@ algorithm_plain row is =
     ((row.id, omega (arith, is.id_fits), refl), ((row.size, omega (arith, is.size_fits), refl), tt))
 
 pub digests_plain : (digests : PerBank) (algs : List Alg)
-    → ArePlain (flat_map (λ alg. optional (name_of alg) (option_map hex_json (digest_in digests alg))) algs) 1
+    → ArePlain (flat_map (λ alg. optional (name_of alg) (option_map hex_json (digest_in digests alg))) algs) 5
 digests_plain digests [] = tt
 digests_plain digests (alg ∷ algs) =
-    members_joined 1 (optional (name_of alg) (option_map hex_json (digest_in digests alg))) _
-    (text_plain 1 (name_of alg) encode_lower (digest_in digests alg)) (digests_plain digests algs)
+    members_joined 5 (optional (name_of alg) (option_map hex_json (digest_in digests alg))) _
+    (text_plain 5 (name_of alg) encode_lower (digest_in digests alg)) (digests_plain digests algs)

@@ -144,6 +144,34 @@ pub all_items : {E X : Type 0} {old now : Written} (f : List X → List Json) (x
 all_items {E} {old = old} {now = now} f xs i all written =
     subst (λ ys. WritesItems {E = E} (Ok tt) old now (f ys)) (ap (λ (n : ℕ). take n xs) all ∙ take-length xs) written
 
+pub all_members : {E X : Type 0} {old now : Written} (f : List X → List Member) (xs : List X) (i : ℕ) → i ≡ length xs
+    → WritesMembers {E = E} (Ok tt) old now (f (take i xs)) → WritesMembers {E = E} (Ok tt) old now (f xs)
+all_members {E} {old = old} {now = now} f xs i all written =
+    subst (λ ys. WritesMembers {E = E} (Ok tt) old now (f ys)) (ap (λ (n : ℕ). take n xs) all ∙ take-length xs) written
+
+-- Of all items some are written, and these are left.
+pub record HasLeft (old now : Written) (left all : List Json) : Type 0 where
+  pub before : now.before ≡ old.before
+  pub tokens : now.tokens ++ items_written left ≡ old.tokens ++ items_written all
+
+-- Some of those that were left are written.
+pub some_written : {E : Type 0} {old mid new : Written} {left all js ks : List Json} → left ≡ js ++ ks → HasLeft old mid left all
+    → WritesItems {E = E} (Ok tt) mid new js → HasLeft old new ks all
+some_written {mid = mid} {js = js} {ks = ks} are has more = record {
+  before = more.before ∙ has.before;
+  tokens = ap (λ (ts : List Token). ts ++ items_written ks) more.tokens ∙ append_assoc mid.tokens (items_written js) (items_written ks)
+      ∙ ap (λ (ts : List Token). mid.tokens ++ ts) (sym (flat_map-append json_tokens js ks) ∙ ap (λ (is : List Json). items_written is) (sym are))
+      ∙ has.tokens;
+}
+
+-- None is left.
+pub none_left : {E : Type 0} {old now : Written} {left all : List Json} → left ≡ [] → HasLeft old now left all
+    → WritesItems {E = E} (Ok tt) old now all
+none_left {now = now} are has = record {
+  before = has.before;
+  tokens = sym (append-nil now.tokens) ∙ ap (λ (is : List Json). now.tokens ++ items_written is) (sym are) ∙ has.tokens;
+}
+
 line_feed : IsAscii (10 ∷ [])
 line_feed zero = omega arith
 line_feed (suc i) = omega arith

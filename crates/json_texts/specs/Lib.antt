@@ -1,8 +1,15 @@
 pub mod JsonValues
 pub mod EntryJson
+pub mod KernelFieldJson
 pub mod FaultJson
 pub mod ReportJson
+pub mod SteeringTexts
+pub mod ContentTexts
+pub mod ValueJson
+pub mod VariableJson
+pub mod ContentJson
 pub mod EventJson
+pub mod ExplainedTexts
 pub mod ItemLines
 pub mod SentEntries
 pub mod SentEvents

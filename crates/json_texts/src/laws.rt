@@ -1,7 +1,8 @@
 //! Laws: consequences of the definitions, each the contract of a function that does nothing, or only reads.
 
-ghost use Rattle.std.specs.Prelude.{◌≡◌, ℕ, ◌↔◌, Bool, List, codes, Option, Some, None, IfSome, IsTrue};
-ghost use Rattle.std.specs.List.{AllByRecursion};
+ghost use Rattle.std.specs.Prelude.{◌≡◌, ℕ, ◌↔◌, Bool, true, List, chars, codes, Option, Some, None, IfSome, IsTrue};
+ghost use Rattle.std.specs.List.{AllByRecursion, list_all};
+ghost use Rattle.std.specs.Str.{IsUtf8};
 ghost use Rattle.hex.specs.Hex.{IsBytes};
 ghost use Rattle.pcr_banks.specs.declared.banks.Banks.{Banks};
 ghost use Rattle.boot_log.specs.declared.header.Row.{Row as TableRow};
@@ -19,26 +20,33 @@ ghost use Rattle.boot_verdict.specs.Words.{unconfirmed_entry};
 ghost use Rattle.boot_verdict.specs.ListVerdicts.{ListVerdict};
 ghost use Rattle.boot_verdict.specs.Verdicts.{Verdict};
 ghost use Rattle.attestations.specs.Reports.{AttestVerdict};
+ghost use Rattle.event_data.specs.ContentReading.{content_in};
+ghost use Rattle.measured_data.specs.declared.place.Place.{Place};
 ghost use Rattle.tpm_keys.specs.declared.kinds.KeyPart.{KeyPart};
 ghost use Rattle.tpm_keys.specs.declared.report.KeyReport.{KeyReport};
 ghost use Rattle.tpm_keys.specs.Reports.{kind_bits};
 ghost use Rattle.json.specs.Find.{get};
 ghost use Rattle.json_texts.specs.declared.faults.FaultPlace.{FaultPlace};
 ghost use Rattle.json_texts.specs.JsonValues.{IsCount, IsOneLine, line_of, object_of};
+ghost use Rattle.json_texts.specs.ContentJson.{content_json};
 ghost use Rattle.json_texts.specs.EntryJson.{HasBytes, IsKnown, entry_json, is_genuine};
 ghost use Rattle.json_texts.specs.EventJson.{algorithms_json, event_json};
 ghost use Rattle.json_texts.specs.FaultJson.{fault_json, fault_members, number_at};
 ghost use Rattle.json_texts.specs.AttestJson.{IsCountedClock, IsCountedWhole, attest_json};
 ghost use Rattle.json_texts.specs.KeyJson.{key_json};
+ghost use Rattle.json_texts.specs.SteeringTexts.{is_plain, unsteered};
 ghost use Rattle.json_texts.specs.ReportJson.{AreCounted, IsCountedPosition, positions_json, expected_json, registers_json, prefix_report_json, list_report_json, report_json};
 
 use ima_list::EntryRef;
 
-/// Each value is one line: its text reads back as the value, and has no line feed. Its numbers are such as code holds (`IsCount`).
+/// Each value is one line: its text reads back as the value, and has no line feed. Its numbers are such as code holds (`IsCount`),
+/// and an event's data is bytes.
 pub fn each_value_is_one_line()
     ensures entry { (number : ℕ) (entry : ListEntry) → IsCount number → IsEntry entry → IsOneLine (entry_json number entry) }
-    ensures event { (number : ℕ) (event : LogEvent) → IsCount number → IsCount event.register → IsCount event.kind
-        → IsOneLine (event_json number event) }
+    ensures event { (matched : Option (List Place)) (number : ℕ) (event : LogEvent)
+        → IsCount number → IsCount event.register → IsCount event.kind → IsBytes event.payload
+        → IsOneLine (event_json matched number event) }
+    ensures content { (kind : ℕ) (bytes : List ℕ) → IsBytes bytes → IsOneLine (content_json kind (content_in kind bytes)) }
     ensures algorithms { (rows : List TableRow) → AllByRecursion IsRow rows → IsOneLine (algorithms_json rows) }
     ensures registers { (now start : Banks) → IsOneLine (registers_json now start) }
     ensures expected { (range : RegisterRange) (expected : List Expected) → AllByRecursion (λ e. IsCount e.register) expected
@@ -70,7 +78,8 @@ pub fn only_faults_have_a_fault()
     ensures fault { (kind : List ℕ) (number : Option ℕ) (place : Option FaultPlace) (message : List ℕ)
         → get (codes "fault") (fault_json kind number place message) ≡ Some (object_of (fault_members kind number place message)) }
     ensures entry { (number : ℕ) (entry : ListEntry) → get (codes "fault") (entry_json number entry) ≡ None }
-    ensures event { (number : ℕ) (event : LogEvent) → get (codes "fault") (event_json number event) ≡ None }
+    ensures event { (matched : Option (List Place)) (number : ℕ) (event : LogEvent)
+        → get (codes "fault") (event_json matched number event) ≡ None }
     ensures algorithms { (rows : List TableRow) → get (codes "fault") (algorithms_json rows) ≡ None }
     ensures registers { (now start : Banks) → get (codes "fault") (registers_json now start) ≡ None }
     ensures expected { (range : RegisterRange) (expected : List Expected) → get (codes "fault") (expected_json range expected) ≡ None }
@@ -84,6 +93,12 @@ pub fn only_faults_have_a_fault()
     ensures key { (part : KeyPart) (report : KeyReport) → get (codes "fault") (key_json part report) ≡ None }
     ensures positions { (required : Option (List BankRange)) (located : List Located)
         → get (codes "fault") (positions_json required located) ≡ None }
+{}
+
+/// In what the data of an explained event says no character steers what shows it. A text in which none does stays as it is.
+pub fn no_character_steers()
+    ensures plain { (text : List ℕ) → IsUtf8 text → list_all is_plain (chars (unsteered text)) ≡ true }
+    ensures stays { (text : List ℕ) → IsUtf8 text → list_all is_plain (chars text) ≡ true → unsteered text ≡ text }
 {}
 
 /// An entry's line says that it is genuine exactly where it is.

@@ -3,27 +3,39 @@
 //!
 //! Each value is an object on one line, in UTF-8. Its members have a fixed order. Numbers are JSON numbers; digests and data are strings
 //! of lower case hexadecimal digits. A line is appended to a vector of the caller's; [`send_entries`] sends the lines of a list to a sink,
-//! and [`send_events`] those of a log, while it is read.
+//! and [`send_events`] those of a log, while it is read. The events of a log can also be sent in a form for people ([`EventForm::Explained`]).
 #![tactic(auto)]
 
 mod attestation;
+mod content_texts;
+mod contents;
 mod entries;
 mod entry_lines;
+mod event_form;
 mod event_lines;
 mod events;
+mod explained;
 mod faults;
+mod kernel_fields;
 mod keys;
 pub mod laws;
 mod lines;
+mod marks;
+mod measured;
 mod members;
+mod partitions;
 mod positions;
 mod registers;
 mod reports;
 mod rows;
+mod steering;
+mod values;
+mod variables;
 
 pub use attestation::append_attestation;
 pub use entries::append_entry;
 pub use entry_lines::{EntriesFault, send_entries};
+pub use event_form::EventForm;
 pub use event_lines::{EventsFault, send_events};
 pub use events::{append_algorithms, append_event};
 pub use faults::{FaultPlace, FaultText, append_fault};

@@ -17,8 +17,10 @@ use Rattle.json_texts.specs.JsonValues as json
 use Rattle.json_texts.specs.ItemLines as shown
 use Rattle.boot_log.specs.declared.header.Row.{Row}
 use Rattle.boot_log.specs.Spelling as logs
+use Rattle.boot_log.specs.Spelling.{LogEvent}
 use Rattle.json_texts.specs.EventJson.{algorithms_json, event_json}
-use Rattle.json_texts.specs.SentEvents.{log_lines}
+use Rattle.json_texts.specs.declared.event_form.EventForm.TheVariants as events
+use Rattle.json_texts.specs.SentEvents as sent
 
 -- Where the first line begins.
 abbrev pub start : Position
@@ -146,6 +148,10 @@ IsEntryPiece form list room before piece = IsPiece (entries_of form list) room b
 
 -- ---- the algorithms and the events of a log
 
+-- The lines of a log, as JSON; no registers are compared.
+abbrev pub log_lines : List Row → List LogEvent → List ℕ
+log_lines table read = sent.log_lines events.Json None table read
+
 -- The log begins with a header and events whose lines are this text, up to the position; or nothing comes before it.
 abbrev pub AreEventsBefore : List ℕ → Position → List ℕ → Type 0
 AreEventsBefore log position text =
@@ -158,7 +164,7 @@ abbrev pub HasEventLine : List ℕ → List ℕ → List ℕ → Type 0
 HasEventLine log text line =
     ((text ≡ []) × ((table : List Row) × (rest : List ℕ) × logs.BeginsWith log table [] rest × (line ≡ json.line_of (algorithms_json table))))
     ⊎ ((table : List Row)
-    × HasItemLine (logs.BeginsWith log table) (log_lines table) (λ number event. json.line_of (event_json (number + 1) event)) text line)
+    × HasItemLine (logs.BeginsWith log table) (log_lines table) (λ number event. json.line_of (event_json None (number + 1) event)) text line)
 
 -- The bytes are no log: the text is the lines of the header and of the events after it, and after these they have this fault.
 abbrev pub FailsAfterEvents : List ℕ → List ℕ → RunFault → Type 0

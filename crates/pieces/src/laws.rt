@@ -6,9 +6,8 @@ ghost use Rattle.agent_plans.specs.declared.plan.Form.{Form};
 ghost use Rattle.pieces.specs.declared.piece.End.TheVariants.{Last};
 ghost use Rattle.pieces.specs.declared.piece.Piece.{Piece as APiece};
 ghost use Rattle.pieces.specs.declared.piece.Position.{Position as APosition};
-ghost use Rattle.json_texts.specs.SentEvents.{log_lines};
 ghost use Rattle.json_texts.specs.ItemLines.{AreAllEntries, AreAllEvents, EndsWithFault};
-ghost use Rattle.pieces.specs.Pieces.{AreEntriesBefore, FailsAfterEntries, entries_of, lines_in, AreEventsBefore, FailsAfterEvents, events_of, AreInTurn, IsGiven, IsLineOf, start};
+ghost use Rattle.pieces.specs.Pieces.{AreEntriesBefore, FailsAfterEntries, entries_of, lines_in, AreEventsBefore, FailsAfterEvents, events_of, AreInTurn, IsGiven, IsLineOf, log_lines, start};
 
 /// No line comes before the first position.
 pub fn lines_begin_at_the_start()

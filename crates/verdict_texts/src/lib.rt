@@ -10,7 +10,7 @@ mod report;
 mod required;
 
 pub use attestation::write_attestation;
-pub use events::{EventData, write_events};
+pub use events::{EventData, write_declared, write_event_head, write_events};
 pub use list_report::{write_list_report, write_required_list_report};
 pub use positions::write_positions;
 pub use prefix_report::{write_prefix_report, write_required_prefix_report};

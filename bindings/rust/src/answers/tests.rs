@@ -5,7 +5,7 @@ use crate::library::{ask, entries as list_entries, log_registers, zeros, Positio
 use crate::library::{DIFFERS, DONE, MORE, OUT_OF_MEMORY, REFUSED, ROOM, TOO_SHORT};
 use crate::lines::{Lines, Source};
 use crate::{Algorithm, Attestation, BootAggregate, Clock, Content, Entry, Error, Event, File, Key, KeyType, Kind, LogAlgorithm};
-use crate::{Place, Scheme, Stray};
+use crate::{Part, Place, Scheme, Stray, Value};
 use ima_verify_sys as c;
 use std::collections::VecDeque;
 
@@ -83,7 +83,8 @@ fn other_line() -> String {
 
 fn event_line() -> String {
     let front = r#"{"event":1,"register":0,"type":"EV_SEPARATOR","type_number":4,"digests":{"sha1":""#;
-    format!("{front}{}\"}},\"data\":\"00\"}}\n", "a".repeat(40))
+    let back = r#""},"data":"00","measured":{"sha1":"data"},"content":{"unknown":true}}"#;
+    format!("{front}{}{back}\n", "a".repeat(40))
 }
 
 fn sample(name: &str) -> Vec<u8> {
@@ -536,6 +537,7 @@ fn entries_are_read() {
         violation: false,
         genuine: true,
         content: Content::File(file),
+        fields: None,
     };
     let second = Entry {
         number: 1,
@@ -563,6 +565,8 @@ fn events_are_read() {
         type_number: 4,
         digests: [(Algorithm::Sha1, vec![0xaa; 20])].into(),
         data: vec![0],
+        measured: [(Algorithm::Sha1, Part::Data)].into(),
+        content: [("unknown".to_owned(), Value::Bool(true))].into_iter().collect(),
     };
     let named = LogAlgorithm { name: Some("sha1".to_owned()), id: 4, size: 20 };
     for answers in
@@ -779,6 +783,16 @@ fn wrong_answers_are_no_events() {
         (r#""aa"#, r#"""#),
         (r#","data":"00""#, ""),
         (r#""data":"00""#, r#""data":"0""#),
+        (r#""measured":{"sha1":"data"},"#, ""),
+        (r#"{"sha1":"data"}"#, r#"{"sha256":"data"}"#),
+        (r#""sha1":"data""#, r#""sha1":"value""#),
+        (r#""sha1":"data""#, r#""sha1":"command""#),
+        (r#""sha1":"data""#, r#""sha1":"none""#),
+        (r#""measured":{"sha1":"data"}"#, r#""measured":[]"#),
+        (r#","content":{"unknown":true}"#, ""),
+        (r#"{"unknown":true}"#, "{}"),
+        (r#"{"unknown":true}"#, r#"{"unknown":true,"text":""}"#),
+        (r#"{"unknown":true}"#, "true"),
     ];
     check_changes(first_event, DONE, &format!("{ALGORITHMS}{event}"), &changes);
 }

@@ -1,6 +1,6 @@
 //! Entries and events of all kinds, with values by hand.
 
-use crate::{entries, events, show, Algorithm, Content, Entry, Error, Event, File, Kind, LogAlgorithm};
+use crate::{entries, events, show, Algorithm, Content, Entry, Error, Event, File, Kind, LogAlgorithm, Map, Part, Value};
 
 fn sample(name: &str) -> Vec<u8> {
     std::fs::read(format!("{}/../../samples/real-boot/{name}", env!("CARGO_MANIFEST_DIR"))).unwrap()
@@ -33,7 +33,7 @@ fn found(list: &[u8]) -> Vec<Entry> {
 fn entry(number: u64, template: &[u8], template_digest: [u8; 20], content: Content) -> Entry {
     let violation = template_digest == [0; 20];
     let (template, template_digest) = (template.to_vec(), template_digest.to_vec());
-    Entry { number, register: 10, template, template_digest, violation, genuine: violation, content }
+    Entry { number, register: 10, template, template_digest, violation, genuine: violation, content, fields: None }
 }
 
 fn file(algorithm: Algorithm, digest: &[u8], path: &[u8], signature: Option<&[u8]>) -> Content {
@@ -77,6 +77,19 @@ fn templates_that_are_known_have_files() {
         entry(3, b"ima", FORGED, file(Algorithm::Sha1, &ones, b"/w", None)),
     ];
     assert_eq!(found(&list.concat()), wanted);
+}
+
+#[test]
+fn fields_of_other_templates_are_told() {
+    let typed = with_length(&[b"verity:sha1:\0".as_slice(), &[1; 20]].concat());
+    let payload = [typed, with_length(b"/x\0")].concat();
+    let digest = "01".repeat(20);
+    let told = format!(r#"{{"digest_type":"verity","algorithm":"sha1","digest":"{digest}","path":"/x"}}"#);
+    let wanted = |payload: &[u8], fields| Entry { fields, ..entry(0, b"ima-ngv2", FORGED, Content::Payload(payload.to_vec())) };
+    assert_eq!(found(&entry_of(b"ima-ngv2", &payload, &FORGED)), [wanted(&payload, Some(content_of(&told)))]);
+    for payload in [&payload[1..], &[payload.as_slice(), b"\0"].concat(), &ng(b"sha1", &[1; 20], b"/x")] {
+        assert_eq!(found(&entry_of(b"ima-ngv2", payload, &FORGED)), [wanted(payload, None)]);
+    }
 }
 
 #[test]
@@ -216,6 +229,10 @@ fn list_without_entries_has_none() {
     assert_eq!((listing.next(), listing.next()), (None, None));
 }
 
+fn content_of(text: &str) -> Map<String, Value> {
+    serde_json::from_str(text).unwrap()
+}
+
 #[test]
 fn events_of_the_sample() {
     let log = sample("firmware.log");
@@ -231,8 +248,18 @@ fn events_of_the_sample() {
         type_number: 8,
         digests: [(Algorithm::Sha256, log[79..111].to_vec())].into(),
         data: log[115..117].to_vec(),
+        measured: [(Algorithm::Sha256, Part::Data)].into(),
+        content: content_of(r#"{"text":""}"#),
     };
     assert_eq!(all[0], first);
+    // (the state of Secure Boot: tpm2_eventlog tells the same)
+    let secure_boot = r#"{"variable":{"guid":"8be4df61-93ca-11d2-aa0d-00e098032b8c","name":"SecureBoot","value":"00","flag":0}}"#;
+    assert_eq!(all[3].content, content_of(secure_boot));
+    let by = |part| {
+        let of_part = all.iter().filter(|event| event.measured.get(&Algorithm::Sha256) == part);
+        of_part.map(|event| event.number).collect::<Vec<_>>()
+    };
+    assert_eq!((by(Some(&Part::Value)), by(None)), (vec![11, 12], vec![2, 3, 10, 21, 22]));
     assert_eq!(all.iter().map(|event| event.number).collect::<Vec<_>>(), (1..=24).collect::<Vec<_>>());
     assert_eq!(all[17].name.as_deref(), Some("EV_SEPARATOR"));
 }
@@ -255,9 +282,12 @@ fn events_without_names_or_digests() {
         type_number: 3,
         digests: [].into(),
         data: Vec::new(),
+        measured: [].into(),
+        content: content_of(r#"{"unknown":true}"#),
     };
     let digests = [(Algorithm::Sha1, vec![1; 20])].into();
-    let second = Event { number: 2, register: 0, name: None, type_number: 255, digests, data: b"\"\n".to_vec() };
+    let (data, content) = (b"\"\n".to_vec(), first.content.clone());
+    let second = Event { number: 2, register: 0, name: None, type_number: 255, digests, data, measured: [].into(), content };
     assert_eq!(listing.collect::<Result<Vec<_>, _>>().unwrap(), [first, second]);
 }
 

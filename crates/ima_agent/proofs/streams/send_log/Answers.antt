@@ -1,15 +1,25 @@
+use Rattle.std.proofs.Common.{Bor, List, Option}
+use Rattle.std.specs.Prelude.{option_map}
+use Rattle.measured_data.specs.declared.place.Place.{Place}
 use Rattle.ima_agent.proofs.StreamingLaws.{events_cut, events_run_out, events_shown, events_to_fault}
 use Rattle.ima_agent.proofs.streams.send_log.Goals as goal
 
+abbrev places_in : Option (Bor (List Place)) → Option (List Place)
+places_in matched = option_map (λ (places : Bor (List Place)). places.now) matched
+
 pub returns-in-Ok : goal.returns-in-Ok
-returns-in-Ok g c = events_shown _ _ _ c.in-Ok.ensures
+returns-in-Ok g c = λ form. events_shown form c.args.told (places_in c.args.matched) _ _ _ c.in-Ok.ensures
 
 pub returns-in-Err-Sink : goal.returns-in-Err-Sink
-returns-in-Err-Sink g c = events_cut _ _ _ _ (rw c.in-Err-Sink.field-0-is at c.in-Err-Sink.ensures)
+returns-in-Err-Sink g c =
+    λ form. events_cut form c.args.told (places_in c.args.matched) _ _ _ _ (rw c.in-Err-Sink.field-0-is at c.in-Err-Sink.ensures)
 
 pub returns-in-Err-Log : goal.returns-in-Err-Log
 returns-in-Err-Log g c =
-    events_to_fault _ _ _ c.in-Err-Log.fault c.into.result c.into.ensures (rw c.in-Err-Log.field-0-is at c.in-Err-Log.ensures)
+    λ form.
+    events_to_fault form c.args.told (places_in c.args.matched) _ _ _ c.in-Err-Log.fault c.into.result c.into.ensures
+    (rw c.in-Err-Log.field-0-is at c.in-Err-Log.ensures)
 
 pub returns-in-Err-Memory : goal.returns-in-Err-Memory
-returns-in-Err-Memory g c = events_run_out _ _ _ (rw c.in-Err-Memory.field-0-is at c.in-Err-Memory.ensures)
+returns-in-Err-Memory g c =
+    λ form. events_run_out form c.args.told (places_in c.args.matched) _ _ _ (rw c.in-Err-Memory.field-0-is at c.in-Err-Memory.ensures)

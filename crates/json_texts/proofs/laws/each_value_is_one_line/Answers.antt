@@ -1,33 +1,22 @@
 use Rattle.std.proofs.Common.{codes, refl}
-use Rattle.std.specs.Prelude.{option_map}
-use Rattle.json.specs.Json.{string}
-use Rattle.pcr_banks.specs.Hashing.{all_algs}
 use Rattle.pcr_banks.specs.Registers.{value_at}
-use Rattle.boot_log.specs.EventTypes.{event_type_name}
 use Rattle.boot_log.specs.Spelling.{IsRow}
 use Rattle.json_texts.specs.EventJson.{algorithm_json}
-use Rattle.json_texts.specs.JsonValues.{IsCount, optional}
+use Rattle.json_texts.specs.JsonValues.{IsCount}
 use Rattle.json_texts.specs.ReportJson.{IsCountedPosition, position_members, changed_register, value_within, stray_members, unconfirmed_members}
 use Rattle.json_texts.proofs.AttestLaws.{attest_line}
 use Rattle.json_texts.proofs.EntryLaws.{entry_line}
+use Rattle.json_texts.proofs.EventLaws.{content_one_line, event_one_line}
 use Rattle.json_texts.proofs.KeyLaws.{key_line}
 use Rattle.json_texts.proofs.LineLaws.{members_joined, one_line}
-use Rattle.json_texts.proofs.ValueLaws.{algorithm_plain, change_plain, digests_plain, each_plain, mapped_plain, of_each_register, position_plain, report_plain, rows_plain, strays_plain, text_plain, told_plain, unconfirmed_plain, within_plain}
+use Rattle.json_texts.proofs.ValueLaws.{algorithm_plain, change_plain, each_plain, mapped_plain, of_each_register, position_plain, report_plain, rows_plain, strays_plain, told_plain, unconfirmed_plain, within_plain}
 use Rattle.json_texts.proofs.laws.each_value_is_one_line.Goals as goal
 
 pub returns : goal.returns
 returns c = record {
   entry = entry_line;
-  event = λ number event count register kind.
-      let type = text_plain 2 (codes "type") (λ name. name) (event_type_name event.kind) in
-      one_line _ (
-        (number, count, refl),
-        (
-          (event.register, register, refl),
-          members_joined 2 (optional (codes "type") (option_map string (event_type_name event.kind))) _ type
-              ((event.kind, kind, refl), (digests_plain event.digests all_algs, (tt, tt))),
-        ),
-      );
+  event = event_one_line;
+  content = content_one_line;
   algorithms = λ rows are. one_line _ (mapped_plain IsRow algorithm_json algorithm_plain rows are, tt);
   registers = λ now start.
       one_line _ (of_each_register (changed_register now start) (λ alg r. change_plain alg r (value_at start alg r) (value_at now alg r)), tt);

@@ -1,4 +1,5 @@
 use Rattle.json_texts.proofs.AttestLaws.{attest_lacks}
+use Rattle.json_texts.proofs.EventLaws.{event_lacks}
 use Rattle.json_texts.proofs.FaultMemberLaws.{entry_lacks}
 use Rattle.json_texts.proofs.KeyLaws.{key_lacks}
 use Rattle.json_texts.proofs.laws.only_faults_have_a_fault.Goals as goal
@@ -11,3 +12,6 @@ returns-clause-attestation c = attest_lacks
 
 pub returns-clause-key : goal.returns-clause-key
 returns-clause-key c = key_lacks
+
+pub returns-clause-event : goal.returns-clause-event
+returns-clause-event c = event_lacks

@@ -1,0 +1,4 @@
+pub mod HashedLaws
+pub mod SecureBootLaws
+pub mod ImageLaws
+pub mod DeterminedLaws

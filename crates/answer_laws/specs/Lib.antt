@@ -1,0 +1,3 @@
+pub mod Hashed
+pub mod HashedAnswers
+pub mod HashedImages

@@ -1,0 +1,9 @@
+pub mod EventLaws
+pub mod DifferenceLaws
+pub mod FrontLaws
+pub mod SecureBootLaws
+pub mod VariableLaws
+pub mod VersionLaws
+pub mod ImaMeasuringLaws
+pub mod ImaPolicyLaws
+pub mod ReadLaws

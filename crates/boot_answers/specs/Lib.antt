@@ -1,0 +1,14 @@
+pub mod Extending
+pub mod RegisterEvents
+pub mod Passing
+pub mod FrontEvents
+pub mod Variables
+pub mod SecureBoot
+pub mod FirmwareVersion
+pub mod Images
+pub mod ImaMeasuring
+pub mod ImaPolicy
+pub mod Commands
+pub mod BootVariables
+pub mod Differences
+pub mod parts

@@ -1,0 +1,5 @@
+pub mod RegisterEvents
+pub mod SecureBoot
+pub mod FirmwareVersion
+pub mod ImaMeasuring
+pub mod ImaPolicy

@@ -1,0 +1,12 @@
+-- An option in what is left of a text.
+use Rattle.std.specs.Prelude.{◌≡◌, ◌⊎◌, ℕ, Bool, true, false, List, [], ◌∷◌, ◌++◌}
+use Rattle.boot_answers.specs.ImaMeasuring.{BeginsMeasuring, is_space, stops}
+
+-- A word of what is left is such an option; a word may begin at its start if `starts`.
+pub record AsksFrom (starts : Bool) (text : List ℕ) : Type 0 where
+  pub before : List ℕ
+  pub rest : List ℕ
+  pub parts : text ≡ before ++ rest
+  pub start : ((before ≡ []) × (starts ≡ true)) ⊎ ((front : List ℕ) × (byte : ℕ) × (before ≡ front ++ byte ∷ []) × (is_space byte ≡ true))
+  pub option : BeginsMeasuring rest
+  pub plain : (front back : List ℕ) → before ≡ front ++ back → stops (back ++ rest) ≡ false

@@ -1,0 +1,67 @@
+//! What responders ask of a machine's boot, answered from its firmware log and the registers that match it.
+//!
+//! Root on the machine may have made up the log; the TPM is honest. Where a register matches, the digests that extend it are those of the
+//! machine, in their order, and data that such a digest is the hash of was hashed there. All else is claimed: types, data that was not
+//! measured, and which of two registers was extended first. Root can append extends to any register after the boot, by data that is
+//! measured too. Hence an answer comes from the first events of a register, with all before them measured, or before an event that has the
+//! digest of a separator. It never comes from a type. What cannot be said is unknown.
+//!
+//! Banks of SHA-1 answer nothing. A bank that the firmware does not extend is root's, and matches too. So what is said by one bank is to be
+//! asked in each that answers for the register ([`is_answering`]), and holds only if each says it. [`secure_boot`] and [`firmware_version`]
+//! do so. Where the firmware extends one of these banks, they tell what it measured. Root can write a log that matches in one bank and not in
+//! another: so where a register does not match in a bank other than SHA-1 that the machine has, the caller is to take no answer from it.
+//!
+//! - [`secure_boot`]: `On` or `Off` is what the firmware measured. Root cannot turn it, but can always have it `Unknown`. A firmware that
+//!   extends register 7 by nothing, against the profile, leaves the answer to root. It is the state when the firmware began to load programs:
+//!   a firmware may measure SecureBoot again where keys change later in the boot, and this does not change how the boot was verified
+//!   before.
+//! - [`firmware_version`]: what the firmware measured first into register 0. This is its version, if it follows the profile.
+//! - [`image_digest`]: each image that the firmware started is told, with its true digest, in order. Root can append more, and can have
+//!   actions told as images. Paths are claimed. The digest is an Authenticode hash, if the firmware follows its specification; it is not the
+//!   hash of a file.
+//! - [`command_text`]: a text that was hashed, after all those before it in its register. The kind of a GRUB command is claimed: any text of GRUB
+//!   may pass as the kernel's command line. Root can append texts.
+//! - [`may_set_ima_policy`]: where the boot loader's texts are in a register, all its events are confirmed, there is one at least
+//!   ([`are_all_first`]), and no text may ask for a policy, the kernel was given none by this boot loader. A register that the boot loader left
+//!   empty is root's, with all events that stand in it: so registers 8 and 12 ([`COMMAND_REGISTERS`]) are both to be judged, and which of them
+//!   the machine's boot loader extends must be known. That a text may ask for a policy proves nothing, neither that Linux has one, nor that it
+//!   measures files. Options by kexec, by bootconfig, or built in, are outside.
+//! - [`asks_to_measure`]: whether a text asks Linux to measure files. It is claimed that the text is Linux's command line. Root may extend
+//!   register 10 under a policy too; a policy keeps only what Linux measured from being taken out.
+//! - [`boot_variable`]: a variable whose value, or whose data, was hashed. Vendor and name are always claimed, also where all of the data is
+//!   measured: root can set a variable to the bytes of another one. They are told up to the first event that may be a separator, which may
+//!   be a BootOrder ([`Until`]); what comes after it is unknown, not absent.
+//! - [`first_difference`]: how far two boots extended a register alike, by their digests alone. An event without a digest is like none.
+//!
+//! `matched` has the registers of a bank whose value is the log's. Each call goes over the log once, or for each bank once or twice, and
+//! allocates nothing. The crate `answer_laws` has the laws that say what the answers tell of the machine.
+#![tactic(auto)]
+
+mod banks;
+mod boot_variables;
+mod commands;
+mod differences;
+mod front_events;
+mod ima_measuring;
+mod ima_policy;
+mod images;
+mod passing;
+mod register_events;
+mod secure_boot_state;
+mod until;
+mod variables;
+mod versions;
+mod wholes;
+
+pub use banks::is_answering;
+pub use boot_variables::{SETTINGS_REGISTER, boot_variable};
+pub use commands::{COMMAND_REGISTERS, CommandText, command_text};
+pub use differences::first_difference;
+pub use front_events::{FrontEvents, are_all_first};
+pub use ima_measuring::asks_to_measure;
+pub use ima_policy::may_set_ima_policy;
+pub use images::{image_digest, may_be_image};
+pub use register_events::RegisterEvents;
+pub use secure_boot_state::{SecureBoot, secure_boot};
+pub use until::Until;
+pub use versions::firmware_version;

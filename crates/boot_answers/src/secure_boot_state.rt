@@ -1,0 +1,128 @@
+//! Whether Secure Boot was on.
+
+ghost use Rattle.std.specs.Prelude.{◌≡◌, ◌↔◌, ℕ, List, [], ◌∷◌, Some, IsTrue, IfSome, IfNone, option_map};
+ghost use Rattle.boot_log.specs.declared.header.Row.{Row};
+ghost use Rattle.boot_log.specs.LogViews.{log_bytes};
+ghost use Rattle.boot_log.specs.Spelling.{IsLog, LogEvent, log_event_of};
+ghost use Rattle.boot_answers.specs.SecureBoot.{IsBefore, IsSecureBoot, IsSecureBootVariable};
+ghost use Rattle.boot_answers.specs.parts.SecureBoot.{Agrees, AllAgree, Ends, IsOf, IsToldIn};
+
+use crate::banks::{answering_bank, is_answering};
+use crate::register_events::RegisterEvents;
+use crate::variables::global_value;
+use crate::wholes::is_whole;
+use boot_log::{Event, LogView};
+use measured_data::Place;
+use pcr_banks::Alg;
+
+/// The register of Secure Boot.
+const POLICY_REGISTER: u32 = 7;
+
+/// The size of a separator.
+const SEPARATOR_SIZE: usize = 4;
+
+/// Whether Secure Boot was on.
+#[derive(Clone, Copy, Debug, PartialEq, Eq)]
+pub enum SecureBoot {
+    /// The firmware checked the signatures of what it loaded.
+    On,
+    /// It did not.
+    Off,
+    /// The log and the registers do not tell.
+    Unknown,
+}
+
+// What a value of the variable says.
+fn said_by(value: &[u8]) -> SecureBoot
+    ensures { IsOf (λ byte. value.now ≡ byte ∷ []) result }
+{
+    match value {
+        [1] => SecureBoot::On,
+        [0] => SecureBoot::Off,
+        _ => SecureBoot::Unknown,
+    }
+}
+
+// The value of SecureBoot, where the bytes are this variable.
+fn secure_boot_value(bytes: &[u8]) -> Option<&[u8]>
+    ensures found { IfSome result (λ value. IsSecureBootVariable bytes.now value.now) }
+    ensures only { (value : List ℕ) → IsSecureBootVariable bytes.now value → option_map (λ found. found.now) result ≡ Some value }
+{
+    global_value(b"S\0e\0c\0u\0r\0e\0B\0o\0o\0t\0", bytes)
+}
+
+// What the event tells; `None` where it may come before the one that tells.
+fn told_by(event: &Event<'_>, alg: Alg) -> Option<SecureBoot>
+    ensures before { IfNone result (IsBefore alg (log_event_of event.now)) }
+    ensures ends { IfSome result (Ends alg (log_event_of event.now)) }
+{
+    if !is_whole(event, alg) || event.payload.len() == SEPARATOR_SIZE {
+        return Some(SecureBoot::Unknown);
+    }
+    match secure_boot_value(event.payload) {
+        Some(value) => Some(said_by(value)),
+        None => None,
+    }
+}
+
+// What the bank tells.
+fn told_in(log: &LogView<'_>, alg: Alg) -> SecureBoot
+    ensures { (table : List Row) (events : List LogEvent) → IsLog (log_bytes log.now) table events → IsToldIn alg events result }
+{
+    let mut events = RegisterEvents::new(log, POLICY_REGISTER);
+    while let Some(event) = events.next_event() {
+        if let Some(answer) = told_by(&event, alg) {
+            return answer;
+        }
+    }
+    SecureBoot::Unknown
+}
+
+// Whether the answers are the same.
+fn is_same(answer: SecureBoot, other: SecureBoot) -> bool
+    ensures { IsTrue result ↔ (answer ≡ other) }
+{
+    answer == other
+}
+
+// Whether the bank gives this answer, if it answers.
+fn agrees(log: &LogView<'_>, matched: &[Place], alg: Alg, answer: SecureBoot) -> bool
+    ensures { (table : List Row) (events : List LogEvent) → IsLog (log_bytes log.now) table events
+        → (IsTrue result ↔ Agrees matched.now events answer alg) }
+{
+    if is_answering(matched, alg, POLICY_REGISTER) {
+        is_same(told_in(log, alg), answer)
+    } else {
+        true
+    }
+}
+
+// Whether each bank that answers gives this answer.
+fn all_agree(log: &LogView<'_>, matched: &[Place], answer: SecureBoot) -> bool
+    ensures { (table : List Row) (events : List LogEvent) → IsLog (log_bytes log.now) table events
+        → (IsTrue result ↔ AllAgree matched.now events answer) }
+{
+    for alg in Alg::ALL {
+        if !agrees(log, matched, alg, answer) {
+            return false;
+        }
+    }
+    true
+}
+
+/// Whether Secure Boot was on, by the log and the registers in `matched`, those that match. In a bank other than SHA-1 whose register 7
+/// matches, the first event of register 7 that is SecureBoot tells it, if all data before it was measured whole and is no separator; and
+/// where its value is one byte, 1 or 0. No event's type counts, and nothing after it. Each such bank must tell it, and there must be one.
+pub fn secure_boot(log: &LogView<'_>, matched: &[Place]) -> SecureBoot
+    ensures { (table : List Row) (events : List LogEvent) → IsLog (log_bytes log.now) table events → IsSecureBoot matched.now events result }
+{
+    let Some(alg) = answering_bank(matched, POLICY_REGISTER) else {
+        return SecureBoot::Unknown;
+    };
+    let answer = told_in(log, alg);
+    if all_agree(log, matched, answer) {
+        answer
+    } else {
+        SecureBoot::Unknown
+    }
+}

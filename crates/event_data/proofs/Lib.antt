@@ -1,0 +1,17 @@
+pub mod Finding
+pub mod FormLaws
+pub mod AffixLaws
+pub mod NodeLaws
+pub mod TextLaws
+pub mod CommandLaws
+pub mod BlobLaws
+pub mod NulUnitLaws
+pub mod FixedSize
+pub mod EntryLaws
+pub mod GptLaws
+pub mod ContentLaws
+pub mod TakenLaws
+pub mod UnitLaws
+pub mod ValueLaws
+pub mod ListLaws
+pub mod SaysLaws

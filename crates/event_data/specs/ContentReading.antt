@@ -1,0 +1,42 @@
+-- What the data of an event says, by its type: functions, where EventForms has relations.
+use Rattle.std.specs.Prelude.{ℕ, List, Option, None, option_map, unwrap_or}
+use Rattle.std.specs.Option.{option_or}
+use Rattle.event_data.specs.declared.form.Form.{Form}
+use Rattle.event_data.specs.declared.form.Form.TheVariants as forms
+use Rattle.event_data.specs.EventForms.{Content, separator, text, wide_text, guid, command, variable, image, gpt, blob, tagged, locality, unknown, form_of}
+use Rattle.event_data.specs.Reading.{separator_in, variable_in, image_in}
+use Rattle.event_data.specs.Results.{text_in, wide_text_in, command_in, guid_in, locality_in}
+use Rattle.event_data.specs.BlobReading.{plain_blob_in, described_blob_in, tagged_in}
+use Rattle.event_data.specs.GptReading.{gpt_in}
+
+abbrev pub text_content : List ℕ → Option Content
+text_content bytes = option_or (option_map text (text_in bytes)) (option_map wide_text (wide_text_in bytes))
+
+abbrev pub version_content : List ℕ → Option Content
+version_content bytes = option_or (text_content bytes) (option_map guid (guid_in bytes))
+
+abbrev pub loader_content : List ℕ → Option Content
+loader_content bytes = option_or (option_map command (command_in bytes)) (text_content bytes)
+
+abbrev pub post_code_content : List ℕ → Option Content
+post_code_content bytes = option_or (option_map text (text_in bytes)) (option_map blob (plain_blob_in bytes))
+
+-- What data of this form says.
+abbrev pub form_content : Form → List ℕ → Option Content
+form_content forms.Separator bytes = option_map separator (separator_in bytes)
+form_content forms.Text bytes = text_content bytes
+form_content forms.Version bytes = version_content bytes
+form_content forms.Loader bytes = loader_content bytes
+form_content forms.PostCode bytes = post_code_content bytes
+form_content forms.Variable bytes = option_map variable (variable_in bytes)
+form_content forms.Image bytes = option_map image (image_in bytes)
+form_content forms.Gpt bytes = option_map gpt (gpt_in bytes)
+form_content forms.PlainBlob bytes = option_map blob (plain_blob_in bytes)
+form_content forms.DescribedBlob bytes = option_map blob (described_blob_in bytes)
+form_content forms.Tagged bytes = option_map tagged (tagged_in bytes)
+form_content forms.Locality bytes = option_map locality (locality_in bytes)
+form_content forms.Other bytes = None
+
+-- What the data of an event of this type says.
+abbrev pub content_in : ℕ → List ℕ → Content
+content_in kind bytes = unwrap_or (form_content (form_of kind) bytes) (unknown bytes)

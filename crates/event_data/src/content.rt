@@ -1,0 +1,120 @@
+//! What an event's data says.
+
+ghost use Rattle.std.specs.Prelude.{◌≡◌, option_map};
+ghost use Rattle.event_data.specs.EventForms.{Says, content_of, form_of};
+ghost use Rattle.event_data.specs.ContentReading.{content_in, form_content, loader_content, post_code_content, text_content, version_content};
+
+use crate::blob::{Blob, read_described_blob, read_plain_blob};
+use crate::command::{Command, read_command};
+use crate::form::{Form, form_of};
+use crate::gpt::Gpt;
+use crate::gpt_reader::read_gpt;
+use crate::guid::Guid;
+use crate::guid_reader::read_guid;
+use crate::image::{Image, read_image};
+use crate::locality::read_locality;
+use crate::tagged::{Tagged, read_tagged};
+use crate::text::{read_separator, read_text, read_wide_text};
+use crate::variable::Variable;
+use crate::variable_reader::read_variable;
+
+/// What an event's data says.
+#[derive(Clone, Copy)]
+pub enum EventContent<'a> {
+    /// A separator's number: 0 or 0xffffffff; or 1 for an error.
+    Separator(u32),
+    /// A text, without the NUL that may stand at its end.
+    Text(&'a str),
+    /// A text in units of two bytes, UTF-16, without the NUL at its end.
+    WideText(&'a [u8]),
+    /// A GUID.
+    Guid(Guid<'a>),
+    /// A command that GRUB measured.
+    Command(Command<'a>),
+    /// A UEFI variable.
+    Variable(Variable<'a>),
+    /// An image that was loaded.
+    Image(Image<'a>),
+    /// A disk's table of partitions.
+    Gpt(Gpt<'a>),
+    /// A blob of firmware.
+    Blob(Blob<'a>),
+    /// A tagged event.
+    Tagged(Tagged<'a>),
+    /// The locality from which the TPM was started.
+    Locality(u8),
+    /// Data of no form that is known for the type.
+    Unknown(&'a [u8]),
+}
+
+// A text of either kind.
+fn text_content(bytes: &[u8]) -> Option<EventContent<'_>>
+    ensures { option_map content_of result ≡ text_content bytes.now }
+{
+    if let Some(text) = read_text(bytes) {
+        return Some(EventContent::Text(text));
+    }
+    Some(EventContent::WideText(read_wide_text(bytes)?))
+}
+
+// A version: a text of either kind, else a GUID.
+fn version_content(bytes: &[u8]) -> Option<EventContent<'_>>
+    ensures { option_map content_of result ≡ version_content bytes.now }
+{
+    if let Some(content) = text_content(bytes) {
+        return Some(content);
+    }
+    Some(EventContent::Guid(read_guid(bytes)?))
+}
+
+// What a boot loader measured: a command, else a text of either kind.
+fn loader_content(bytes: &[u8]) -> Option<EventContent<'_>>
+    ensures { option_map content_of result ≡ loader_content bytes.now }
+{
+    if let Some(command) = read_command(bytes) {
+        return Some(EventContent::Command(command));
+    }
+    text_content(bytes)
+}
+
+// A POST code: a text in UTF-8, else a blob.
+fn post_code_content(bytes: &[u8]) -> Option<EventContent<'_>>
+    ensures { option_map content_of result ≡ post_code_content bytes.now }
+{
+    if let Some(text) = read_text(bytes) {
+        return Some(EventContent::Text(text));
+    }
+    Some(EventContent::Blob(read_plain_blob(bytes)?))
+}
+
+// What data of this form says.
+fn form_content(form: Form, bytes: &[u8]) -> Option<EventContent<'_>>
+    ensures { option_map content_of result ≡ form_content form bytes.now }
+{
+    match form {
+        Form::Separator => Some(EventContent::Separator(read_separator(bytes)?)),
+        Form::Text => text_content(bytes),
+        Form::Version => version_content(bytes),
+        Form::Loader => loader_content(bytes),
+        Form::PostCode => post_code_content(bytes),
+        Form::Variable => Some(EventContent::Variable(read_variable(bytes)?)),
+        Form::Image => Some(EventContent::Image(read_image(bytes)?)),
+        Form::Gpt => Some(EventContent::Gpt(read_gpt(bytes)?)),
+        Form::PlainBlob => Some(EventContent::Blob(read_plain_blob(bytes)?)),
+        Form::DescribedBlob => Some(EventContent::Blob(read_described_blob(bytes)?)),
+        Form::Tagged => Some(EventContent::Tagged(read_tagged(bytes)?)),
+        Form::Locality => Some(EventContent::Locality(read_locality(bytes)?)),
+        Form::Other => None,
+    }
+}
+
+/// What the data of an event of this type says: it has exactly the form that the type's data has, or it is unknown.
+pub fn event_content(kind: u32, bytes: &[u8]) -> EventContent<'_>
+    ensures value { content_of result ≡ content_in kind bytes.now }
+    ensures says { Says kind bytes.now (content_of result) }
+{
+    match form_content(form_of(kind), bytes) {
+        Some(content) => content,
+        None => EventContent::Unknown(bytes),
+    }
+}

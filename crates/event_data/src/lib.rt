@@ -1,0 +1,74 @@
+//! What the data of a firmware event says, by the event's type (TCG PC Client Platform Firmware Profile, chapter 10).
+//!
+//! All parts are lent: nothing is copied or allocated.
+#![tactic(auto)]
+
+mod affixes;
+mod blob;
+mod boot_order;
+mod command;
+mod content;
+mod entry;
+mod form;
+mod gpt;
+mod gpt_reader;
+mod guid;
+mod guid_reader;
+mod image;
+mod laws;
+mod list_reader;
+mod load_option;
+mod locality;
+mod misfit;
+mod node;
+mod nul_units;
+mod partition;
+mod partitions;
+mod path;
+mod signature;
+mod signature_list;
+mod signature_lists;
+mod signature_reader;
+mod signatures;
+mod tagged;
+mod text;
+mod value;
+mod value_forms;
+mod value_laws;
+mod value_names;
+mod value_reader;
+mod variable;
+mod variable_reader;
+mod wide_units;
+
+pub use blob::{Blob, read_described_blob, read_plain_blob};
+pub use boot_order::BootOrder;
+pub use command::{Command, CommandKind, read_command};
+pub use content::{EventContent, event_content};
+pub use form::{Form, form_of};
+pub use gpt::Gpt;
+pub use gpt_reader::read_gpt;
+pub use guid::Guid;
+pub use guid_reader::read_guid;
+pub use image::{Image, read_image};
+pub use laws::says_one_thing;
+pub use load_option::{LoadOption, read_load_option};
+pub use locality::read_locality;
+pub use node::PathNode;
+pub use partition::Partition;
+pub use partitions::Partitions;
+pub use path::DevicePath;
+pub use signature::Signature;
+pub use signature_list::SignatureList;
+pub use signature_lists::SignatureLists;
+pub use signature_reader::read_signature;
+pub use signatures::Signatures;
+pub use tagged::{Tagged, read_tagged};
+pub use text::{read_separator, read_text, read_wide_text};
+pub use value::ValueContent;
+pub use value_forms::ValueForm;
+pub use value_laws::{list_is_its_signatures, value_says_one_thing};
+pub use value_names::value_form;
+pub use value_reader::value_content;
+pub use variable::Variable;
+pub use variable_reader::read_variable;

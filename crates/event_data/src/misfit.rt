@@ -1,0 +1,5 @@
+/// Bytes do not have the form.
+#[derive(Clone, Copy)]
+pub(crate) enum Misfit {
+    Form,
+}

@@ -1,0 +1,54 @@
+//! Device paths.
+
+ghost use Rattle.std.specs.Prelude.{◌≡◌, ◌<◌, [], ◌∷◌, ◌++◌, ℕ, List, length, IfSome, IfNone};
+ghost use Rattle.byte_fields.specs.Items.{HasNoItem};
+ghost use Rattle.byte_fields.specs.Spelling.{IsBytes};
+ghost use Rattle.event_data.specs.Forms.{IsNode};
+ghost use Rattle.event_data.specs.PathNodes.{node_of};
+ghost use Rattle.event_data.specs.Reading.{nodes_in};
+
+use crate::node::{PathNode, node_at};
+
+/// A device path, whose nodes are lent one after another.
+#[derive(Drop)]
+pub struct DevicePath<'a> {
+    rest: &'a [u8],
+    ghost fits: { IsBytes rest.now },
+}
+
+impl<'a> DevicePath<'a> {
+    ghost use Rattle.event_data.specs.Paths.{left_of};
+
+    /// The path with these bytes, of which no node was lent yet.
+    pub fn new(bytes: &'a [u8]) -> Self
+        ensures { left_of result ≡ bytes.now }
+    {
+        DevicePath { rest: bytes }
+    }
+
+    /// The bytes that were not lent yet. After the last node they are empty, unless the bytes are no path.
+    pub fn rest(&self) -> &'a [u8]
+        ensures { result.now ≡ left_of self.now }
+    {
+        self.rest
+    }
+
+    /// The next node, or `None` where what is left begins with none.
+    pub fn next_node(&mut self) -> Option<PathNode<'a>>
+        ensures node { IfSome result (λ found. (front : List ℕ) × (left_of self.old ≡ front ++ left_of self.new) × IsNode front (node_of found)) }
+        ensures none { IfNone result (HasNoItem IsNode (left_of self.old) × (self.new ≡ self.old)) }
+        // The nodes that are left are this one, and those that are left then.
+        ensures more { IfSome result (λ found. nodes_in (left_of self.old)
+            ≡ (node_of found ∷ (nodes_in (left_of self.new)).0, (nodes_in (left_of self.new)).1)) }
+        ensures last { IfNone result (nodes_in (left_of self.old) ≡ ([], left_of self.old)) }
+        ensures shorter { IfSome result (λ _. length (left_of self.new) < length (left_of self.old)) }
+    {
+        match node_at(self.rest) {
+            Ok((node, rest)) => {
+                self.rest = rest;
+                Some(node)
+            }
+            Err(_) => None,
+        }
+    }
+}

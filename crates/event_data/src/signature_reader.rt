@@ -1,0 +1,34 @@
+//! The readers of signatures.
+
+ghost use Rattle.std.specs.Prelude.{◌≡◌, ◌≤◌, Some, IfSome, option_map, [], length};
+ghost use Rattle.byte_fields.specs.Reading.{Reads};
+ghost use Rattle.event_data.specs.ValueForms.{IsSignature, SignatureData};
+ghost use Rattle.event_data.specs.ValueReading.{signature, signature_in};
+ghost use Rattle.event_data.specs.ValueViews.{signature_of};
+
+use crate::misfit::Misfit;
+use crate::signature::Signature;
+use byte_fields::part_at;
+
+/// Reads the signature of this size at the front of the bytes. Returns it and the remaining bytes.
+#[tactic(auto, unfolding(crate::specs::ValueReading::signature))]
+pub(crate) fn signature_at(size: usize, bytes: &[u8]) -> Result<(Signature<'_>, &[u8]), Misfit>
+    requires { 16 ≤ size }
+    ensures { Reads (λ x. (signature_of x.0, x.1.now)) result ((signature size).at bytes.now) }
+{
+    let (owner, rest) = part_at(Misfit::Form, 16, bytes)?;
+    let (payload, rest) = part_at(Misfit::Form, size - 16, rest)?;
+    Ok((Signature { owner, payload }, rest))
+}
+
+/// The signature that the bytes are: an owner's GUID, and then its data; `None` where they are fewer than 16.
+pub fn read_signature(bytes: &[u8]) -> Option<Signature<'_>>
+    ensures value { option_map signature_of result ≡ signature_in bytes.now }
+    ensures found { IfSome result (λ found. IsSignature bytes.now (signature_of found)) }
+    ensures only { (value : SignatureData) → IsSignature bytes.now value → option_map signature_of result ≡ Some value }
+{
+    match part_at(Misfit::Form, 16, bytes) {
+        Ok((owner, payload)) => Some(Signature { owner, payload }),
+        Err(_) => None,
+    }
+}

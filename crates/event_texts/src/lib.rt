@@ -1,0 +1,15 @@
+//! What the data of a firmware event says, as text: numbers, GUIDs, texts in UTF-16, and device paths.
+#![tactic(auto)]
+
+mod bytes;
+mod guids;
+mod node_field;
+mod node_row;
+mod numbers;
+mod paths;
+mod wide_texts;
+
+pub use guids::guid_text;
+pub use numbers::hex_number;
+pub use paths::path_text;
+pub use wide_texts::wide_text;

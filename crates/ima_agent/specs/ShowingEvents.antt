@@ -1,0 +1,99 @@
+-- How the events of a log are shown.
+use Rattle.std.specs.Prelude.{◌≡◌, ℕ, ◌⊎◌, List, [], Option}
+use Rattle.boot_log.specs.declared.header.Row.{Row}
+use Rattle.boot_log.specs.Spelling.{BeginsWith, LogEvent}
+use Rattle.measured_data.specs.declared.place.Place.{Place}
+use Rattle.verdict_texts.specs.declared.events.EventData.{EventData}
+use Rattle.verdict_texts.specs.declared.events.EventData.TheVariants as texts
+use Rattle.verdict_texts.specs.EventTexts.{events_text}
+pub use Rattle.json_texts.specs.declared.event_form.EventForm.{EventForm}
+use Rattle.json_texts.specs.declared.event_form.EventForm.TheVariants as told
+pub use Rattle.json_texts.specs.ItemLines.{AreAllEvents, EndsWithFault, FailsAfterEvents, ShowsToFault}
+pub use Rattle.json_texts.specs.SentEvents.{log_lines}
+use Rattle.agent_plans.specs.declared.plan.DataShown.{DataShown}
+use Rattle.agent_plans.specs.declared.plan.DataShown.TheVariants as arguments
+use Rattle.agent_plans.specs.declared.plan.Form.{Form}
+use Rattle.agent_plans.specs.declared.plan.Form.TheVariants as forms
+use Rattle.agent_inputs.specs.declared.fault.RunFault.{RunFault}
+use Rattle.agent_inputs.specs.declared.fault.RunFault.TheVariants as runs
+use Rattle.agent_inputs.specs.Faults.{fault_of_log}
+use Rattle.agent_inputs.specs.Loading.{Inputs}
+use Rattle.rendering.specs.FaultTexts.{fault_line, fault_status, IsFailure, IsReportedAsJson}
+use Rattle.ima_agent.specs.declared.events.EventLines.{EventLines}
+use Rattle.ima_agent.specs.declared.events.EventLines.TheVariants as lines
+use Rattle.ima_agent.specs.Matching.{AreMatched, IsKnownFor, IsNotTold}
+use Rattle.ima_agent.specs.Showing.{IsNoLogFor}
+
+-- How events are shown in this form, where this is requested of their data: in JSON with what it says in any case.
+abbrev pub lines_for : Form → DataShown → EventLines
+lines_for forms.Json requested = lines.Told told.Json
+lines_for forms.Text arguments.Size = lines.Plain texts.Size
+lines_for forms.Text arguments.Bytes = lines.Plain texts.Bytes
+lines_for forms.Text arguments.Meaning = lines.Told told.Explained
+
+-- The line of a fault in this form, and its status.
+abbrev pub IsReported : Form → RunFault → List ℕ → ℕ → Type 0
+IsReported forms.Text fault text status = (text ≡ fault_line fault) × (status ≡ fault_status fault)
+IsReported forms.Json fault text status = IsReportedAsJson fault text status
+
+-- What can be read of the bytes as a log is shown with what its data says, and with what the registers that match confirm.
+abbrev pub ShowsTold : Form → EventForm → Option (List Place) → List ℕ → List ℕ → ℕ → Type 0
+ShowsTold form events matched log shown status =
+    ShowsToFault (AreAllEvents (log_lines events matched) log) (FailsAfterEvents (log_lines events matched) fault_of_log log) (IsReported form) shown
+    status
+
+-- The text is the lines of a header and events that the bytes begin with, and then memory ran out.
+abbrev pub RunsOutAfterEvents : EventForm → Option (List Place) → List ℕ → List ℕ → RunFault → Type 0
+RunsOutAfterEvents events matched log text fault =
+    (fault ≡ runs.Memory)
+    × ((table : List Row) × (given : List LogEvent) × (rest : List ℕ) × BeginsWith log table given rest × (text ≡ log_lines events matched table given))
+
+-- ---- a log whose bytes were loaded
+
+-- Its events are shown in this form, and so: in plain lines all of them; else as far as they go, which for people is all of them, and with
+-- what the registers confirm that match, where a file of this name states expected ones.
+abbrev pub ShowsEvents : Inputs → Form → EventLines → Option (List ℕ) → List ℕ → List ℕ → ℕ → Type 0
+ShowsEvents inputs form (lines.Plain shown) expected log text status = AreAllEvents (events_text shown) log text × (status ≡ 0)
+ShowsEvents inputs form (lines.Told events) expected log text status =
+    IsKnownFor events log
+    × ((matched : Option (List Place)) × AreMatched inputs expected log matched × ShowsTold form events matched log text status)
+
+-- Why no line of it is shown: the bytes are no log, or memory ran out; or else what is to be known before is not.
+abbrev pub IsNoneShownFor : Inputs → EventLines → Option (List ℕ) → List ℕ → RunFault → Type 0
+IsNoneShownFor inputs (lines.Plain shown) expected log fault = IsNoLogFor log fault
+IsNoneShownFor inputs (lines.Told events) expected log fault = IsNotTold inputs events expected log fault
+
+-- Memory ran out after the lines of some of its events.
+abbrev pub BreaksOffAfterEvents : Inputs → Form → EventLines → Option (List ℕ) → List ℕ → List ℕ → ℕ → Type 0
+BreaksOffAfterEvents inputs form (lines.Plain shown) expected log text status = ⊥
+BreaksOffAfterEvents inputs form (lines.Told events) expected log text status =
+    IsKnownFor events log
+    × ((matched : Option (List Place)) × AreMatched inputs expected log matched
+    × EndsWithFault (RunsOutAfterEvents events matched log) (IsReported form) text status)
+
+-- ---- what is shown while its input is read
+
+-- The plain lines of the log in these bytes are shown, or why not.
+abbrev pub ShowsPlainEventsIn : Form → EventData → List ℕ → List ℕ → ℕ → Type 0
+ShowsPlainEventsIn form shown log text status =
+    (AreAllEvents (events_text shown) log text × (status ≡ 0))
+    ⊎ ((fault : RunFault) × IsNoLogFor log fault × IsFailure form fault text status)
+
+-- Why no more of the log in these bytes is shown than this text: it fails; or memory ran out, after some events or before the first line.
+abbrev pub StopsInLog : EventForm → Option (List Place) → List ℕ → List ℕ → RunFault → Type 0
+StopsInLog events matched log text fault =
+    FailsAfterEvents (log_lines events matched) fault_of_log log text fault
+    ⊎ RunsOutAfterEvents events matched log text fault
+    ⊎ ((fault ≡ runs.Memory) × (text ≡ []))
+
+-- The log in these bytes is shown with what its data says, as far as it goes.
+abbrev pub ShowsEventsIn : Form → EventForm → Option (List Place) → List ℕ → List ℕ → ℕ → Type 0
+ShowsEventsIn form events matched log shown status =
+    ShowsToFault (AreAllEvents (log_lines events matched) log) (StopsInLog events matched log) (IsReported form) shown status
+
+-- It is, with what the registers confirm that match; or why it is not told.
+abbrev pub ShowsToldOf : Inputs → Form → EventForm → Option (List ℕ) → List ℕ → List ℕ → ℕ → Type 0
+ShowsToldOf inputs form events expected log shown status =
+    (IsKnownFor events log
+    × ((matched : Option (List Place)) × AreMatched inputs expected log matched × ShowsEventsIn form events matched log shown status))
+    ⊎ ((fault : RunFault) × IsNotTold inputs events expected log fault × IsFailure form fault shown status)

@@ -1,0 +1,99 @@
+-- What a text lists is known, and what is known is listed.
+use Rattle.std.proofs.Common.{◌≡◌, ◌↔◌, ℕ, ◌+◌, Bool, true, false, List, [], ◌∷◌, ◌++◌, length, Option, Some, None, refl, sym, ap, ◌∙◌, arith, append_assoc, append-nil}
+use Rattle.std.specs.Prelude.{if◌then◌else◌, ◌&&◌, ◌==◌, not, bytes_eq}
+use Rattle.std.proofs.lemmas.Bool.{and_parts, and_from, eqb-true, eq-eqb, false_from_ne_true}
+use Rattle.std.proofs.lemmas.Slice.Eq.{bytes_eq-Decides}
+use Rattle.ima_list.specs.ListEntry.{ListEntry}
+use Rattle.ima_list.specs.Aggregates.{boot_aggregate_path}
+use Rattle.ima_list.specs.Digesting.{is_violation}
+use Rattle.known_files.specs.EntryFiles.{FileTold, IsKnown, file_of, is_known, is_known_file, list_register}
+use Rattle.known_files.specs.Listing.{IsListed, is_listed}
+use Rattle.known_files.specs.Unknown.{is_unknown, unknown_at, unknown_in}
+use Rattle.known_files.proofs.ListingLaws.{listed_iff}
+
+not_true : (b : Bool) → not b ≡ true → b ≡ false
+not_true false e = refl
+not_true true e = absurd cc
+
+pub not_false : (b : Bool) → b ≡ false → not b ≡ true
+not_false b e = rw e refl
+
+file_read : (texts : List (List ℕ)) (file : Option FileTold) → is_known_file texts file ≡ true
+    → (told : FileTold) × (file ≡ Some told) × IsListed texts told.digest × (told.path ≡ boot_aggregate_path → ⊥)
+file_read texts None e = absurd cc
+file_read texts (Some file) e =
+    let both = and_parts (not (bytes_eq file.path boot_aggregate_path)) (is_listed texts file.digest) e in (
+      file,
+      refl,
+      (listed_iff texts file.digest).0 both.1,
+      λ same. absurd (
+          let is = (bytes_eq-Decides file.path boot_aggregate_path).1 same in
+          let isnt = not_true (bytes_eq file.path boot_aggregate_path) both.0 in cc),
+    )
+
+file_again : (texts : List (List ℕ)) (file : FileTold) → IsListed texts file.digest → (file.path ≡ boot_aggregate_path → ⊥)
+    → is_known_file texts (Some file) ≡ true
+file_again texts file listed other =
+    and_from (not (bytes_eq file.path boot_aggregate_path)) (is_listed texts file.digest)
+    (not_false (bytes_eq file.path boot_aggregate_path) (false_from_ne_true (bytes_eq file.path boot_aggregate_path)
+    (λ e. other ((bytes_eq-Decides file.path boot_aggregate_path).0 e))))
+    ((listed_iff texts file.digest).1 listed)
+
+known_read : (texts : List (List ℕ)) (entry : ListEntry) → is_known texts entry ≡ true → IsKnown texts entry
+known_read texts entry e =
+    let violation = and_parts (not (is_violation entry)) ((entry.register == list_register) && is_known_file texts (file_of entry)) e in
+    let register = and_parts (entry.register == list_register) (is_known_file texts (file_of entry)) violation.1 in
+    let file = file_read texts (file_of entry) register.1 in
+    record {
+      file = file.0;
+      told = file.1;
+      listed = file.2;
+      no_violation = not_true (is_violation entry) violation.0;
+      register_is = eqb-true entry.register list_register register.0;
+      no_aggregate = file.3;
+    }
+
+known_again : (texts : List (List ℕ)) (entry : ListEntry) → IsKnown texts entry → is_known texts entry ≡ true
+known_again texts entry known =
+    and_from (not (is_violation entry)) ((entry.register == list_register) && is_known_file texts (file_of entry))
+    (not_false (is_violation entry) known.no_violation)
+    (and_from (entry.register == list_register) (is_known_file texts (file_of entry)) (eq-eqb entry.register list_register known.register_is)
+    (ap (is_known_file texts) known.told ∙ file_again texts known.file known.listed known.no_aggregate))
+
+pub known_iff : (texts : List (List ℕ)) (entry : ListEntry) → (is_known texts entry ≡ true) ↔ IsKnown texts entry
+known_iff texts entry = (known_read texts entry, known_again texts entry)
+
+-- ---- one entry after others
+
+pub unknown_more : (texts : List (List ℕ)) (first : ℕ) (entries : List ListEntry) (entry : ListEntry)
+    → unknown_in texts first (entries ++ entry ∷ []) ≡ unknown_in texts first entries ++ unknown_at texts (first + length entries) entry
+unknown_more texts first [] entry =
+    append-nil (unknown_at texts first entry) ∙ ap (λ n. unknown_at texts n entry) (omega arith)
+unknown_more texts first (other ∷ entries) entry =
+    ap (λ l. unknown_at texts first other ++ l) (unknown_more texts (first + 1) entries entry
+    ∙ ap (λ n. unknown_in texts (first + 1) entries ++ unknown_at texts n entry) (omega arith))
+    ∙ sym (append_assoc (unknown_at texts first other) (unknown_in texts (first + 1) entries)
+    (unknown_at texts (first + length (other ∷ entries)) entry))
+
+-- The numbers after one more entry, which has this number.
+more_at : (texts : List (List ℕ)) (first : ℕ) (entries : List ListEntry) (entry : ListEntry) (number : ℕ) (told : Bool)
+    → number ≡ first + length entries → told ≡ is_unknown texts number entry
+    → unknown_in texts first (entries ++ entry ∷ []) ≡ unknown_in texts first entries ++ (if told then number ∷ [] else [])
+more_at texts first entries entry number told at is =
+    unknown_more texts first entries entry ∙ ap (λ n. unknown_in texts first entries ++ unknown_at texts n entry) (sym at)
+    ∙ ap (λ (b : Bool). unknown_in texts first entries ++ (if b then number ∷ [] else [])) (sym is)
+
+pub unknown_next : (texts : List (List ℕ)) (first : ℕ) (entries : List ListEntry) (entry : ListEntry) (number : ℕ) (told : Bool)
+    → number ≡ first + length entries → told ≡ is_unknown texts number entry → told ≡ true
+    → unknown_in texts first (entries ++ entry ∷ []) ≡ unknown_in texts first entries ++ number ∷ []
+unknown_next texts first entries entry number told at is yes_told =
+    more_at texts first entries entry number told at is
+    ∙ ap (λ (b : Bool). unknown_in texts first entries ++ (if b then number ∷ [] else [])) yes_told
+
+pub known_next : (texts : List (List ℕ)) (first : ℕ) (entries : List ListEntry) (entry : ListEntry) (number : ℕ) (told : Bool)
+    → number ≡ first + length entries → told ≡ is_unknown texts number entry → told ≡ false
+    → unknown_in texts first (entries ++ entry ∷ []) ≡ unknown_in texts first entries
+known_next texts first entries entry number told at is not_told =
+    more_at texts first entries entry number told at is
+    ∙ ap (λ (b : Bool). unknown_in texts first entries ++ (if b then number ∷ [] else [])) not_told
+    ∙ append-nil (unknown_in texts first entries)

@@ -1,0 +1,8 @@
+use Rattle.known_files.proofs.AnswerLaws.{known_later, known_list}
+use Rattle.known_files.proofs.laws.each_is_known.Goals as goal
+
+pub returns-clause-list : goal.returns-clause-list
+returns-clause-list c = known_list
+
+pub returns-clause-later : goal.returns-clause-later
+returns-clause-later c = known_later

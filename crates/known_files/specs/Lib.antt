@@ -1,0 +1,6 @@
+pub mod Lines
+pub mod DigestLines
+pub mod Listing
+pub mod Known
+pub mod EntryFiles
+pub mod Unknown

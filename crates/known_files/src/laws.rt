@@ -1,0 +1,25 @@
+//! What an answer tells.
+
+ghost use Rattle.std.specs.Prelude.{◌≡◌, ℕ, ◌<◌, List, [], drop};
+ghost use Rattle.std.specs.List.{AllByRecursion};
+ghost use Rattle.pcr_banks.specs.declared.alg.Alg.TheVariants as algs;
+ghost use Rattle.pcr_banks.specs.declared.digest.Digest.{Digest};
+ghost use Rattle.pcr_banks.specs.Digests.{alg_of};
+ghost use Rattle.ima_list.specs.ListEntry.{ListEntry};
+ghost use Rattle.known_files.specs.EntryFiles.{IsKnown};
+ghost use Rattle.known_files.specs.Listing.{IsGoodText, IsListed};
+ghost use Rattle.known_files.specs.Unknown.{unknown_in};
+
+/// Where no entry of a list is unknown, each entry after the first is known; where none of further entries is, each of them.
+pub fn each_is_known()
+    ensures list { (texts : List (List ℕ)) (entries : List ListEntry) → unknown_in texts 0 entries ≡ []
+        → AllByRecursion (IsKnown texts) (drop 1 entries) }
+    ensures later { (texts : List (List ℕ)) (first : ℕ) (entries : List ListEntry) → 0 < first → unknown_in texts first entries ≡ []
+        → AllByRecursion (IsKnown texts) entries }
+{}
+
+/// Texts that were taken list no digest by SHA-1.
+pub fn none_by_sha1()
+    ensures { (texts : List (List ℕ)) (digest : Digest) → AllByRecursion IsGoodText texts → IsListed texts digest
+        → alg_of digest ≡ algs.Sha1 → ⊥ }
+{}

@@ -1,0 +1,22 @@
+//! Which files of a measurement list are known, by the digests that `sha256sum` and its kind print.
+//!
+//! [`ListedFiles`] takes the texts, [`KnownFiles`] answers whether an entry is known, and [`UnknownEntries`] collects the numbers of those
+//! that are not, as a list is read.
+#![tactic(auto)]
+
+mod digest_line;
+mod entry_file;
+mod fault;
+mod known;
+pub mod laws;
+mod lines;
+mod listed;
+mod sorted;
+mod unknown;
+
+pub use digest_line::digest_on;
+pub use entry_file::file_of;
+pub use fault::KnownFault;
+pub use known::KnownFiles;
+pub use listed::ListedFiles;
+pub use unknown::UnknownEntries;

@@ -1,0 +1,2 @@
+pub mod Measuring
+pub mod Confirming

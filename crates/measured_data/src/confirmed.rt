@@ -1,0 +1,92 @@
+//! Which part of an event's data the matching registers confirm.
+
+ghost use Rattle.std.specs.Prelude.{◌≡◌, ◌↔◌, ◌&&◌, ◌||◌, IsTrue, not};
+ghost use Rattle.std.specs.List.{list_all, list_any};
+ghost use Rattle.pcr_banks.specs.Hashing.{all_algs};
+ghost use Rattle.boot_log.specs.Spelling.{log_event_of};
+ghost use Rattle.measured_data.specs.Measuring.{IsFirstPart, has_digest_of};
+ghost use Rattle.measured_data.specs.Confirming.{IsConfirmed, confirmed_part, counts, has_place, is_confirmed};
+
+use crate::measured::{has_digest_of, part_of};
+use crate::part::Part;
+use crate::place::Place;
+use boot_log::Event;
+use pcr_banks::Alg;
+
+// Whether the bank's register is among the places.
+fn has_place(places: &[Place], alg: Alg, register: u32) -> bool
+    ensures { result ≡ has_place places.now alg register }
+{
+    places
+        .iter()
+        .any(|place| place.alg == alg && place.register == register)
+}
+
+// Whether the bank counts: it is not that of SHA-1, and its register is among the places.
+fn counts(matched: &[Place], alg: Alg, register: u32) -> bool
+    ensures { result ≡ counts matched.now alg register }
+{
+    alg != Alg::Sha1 && has_place(matched, alg, register)
+}
+
+// Whether some bank counts.
+fn some_counts(matched: &[Place], register: u32) -> bool
+    ensures { result ≡ list_any (λ alg. counts matched.now alg register) all_algs }
+{
+    Alg::ALL.iter().any(|alg| counts(matched, *alg, register))
+}
+
+// Whether the bank tells nothing against these bytes of the event: it does not count, or they are measured in it.
+fn allows(event: &Event<'_>, matched: &[Place], bytes: &[u8], alg: Alg) -> bool
+    ensures { result ≡ (not (counts matched.now alg event.now.register) || has_digest_of alg (log_event_of event.now) bytes.now) }
+{
+    !counts(matched, alg, event.register) || has_digest_of(event, alg, bytes)
+}
+
+// Whether no bank tells anything against these bytes of the event.
+fn every_allows(event: &Event<'_>, matched: &[Place], bytes: &[u8]) -> bool
+    ensures { result ≡ list_all (λ alg. not (counts matched.now alg event.now.register)
+        || has_digest_of alg (log_event_of event.now) bytes.now) all_algs }
+{
+    Alg::ALL
+        .iter()
+        .all(|alg| allows(event, matched, bytes, *alg))
+}
+
+// Whether some bank counts, and these bytes of the event are measured in every bank that does.
+fn has_confirmed(event: &Event<'_>, matched: &[Place], bytes: &[u8]) -> bool
+    ensures { result ≡ (list_any (λ alg. counts matched.now alg event.now.register) all_algs
+        && list_all (λ alg. not (counts matched.now alg event.now.register)
+        || has_digest_of alg (log_event_of event.now) bytes.now) all_algs) }
+{
+    some_counts(matched, event.register) && every_allows(event, matched, bytes)
+}
+
+// Whether some bank counts, and this part of the event's data is measured in every bank that does.
+fn is_confirmed(event: &Event<'_>, matched: &[Place], part: Part) -> bool
+    ensures value { result ≡ is_confirmed matched.now (log_event_of event.now) part }
+    ensures confirmed { IsTrue result ↔ IsConfirmed matched.now (log_event_of event.now) part }
+{
+    match part_of(part, event) {
+        Some(bytes) => has_confirmed(event, matched, bytes),
+        None => false,
+    }
+}
+
+/// The part of the event's data that the registers in `matched` confirm, those that match: all of it, else the variable's value, else the
+/// command's text. A part is confirmed where the event's register matches in some bank other than SHA-1, and the part is measured in every
+/// such bank. So a bank that the firmware does not extend confirms nothing that another matching bank contradicts.
+pub fn confirmed_part(event: &Event<'_>, matched: &[Place]) -> Option<Part>
+    ensures value { result ≡ confirmed_part matched.now (log_event_of event.now) }
+    ensures first { IsFirstPart (IsConfirmed matched.now (log_event_of event.now)) result }
+{
+    if is_confirmed(event, matched, Part::Whole) {
+        Some(Part::Whole)
+    } else if is_confirmed(event, matched, Part::Value) {
+        Some(Part::Value)
+    } else if is_confirmed(event, matched, Part::Command) {
+        Some(Part::Command)
+    } else {
+        None
+    }
+}
