@@ -9,7 +9,7 @@ from pathlib import Path
 from help import read_program
 
 # What the help calls the value of an option that names a file.
-FILE_VALUES = ("FILE", "NAME", "EXPECTED")
+FILE_VALUES = ("FILE", "NAME", "EXPECTED", "QUOTE", "LIST", "OLD_LOG")
 
 BASH = """\
 # What bash completes after ima-agent.
@@ -34,11 +34,12 @@ _ima_agent_files() {{
     compopt -o filenames 2>/dev/null
 }}
 
-# Completes by words, of which it takes those that are not on the line yet.
+# Completes by words, of which it takes those that are not on the line yet, or may come again.
 _ima_agent_words() {{
     local word line=" ${{COMP_WORDS[*]:0:COMP_CWORD}} "
     for word in "${{@:2}}"; do
-        [[ $word != "$1"* || $line == *" $word "* ]] || COMPREPLY+=("$word")
+        [[ $word == "$1"* ]] || continue
+        [[ $line == *" $word "* && ' {repeated} ' != *" $word "* ]] || COMPREPLY+=("$word")
     done
 }}
 
@@ -126,8 +127,9 @@ def bash(whole, commands):
     options = [f"        {command.name}) echo '{all_names(command.options)}' ;;" for command in commands]
     values = [f"        '{command.name} --{option.name}') echo '{'<file>' if takes_file(option) else ' '.join(option.values)}' ;;"
               for command in commands for option in command.options if option.value]
+    repeated = {f"--{option.name}": None for command in commands for option in command.options if option.is_repeated}
     return BASH.format(options="\n".join(options), values="\n".join(values), commands=" ".join(command.name for command in commands),
-                       program=all_names(whole.options))
+                       program=all_names(whole.options), repeated=" ".join(repeated))
 
 
 def zsh_quoted(text):
@@ -143,9 +145,9 @@ def zsh_option(option):
     if option.value:
         value = f":{option.name}:" + ("_files" if takes_file(option) else f"({' '.join(option.values)})" if option.values else "")
     names = names_of(option)
-    ending = "=" if option.value else ""
+    ending, first = "=" if option.value else "", "*" if option.is_repeated else ""
     if len(names) == 1:
-        return zsh_quoted(f"{names[0]}{ending}[{told}]{value}")
+        return zsh_quoted(f"{first}{names[0]}{ending}[{told}]{value}")
     return zsh_quoted(f"({' '.join(names)})") + f"{{{','.join(names)}}}" + zsh_quoted(f"[{told}]{value}")
 
 

@@ -13,7 +13,7 @@ NOTE = re.compile(r"\s*\[(default|possible values): ([^]]*)\]")
 
 
 class Option(NamedTuple):
-    """An option: without `value` it is a flag; with `values` it takes these alone."""
+    """An option: without `value` it is a flag; with `values` it takes these alone. Its help says whether it may come again."""
 
     name: str
     short: Optional[str]
@@ -21,6 +21,10 @@ class Option(NamedTuple):
     help: str
     default: Optional[str]
     values: Tuple[str, ...]
+
+    @property
+    def is_repeated(self):
+        return "several times" in self.help
 
 
 class Command(NamedTuple):

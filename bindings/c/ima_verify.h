@@ -19,7 +19,8 @@
  *
  * A verdict speaks of the registers that are expected, and of no others: so say in `require` which registers it
  * must cover. With it a verdict is `match` only if no event of the log extends register 10 and each entry of the
- * list names it; else the report has a line as `event 31 extends 10` or `entry 17 extends 11`.
+ * list names it; else the report has a line as `event 31 extends 10` or `entry 17 extends 11`. With `judges_known` the
+ * entries must also be of known files.
  *
  * Pointers. One that is NULL has a size of 0; else the function returns IMA_VERIFY_MISUSED. Nothing may change an
  * input during a call. Inputs may overlap each other, and calls may share them; outputs may overlap nothing else
@@ -74,8 +75,8 @@ enum ima_verify_result {
     IMA_VERIFY_TOO_SHORT = 4,
     /* The text has whole lines of entries or events, and there are more: call again. */
     IMA_VERIFY_MORE = 5,
-    /* A pointer is NULL whose size is not 0, or a form, an origin, a purpose or a position is none. Nothing was read
-     * or written. */
+    /* A pointer is NULL whose size is not 0; or a form, an origin, a purpose or a position is none; or known files are
+     * given without `judges_known`, or to a function that judges no entry. Nothing was read or written. */
     IMA_VERIFY_MISUSED = 6
 };
 
@@ -90,8 +91,8 @@ enum ima_verify_form {
 /* Why an input was refused. */
 enum ima_verify_fault_kind {
     IMA_VERIFY_NO_FAULT = 0,
-    /* `require` or `registers` is not of its form; with a quote also if `require` leaves out one of the registers 0 to
-     * 10 or names one of SHA-1 alone, or the nonce is too short. */
+    /* `require` or `registers` is not of its form; with known files also if `require` is `none`; with a quote also if
+     * `require` leaves out one of the registers 0 to 10 or names one of SHA-1 alone, or the nonce is too short. */
     IMA_VERIFY_ARGUMENT = 1,
     /* The firmware event log: its place is that of an event; the header is event 0. */
     IMA_VERIFY_LOG = 2,
@@ -109,7 +110,10 @@ enum ima_verify_fault_kind {
      * (12). */
     IMA_VERIFY_QUOTE = 8,
     /* The public area of a key: it is none (1 to 10), or the key lacks what its purpose needs (11 to 22). */
-    IMA_VERIFY_KEY = 9
+    IMA_VERIFY_KEY = 9,
+    /* The known files: a line has a digest by SHA-1 (1), or is no digest and name (2). Its place is that of the line;
+     * the first is 1. */
+    IMA_VERIFY_KNOWN = 10
 };
 
 /* The place of a fault that names none. */
@@ -156,6 +160,13 @@ struct ima_verify_evidence {
      * as `sha256 4 missing`, and then the verdict is `differ`. The word `none` (ima_verify_none) requires no
      * register. Without bytes it is refused, and so is one that names register 10 of no bank. */
     struct ima_verify_bytes require;
+    /* The known files, with `judges_known`: a line for each, as sha256sum, sha384sum and sha512sum print them. Of
+     * several texts give one after another, each with a line feed at its end. */
+    struct ima_verify_bytes known;
+    /* Whether each entry must be of a known file, but for the boot aggregate, with which a list begins. The report has
+     * a line for each that is not, as `unknown entry 17`, and then the verdict is `differ`. Without bytes in `known` no
+     * file is known. */
+    bool judges_known;
 };
 
 /* What a quote is judged by. No file of register values is needed: the message has a digest of them. */
@@ -176,6 +187,9 @@ struct ima_verify_quoted {
      * ima_verify_key gives of a public area whose credential was activated. With `false`, which is what a member that
      * is left out has, nothing is attested, and the report ends in `signature not checked`. */
     bool signature_checked;
+    /* The known files, and whether each entry must be of one, as in struct ima_verify_evidence. */
+    struct ima_verify_bytes known;
+    bool judges_known;
 };
 
 /* The bytes of a text that ends with a zero byte, without that. */
@@ -206,26 +220,28 @@ struct ima_verify_told {
 
 int32_t ima_verify_raw_verdict(const uint8_t *log, size_t log_size, const uint8_t *list, size_t list_size,
                                const uint8_t *expected, size_t expected_size, const uint8_t *require,
-                               size_t require_size, bool json, uint8_t *out, size_t room,
-                               struct ima_verify_told *told);
+                               size_t require_size, const uint8_t *known, size_t known_size, bool known_given,
+                               bool json, uint8_t *out, size_t room, struct ima_verify_told *told);
 int32_t ima_verify_raw_locate(const uint8_t *log, size_t log_size, const uint8_t *list, size_t list_size,
                               const uint8_t *expected, size_t expected_size, const uint8_t *require,
                               size_t require_size, bool json, uint8_t *out, size_t room,
                               struct ima_verify_told *told);
 int32_t ima_verify_raw_replay(const uint8_t *list, size_t list_size, const uint8_t *expected,
-                              size_t expected_size, const uint8_t *require, size_t require_size, bool json,
-                              uint8_t *out, size_t room, struct ima_verify_told *told);
+                              size_t expected_size, const uint8_t *require, size_t require_size,
+                              const uint8_t *known, size_t known_size, bool known_given, bool json, uint8_t *out,
+                              size_t room, struct ima_verify_told *told);
 int32_t ima_verify_raw_more(const uint8_t *log, size_t log_size, const uint8_t *state, size_t state_size,
                             const uint8_t *more, size_t more_size, const uint8_t *expected,
-                            size_t expected_size, const uint8_t *require, size_t require_size, bool prefix,
-                            bool json, uint8_t *next, size_t next_room, size_t *next_size, uint8_t *out,
-                            size_t room, struct ima_verify_told *told);
+                            size_t expected_size, const uint8_t *require, size_t require_size,
+                            const uint8_t *known, size_t known_size, bool known_given, bool prefix, bool json,
+                            uint8_t *next, size_t next_room, size_t *next_size, uint8_t *out, size_t room,
+                            struct ima_verify_told *told);
 int32_t ima_verify_raw_attest(const uint8_t *log, size_t log_size, const uint8_t *state, size_t state_size,
                               const uint8_t *more, size_t more_size, const uint8_t *message, size_t message_size,
                               const uint8_t *nonce, size_t nonce_size, const uint8_t *require, size_t require_size,
-                              bool takes_sha1, bool is_signed, bool prefix, bool json, uint8_t *next,
-                              size_t next_room, size_t *next_size, uint8_t *out, size_t room,
-                              struct ima_verify_told *told);
+                              const uint8_t *known, size_t known_size, bool known_given, bool takes_sha1,
+                              bool is_signed, bool prefix, bool json, uint8_t *next, size_t next_room,
+                              size_t *next_size, uint8_t *out, size_t room, struct ima_verify_told *told);
 int32_t ima_verify_raw_expected(const uint8_t *printed, size_t printed_size, const uint8_t *registers,
                                 size_t registers_size, bool json, uint8_t *out, size_t room,
                                 struct ima_verify_told *told);
@@ -249,19 +265,24 @@ static inline bool ima_verify_is_given(struct ima_verify_bytes bytes) {
     return bytes.data || !bytes.size;
 }
 
+static inline bool ima_verify_are_known(struct ima_verify_bytes known, bool judges_known) {
+    return ima_verify_is_given(known) && (judges_known || !known.size);
+}
+
 static inline bool ima_verify_is_output(enum ima_verify_form form, const struct ima_verify_output *output) {
     return output && (output->data || !output->room) && (form == IMA_VERIFY_TEXT || form == IMA_VERIFY_JSON);
 }
 
 static inline bool ima_verify_is_evidence(const struct ima_verify_evidence *evidence) {
     return evidence && ima_verify_is_given(evidence->log) && ima_verify_is_given(evidence->list)
-           && ima_verify_is_given(evidence->expected) && ima_verify_is_given(evidence->require);
+           && ima_verify_is_given(evidence->expected) && ima_verify_is_given(evidence->require)
+           && ima_verify_are_known(evidence->known, evidence->judges_known);
 }
 
 static inline bool ima_verify_is_quoted(const struct ima_verify_quoted *quoted) {
     return quoted && ima_verify_is_given(quoted->log) && ima_verify_is_given(quoted->list)
            && ima_verify_is_given(quoted->message) && ima_verify_is_given(quoted->nonce)
-           && ima_verify_is_given(quoted->require);
+           && ima_verify_is_given(quoted->require) && ima_verify_are_known(quoted->known, quoted->judges_known);
 }
 
 static inline uint8_t *ima_verify_room(struct ima_verify_output *output, uint8_t *none) {
@@ -278,9 +299,9 @@ static inline enum ima_verify_result ima_verify_tell(struct ima_verify_output *o
 }
 
 /* The verdict on a log, a list and expected registers. IMA_VERIFY_DONE if the boot aggregate is good, each expected
- * register has its value and what `require` asks for holds, else IMA_VERIFY_DIFFERS; the text is the report. The
- * first fault is reported, in this order: `require`, the expected registers, the log, the list, whether each entry
- * is genuine. */
+ * register has its value, what `require` asks for holds and no entry is unknown, else IMA_VERIFY_DIFFERS; the text is
+ * the report. The first fault is reported, in this order: `require`, the expected registers, the known files, the log,
+ * the list, whether each entry is genuine. */
 IMA_VERIFY_USE_RESULT static inline enum ima_verify_result
 ima_verify_verdict(const struct ima_verify_evidence *evidence, enum ima_verify_form form,
                    struct ima_verify_output *output) {
@@ -292,19 +313,22 @@ ima_verify_verdict(const struct ima_verify_evidence *evidence, enum ima_verify_f
         ima_verify_raw_verdict(ima_verify_data(evidence->log), evidence->log.size, ima_verify_data(evidence->list),
                                evidence->list.size, ima_verify_data(evidence->expected), evidence->expected.size,
                                ima_verify_data(evidence->require), evidence->require.size,
+                               ima_verify_data(evidence->known), evidence->known.size, evidence->judges_known,
                                form == IMA_VERIFY_JSON, ima_verify_room(output, &none), output->room, &told),
         &told);
 }
 
 /* Where each expected register first has its value, as `sha256 10 after entry 98`. IMA_VERIFY_DONE if a register is
  * expected, every value was reached and none of `require` is missing, else IMA_VERIFY_DIFFERS; the text has the
- * places. Faults are those of ima_verify_verdict. */
+ * places. It takes no known files: with `judges_known` it returns IMA_VERIFY_MISUSED. Faults are those of
+ * ima_verify_verdict. */
 IMA_VERIFY_USE_RESULT static inline enum ima_verify_result
 ima_verify_locate(const struct ima_verify_evidence *evidence, enum ima_verify_form form,
                   struct ima_verify_output *output) {
     uint8_t none;
     struct ima_verify_told told;
-    if (!ima_verify_is_evidence(evidence) || !ima_verify_is_output(form, output)) return IMA_VERIFY_MISUSED;
+    if (!ima_verify_is_evidence(evidence) || evidence->judges_known || !ima_verify_is_output(form, output))
+        return IMA_VERIFY_MISUSED;
     return ima_verify_tell(
         output,
         ima_verify_raw_locate(ima_verify_data(evidence->log), evidence->log.size, ima_verify_data(evidence->list),
@@ -316,9 +340,9 @@ ima_verify_locate(const struct ima_verify_evidence *evidence, enum ima_verify_fo
 
 /* The verdict on a list alone: it is replayed into banks of all algorithms from their registers' reset values, so a
  * register that the firmware extends too differs. The log is not looked at. IMA_VERIFY_DONE if the list has an
- * entry, some register is expected, each has its value and what `require` asks for holds, else IMA_VERIFY_DIFFERS;
- * the text is the report. The first fault is reported, in this order: `require`, the expected registers, the list,
- * whether each entry is genuine. */
+ * entry, some register is expected, each has its value, what `require` asks for holds and no entry is unknown, else
+ * IMA_VERIFY_DIFFERS; the text is the report. The first fault is reported, in this order: `require`, the expected
+ * registers, the known files, the list, whether each entry is genuine. */
 IMA_VERIFY_USE_RESULT static inline enum ima_verify_result
 ima_verify_replay(const struct ima_verify_evidence *evidence, enum ima_verify_form form,
                   struct ima_verify_output *output) {
@@ -329,8 +353,9 @@ ima_verify_replay(const struct ima_verify_evidence *evidence, enum ima_verify_fo
         output,
         ima_verify_raw_replay(ima_verify_data(evidence->list), evidence->list.size,
                               ima_verify_data(evidence->expected), evidence->expected.size,
-                              ima_verify_data(evidence->require), evidence->require.size, form == IMA_VERIFY_JSON,
-                              ima_verify_room(output, &none), output->room, &told),
+                              ima_verify_data(evidence->require), evidence->require.size,
+                              ima_verify_data(evidence->known), evidence->known.size, evidence->judges_known,
+                              form == IMA_VERIFY_JSON, ima_verify_room(output, &none), output->room, &told),
         &told);
 }
 
@@ -343,16 +368,21 @@ ima_verify_replay(const struct ima_verify_evidence *evidence, enum ima_verify_fo
  * whose entries are genuine, and with which the boot aggregate is good, each expected register has its value and none
  * of `require` is missing. What comes after it is not refused, and the report says how many entries it has.
  *
+ * Only entries that the report is on, and that `state` does not cover, are looked up among the known files. With other
+ * known files than those of the calls before, begin anew, without a checkpoint: entries that it covers may be unknown
+ * now.
+ *
  * After IMA_VERIFY_DONE `next` has the checkpoint of what the report is on, the whole list or the confirmed front:
  * less than IMA_VERIFY_CHECKPOINT_ROOM bytes. If one of both outputs has too little room, the function returns
  * IMA_VERIFY_TOO_SHORT, tells both sizes, and writes to neither. With any other result there is no checkpoint: its size
- * is 0, and the bytes of `next` stay as they were. Keep the checkpoint that you have until a call has given the next one.
+ * is 0, and the bytes of `next` stay as they were. Keep the checkpoint that you have until a call has given the next
+ * one.
  *
  * The first fault is reported, in this order: `require`, the expected registers, the text of the checkpoint
- * (`refused: checkpoint fault 1` or `2`), the log, whether the checkpoint is of this boot (`refused: checkpoint fault
- * 3`), the list, whether each entry is genuine. (If 64 MiB would not fit between the list and 2^63 bytes, it is
- * IMA_VERIFY_OUT_OF_MEMORY.) A checkpoint is trusted: who can write it can choose the verdict. Give only what this
- * function gave. */
+ * (`refused: checkpoint fault 1` or `2`), the known files, the log, whether the checkpoint is of this boot (`refused:
+ * checkpoint fault 3`), the list, whether each entry is genuine. (If 64 MiB would not fit between the list and 2^63
+ * bytes, it is IMA_VERIFY_OUT_OF_MEMORY.) A checkpoint is trusted: who can write it can choose the verdict. Give only
+ * what this function gave. */
 IMA_VERIFY_USE_RESULT static inline enum ima_verify_result
 ima_verify_more(const struct ima_verify_evidence *evidence, struct ima_verify_bytes state, bool prefix,
                 enum ima_verify_form form, struct ima_verify_output *next, struct ima_verify_output *output) {
@@ -365,7 +395,8 @@ ima_verify_more(const struct ima_verify_evidence *evidence, struct ima_verify_by
     result = ima_verify_raw_more(
         ima_verify_data(evidence->log), evidence->log.size, ima_verify_data(state), state.size,
         ima_verify_data(evidence->list), evidence->list.size, ima_verify_data(evidence->expected),
-        evidence->expected.size, ima_verify_data(evidence->require), evidence->require.size, prefix,
+        evidence->expected.size, ima_verify_data(evidence->require), evidence->require.size,
+        ima_verify_data(evidence->known), evidence->known.size, evidence->judges_known, prefix,
         form == IMA_VERIFY_JSON, ima_verify_room(next, &none_next), next->room, &told_next.size,
         ima_verify_room(output, &none), output->room, &told);
     (void)ima_verify_tell(next, result, &told_next);
@@ -380,17 +411,17 @@ ima_verify_more(const struct ima_verify_evidence *evidence, struct ima_verify_by
  *
  * The message must have the nonce, and select each register that `require` names. IMA_VERIFY_DONE if its digest is that
  * of the values to which log and list replay, the boot aggregate is good, no event of the log extends register 10, each
- * entry of the list names it, and the signature was checked, else IMA_VERIFY_DIFFERS; the text is the report. The verdict
- * covers the registers that the quote selects, and the report names them. With `prefix` it is on the confirmed front, if
- * there is one: the shortest after which the registers are those of the quote.
+ * entry of the list names it, no entry is unknown, and the signature was checked, else IMA_VERIFY_DIFFERS; the text is
+ * the report. The verdict covers the registers that the quote selects, and the report names them. With `prefix` it is
+ * on the confirmed front, if there is one: the shortest after which the registers are those of the quote.
  *
  * This function verifies no signature: the caller does, before the call. A key that is not restricted, or
  * that was imported into the TPM, also signs messages that no TPM made: ima_verify_key refuses both.
  *
  * The first fault is reported, in this order: `require` and the nonce, the message (`refused: quote fault 1` to `12`),
  * the text of the checkpoint (`refused: checkpoint fault 1` or `2`), whether it is of the quote's boot (`refused:
- * checkpoint fault 4`), the log, whether the log is that of the checkpoint (`refused: checkpoint fault 3`), the list,
- * whether each entry is genuine. */
+ * checkpoint fault 4`), the known files, the log, whether the log is that of the checkpoint (`refused: checkpoint fault
+ * 3`), the list, whether each entry is genuine. */
 IMA_VERIFY_USE_RESULT static inline enum ima_verify_result
 ima_verify_attest_more(const struct ima_verify_quoted *quoted, struct ima_verify_bytes state, bool prefix,
                        enum ima_verify_form form, struct ima_verify_output *next, struct ima_verify_output *output) {
@@ -404,9 +435,9 @@ ima_verify_attest_more(const struct ima_verify_quoted *quoted, struct ima_verify
         ima_verify_data(quoted->log), quoted->log.size, ima_verify_data(state), state.size,
         ima_verify_data(quoted->list), quoted->list.size, ima_verify_data(quoted->message), quoted->message.size,
         ima_verify_data(quoted->nonce), quoted->nonce.size, ima_verify_data(quoted->require), quoted->require.size,
-        quoted->takes_sha1, quoted->signature_checked, prefix, form == IMA_VERIFY_JSON,
-        ima_verify_room(next, &none_next), next->room, &told_next.size, ima_verify_room(output, &none), output->room,
-        &told);
+        ima_verify_data(quoted->known), quoted->known.size, quoted->judges_known, quoted->takes_sha1,
+        quoted->signature_checked, prefix, form == IMA_VERIFY_JSON, ima_verify_room(next, &none_next), next->room,
+        &told_next.size, ima_verify_room(output, &none), output->room, &told);
     (void)ima_verify_tell(next, result, &told_next);
     return ima_verify_tell(output, result, &told);
 }

@@ -137,23 +137,34 @@ func (a answer) line() string {
 	return string(bytes.TrimSuffix(a.text, []byte("\n")))
 }
 
-// verdict reads the verdict on a whole list. One on no PCRs is no match, though the report says that it is.
-func (a answer) verdict() (Verdict, error) {
+// verdict reads the verdict on a whole list, by known files, or by none. One on no PCRs is no match, though the report says that it is.
+func (a answer) verdict(byKnown bool) (Verdict, error) {
 	return read(a, func(r *reader, o object) Verdict {
-		v := a.verdictIn(r, o, true)
+		v := a.verdictIn(r, o, checkpoint{}, byKnown, true)
 		r.require(v.Confirmed == 0)
 		return v
 	})
 }
 
-// verdictIn reads a report, where one on no PCRs may say that it is a match, or may not.
-func (a answer) verdictIn(r *reader, o object, mayMatchNothing bool) Verdict {
+// knownFrom is the first entry after a checkpoint, from which on entries are looked up among known files, or 0 without these.
+func knownFrom(from checkpoint, byKnown bool) uint64 {
+	if byKnown {
+		return from.entries
+	}
+	return 0
+}
+
+// verdictIn reads a report, in which entries after a checkpoint are looked up among known files, or none are. One on no PCRs may say that
+// it is a match, or may not.
+func (a answer) verdictIn(r *reader, o object, from checkpoint, byKnown, mayMatchNothing bool) Verdict {
 	v := Verdict{Events: r.number(o, "events", math.MaxUint64), Locality: uint8(r.number(o, "locality", math.MaxUint8)),
-		Entries: r.number(o, "entries", math.MaxUint64), Rows: r.rows(o), JSON: a.line()}
+		Entries: r.number(o, "entries", math.MaxUint64), Rows: r.rows(o), JSON: a.line(),
+		JudgesKnown: byKnown, KnownFrom: knownFrom(from, byKnown)}
 	v.BootAggregate = oneOf(r, o, "boot_aggregate", BootAggregateGood, BootAggregateWrong, BootAggregateNoBank, BootAggregateMissing)
 	v.Confirmed, v.Unconfirmed = r.confirmed(o, v.Entries)
 	v.Extends = r.strays(o, v.Events, covered(v.Confirmed, v.Entries))
-	isGood := v.BootAggregate == BootAggregateGood && (len(v.Rows) > 0 || mayMatchNothing) && v.Extends == nil
+	v.Unknown = r.unknown(o, byKnown, v.KnownFrom, covered(v.Confirmed, v.Entries))
+	isGood := v.BootAggregate == BootAggregateGood && (len(v.Rows) > 0 || mayMatchNothing) && v.Extends == nil && v.Unknown == nil
 	v.Matches = r.matches(a.result, o, v.Rows, isGood) && len(v.Rows) > 0
 	return v
 }
@@ -166,17 +177,17 @@ func covered(confirmed, entries uint64) uint64 {
 	return entries
 }
 
-// hasAllValues is whether the verdict is a match, apart from Extends.
+// hasAllValues is whether the verdict is a match, apart from Extends and Unknown.
 func (v Verdict) hasAllValues() bool {
 	return v.BootAggregate == BootAggregateGood && len(v.Rows) > 0 && allMatch(v.Rows)
 }
 
 // more reads the verdict on a list that has so many bytes after a checkpoint, and the next checkpoint. Only a match has one:
 // of the confirmed part, if the call asks for it, or of the whole list. After any other verdict it is the one before.
-func (a answer) more(from checkpoint, size uint64, prefix bool) (Verdict, checkpoint, error) {
+func (a answer) more(from checkpoint, size uint64, byKnown, prefix bool) (Verdict, checkpoint, error) {
 	reached := from
 	v, err := read(a, func(r *reader, o object) Verdict {
-		v := a.verdictIn(r, o, false)
+		v := a.verdictIn(r, o, from, byKnown, false)
 		r.require((v.Confirmed != 0) == (prefix && v.hasAllValues()))
 		reached = a.reached(r, from, size, covered(v.Confirmed, v.Entries), v.Confirmed != 0, v.Matches)
 		return v
@@ -200,32 +211,34 @@ func (a answer) reached(r *reader, from checkpoint, size, covered uint64, isConf
 	return reached
 }
 
-// listVerdict reads the verdict on a list alone. One on no PCRs is no match.
-func (a answer) listVerdict() (ListVerdict, error) {
+// listVerdict reads the verdict on a list alone, by known files, or by none. One on no PCRs is no match.
+func (a answer) listVerdict(byKnown bool) (ListVerdict, error) {
 	return read(a, func(r *reader, o object) ListVerdict {
-		v := ListVerdict{Entries: r.number(o, "entries", math.MaxUint64), Rows: r.rows(o), JSON: a.line()}
-		v.Extends = r.strays(o, 0, v.Entries)
-		v.Matches = r.matches(a.result, o, v.Rows, v.Entries > 0 && len(v.Rows) > 0 && v.Extends == nil)
+		v := ListVerdict{Entries: r.number(o, "entries", math.MaxUint64), Rows: r.rows(o), JSON: a.line(), JudgesKnown: byKnown}
+		v.Extends, v.Unknown = r.strays(o, 0, v.Entries), r.unknown(o, byKnown, 0, v.Entries)
+		isGood := v.Entries > 0 && len(v.Rows) > 0 && v.Extends == nil && v.Unknown == nil
+		v.Matches = r.matches(a.result, o, v.Rows, isGood)
 		return v
 	})
 }
 
 // attestation reads the verdict by a quote on a list that has so many bytes after a checkpoint, where the caller has checked the
 // quote's signature, or has not; and the next checkpoint, as more does.
-func (a answer) attestation(from checkpoint, size uint64, prefix, signatureChecked bool) (Attestation, checkpoint, error) {
+func (a answer) attestation(from checkpoint, size uint64, byKnown, prefix, signatureChecked bool) (Attestation, checkpoint, error) {
 	reached := from
 	v, err := read(a, func(r *reader, o object) Attestation {
 		v := Attestation{Quoted: r.quoted(o), Signer: r.bytes(o, "signer"), Clock: r.clock(member[object](r, o, "clock")),
 			Firmware: r.number(o, "firmware", math.MaxUint64), Events: r.number(o, "events", math.MaxUint64),
 			Locality: uint8(r.number(o, "locality", math.MaxUint8)), Entries: r.number(o, "entries", math.MaxUint64),
-			SignatureChecked: signatureChecked, JSON: a.line()}
+			SignatureChecked: signatureChecked, JSON: a.line(), JudgesKnown: byKnown, KnownFrom: knownFrom(from, byKnown)}
 		v.Confirmed, v.Unconfirmed = r.confirmed(o, v.Entries)
 		v.BootAggregate = oneOf(r, o, "boot_aggregate", BootAggregateGood, BootAggregateWrong, BootAggregateNoBank, BootAggregateMissing)
 		v.Extends = r.strays(o, v.Events, covered(v.Confirmed, v.Entries))
+		v.Unknown = r.unknown(o, byKnown, v.KnownFrom, covered(v.Confirmed, v.Entries))
 		v.QuoteMatches = oneOf(r, o, "quote", "match", "differ") == "match"
 		isConfirmed := v.QuoteMatches && v.BootAggregate == BootAggregateGood
 		r.require((v.Confirmed != 0) == (prefix && isConfirmed))
-		isAttested := isConfirmed && v.Extends == nil
+		isAttested := isConfirmed && v.Extends == nil && v.Unknown == nil
 		v.Matches = isAttested && signatureChecked
 		r.require((oneOf(r, o, "signature", "checked", "not checked") == "checked") == signatureChecked)
 		r.require(member[string](r, o, "verdict") == conclusion(isAttested, signatureChecked) && a.result == resultOf(v.Matches))

@@ -85,7 +85,7 @@ func of(status int32, text string) answer {
 
 // What is read from a status and a text.
 func readVerdict(status int32, text string) error {
-	verdict, err := of(status, text).verdict()
+	verdict, err := of(status, text).verdict(false)
 	if err != nil && (verdict.Matches || verdict.Rows != nil) {
 		panic("a verdict with an error")
 	}
@@ -101,7 +101,7 @@ func readPlaces(status int32, text string) error {
 }
 
 func readListVerdict(status int32, text string) error {
-	_, err := of(status, text).listVerdict()
+	_, err := of(status, text).listVerdict(false)
 	return err
 }
 
@@ -185,7 +185,7 @@ func answered(status int32, text string, needed uint64) error {
 }
 
 func answeredWith(status int32, text string, given told) error {
-	_, err := askFor(answer.verdict, func(out []byte) (int32, told) {
+	_, err := askFor(func(a answer) (Verdict, error) { return a.verdict(false) }, func(out []byte) (int32, told) {
 		copy(out, text)
 		return status, given
 	})
@@ -223,7 +223,7 @@ func TestRightAnswersAreRead(t *testing.T) {
 }
 
 func TestRightAnswersWithMissingRegistersAreRead(t *testing.T) {
-	verdict, err := of(differs, lacking).verdict()
+	verdict, err := of(differs, lacking).verdict(false)
 	equal(t, []interface{}{verdict.Matches, verdict.Compared(), len(verdict.Rows), err}, []interface{}{false, 1, 2, nil})
 	places, err := of(differs, lackingPlaces).places()
 	equal(t, []interface{}{places.Located, places.Rows[3].Place.Kind, err}, []interface{}{false, PlaceMissing, nil})
@@ -272,7 +272,7 @@ func TestWrongReportsWithMissingRegistersAreNoVerdicts(t *testing.T) {
 }
 
 func TestRightReportsOnAListAloneAreRead(t *testing.T) {
-	verdict, err := of(done, listReport).listVerdict()
+	verdict, err := of(done, listReport).listVerdict(false)
 	equal(t, []interface{}{verdict.Matches, verdict.Entries, verdict.Compared(), err}, []interface{}{true, uint64(3), 1, nil})
 	for _, change := range [][2]string{
 		{`"entries":3`, `"entries":0`}, {`"state":"match"`, differingState}, {`"state":"match"`, `"state":"missing"`},
@@ -280,7 +280,7 @@ func TestRightReportsOnAListAloneAreRead(t *testing.T) {
 	} {
 		matching := strings.Replace(listReport, change[0], change[1], 1)
 		text := strings.Replace(matching, `"verdict":"match"`, `"verdict":"differ"`, 1)
-		verdict, err := of(differs, text).listVerdict()
+		verdict, err := of(differs, text).listVerdict(false)
 		equal(t, []interface{}{verdict.Matches, err}, []interface{}{false, nil})
 		checkUnexpected(t, readListVerdict(done, text), text)
 		checkUnexpected(t, readListVerdict(done, matching), matching)
@@ -306,15 +306,15 @@ func TestRightReportsWithStraysAreRead(t *testing.T) {
 		strayEvent: {event}, strayEntry: {entry}, strayEvent + "," + strayEntry: {event, entry},
 		`{"x":[null],"register":23,"entry":0}`: {{Register: 23}},
 	} {
-		verdict, err := of(differs, strayed(report, strays)).verdict()
+		verdict, err := of(differs, strayed(report, strays)).verdict(false)
 		equal(t, []interface{}{verdict.Matches, verdict.Extends, verdict.Compared(), err}, []interface{}{false, wanted, 1, nil})
 		text := strings.Replace(strayed(report, strays), `"state":"match"`, differingState, 1)
-		verdict, err = of(differs, text).verdict()
+		verdict, err = of(differs, text).verdict(false)
 		equal(t, []interface{}{verdict.Matches, verdict.Extends, err}, []interface{}{false, wanted, nil})
 	}
-	alone, err := of(differs, strayed(listReport, strayEntry)).listVerdict()
+	alone, err := of(differs, strayed(listReport, strayEntry)).listVerdict(false)
 	equal(t, []interface{}{alone.Matches, alone.Extends, err}, []interface{}{false, []Stray{entry}, nil})
-	verdict, err := of(done, report).verdict()
+	verdict, err := of(done, report).verdict(false)
 	equal(t, []interface{}{verdict.Extends, err}, []interface{}{[]Stray(nil), nil})
 }
 
@@ -343,13 +343,13 @@ func TestWrongReportsWithStraysAreNoVerdicts(t *testing.T) {
 
 func TestReportOfNoRegistersIsNoMatch(t *testing.T) {
 	text := strings.Replace(report, matchingRow, "", 1)
-	verdict, err := of(done, text).verdict()
+	verdict, err := of(done, text).verdict(false)
 	equal(t, []interface{}{verdict.Matches, verdict.Compared(), verdict.JSON + "\n", err}, []interface{}{false, 0, text, nil})
 	checkUnexpected(t, readVerdict(differs, text), text)
 	checkUnexpected(t, readVerdict(differs, strings.Replace(text, `"verdict":"match"`, `"verdict":"differ"`, 1)), text)
 	// (no other text on no registers says that it is well)
 	onNothing := strings.Replace(listReport, matchingRow, "", 1)
-	alone, err := of(differs, strings.Replace(onNothing, "match", "differ", 1)).listVerdict()
+	alone, err := of(differs, strings.Replace(onNothing, "match", "differ", 1)).listVerdict(false)
 	equal(t, []interface{}{alone.Matches, alone.Compared(), err}, []interface{}{false, 0, nil})
 	nowhere, located := `{"registers":[],"located":false}`+"\n", `{"registers":[],"located":true}`+"\n"
 	places, err := of(differs, nowhere).places()
@@ -649,7 +649,7 @@ func TestReportedErrorIsOfTheResult(t *testing.T) {
 			checkUnexpected(t, found, report)
 		}
 	}
-	equal(t, len(kinds), 8)
+	equal(t, len(kinds), 9)
 }
 
 func TestErrorsSayWhatIsWrong(t *testing.T) {
@@ -657,7 +657,7 @@ func TestErrorsSayWhatIsWrong(t *testing.T) {
 	equal(t, (&RefusedError{Line: "refused: log fault 2", Kind: KindLog, Number: 2}).Error(), "refused: log fault 2")
 	equal(t, (&RefusedError{Line: "refused: command line", Kind: KindArgument}).Error(),
 		"refused: command line (PCRs are named as in sha256:0-10, with PCR 10, or as in 0-10; "+
-			"a quote needs PCRs 0 to 10, and a nonce of at least 16 bytes)")
+			"known files need such a requirement; a quote needs PCRs 0 to 10, and a nonce of at least 16 bytes)")
 	equal(t, (&UnexpectedError{5, 10, []byte("text\n")}).Error(),
 		`libima_verify gave the result 5 and the size 10, with a text that begins "text\n"`)
 }

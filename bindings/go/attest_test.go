@@ -137,7 +137,7 @@ func attestationIn(result int32, text string, signatureChecked bool) (Attestatio
 	if result == done {
 		given.next = []byte(stateText)
 	}
-	found, _, err := given.attestation(checkpoint{}, 300, false, signatureChecked)
+	found, _, err := given.attestation(checkpoint{}, 300, false, false, signatureChecked)
 	return found, err
 }
 
@@ -299,7 +299,7 @@ func TestAttestationsWithOtherCheckpointsAreNone(t *testing.T) {
 	} {
 		given := of(c.result, c.text)
 		given.next = []byte(c.next)
-		_, reached, err := given.attestation(checkpoint{}, c.size, c.prefix, true)
+		_, reached, err := given.attestation(checkpoint{}, c.size, false, c.prefix, true)
 		equal(t, []bool{err == nil, string(reached.text) == c.next && c.isWanted}, []bool{c.isWanted, c.isWanted})
 	}
 }

@@ -29,6 +29,13 @@ func ExampleVerify() {
 	// Output: true 99 24
 }
 
+func ExampleKnown() {
+	sums := read(filepath.Join("..", "known", "SHA256SUMS")) // (what sha256sum printed)
+	verdict, err := imaverify.Verify(read("firmware.log"), read("ima.list"), read("expected.txt"), "sha256:0-10", imaverify.Known(sums))
+	fmt.Println(verdict.Matches, verdict.Unknown, err) // (these entries are violations)
+	// Output: false [93 94 97] <nil>
+}
+
 func ExampleAttest() {
 	quoted := filepath.Join("..", "quoted")
 	nonce, err := hex.DecodeString(string(bytes.TrimSpace(read(filepath.Join(quoted, "nonce")))))

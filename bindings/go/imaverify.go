@@ -7,9 +7,10 @@
 //
 // A verdict covers only the boot aggregate and the PCRs in the expected text. So each call says which PCRs it must cover:
 // Verify(log, list, expected, "sha256:0-10"). With such a requirement a verdict is a match only if no event of the log extends PCR
-// 10 and each entry of the list names it. Entries and Events go through the inputs themselves. A Session is for a list that grows,
-// and for one that grew after the expected PCRs were read. Attest compares a log and a list with a quote in place of expected PCRs,
-// and VerifyQuote verifies the quote's signature, by the key that ReadKey reads.
+// 10 and each entry of the list names it. With the option Known each entry but the boot aggregate must also be of a known file. Entries
+// and Events go through the inputs themselves. A Session is for a list that grows, and for one that grew after the expected PCRs were read.
+// Attest compares a log and a list with a quote in place of expected PCRs, and VerifyQuote verifies the quote's signature, by the key
+// that ReadKey reads.
 //
 // If an input, a requirement or a range is refused, the error is a *RefusedError. If memory runs out, it is ErrOutOfMemory. If the
 // library's answer is not as its header describes, it is an *UnexpectedError. With any error the result is the zero value, whose
@@ -74,9 +75,13 @@ type Stray struct {
 // Verdict is the verdict on a log, a list and expected PCRs.
 //
 // Matches says that the boot aggregate is good, that each expected PCR has its value, that there is one, that no required one is
-// missing, and that Extends is empty. It covers no PCR that has no row. JSON is the report as `ima-agent verify --json` prints it,
-// without the line feed. If PCRs are required, Extends has the first event that extends PCR 10, and the first entry that extends
-// another.
+// missing, and that Extends and Unknown are empty. It covers no PCR that has no row. JSON is the report as `ima-agent verify --json`
+// prints it, without the line feed. If PCRs are required, Extends has the first event that extends PCR 10, and the first entry that
+// extends another.
+//
+// JudgesKnown says that files had to be known, by the option Known. Then KnownFrom is the first entry that was looked up: 0, or in a
+// session with a state the number of entries that it covers. Unknown has the numbers of the entries from that one on that are of no known
+// file.
 //
 // Only a Session with Prefix gives a Confirmed other than 0: then the verdict is on that many first entries, of all Entries, with
 // which the PCRs match, and does not cover those after them. Unconfirmed is the first error in these, or nil if they have none.
@@ -91,6 +96,9 @@ type Verdict struct {
 	Confirmed     uint64
 	Unconfirmed   *Unconfirmed
 	Extends       []Stray
+	JudgesKnown   bool
+	KnownFrom     uint64
+	Unknown       []uint64
 }
 
 // Unconfirmed is an error in a list after its confirmed part, for which the list is not refused. Kind is KindList or KindReplay.
@@ -136,13 +144,13 @@ type Clock struct {
 
 // Attestation is the verdict on a log and a list by a quote.
 //
-// Matches says that QuoteMatches, that the boot aggregate is good, that Extends is empty, and that the caller has checked the
-// signature. It covers the PCRs in Quoted, and no others. QuoteMatches says that the quote is of the values to which log and list
+// Matches says that QuoteMatches, that the boot aggregate is good, that Extends and Unknown are empty, and that the caller has checked
+// the signature. It covers the PCRs in Quoted, and no others. QuoteMatches says that the quote is of the values to which log and list
 // replay. Quoted has the numbers of the PCRs that the quote selects, ascending, for each bank of which it selects any. Signer is the
 // qualified name of the key that signed, and Firmware the version of the TPM's firmware, as the quote states them. JSON is the
 // report, without the line feed. Extends has the first event that extends PCR 10, and the first entry that extends another.
 //
-// Confirmed and Unconfirmed are as in Verdict: only a Session with Prefix gives them.
+// Confirmed and Unconfirmed are as in Verdict: only a Session with Prefix gives them. So are JudgesKnown, KnownFrom and Unknown.
 type Attestation struct {
 	Quoted           map[Algorithm][]int
 	Signer           []byte
@@ -159,19 +167,24 @@ type Attestation struct {
 	Confirmed        uint64
 	Unconfirmed      *Unconfirmed
 	Extends          []Stray
+	JudgesKnown      bool
+	KnownFrom        uint64
+	Unknown          []uint64
 }
 
 // ListVerdict is the verdict on a list without a log, and expected PCRs.
 //
 // Matches says that the list has an entry, that each expected PCR has its value, that there is one, that no required one is
-// missing, and that Extends is empty. JSON is the report as `ima-agent replay --json` prints it, without the line feed. If PCRs are
-// required, Extends has the first entry that extends another PCR than 10.
+// missing, and that Extends and Unknown are empty. JSON is the report as `ima-agent replay --json` prints it, without the line feed. If
+// PCRs are required, Extends has the first entry that extends another PCR than 10. JudgesKnown and Unknown are as in Verdict.
 type ListVerdict struct {
-	Entries uint64
-	Rows    []Row
-	Matches bool
-	JSON    string
-	Extends []Stray
+	Entries     uint64
+	Rows        []Row
+	Matches     bool
+	JSON        string
+	Extends     []Stray
+	JudgesKnown bool
+	Unknown     []uint64
 }
 
 // Compared is how many expected PCRs were compared.
@@ -273,7 +286,8 @@ type Key struct {
 type Kind string
 
 const (
-	// The requirement, or the range of PCRs, is not of its form, or does not suit a quote; or a nonce is too short. It has no number.
+	// The requirement, or the range of PCRs, is not of its form, or does not suit a quote or known files; or a nonce is too short. It has
+	// no number.
 	KindArgument Kind = "argument"
 
 	KindLog      Kind = "log"
@@ -289,6 +303,9 @@ const (
 
 	// The public area of a key: it is none (1 to 10), or the key lacks what its purpose needs (11 to 22).
 	KindKey Kind = "key"
+
+	// A line of the known files has a digest by SHA-1 (1), or is no digest and name (2).
+	KindKnown Kind = "known"
 )
 
 // RefusedError is the error of an input that is refused. Kind, Number and Place are as the library reports them; Place is the
@@ -305,7 +322,7 @@ type RefusedError struct {
 func (r *RefusedError) Error() string {
 	if r.Kind == KindArgument {
 		return r.Line + " (PCRs are named as in sha256:0-10, with PCR 10, or as in 0-10; " +
-			"a quote needs PCRs 0 to 10, and a nonce of at least 16 bytes)"
+			"known files need such a requirement; a quote needs PCRs 0 to 10, and a nonce of at least 16 bytes)"
 	}
 	return r.Line
 }
@@ -400,30 +417,44 @@ func Version() uint32 {
 //
 // require names the PCRs that must be among the expected ones, such as "sha256:0-10" or "sha256:0-7,sha1:10". Each that is not has
 // a row whose state is StateMissing, and then the verdict is no match. NothingRequired requires none; a text without PCR 10, or an
-// empty one, is refused.
-func Verify(log, list, expected []byte, require string) (Verdict, error) {
-	return askFor(answer.verdict, func(out []byte) (int32, told) { return callVerdict(log, list, expected, []byte(require), out) })
+// empty one, is refused. The one option is Known.
+func Verify(log, list, expected []byte, require string, options ...Option) (Verdict, error) {
+	known, err := knownIn(options)
+	if err != nil {
+		return Verdict{}, err
+	}
+	read := func(a answer) (Verdict, error) { return a.verdict(known.areGiven) }
+	return askFor(read, func(out []byte) (int32, told) { return callVerdict(log, list, expected, []byte(require), known, out) })
 }
 
 // Attest gives the verdict on a firmware event log and a measurement list by a quote. No file of PCR values is needed. It verifies
 // no signature: VerifyQuote does.
 //
 // A message that is no quote, has another nonce, or does not select a required PCR is refused with KindQuote; a requirement that is
-// not of its form or leaves out one of the PCRs 0 to 10, and a nonce that is too short, with KindArgument.
-func Attest(log, list []byte, quote Quote) (Attestation, error) {
-	found, _, err := attestFrom(log, checkpoint{}, list, quote, false)
+// not of its form or leaves out one of the PCRs 0 to 10, and a nonce that is too short, with KindArgument. The one option is Known.
+func Attest(log, list []byte, quote Quote, options ...Option) (Attestation, error) {
+	known, err := knownIn(options)
+	if err != nil {
+		return Attestation{}, err
+	}
+	found, _, err := attestFrom(log, checkpoint{}, list, quote, known, false)
 	return found, err
 }
 
-// Locate says where each expected PCR first has its value. The arguments and the errors are those of Verify.
+// Locate says where each expected PCR first has its value. The arguments and the errors are those of Verify, without options.
 func Locate(log, list, expected []byte, require string) (Places, error) {
 	return askFor(answer.places, func(out []byte) (int32, told) { return callLocate(log, list, expected, []byte(require), out) })
 }
 
 // Replay gives the verdict on a measurement list without a log. The list is replayed from the PCRs' reset values, so a PCR that the
 // firmware extends too differs. The arguments are as in Verify. A list without entries is no match.
-func Replay(list, expected []byte, require string) (ListVerdict, error) {
-	return askFor(answer.listVerdict, func(out []byte) (int32, told) { return callReplay(list, expected, []byte(require), out) })
+func Replay(list, expected []byte, require string, options ...Option) (ListVerdict, error) {
+	known, err := knownIn(options)
+	if err != nil {
+		return ListVerdict{}, err
+	}
+	read := func(a answer) (ListVerdict, error) { return a.listVerdict(known.areGiven) }
+	return askFor(read, func(out []byte) (int32, told) { return callReplay(list, expected, []byte(require), known, out) })
 }
 
 // ExpectedFrom gives the lines of expected PCRs, as Verify takes them, that a text which tpm2_pcrread or tpm2_checkquote printed

@@ -185,7 +185,7 @@ func tenthOf(expected []byte) []byte {
 func TestRegisterOfTheListAloneMatches(t *testing.T) {
 	rows := []Row{{AlgorithmSHA256, 10, StateMatch, nil}}
 	equal(t, replay(t, bootList, tenth, "sha256:10"),
-		ListVerdict{99, rows, true, `{"entries":99,"registers":[{"bank":"sha256","register":10,"state":"match"}],"verdict":"match"}`, nil})
+		ListVerdict{99, rows, true, `{"entries":99,"registers":[{"bank":"sha256","register":10,"state":"match"}],"verdict":"match"}`, nil, false, nil})
 	verdict := replay(t, longer, tenth, "sha256:10")
 	equal(t, []interface{}{verdict.Matches, verdict.Entries, fmt.Sprintf("%x", verdict.Rows[0].Value)},
 		[]interface{}{false, uint64(100), afterLonger})

@@ -169,6 +169,26 @@ func (r *reader) stray(o object, events, entries uint64) Stray {
 	return s
 }
 
+// unknown are the entries of no known file, from the first that was looked up on, of so many. A report has them exactly if known files
+// are given.
+func (r *reader) unknown(o object, byKnown bool, first, entries uint64) []uint64 {
+	r.require(has(o, "known_from") == byKnown && has(o, "unknown") == byKnown)
+	if !byKnown {
+		return nil
+	}
+	r.require(r.number(o, "known_from", math.MaxUint64) == first)
+	var unknown []uint64
+	next := first
+	for _, entry := range member[[]*uint64](r, o, "unknown") {
+		if entry == nil || *entry < next || *entry >= entries {
+			r.wrong = true
+			return nil
+		}
+		unknown, next = append(unknown, *entry), *entry+1
+	}
+	return unknown
+}
+
 // quoted are the PCRs that a quote selects, some of each bank, and at least of one.
 func (r *reader) quoted(o object) map[Algorithm][]int {
 	banks, quoted := member[[]object](r, o, "quoted"), map[Algorithm][]int{}

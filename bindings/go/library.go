@@ -47,6 +47,7 @@ var kinds = map[uint32]Kind{
 	C.IMA_VERIFY_CHECKPOINT: KindCheckpoint,
 	C.IMA_VERIFY_QUOTE:      KindQuote,
 	C.IMA_VERIFY_KEY:        KindKey,
+	C.IMA_VERIFY_KNOWN:      KindKnown,
 }
 
 // told is what a call reports of its text: the size, and the error that the text is the line of.
@@ -84,10 +85,11 @@ func libraryVersion() uint32 {
 	return uint32(C.ima_verify_version())
 }
 
-func callVerdict(log, list, expected, require, out []byte) (int32, told) {
+func callVerdict(log, list, expected, require []byte, known knownFiles, out []byte) (int32, told) {
 	var t C.struct_ima_verify_told
 	return givenBy(C.ima_verify_raw_verdict(start(log), size(log), start(list), size(list), start(expected), size(expected),
-		start(require), size(require), true, start(out), size(out), &t), &t)
+		start(require), size(require), start(known.text), size(known.text), C.bool(known.areGiven), true,
+		start(out), size(out), &t), &t)
 }
 
 func callLocate(log, list, expected, require, out []byte) (int32, told) {
@@ -96,29 +98,32 @@ func callLocate(log, list, expected, require, out []byte) (int32, told) {
 		start(require), size(require), true, start(out), size(out), &t), &t)
 }
 
-func callReplay(list, expected, require, out []byte) (int32, told) {
+func callReplay(list, expected, require []byte, known knownFiles, out []byte) (int32, told) {
 	var t C.struct_ima_verify_told
 	return givenBy(C.ima_verify_raw_replay(start(list), size(list), start(expected), size(expected),
-		start(require), size(require), true, start(out), size(out), &t), &t)
+		start(require), size(require), start(known.text), size(known.text), C.bool(known.areGiven), true,
+		start(out), size(out), &t), &t)
 }
 
 // callMore also gives the size of the next checkpoint.
-func callMore(log, state, data, expected, require []byte, prefix bool, next, out []byte) (int32, uint64, told) {
+func callMore(log, state, data, expected, require []byte, known knownFiles, prefix bool, next, out []byte) (int32, uint64, told) {
 	var t C.struct_ima_verify_told
 	var nextSize C.size_t
 	result, given := givenBy(C.ima_verify_raw_more(start(log), size(log), start(state), size(state), start(data), size(data),
-		start(expected), size(expected), start(require), size(require), C.bool(prefix), true,
+		start(expected), size(expected), start(require), size(require),
+		start(known.text), size(known.text), C.bool(known.areGiven), C.bool(prefix), true,
 		start(next), size(next), &nextSize, start(out), size(out), &t), &t)
 	return result, uint64(nextSize), given
 }
 
 // callAttest also gives the size of the next checkpoint.
-func callAttest(log, state, data []byte, quote Quote, prefix bool, next, out []byte) (int32, uint64, told) {
+func callAttest(log, state, data []byte, quote Quote, known knownFiles, prefix bool, next, out []byte) (int32, uint64, told) {
 	var t C.struct_ima_verify_told
 	var nextSize C.size_t
 	require := []byte(quote.Require)
 	result, given := givenBy(C.ima_verify_raw_attest(start(log), size(log), start(state), size(state), start(data), size(data),
 		start(quote.Message), size(quote.Message), start(quote.Nonce), size(quote.Nonce), start(require), size(require),
+		start(known.text), size(known.text), C.bool(known.areGiven),
 		C.bool(quote.TakesSHA1), C.bool(quote.SignatureChecked), C.bool(prefix), true,
 		start(next), size(next), &nextSize, start(out), size(out), &t), &t)
 	return result, uint64(nextSize), given

@@ -2,6 +2,7 @@ package imaverify
 
 import (
 	"bytes"
+	"errors"
 	"regexp"
 	"strconv"
 )
@@ -11,12 +12,55 @@ import (
 type Session struct {
 	log, expected []byte
 	require       string
+	known         knownFiles
 	prefix        bool
 	reached       checkpoint
 }
 
-// Option is one of a session: Prefix or Resume.
+// knownFiles are the texts of Known, one after another, if they are given.
+type knownFiles struct {
+	areGiven bool
+	text     []byte
+}
+
+// Option is Known, which Verify, Replay, Attest and sessions take, or Prefix or Resume, which only sessions take.
 type Option func(s *Session) error
+
+// Known has each entry be of a known file, but for the boot aggregate, with which a list begins. A file is known if these texts have its
+// digest, a line for each file, as sha256sum, sha384sum and sha512sum print them. The verdict has the other entries in Unknown, and is then
+// no match. Without a text no file is known. A session copies the texts.
+//
+// A text with another line, or with a digest by SHA-1, is refused with KindKnown; lines count on from one text to the next. PCRs have to be
+// required: with NothingRequired the error has KindArgument.
+//
+// A session does not look up again the entries that its state covers: if other files are known than were then, begin a new session with
+// the whole list.
+func Known(texts ...[]byte) Option {
+	return func(s *Session) error {
+		s.known.areGiven = true
+		for _, text := range texts {
+			s.known.text = append(s.known.text, text...)
+			if len(text) > 0 && text[len(text)-1] != '\n' {
+				s.known.text = append(s.known.text, '\n')
+			}
+		}
+		return nil
+	}
+}
+
+// knownIn are the known files of options that have nothing else.
+func knownIn(options []Option) (knownFiles, error) {
+	var s Session
+	for _, option := range options {
+		if err := option(&s); err != nil {
+			return knownFiles{}, err
+		}
+	}
+	if s.prefix || s.reached.text != nil {
+		return knownFiles{}, errors.New("only a session takes Prefix and Resume")
+	}
+	return s.known, nil
+}
 
 // Prefix has the verdict be on the confirmed part of the list, if there is one: the list's first entries, as few as make all
 // PCRs match. What comes after them may be new since the PCRs were read, or damaged. The verdict's Confirmed says how many
@@ -63,7 +107,7 @@ func NewSession(log, expected []byte, require string, options ...Option) (*Sessi
 // session is as it was before: give these bytes again.
 func (s *Session) More(data []byte) (Verdict, error) {
 	return s.more(len(data), func(next, out []byte) (int32, uint64, told) {
-		return callMore(s.log, s.reached.text, data, s.expected, []byte(s.require), s.prefix, next, out)
+		return callMore(s.log, s.reached.text, data, s.expected, []byte(s.require), s.known, s.prefix, next, out)
 	})
 }
 
@@ -79,7 +123,7 @@ func NewQuoteSession(log []byte, options ...Option) (*Session, error) {
 // state is that of a session that used Attest last. Another is refused with KindCheckpoint and the number 4. (A suspend counts as a
 // restart: then begin a new session with the whole list.) Other errors are those of the function Attest.
 func (s *Session) Attest(data []byte, quote Quote) (Attestation, error) {
-	found, reached, err := attestFrom(s.log, s.reached, data, quote, s.prefix)
+	found, reached, err := attestFrom(s.log, s.reached, data, quote, s.known, s.prefix)
 	if err == nil {
 		s.reached = reached
 	}
@@ -87,14 +131,14 @@ func (s *Session) Attest(data []byte, quote Quote) (Attestation, error) {
 }
 
 // attestFrom gives the verdict by a quote on the list of a checkpoint followed by these bytes, and the next checkpoint.
-func attestFrom(log []byte, from checkpoint, data []byte, quote Quote, prefix bool) (Attestation, checkpoint, error) {
+func attestFrom(log []byte, from checkpoint, data []byte, quote Quote, known knownFiles, prefix bool) (Attestation, checkpoint, error) {
 	given, err := askForBoth(make([]byte, room), make([]byte, room), func(next, out []byte) (int32, uint64, told) {
-		return callAttest(log, from.text, data, quote, prefix, next, out)
+		return callAttest(log, from.text, data, quote, known, prefix, next, out)
 	})
 	if err != nil {
 		return Attestation{}, from, err
 	}
-	return given.attestation(from, uint64(len(data)), prefix, quote.SignatureChecked)
+	return given.attestation(from, uint64(len(data)), known.areGiven, prefix, quote.SignatureChecked)
 }
 
 // more is More for a call with so many bytes.
@@ -103,7 +147,7 @@ func (s *Session) more(size int, call func(next, out []byte) (int32, uint64, tol
 	if err != nil {
 		return Verdict{}, err
 	}
-	verdict, reached, err := given.more(s.reached, uint64(size), s.prefix)
+	verdict, reached, err := given.more(s.reached, uint64(size), s.known.areGiven, s.prefix)
 	if err == nil {
 		s.reached = reached
 	}

@@ -498,7 +498,7 @@ func TestSecondCallHasRoomForBothTexts(t *testing.T) {
 		calls := 0
 		given, err := askForBoth(make([]byte, rooms[0]), make([]byte, rooms[1]), func(next, out []byte) (int32, uint64, told) {
 			calls++
-			return callMore(bootLog, nil, bootList, bootTPM, []byte(NothingRequired), false, next, out)
+			return callMore(bootLog, nil, bootList, bootTPM, []byte(NothingRequired), knownFiles{}, false, next, out)
 		})
 		equal(t, []interface{}{err, given.next, string(given.text)}, []interface{}{nil, state, line})
 		equal(t, calls, map[bool]int{true: 2, false: 1}[rooms[0] < len(state) || rooms[1] < len(line)])

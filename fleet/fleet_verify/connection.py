@@ -5,6 +5,7 @@ import logging
 import os
 import subprocess
 import sys
+import uuid
 from contextlib import asynccontextmanager, contextmanager, suppress
 from pathlib import Path
 from tempfile import TemporaryDirectory
@@ -57,11 +58,32 @@ def end(process: "subprocess.Popen[str]") -> None:
 
 
 class Connection:
-    """A client, and the workers that it has, as the scheduler told last."""
+    """A client, and the workers that it has, as the scheduler told last; and by which name these keep the text of known files, if they do."""
 
     def __init__(self, client: Any, own: "Optional[subprocess.Popen[str]]"):
         self.client, self.own = client, own
         self.threads: "dict[str, int]" = {}
+        self.known: Optional[str] = None
+
+    @asynccontextmanager
+    async def keeping(self, text: Optional[bytes]) -> "AsyncIterator[None]":
+        """Has each worker keep the text of known files meanwhile, if there is one: it is given to them once, and to a later one when it comes,
+        before its first batch."""
+        if text is None:
+            yield
+            return
+        from distributed import WorkerPlugin
+
+        plugin, name = WorkerPlugin(), f"known-{uuid.uuid4().hex}"
+        plugin.text = text
+        try:
+            await self.client.register_worker_plugin(plugin, name=name)
+            self.known = name
+            yield
+        finally:
+            self.known = None
+            with suppress(Exception):  # (a scheduler that is gone keeps nothing)
+                await self.client.unregister_worker_plugin(name)
 
     async def look(self) -> None:
         """Asks which workers are there, and how many threads each has."""

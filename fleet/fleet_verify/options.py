@@ -20,6 +20,8 @@ below it.
 
 REGISTERS is what each machine's expected registers must name, register 10 among them, as sha256:0-10; or `none`.
 
+With --known each entry of a list must be of a file whose digest a FILE has, as sha256sum prints it. FILE is read here, once.
+
 With --poll each run verifies all machines, each from its checkpoint in TABLE on, if it has one.
 
 The same command goes on after a stop, with the machines that TABLE lacks. Progress goes to standard error; at the end the number
@@ -65,6 +67,10 @@ def add_options(parser: argparse.ArgumentParser) -> None:
         help=f"what the expected registers of each machine must name, register 10 among them, as sha256:0-10 or sha256:0-7,sha1:10; or {NONE}",
     )
     parser.add_argument(
+        "--known", metavar="FILE", action="append",
+        help="what sha256sum printed of known files: an entry of no such file makes its machine differ; may be given several times",
+    )
+    parser.add_argument(
         "--again", metavar="KINDS", action=Once, type=verdict_kinds,
         help=f"verify anew the machines with these verdicts, as refused,unreadable,failed; {NONE}: all verdicts stand",
     )
@@ -107,6 +113,8 @@ def options_of(words: Sequence[str]) -> argparse.Namespace:
             "--require is missing: write which registers each machine's expected registers must name, as --require sha256:0-10, "
             f"or --require {NONE} if they may name any"
         )
+    if options.known and options.require == NONE:
+        parser.error(f"--known needs required registers, and not --require {NONE}: no entry is confirmed without register 10")
     if options.whole and not options.poll:
         parser.error("--whole is of --poll: any other run reads the whole lists")
     if options.poll:

@@ -147,8 +147,8 @@ class Run:
             (machine.places, None if checkpoint is None else checkpoint.decode("latin-1")) for machine, checkpoint in batch.tasks
         ]
         request = {
-            "machines": machines, "require": self.options.require, "is_poll": self.options.poll, "seconds": BATCH_SECONDS,
-            "deadline": self.options.deadline,
+            "machines": machines, "require": self.options.require, "known": self.connection.known, "is_poll": self.options.poll,
+            "seconds": BATCH_SECONDS, "deadline": self.options.deadline,
         }
         batch.future = self.connection.client.submit(
             verify_batch, json.dumps(request), key=f"{self.name}-{next(self.numbers)}", retries=TRIES - 1, pure=False,
@@ -161,7 +161,8 @@ class Run:
         from distributed import KilledWorker
 
         try:
-            batch.answered = read_answers(await batch.future, [machine for machine, _ in batch.tasks])
+            by_known = self.connection.known is not None
+            batch.answered = read_answers(await batch.future, [machine for machine, _ in batch.tasks], by_known)
         except Exception as fault:
             batch.is_killed = batch.future.status == "error" and isinstance(fault, KilledWorker)
             batch.fault = cause_of(fault)

@@ -12,7 +12,7 @@ VERDICTS = ("match", "differ", "refused", "unreadable", "failed")
 
 # Marks a file as a table of verdicts, and says which form its tables have.
 _APPLICATION = 0x494D4156
-_FORM = 6
+_FORM = 7
 _SECONDS = 60
 
 _TABLES = f"""
@@ -22,7 +22,9 @@ CREATE TABLE verdicts (
     verdict TEXT NOT NULL CHECK (verdict IN {VERDICTS}),
     cause TEXT, -- the line of a refusal, or why there is no verdict
     required TEXT NOT NULL, -- as `--require` named it
+    known_sha256 TEXT, -- of the texts of `--known`, one after another; NULL without
     events INTEGER, locality INTEGER, entries INTEGER, boot_aggregate TEXT,
+    unknown INTEGER, first_unknown INTEGER, -- how many entries are of no known file, and the number of the first
     log TEXT NOT NULL, list TEXT NOT NULL, expected TEXT NOT NULL, -- the paths
     log_sha256 TEXT, list_sha256 TEXT, expected_sha256 TEXT, -- of the bytes that were read
     list_from INTEGER, -- from which byte on the list was read: that of the checkpoint, or 0
@@ -35,7 +37,11 @@ CREATE VIEW registers (machine, algorithm, register, state, value) AS
         json_extract(row.value, '$.value') FROM verdicts, json_each(report, '$.registers') AS row;
 CREATE TABLE polls (number INTEGER PRIMARY KEY, time TEXT NOT NULL); -- when each poll began, by the client's clock
 CREATE TABLE ends (time TEXT NOT NULL, poll INTEGER REFERENCES polls); -- when a run, or which poll, had given its counts
-CREATE TABLE checkpoints (machine TEXT NOT NULL PRIMARY KEY REFERENCES verdicts, checkpoint BLOB NOT NULL);
+CREATE TABLE checkpoints (
+    machine TEXT NOT NULL PRIMARY KEY REFERENCES verdicts,
+    checkpoint BLOB NOT NULL,
+    known_sha256 TEXT -- by which known files its entries were judged, as in `verdicts`
+);
 CREATE TABLE changes (
     number INTEGER PRIMARY KEY,
     machine TEXT NOT NULL,
@@ -49,11 +55,11 @@ COMMIT;
 """
 
 _FIELDS = (
-    "verdict", "cause", "events", "locality", "entries", "boot_aggregate", "log_sha256", "list_sha256", "expected_sha256",
-    "list_from", "interface_version", "worker", "time", "report",
+    "verdict", "cause", "events", "locality", "entries", "boot_aggregate", "unknown", "first_unknown", "log_sha256", "list_sha256",
+    "expected_sha256", "list_from", "interface_version", "worker", "time", "report",
 )
-_ROW = f"({', '.join('?' * (6 + len(_FIELDS)))})"
-_INSERT = f"INSERT INTO verdicts (machine, required, log, list, expected, poll, {', '.join(_FIELDS)}) VALUES {_ROW}"
+_ROW = f"({', '.join('?' * (7 + len(_FIELDS)))})"
+_INSERT = f"INSERT INTO verdicts (machine, required, known_sha256, log, list, expected, poll, {', '.join(_FIELDS)}) VALUES {_ROW}"
 # So many rows are added by one statement, which takes half the time of as many statements. (Each SQLite takes 999 values in one.)
 _ROWS = 40
 _INSERT_ROWS = _INSERT + f", {_ROW}" * (_ROWS - 1)
@@ -64,11 +70,11 @@ class BadVerdicts(Exception):
 
 
 class Verdicts:
-    """An open table of verdicts, all with the registers `required`. Only the process that has it open writes it, a transaction
-    at a time. `poll` is the number of the poll that it is open for, once that has begun."""
+    """An open table of verdicts, all with the registers `required`, and by the known files with this digest, if there are some. Only the
+    process that has it open writes it, a transaction at a time. `poll` is the number of the poll that it is open for, once that has begun."""
 
-    def __init__(self, path: str, required: str):
-        self.required = required
+    def __init__(self, path: str, required: str, known_sha256: Optional[str] = None):
+        self.required, self.known_sha256 = required, known_sha256
         self.poll: Optional[int] = None
         self.connection = sqlite3.connect(path, timeout=_SECONDS, check_same_thread=False)
         application, form, tables = (
@@ -91,15 +97,17 @@ class Verdicts:
 
     def recorded(self, machines: Sequence[Machine], is_poll: bool) -> Dict[str, str]:
         """The verdict of each machine that has one, by name. All rows must be of these machines, with the same paths, and given
-        with the same requirement, all by polls or none."""
+        with the same requirement, all by polls or none. Without polls verdicts stand, so all must be by the same known files, too."""
         paths = {machine.name: machine.paths for machine in machines}
         verdicts = {}
-        rows = self.connection.execute("SELECT machine, verdict, required, poll, log, list, expected FROM verdicts")
-        for name, verdict, required, poll, *recorded in rows:
+        rows = self.connection.execute("SELECT machine, verdict, required, known_sha256, poll, log, list, expected FROM verdicts")
+        for name, verdict, required, known, poll, *recorded in rows:
             if (poll is not None) != is_poll:
                 raise BadVerdicts(f"its verdicts were given {'without' if is_poll else 'with'} --poll: take another TABLE")
             if required != self.required:
                 raise BadVerdicts(f"its verdict of {name!r} was given with --require {required}: take another TABLE")
+            if not is_poll and known != self.known_sha256:
+                raise BadVerdicts(f"its verdict of {name!r} was given with other files of --known, or without: take another TABLE")
             if name not in paths:
                 raise BadVerdicts(f"it has a verdict of {name!r}, which the table of machines lacks")
             if paths[name] != tuple(recorded):
@@ -122,9 +130,9 @@ class Verdicts:
             self.poll = self.connection.execute("INSERT INTO polls (time) VALUES (?)", (time,)).lastrowid
 
     def checkpoint(self, machine: Machine) -> Optional[bytes]:
-        """The machine's checkpoint, whatever bytes that is, or None."""
-        query = "SELECT CAST(checkpoint AS BLOB) FROM checkpoints WHERE machine = ?"
-        found = self.connection.execute(query, (machine.name,)).fetchone()
+        """The machine's checkpoint, whatever bytes that is, or None; also if its entries were judged by other known files."""
+        query = "SELECT CAST(checkpoint AS BLOB) FROM checkpoints WHERE machine = ? AND known_sha256 IS ?"
+        found = self.connection.execute(query, (machine.name, self.known_sha256)).fetchone()
         return None if found is None else found[0]
 
     def record(self, answers: Sequence[Tuple[Machine, Fields]], again: Collection[str]) -> None:
@@ -140,9 +148,10 @@ class Verdicts:
                 self.connection.executemany(f"DELETE FROM {table} WHERE machine = ?", old)
             self._record_verdicts(answers)
             reached = [
-                (machine.name, answer["checkpoint"].encode()) for machine, answer in answers if answer.get("checkpoint") is not None
+                (machine.name, answer["checkpoint"].encode(), self.known_sha256)
+                for machine, answer in answers if answer.get("checkpoint") is not None
             ]
-            self.connection.executemany("INSERT INTO checkpoints VALUES (?, ?)", reached)
+            self.connection.executemany("INSERT INTO checkpoints VALUES (?, ?, ?)", reached)
 
     def _record_changes(self, answers: Sequence[Tuple[Machine, Fields]]) -> None:
         """Records which machines had another verdict, or none."""
@@ -158,7 +167,8 @@ class Verdicts:
     def _record_verdicts(self, answers: Sequence[Tuple[Machine, Fields]]) -> None:
         """Adds a row for each machine."""
         rows: List[Tuple[Any, ...]] = [
-            (machine.name, self.required, *machine.paths, self.poll, *map(answer.get, _FIELDS)) for machine, answer in answers
+            (machine.name, self.required, self.known_sha256, *machine.paths, self.poll, *map(answer.get, _FIELDS))
+            for machine, answer in answers
         ]
         rest = len(rows) % _ROWS
         for start in range(rest, len(rows), _ROWS):
@@ -187,5 +197,5 @@ class Verdicts:
 
     def counts(self) -> Dict[str, int]:
         """How many machines have each verdict, of this poll if it is one."""
-        query = "SELECT verdict, count(*) FROM verdicts WHERE required = ? AND poll IS ? GROUP BY verdict"
-        return dict.fromkeys(VERDICTS, 0) | dict(self.connection.execute(query, (self.required, self.poll)))
+        query = "SELECT verdict, count(*) FROM verdicts WHERE required = ? AND known_sha256 IS ? AND poll IS ? GROUP BY verdict"
+        return dict.fromkeys(VERDICTS, 0) | dict(self.connection.execute(query, (self.required, self.known_sha256, self.poll)))

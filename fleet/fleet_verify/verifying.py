@@ -7,16 +7,17 @@ import sqlite3
 import sys
 import time
 from contextlib import closing, contextmanager
-from typing import Dict, Iterator, Sequence
+from typing import Dict, Iterator, Optional, Sequence
 
 from .connection import Connection, connect
 from .ending import SIGNALLED, SIGNALS, CannotGoOn, NotStarted, complain, stop_simply
+from .known import BadKnown, Known, read_known
 from .ledger import Ledger
 from .machines import BadTable, Machine, read_machines
 from .progress import Progress
 from .run import Run
 from .verdicts import VERDICTS, BadVerdicts, Verdicts
-from .work import cause_of, now, require_fitness
+from .work import cause_of, now, require_fit_worker, require_fitness
 
 LOOK_SECONDS = 0.05
 START_SECONDS = 1.0
@@ -57,15 +58,23 @@ async def wait_for_workers(connection: Connection, options: argparse.Namespace) 
         await connection.look()
 
 
-async def require_fit_workers(connection: Connection, options: argparse.Namespace) -> None:
-    """Waits for a worker, and makes sure that those that are there can verify, and take what is required."""
+def unfit(fault: ValueError, known: Optional[Known]) -> NotStarted:
+    """Why nothing is started, by what `require_fitness` says of what is required or of a line of known files."""
+    if known is None or len(fault.args) != 2:
+        return NotStarted(fault)
+    number, line = fault.args
+    return NotStarted(f"{known.place(line)}: known fault {number}")
+
+
+async def require_fit_workers(connection: Connection, options: argparse.Namespace, known: Optional[Known]) -> None:
+    """Waits for a worker, and makes sure that those that are there can verify, and take what is required and the known files."""
     while True:
         await wait_for_workers(connection, options)
-        faults = await connection.client.run(require_fitness, options.require, options.poll, on_error="return")
+        faults = await connection.client.run(require_fit_worker, options.require, options.poll, connection.known, on_error="return")
         await connection.look()
         for worker, fault in faults.items():
             if isinstance(fault, ValueError):
-                raise NotStarted(fault)
+                raise unfit(fault, known)
             if fault is not None and (worker in connection.threads or not isinstance(fault, OSError)):  # of the worker, or of Dask
                 raise CannotGoOn(f"worker {worker} cannot verify: {cause_of(fault)}")
         if any(fault is None for fault in faults.values()):
@@ -73,7 +82,7 @@ async def require_fit_workers(connection: Connection, options: argparse.Namespac
 
 
 async def run(
-    options: argparse.Namespace, table: Verdicts, machines: Sequence[Machine], recorded: Dict[str, str]
+    options: argparse.Namespace, known: Optional[Known], table: Verdicts, machines: Sequence[Machine], recorded: Dict[str, str]
 ) -> None:
     """Verifies the machines that the table lacks, and those that are to be verified anew."""
     before = {name: verdict for name, verdict in recorded.items() if verdict in (options.again or ())}
@@ -82,8 +91,9 @@ async def run(
         return
     stop_at_signals()
     try:
-        async with connect(options.scheduler, options.workers) as connection:
-            await require_fit_workers(connection, options)
+        text = None if known is None else known.text
+        async with connect(options.scheduler, options.workers) as connection, connection.keeping(text):
+            await require_fit_workers(connection, options, known)
             if options.poll:
                 table.begin_poll(now())
             progress = Progress(len(machines), recorded.values(), VERDICTS, sys.stderr, options.progress)
@@ -96,14 +106,20 @@ async def run(
         raise CannotGoOn(SIGNALLED) from None
 
 
-def judge(options: argparse.Namespace) -> None:
-    """Refuses a wrong `--require`. Where this computer lacks the library, the workers do, by theirs."""
+def judge(options: argparse.Namespace) -> Optional[Known]:
+    """The known files, if any are named. Refuses a wrong one, and a wrong `--require`. Where this computer lacks the library, the workers do, by
+    theirs."""
     try:
-        require_fitness(options.require, options.poll)
+        known = read_known(options.known) if options.known else None
+    except BadKnown as fault:
+        raise NotStarted(fault) from None
+    try:
+        require_fitness(options.require, options.poll, None if known is None else known.text)
     except ImportError:
         pass
     except ValueError as fault:
-        raise NotStarted(fault) from None
+        raise unfit(fault, known) from None
+    return known
 
 
 @contextmanager
@@ -127,11 +143,11 @@ def recorded_in(table: Verdicts, machines: Sequence[Machine], options: argparse.
 
 def verify_fleet(options: argparse.Namespace) -> int:
     """Verifies what is to be verified, prints how many machines have each verdict, and gives the exit status."""
-    judge(options)
+    known = judge(options)
     with refusing(options.machines):
         machines = read_machines(options.machines)
     with refusing(options.table):
-        table = Verdicts(options.table, options.require)
+        table = Verdicts(options.table, options.require, None if known is None else known.sha256)
     with closing(table):
         with refusing(options.table):
             recorded = recorded_in(table, machines, options)
@@ -139,7 +155,7 @@ def verify_fleet(options: argparse.Namespace) -> int:
         if standing:
             complain(f"verdicts that stand from earlier runs: {standing}, the oldest since {since}; --again gives new ones", 0)
         try:
-            asyncio.run(run(options, table, machines, recorded))
+            asyncio.run(run(options, known, table, machines, recorded))
         finally:
             stop_simply()
         counts = table.counts()

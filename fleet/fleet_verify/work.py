@@ -84,25 +84,47 @@ def required(require: str) -> Any:
     return NOTHING if require == NONE else require
 
 
-def require_fitness(require: str, is_poll: bool) -> None:
+def known_texts(text: Optional[bytes]) -> Fields:
+    """What the library is given of known files, if there are some: one text of them all."""
+    return {} if text is None else {"known": [text]}
+
+
+def kept_text(name: Optional[str]) -> Optional[bytes]:
+    """The text of known files that this worker keeps by that name, as an extension of Dask, if there is one."""
+    if name is None:
+        return None
+    from distributed import get_worker
+
+    text: bytes = get_worker().plugins[name].text
+    return text
+
+
+def require_fitness(require: str, is_poll: bool, known: Optional[bytes] = None) -> None:
     """Makes sure that this process has the library, whose verdicts tell what log and list extend, with sessions for a poll, and that it takes
-    this text for what is required.
+    this text for what is required, and this one of known files.
 
     Otherwise there is an ImportError, or a ValueError, and no error of a class of `ima_verify`: the client may lack the package. The library
-    reads that text before the inputs."""
+    reads these texts before the log. A ValueError of known files has the number of the fault and the line."""
     import ima_verify
-    from ima_verify import Stray  # noqa: F401
+    from ima_verify import Kind
 
-    if is_poll:
-        from ima_verify import Session  # noqa: F401
+    if not hasattr(Kind, "KNOWN"):
+        raise ImportError("the package ima_verify is of an earlier version")
     try:
-        ima_verify.report(b"", b"", b"", require=required(require))
+        ima_verify.report(b"", b"", b"", require=required(require), **known_texts(known))
     except ima_verify.Misuse:
         raise ValueError(f"--require {require!r} is neither BANK:A-B[,BANK:C-D..] with register 10, as sha256:0-10, nor {NONE}") from None
-    except ima_verify.Refused:  # (no log is empty)
-        pass
+    except ima_verify.Refused as fault:
+        if fault.kind is Kind.KNOWN:
+            raise ValueError(fault.number, fault.place) from None
+        # (no log is empty)
     except ima_verify.Error as fault:
         raise ImportError(str(fault)) from None
+
+
+def require_fit_worker(require: str, is_poll: bool, name: Optional[str]) -> None:
+    """What `require_fitness` makes sure of in a worker that keeps known files by this name."""
+    require_fitness(require, is_poll, kept_text(name))
 
 
 def list_start(checkpoint: Optional[bytes]) -> int:
@@ -204,7 +226,7 @@ def read_inputs(paths: Sequence[str], limit: float, start: int) -> Tuple[Fields,
 
 
 def verdict_on(
-    paths: Sequence[str], require: str, limit: float, is_poll: bool = False, checkpoint: Optional[bytes] = None
+    paths: Sequence[str], require: str, known: Optional[bytes], limit: float, is_poll: bool = False, checkpoint: Optional[bytes] = None
 ) -> Fields:
     """The fields of the row of a machine with these paths, in a poll, if it matches, with the next checkpoint. Of the list only what follows
     the checkpoint is read, if there is one."""
@@ -216,10 +238,10 @@ def verdict_on(
         return fields
     log, measurements, expected = inputs
     assert log is not None and expected is not None
-    next_checkpoint = {}
+    next_checkpoint, asked = {}, {"require": required(require), **known_texts(known)}
     try:
         if is_poll:
-            session = ima_verify.Session(log, expected, require=required(require), state=checkpoint)
+            session = ima_verify.Session(log, expected, state=checkpoint, **asked)
             verdict: Any = session.more(measurements or b"")
             if verdict.matches:
                 assert session.state is not None
@@ -227,7 +249,7 @@ def verdict_on(
         else:
             assert measurements is not None
             # (its rows stay in the report: to read them takes longer than to hash the inputs)
-            verdict = ima_verify.report(log, measurements, expected, require=required(require))
+            verdict = ima_verify.report(log, measurements, expected, **asked)
     except ima_verify.Refused as fault:
         # (an empty checkpoint is a damaged one: the machine is refused until --whole)
         kept = {"checkpoint": ""} if fault.message == DAMAGED else {}
@@ -239,47 +261,51 @@ def verdict_on(
     return {**fields, **verdict_fields(verdict), **next_checkpoint}
 
 
-def polled_verdict(paths: Sequence[str], require: str, limit: float, checkpoint: Optional[bytes]) -> Fields:
+def polled_verdict(
+    paths: Sequence[str], require: str, known: Optional[bytes], limit: float, checkpoint: Optional[bytes]
+) -> Fields:
     """The fields of the row of a machine in a poll, from the checkpoint on only if that gives a match.
 
     Else the verdict is that on the whole list, which may be of another boot. No damaged checkpoint is passed over."""
     if checkpoint is not None:
-        fields = verdict_on(paths, require, limit, True, checkpoint)
+        fields = verdict_on(paths, require, known, limit, True, checkpoint)
         if fields["verdict"] == "match" or fields.get("cause") == DAMAGED:
             return fields
-    return verdict_on(paths, require, limit, True)
+    return verdict_on(paths, require, known, limit, True)
 
 
-def answer_on(paths: Sequence[str], checkpoint: Optional[str], require: str, is_poll: bool, seconds: float) -> Fields:
+def answer_on(
+    paths: Sequence[str], checkpoint: Optional[str], require: str, is_poll: bool, seconds: float, known: Optional[bytes] = None
+) -> Fields:
     """The fields of the row of a machine, whose files are read in so many seconds; or UNFIT or TROUBLED in place of a verdict, and why."""
     limit = time.monotonic() + seconds
     try:
         if is_poll:
-            return polled_verdict(paths, require, limit, None if checkpoint is None else checkpoint.encode("latin-1"))
-        return verdict_on(paths, require, limit)
+            return polled_verdict(paths, require, known, limit, None if checkpoint is None else checkpoint.encode("latin-1"))
+        return verdict_on(paths, require, known, limit)
     except ImportError as fault:  # of the package, the library, or the driver of an object store: no verdict on the machine
         return {"verdict": UNFIT, "cause": cause_of(fault)}
     except Exception as fault:
         return {"verdict": TROUBLED, "cause": cause_of(fault)}
 
 
-def answer_machines(asked: Fields, came: "SimpleQueue[Optional[Fields]]") -> None:
+def answer_machines(asked: Fields, known: Optional[bytes], came: "SimpleQueue[Optional[Fields]]") -> None:
     """Puts the answers on the first machines of a batch into this queue, each when it is there: on one at least, and on no other after the
     batch's time. Then comes None."""
     start = time.monotonic()
     for places, checkpoint in asked["machines"]:
-        answer = answer_on(paths_of(places), checkpoint, asked["require"], asked["is_poll"], asked["deadline"])
+        answer = answer_on(paths_of(places), checkpoint, asked["require"], asked["is_poll"], asked["deadline"], known)
         came.put({**answer, "places": places, "time": now()})
         if answer["verdict"] == UNFIT or time.monotonic() - start > asked["seconds"]:
             break
     came.put(None)
 
 
-def answers_in_time(asked: Fields) -> Iterator[Fields]:
+def answers_in_time(asked: Fields, known: Optional[bytes]) -> Iterator[Fields]:
     """The answers on the first machines of a batch, by a thread of their own. A machine on which none comes in time is the last: no thread can
     be stopped, so this one is left, and what it answers later is dropped."""
     came: "SimpleQueue[Optional[Fields]]" = SimpleQueue()
-    threading.Thread(target=answer_machines, args=(asked, came), daemon=True).start()
+    threading.Thread(target=answer_machines, args=(asked, known, came), daemon=True).start()
     for places, _ in asked["machines"]:
         try:
             answer = came.get(timeout=asked["deadline"] + GRACE_SECONDS)
@@ -299,8 +325,8 @@ def verify_batch(request: str) -> str:
 
     answers: List[Fields] = []
     reports: List[str] = []
-    start = time.monotonic()
-    for answer in answers_in_time(json.loads(request)):
+    start, asked = time.monotonic(), json.loads(request)
+    for answer in answers_in_time(asked, kept_text(asked["known"])):
         if answer["verdict"] in REPORTED:
             reports.append(answer.pop("report"))
         answers.append(answer)

@@ -42,6 +42,7 @@ class Evidence:
     expected: Path = None
     save: Path = None
     resume: Path = None
+    known: tuple = ()
     prefix: bool = False
     sha1: bool = False
     json: bool = False
@@ -49,7 +50,8 @@ class Evidence:
     def options(self):
         """The options, each with its value."""
         names = ("key", "nonce", "quote", "signature", "require", "save", "resume")
-        return [[f"--{name}", str(getattr(self, name))] for name in names if getattr(self, name) is not None]
+        return [[f"--{name}", str(getattr(self, name))] for name in names if getattr(self, name) is not None] + [
+            ["--known", str(name)] for name in self.known]
 
     def words(self):
         flags = [f"--{name}" for name in ("prefix", "sha1", "json") if getattr(self, name)]

@@ -1,11 +1,12 @@
-/* Holds the library to what ima_verify.h promises of wrong calls, room, faults, requirements, quotes, sessions by them, keys, pieces and the
- * stack.
+/* Holds the library to what ima_verify.h promises of wrong calls, room, faults, requirements, known files, quotes, sessions by them, keys,
+ * pieces and the stack.
  *
- *     header LOG LIST EXPECTED PRINTED MESSAGE NONCE AREA PEM [STACK]
+ *     header LOG LIST EXPECTED PRINTED MESSAGE NONCE AREA PEM KNOWN BEFORE [STACK]
  *
  * The files are those of the sample boot; PRINTED is what tpm2_pcrread printed, MESSAGE is the message of a quote of registers 0 to 10 in
  * the SHA-256 bank, and NONCE has its nonce in hexadecimal. AREA is the public area of an attestation key of RSA, 2048 bits, that signs by
- * RSASSA with SHA-256, and PEM is that key. Each function is called in a thread with so many bytes of stack, by default
+ * RSASSA with SHA-256, and PEM is that key. KNOWN lists the files of LIST, and BEFORE has the registers before its first violation. Each
+ * function is called in a thread with so many bytes of stack, by default
  * the 512 KiB of the header. Prints a line for each check that fails, how much stack was used at most, and last 'N passed, M failed'. The
  * status is 1 if one failed. */
 #define _GNU_SOURCE
@@ -31,7 +32,7 @@ enum {
 /* All that a function may be given. */
 struct given {
     struct ima_verify_evidence evidence;
-    struct ima_verify_bytes state, printed, registers, message, nonce, area, pem;
+    struct ima_verify_bytes state, printed, registers, message, nonce, area, pem, files, before;
     enum ima_verify_origin origin;
     enum ima_verify_purpose purpose;
     struct ima_verify_position position;
@@ -81,6 +82,7 @@ static struct ima_verify_quoted quoted_of(const struct given *given) {
     return (struct ima_verify_quoted){
         .log = evidence->log,         .list = evidence->list,       .message = given->message,
         .nonce = given->nonce,        .require = evidence->require, .takes_sha1 = given->takes_sha1,
+        .known = evidence->known,     .judges_known = evidence->judges_known,
         .signature_checked = given->signature_checked,
     };
 }
@@ -128,8 +130,9 @@ enum inputs {
     OF_MESSAGE = 128,
     OF_NONCE = 256,
     OF_AREA = 512,
-    ALL = 15,
-    INPUTS = 10
+    OF_KNOWN = 1024,
+    ALL = OF_LOG | OF_LIST | OF_EXPECTED | OF_REQUIRE | OF_KNOWN,
+    INPUTS = 11
 };
 
 /* Each function, and which inputs it looks at. */
@@ -142,8 +145,8 @@ static const struct function {
     {"locate", call_locate, ALL},
     {"replay", call_replay, ALL},
     {"more", call_more, ALL | OF_STATE},
-    {"attest", call_attest, OF_LOG | OF_LIST | OF_REQUIRE | OF_MESSAGE | OF_NONCE},
-    {"attest_more", call_attest_more, OF_LOG | OF_LIST | OF_REQUIRE | OF_STATE | OF_MESSAGE | OF_NONCE},
+    {"attest", call_attest, OF_LOG | OF_LIST | OF_REQUIRE | OF_KNOWN | OF_MESSAGE | OF_NONCE},
+    {"attest_more", call_attest_more, OF_LOG | OF_LIST | OF_REQUIRE | OF_KNOWN | OF_STATE | OF_MESSAGE | OF_NONCE},
     {"expected", call_expected, OF_PRINTED | OF_REGISTERS},
     {"registers", call_registers, OF_LOG},
     {"key", call_key, OF_AREA},
@@ -151,6 +154,7 @@ static const struct function {
     {"events", call_events, OF_LOG},
 };
 enum { FUNCTIONS = sizeof functions / sizeof functions[0] };
+static const struct function *const verdict = &functions[0], *const locate = &functions[1], *const replay = &functions[2];
 static const struct function *const more = &functions[3], *const attest = &functions[4], *const attest_more = &functions[5];
 static const struct function *const expecting = &functions[6], *const registers = &functions[7], *const key = &functions[8];
 static const struct function *const entries = &functions[9], *const events = &functions[10];
@@ -163,6 +167,7 @@ static struct ima_verify_bytes *input(struct given *given, int number) {
     struct ima_verify_bytes *inputs[INPUTS] = {
         &given->evidence.log, &given->evidence.list, &given->evidence.expected, &given->evidence.require, &given->state,
         &given->printed,      &given->registers,     &given->message,           &given->nonce,            &given->area,
+        &given->evidence.known,
     };
     return inputs[number];
 }
@@ -241,6 +246,12 @@ static void check_wrong_calls(const struct given *sample) {
     check_misused(ask(registers, &given, IMA_VERIFY_TEXT, ROOM), "registers", "an origin that is none");
     given.purpose = (enum ima_verify_purpose)no_form;
     check_misused(ask(key, &given, IMA_VERIFY_TEXT, ROOM), "key", "a purpose that is none");
+    check_misused(ask(locate, WITH(evidence.judges_known, true), IMA_VERIFY_TEXT, ROOM), "locate", "no known file");
+    given.evidence.known = sample->files;
+    check_misused(ask(locate, &given, IMA_VERIFY_TEXT, ROOM), "locate", "known files");
+    for (int i = 0; i < 6; i++)
+        check_misused(ask(&functions[i], WITH(evidence.known, sample->files), IMA_VERIFY_TEXT, ROOM), functions[i].name,
+                      "known files that nothing is judged by");
     given.position = (struct ima_verify_position){given.evidence.list.size + 1, 0};
     check_misused(ask(entries, &given, IMA_VERIFY_TEXT, ROOM), "entries", "a position behind the list");
     given.position.offset = given.evidence.log.size + 1;
@@ -347,7 +358,7 @@ static void check_faults(const struct given *sample) {
         changed[4] ^= 1;
         list = (struct ima_verify_bytes){changed, sample->evidence.list.size};
         check_refusal(&functions[i], WITH(evidence.list, list), "refused: replay fault 1 at entry 0\n", IMA_VERIFY_REPLAY, 1, 0);
-        if (functions[i].call != call_replay)
+        if (&functions[i] != replay)
             check_refusal(&functions[i], WITH(evidence.log, ima_verify_none()), "refused: log fault 1 at event 0\n", IMA_VERIFY_LOG, 1,
                           0);
     }
@@ -364,7 +375,7 @@ static void check_requirements(const struct given *sample) {
     struct given given;
     for (int i = 0; i < 4; i++) {
         const struct function *function = &functions[i];
-        bool is_list = function->call == call_replay;
+        bool is_list = function == replay;
         enum ima_verify_result wanted = is_list ? IMA_VERIFY_DIFFERS : IMA_VERIFY_DONE;
         ask(function, sample, IMA_VERIFY_TEXT, ROOM);
         check(result == wanted, function->name, "the sample");
@@ -374,7 +385,7 @@ static void check_requirements(const struct given *sample) {
         check(result == IMA_VERIFY_DIFFERS, function->name, "a register that is missing");
         given.evidence.require = ima_verify_none();
         given.evidence.expected = ima_verify_text("");
-        wanted = function->call == call_verdict ? IMA_VERIFY_DONE : IMA_VERIFY_DIFFERS;
+        wanted = function == verdict ? IMA_VERIFY_DONE : IMA_VERIFY_DIFFERS;
         ask(function, &given, IMA_VERIFY_TEXT, ROOM);
         check(result == wanted, function->name, "no register is expected");
     }
@@ -387,6 +398,102 @@ static bool has_line(const char *line) {
 static bool ends_with(const char *words) {
     size_t size = strlen(words);
     return out.size >= size && memcmp(text + out.size - size, words, size) == 0;
+}
+
+/* Whether a report in both forms has the entries that are not known before what follows them. */
+static void check_unknown(const struct function *function, const struct given *given, const char *lines, const char *members,
+                          const char *what) {
+    ask(function, given, IMA_VERIFY_TEXT, ROOM);
+    check(result == IMA_VERIFY_DIFFERS && has_no_fault() && has_line(lines), function->name, what);
+    check(!gives_checkpoint(function) || (next.size == 0 && is_filled(checkpoint, 0)), function->name, "no checkpoint");
+    ask(function, given, IMA_VERIFY_JSON, ROOM);
+    check(result == IMA_VERIFY_DIFFERS && has_no_fault() && has_line(members), function->name, what);
+}
+
+/* A sample whose entries must be of known files. */
+static struct given knowing(const struct given *sample) {
+    struct given given = *sample;
+    given.evidence.known = sample->files;
+    given.evidence.judges_known = true;
+    return given;
+}
+
+/* The sample's list has 98 entries after the boot aggregate; those of no known file are its violations 93, 94 and 97. */
+static void check_known_files(const struct given *sample) {
+    static const char some[] = "\nknown_from 0\nunknown entry 93\nunknown entry 94\nunknown entry 97\n%s\n";
+    struct given known = knowing(sample), given;
+    for (int i = 0; i < 6; i++) {
+        const struct function *function = &functions[i];
+        bool is_quoted = function == attest || function == attest_more;
+        char lines[2 * SHOWN];
+        if (function == locate)
+            continue;
+        snprintf(lines, sizeof lines, some, is_quoted ? "quote match" : "verdict differ");
+        check_unknown(function, &known, lines, ",\"known_from\":0,\"unknown\":[93,94,97],", "known files");
+        ask(function, sample, IMA_VERIFY_TEXT, ROOM);
+        check(!has_line("known"), function->name, "no known files");
+        given = known;
+        given.evidence.known = (struct ima_verify_bytes){NULL, 0};
+        check_unknown(function, &given, "\nknown_from 0\nunknown entry 1\nunknown entry 2\n", "\"known_from\":0,\"unknown\":[1,2,3,4,",
+                      "no file is known");
+        ask(function, &known, IMA_VERIFY_TEXT, ROOM);
+        size_t size = out.size;
+        ask(function, &known, IMA_VERIFY_TEXT, size - 1);
+        check(result == IMA_VERIFY_TOO_SHORT && is_left() && out.size == size, function->name, "a byte too few for unknown entries");
+    }
+}
+
+/* A match of the entries before the first violation, and the entries after them, from its checkpoint on. */
+static void check_known_prefix(const struct given *sample) {
+    static uint8_t state[ROOM];
+    struct given given = knowing(sample);
+    given.prefix = true;
+    given.evidence.expected = sample->before;
+    ask(more, &given, IMA_VERIFY_TEXT, ROOM);
+    bool is_told = has_line("\nconfirmed 93 of 99 entries\n") && ends_with("\nknown_from 0\nverdict match\n");
+    check(result == IMA_VERIFY_DONE && next.size > 0 && is_told, "more", "a prefix of known files");
+    memcpy(state, checkpoint, next.size);
+    const uint8_t *bytes = memmem(state, next.size, "\nbytes ", 7);
+    size_t covered = bytes ? strtoul((const char *)bytes + 7, NULL, 10) : 0;
+    struct ima_verify_bytes list = sample->evidence.list;
+    check(0 < covered && covered < list.size, "more", "the bytes of a checkpoint");
+    given.state = (struct ima_verify_bytes){state, next.size};
+    given.evidence.list = (struct ima_verify_bytes){list.data + covered, list.size - covered};
+    given.evidence.expected = sample->evidence.expected;
+    check_unknown(more, &given, "\nknown_from 93\nunknown entry 93\nunknown entry 94\nunknown entry 97\nverdict differ\n",
+                  ",\"known_from\":93,\"unknown\":[93,94,97],", "from a checkpoint");
+}
+
+/* Known files are refused after the other inputs that are not the log and the list, and before these. */
+static void check_known_faults(const struct given *sample) {
+    static const char weak[] = "3f786850e387550fdab836ed7e6dc881de23001b  a\n";
+    static uint8_t lines[ROOM];
+    struct ima_verify_bytes files = sample->files;
+    struct given given = knowing(sample);
+    given.evidence.log = ima_verify_none();
+    for (int i = 0; i < 6; i++) {
+        const struct function *function = &functions[i];
+        if (function == locate)
+            continue;
+        given.evidence.known = ima_verify_text("x");
+        check_refusal(function, &given, "refused: known fault 2 at line 1\n", IMA_VERIFY_KNOWN, 2, 1);
+        memcpy(lines, files.data, files.size);
+        memcpy(lines + files.size, weak, sizeof weak - 1);
+        given.evidence.known = (struct ima_verify_bytes){lines, files.size + sizeof weak - 1};
+        check_refusal(function, &given, "refused: known fault 1 at line 94\n", IMA_VERIFY_KNOWN, 1, 94);
+        given.evidence.require = ima_verify_none();
+        check_refusal(function, &given, "refused: command line\n", IMA_VERIFY_ARGUMENT, 0, IMA_VERIFY_NO_PLACE);
+        given.evidence.require = sample->evidence.require;
+    }
+    given.state = ima_verify_text("x");
+    check_refusal(more, &given, "refused: checkpoint fault 1\n", IMA_VERIFY_CHECKPOINT, 1, IMA_VERIFY_NO_PLACE);
+    check_refusal(attest_more, &given, "refused: checkpoint fault 1\n", IMA_VERIFY_CHECKPOINT, 1, IMA_VERIFY_NO_PLACE);
+    given.evidence.expected = ima_verify_text("sha256 24 00\n");
+    for (int i = 0; i < 4; i++)
+        if (&functions[i] != locate)
+            check_refusal(&functions[i], &given, "refused: expected fault 1 at line 1\n", IMA_VERIFY_EXPECTED, 1, 1);
+    given.message = ima_verify_text("");
+    check_refusal(attest, &given, "refused: quote fault 1\n", IMA_VERIFY_QUOTE, 1, IMA_VERIFY_NO_PLACE);
 }
 
 static void check_quote_refusals(const struct given *sample) {
@@ -625,7 +732,7 @@ static struct ima_verify_bytes tenth_of(struct ima_verify_bytes expected) {
 
 /* A function says with a requirement, and only then, that the entry 98 is of register 11: `locate` never does. */
 static void check_told(const struct function *function, struct given *given) {
-    bool is_told = function->call != call_locate;
+    bool is_told = function != locate;
     given->evidence.require = ima_verify_none();
     ask(function, given, IMA_VERIFY_TEXT, ROOM);
     check(result == IMA_VERIFY_DONE, function->name, "an entry of register 11, where nothing is required");
@@ -657,7 +764,7 @@ static void check_strays(const struct given *sample) {
     memcpy(straying, log.data, log.size);
     memcpy(straying + log.size, event, sizeof event);
     given.evidence.log = (struct ima_verify_bytes){straying, log.size + sizeof event};
-    ask(&functions[0], &given, IMA_VERIFY_TEXT, ROOM);
+    ask(verdict, &given, IMA_VERIFY_TEXT, ROOM);
     check(result == IMA_VERIFY_DIFFERS && has_line("event 25 extends 10\n"), "verdict", "an event of register 10");
 }
 
@@ -771,6 +878,8 @@ static void check_stack(const struct given *sample, size_t stack) {
         check_deep(function, WITH(evidence.require, ima_verify_text("sha1:0-23,sha256:0-23,sha384:0-23,sha512:0-23")), form, stack,
                    "all registers");
         check_deep(function, WITH(prefix, true), form, stack, "the confirmed front");
+        given = knowing(sample);
+        check_deep(function, &given, form, stack, "known files");
         check_deep(function, WITH(origin, IMA_VERIFY_OF_LIST), form, stack, "of the list");
         check_deep(function, WITH(purpose, IMA_VERIFY_ENDORSEMENT), form, stack, "another purpose");
         check_deep(function, WITH(evidence.list, ((struct ima_verify_bytes){front, list.size})), form, stack, "a changed list");
@@ -815,10 +924,11 @@ static struct ima_verify_bytes spelled(struct ima_verify_bytes digits) {
 }
 
 int main(int count, char **words) {
-    if (count < 9)
+    if (count < 11)
         return 2;
     struct given sample = {
-        .evidence = {load(words[1]), load(words[2]), load(words[3]), ima_verify_text("sha256:0-10")},
+        .evidence = {.log = load(words[1]), .list = load(words[2]), .expected = load(words[3]),
+                     .require = ima_verify_text("sha256:0-10")},
         .state = {NULL, 0},
         .printed = load(words[4]),
         .registers = ima_verify_text("0-10"),
@@ -826,6 +936,8 @@ int main(int count, char **words) {
         .nonce = spelled(load(words[6])),
         .area = load(words[7]),
         .pem = load(words[8]),
+        .files = load(words[9]),
+        .before = load(words[10]),
         .signature_checked = true,
     };
     check(ima_verify_version() >= IMA_VERIFY_VERSION, "version", "older than the header");
@@ -834,6 +946,9 @@ int main(int count, char **words) {
     check_rooms(&sample);
     check_faults(&sample);
     check_requirements(&sample);
+    check_known_files(&sample);
+    check_known_prefix(&sample);
+    check_known_faults(&sample);
     check_strays(&sample);
     check_quote_refusals(&sample);
     check_quote(&sample);
@@ -842,7 +957,7 @@ int main(int count, char **words) {
     check_changed_keys(&sample);
     check_pieces(&sample);
     fflush(stdout);
-    check_stack(&sample, count > 9 ? strtoul(words[9], NULL, 10) : STACK);
+    check_stack(&sample, count > 11 ? strtoul(words[11], NULL, 10) : STACK);
     printf("%ld passed, %ld failed\n", passed, failed);
     return failed != 0;
 }

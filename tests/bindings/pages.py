@@ -19,7 +19,7 @@ MARKS = b" ", b"\t", b"\r", b"\v", b"\f", b"\x1c", b"\xc2\x85", b"\xe2\x80\xa8",
 # What the programs of the pages print about the sample, if the digests of these files are not known: the files by their entries, and
 # each register by the event (by `ima-agent locate` and `events`, and by the reference).
 UNKNOWN = (b"/init", b"/mnt/odd/bad\xff\xfebytes", b"/mnt/odd/new")  # (the last goes on after a line feed)
-PAGE = r"""match 99
+PAGE = r"""differ 99
 1 /init
 78 /mnt/odd/bad\xff\xfebytes
 81 /mnt/odd/new\nline
@@ -120,12 +120,12 @@ def page_inputs(folder):
     return folder
 
 
-def sha1_inputs(folder):
-    """A folder with a log and a list with an entry whose digest is a SHA-1, and that as a known digest."""
+def sha1_inputs(folder, is_listed):
+    """A folder with a log and a list with an entry whose digest is a SHA-1, which may be listed as a known digest."""
     log, files = inputs.made_log([SHA256], 12), list(inputs.made_measurements(3))
     digest = SHA1.hash(b"x")
     entries = [*inputs.made_entries(log, files), entry_of(IMA_NG, SHA1, digest, b"/short")]
-    return made_folder(folder, log, entries, [*(known for _, known in files), digest])
+    return made_folder(folder, log, entries, [*(known for _, known in files), *([digest] if is_listed else [])])
 
 
 def hiding_inputs():

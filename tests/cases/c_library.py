@@ -1,7 +1,8 @@
 """Asks the library for C what a command of the program does, by the functions that it exports.
 
-A call that has too little room must write nothing, and say how much it needs; the fault that a call tells must be that of its text. Entries
-and events are asked for by pieces: with room for single lines and for many, which must give the same lines."""
+A call that has too little room must write nothing, and say how much it needs; the fault that a call tells must be that of its text. Files of
+known digests are given as one text, and the line of a fault in it is then counted in its file, as the program does. Entries and events
+are asked for by pieces: with room for single lines and for many, which must give the same lines."""
 
 import ctypes
 import json
@@ -15,7 +16,7 @@ from form import ROOT
 
 sys.path[1:1] = [str(ROOT / "dist"), str(ROOT / "tests")]
 from header import constants_of, exports_of  # noqa: E402
-from reference.command_line import is_hexadecimal  # noqa: E402
+from reference.command_line import KNOWN, is_hexadecimal  # noqa: E402
 
 # What the program takes; the library takes more.
 MOST_BYTES = 64 << 20
@@ -36,6 +37,8 @@ FUNCTIONS = {
 NONE_REQUIRED = "none"
 # Those that take a text of their command's option each time, and which if there is none.
 TEXTS = {"verdict": NONE_REQUIRED, "locate": NONE_REQUIRED, "replay": NONE_REQUIRED, "expected": ""}
+# Those that take a text of known digests after it, and whether it is given.
+KNOWING = ("verdict", "replay")
 # What `verify` of a list that grows has, of which `ima_verify_more` answers.
 MORE_OPTIONS, MORE_FLAGS = ("--require", "--resume", "--save"), ("--json", "--prefix")
 # What `attest` has beside it, of which `ima_verify_attest_more` answers.
@@ -56,8 +59,9 @@ DONE, DIFFERS, REFUSED, OUT_OF_MEMORY, TOO_SHORT, MORE = (
     CONSTANTS[name] for name in ("DONE", "DIFFERS", "REFUSED", "OUT_OF_MEMORY", "TOO_SHORT", "MORE")
 )
 NO_FAULT, NO_PLACE = (CONSTANTS["NO_FAULT"], 0, (1 << 64) - 1), (1 << 64) - 1
-KINDS = {"command line": "ARGUMENT", **{name.lower(): name for name in ("LOG", "LIST", "REPLAY", "EXPECTED", "CHECKPOINT", "QUOTE", "KEY")}}
+KINDS = {"command line": "ARGUMENT", **{name.lower(): name for name in ("LOG", "LIST", "REPLAY", "EXPECTED", "CHECKPOINT", "QUOTE", "KEY", "KNOWN")}}
 FAULT = re.compile(r"refused: (command line|\w+)(?: fault (\d+))?(?: at \w+ (\d+))?")
+KNOWN_LINE = re.compile(rb"(refused: known fault \d at line )(\d+)")
 
 
 class Told(ctypes.Structure):
@@ -106,11 +110,12 @@ class Library:
         """What the function for a command answers. The checkpoint that the command saves is written as there."""
         try:
             more, by_quote, key = more_of(words), by_quote_of(words), key_of(words)
-            if by_quote:
-                return self.answer_by_quote(by_quote, folder)
             if key:
                 return self.ask_for_key((folder / key.file).read_bytes(), key.is_endorsement, key.is_json)
-            return self.answer_more(more, folder) if more else self.answer_to(call_of(words), folder)
+            call = by_quote or more or call_of(words)
+            answer = self.answer_by_quote if by_quote else self.answer_more if more else self.answer_to
+            status, text = answer(call, folder)
+            return status, KNOWN_LINE.sub(lambda found: found[1] + b"%d" % call.line_of_file(folder, int(found[2])), text)
         except Unlike as cause:
             return None, f"not answered: {cause}".encode()
 
@@ -120,18 +125,20 @@ class Library:
             return self.answer_by_pieces(call, inputs[0])
         flags = [call.is_of_list] if call.function == "registers" else []
         texts = [] if call.text is None else [encoded(call.text)]
+        if call.function in KNOWING:
+            texts, flags = [*texts, call.known_text(folder)], [bool(call.known)]
         return self.ask_with_room(call.function, [*inputs, *texts], [*flags, call.is_json])[:2]
 
     def answer_by_quote(self, call, folder):
         log, listed, message = ((folder / file).read_bytes() for file in call.files)
-        inputs = [log, call.state(folder), listed, message, call.nonce, call.require]
-        status, text, checkpoint = self.ask_by_quote(inputs, call.takes_sha1, call.is_signed, call.prefix, call.is_json)
+        inputs = [log, call.state(folder), listed, message, call.nonce, call.require, call.known_text(folder)]
+        status, text, checkpoint = self.ask_by_quote(inputs, bool(call.known), call.takes_sha1, call.is_signed, call.prefix, call.is_json)
         call.keep(status, checkpoint, folder)
         return status, text
 
-    def ask_by_quote(self, inputs, takes_sha1, is_signed, prefix, is_json):
+    def ask_by_quote(self, inputs, is_known_given, takes_sha1, is_signed, prefix, is_json):
         """What the function for a quote gives: the status that the program has, the text, and the checkpoint."""
-        status, text, told, checkpoint = self.ask_more("attest", inputs, [takes_sha1, is_signed, prefix, is_json])
+        status, text, told, checkpoint = self.ask_more("attest", inputs, [is_known_given, takes_sha1, is_signed, prefix, is_json])
         is_unsigned = status == DIFFERS and not is_signed
         return NOT_ATTESTED if is_unsigned or told.kind == CONSTANTS["QUOTE"] else status, text, checkpoint
 
@@ -204,8 +211,8 @@ class Library:
 
     def answer_more(self, more, folder):
         log, listed, expected = ((folder / file).read_bytes() for file in more.files)
-        inputs = [log, more.state(folder), listed, expected, more.require]
-        status, text, _, checkpoint = self.ask_more("more", inputs, [more.prefix, more.is_json])
+        inputs = [log, more.state(folder), listed, expected, more.require, more.known_text(folder)]
+        status, text, _, checkpoint = self.ask_more("more", inputs, [bool(more.known), more.prefix, more.is_json])
         more.keep(status, checkpoint, folder)
         return status, text
 
@@ -257,25 +264,48 @@ class Pieces(NamedTuple):
     offset: int
 
 
+class Knowing:
+    """A call that may have files of known digests."""
+
+    def texts(self, folder):
+        return [(folder / name).read_bytes() for name in self.known]
+
+    def known_text(self, folder):
+        """The text of all these files, each line of which ends."""
+        return b"".join(text + (b"" if text.endswith(b"\n") or not text else b"\n") for text in self.texts(folder))
+
+    def line_of_file(self, folder, line):
+        """The number that a line of this text has in its file."""
+        for text in self.texts(folder):
+            lines = text.count(b"\n") + (not text.endswith(b"\n") and text != b"")
+            if line <= lines:
+                return line
+            line -= lines
+        raise Unlike(f"a fault {line} lines behind the text of known digests")
+
+
 @dataclass(frozen=True)
-class Call:
-    """A function of the library without `ima_verify_raw_`, its files, the text after them if it takes one, and whether JSON is asked for."""
+class Call(Knowing):
+    """A function of the library without `ima_verify_raw_`, its files, the text after them if it takes one, whether JSON is asked for, and files of
+    known digests."""
 
     function: str
     files: list
     text: Optional[str]
     is_json: bool
     is_of_list: bool
+    known: tuple = ()
 
     def inputs(self):
-        return self.files
+        return [*self.files, *self.known]
 
 
 @dataclass(frozen=True)
-class More:
-    """A call of the function for a list that grows: the files of log, list and expected registers, what is required, whether a front is asked
-    for, the file to go on from and the one to save, and whether JSON is asked for."""
+class More(Knowing):
+    """A call of the function for a list that grows: files of known digests; the files of log, list and expected registers, what is required,
+    whether a front is asked for, the file to go on from and the one to save, and whether JSON is asked for."""
 
+    known: tuple
     files: list
     require: bytes
     prefix: bool
@@ -284,7 +314,7 @@ class More:
     is_json: bool
 
     def inputs(self):
-        return self.files + ([] if self.resume is None else [self.resume])
+        return [*self.files, *self.known, *([] if self.resume is None else [self.resume])]
 
     def state(self, folder):
         """The checkpoint to go on from. (No bytes are no checkpoint for the command, and for the function the list's beginning.)"""
@@ -336,8 +366,21 @@ def given_in(words, options, flag_names, count=3):
     return (files, values, flags) if is_form else None
 
 
+def known_in(words):
+    """The words without files of known digests, and the names of these, of which the last may be none."""
+    others, names, rest = [], [], iter(words)
+    for word in rest:
+        option, has_value, value = word.partition("=")
+        if option == KNOWN:
+            names.append(value if has_value else next(rest, ""))
+        else:
+            others.append(word)
+    return others, tuple(names)
+
+
 def by_quote_of(words):
     """The call that answers `attest` without EXPECTED, or None."""
+    words, known = known_in(words)
     name, *rest = words or [""]
     given = given_in(rest, QUOTED_OPTIONS, QUOTED_FLAGS) if name == "attest" else None
     if given is None or not {"--nonce", "--require"} <= set(given[1]) or not is_hexadecimal(given[1]["--nonce"]):
@@ -345,7 +388,7 @@ def by_quote_of(words):
         return None
     files, values, flags = given
     more = (encoded(values["--require"]), "--prefix" in flags, values.get("--resume"), values.get("--save"), "--json" in flags)
-    return ByQuote(files, *more, bytes.fromhex(values["--nonce"]), "--sha1" in flags, "--signature-checked" in flags)
+    return ByQuote(known, files, *more, bytes.fromhex(values["--nonce"]), "--sha1" in flags, "--signature-checked" in flags)
 
 
 def key_of(words):
@@ -360,21 +403,23 @@ def key_of(words):
 
 def more_of(words):
     """The call that answers `verify` of a list that grows, or None."""
+    words, known = known_in(words)
     name, *rest = words or [""]
     given = given_in(rest, MORE_OPTIONS, MORE_FLAGS) if name == "verify" else None
     if given is None:
         return None
     files, values, flags = given
     is_growing = "--prefix" in flags or "--resume" in values or "--save" in values
-    if not is_growing or values.get("--require") == NONE_REQUIRED:
-        # (the command has no such word)
+    if not is_growing or values.get("--require") == NONE_REQUIRED or (known and "--json" in flags and "--require" not in values):
+        # (the command has no such word, or refuses its words and does not say that as JSON)
         return None
     require = encoded(values.get("--require", NONE_REQUIRED))
-    return More(files, require, "--prefix" in flags, values.get("--resume"), values.get("--save"), "--json" in flags)
+    return More(known, files, require, "--prefix" in flags, values.get("--resume"), values.get("--save"), "--json" in flags)
 
 
 def call_of(words):
     """The call that answers what a command does, or None."""
+    words, known = known_in(words)
     name, *rest = words or [""]
     option, files, values, rest = OPTIONS.get(name), [], [], (word for word in rest if word != "--json")
     for word in rest:
@@ -383,12 +428,15 @@ def call_of(words):
         else:
             files.append(word)
     function, is_json = FUNCTIONS.get((name, len(files))), "--json" in words
-    if function is None or len(values) > 1 or "" in values or words.count("--json") > 1:
+    if function is None or len(values) > 1 or "" in values or words.count("--json") > 1 or (known and function not in KNOWING):
+        return None
+    if known and is_json and not values:
+        # (the command then refuses its words, and does not say that as JSON)
         return None
     if (values and function not in TEXTS) or (function != "expected" and NONE_REQUIRED in values) or (function == "events" and not is_json):
         # (the command has no such option or word, or the function no such form)
         return None
-    return Call(function, files, values[0] if values else TEXTS.get(function), is_json, name == "replay")
+    return Call(function, files, values[0] if values else TEXTS.get(function), is_json, name == "replay", known)
 
 
 def is_input(name, folder, most_bytes):

@@ -131,10 +131,23 @@ def commands(folder):
     yield from (["verify", "--prefix", *evidence, "expected.txt"], ["verify", "--prefix", *evidence, "few"])
     yield from (["verify", "--prefix", "firmware.log", name, "firmware's"] for name in ("many", "forged", "cut"))
     yield from (["verify", "--prefix", *evidence, "none"], ["verify", "--save", "kept", *evidence, "none"])
+    (folder / "known").write_bytes((ROOT / "samples/known/SHA256SUMS").read_bytes())
+    for known in (["--known", "known"], ["--known", "none"], ["--known", "known", "--known", "few"]):
+        yield from (["verify", "--require", "sha256:10", *known, *evidence, "few"], ["replay", "--require", "sha256:10", *known, "many", "few"])
+        yield ["verify", "--require", "sha256:10", "--prefix", *known, "firmware.log", "crossed", "expected.txt"]
     quoted = ["attest", "--nonce", (ROOT / "samples/quoted/nonce").read_text().strip(), "--require", "sha256:0-10"]
     yield from ([*quoted, *evidence, "quote.msg"], [*quoted, "--signature-checked", *evidence, "quote.msg"], [*quoted, *evidence, "none"])
     yield from ([*quoted, "--signature-checked", "--prefix", "firmware.log", name, "quote.msg"] for name in ("many", "forged", "longer"))
     yield from ([*quoted, "--signature-checked", log, "crossed", "quote.msg"] for log in ("firmware.log", "banks.log"))
+    yield from ([*quoted, "--signature-checked", "--known", known, *evidence, "quote.msg"] for known in ("known", "none", "few"))
+    for name in ("secure-boot", "systemd-boot"):
+        for path in (ROOT / "samples/ovmf-boot").glob(f"{name}.*"):
+            (folder / path.name).write_bytes(path.read_bytes())
+        yield from (["boot", f"{name}.log"], ["boot", "--expected", f"{name}.expected", f"{name}.log"])
+    for log, before in (("systemd-boot", "secure-boot"), ("secure-boot", "systemd-boot"), ("secure-boot", "secure-boot")):
+        yield ["boot", "--expected", f"{log}.expected", "--before", f"{before}.log", f"{log}.log"]
+    yield from (["boot", "banks.log"], ["boot", "--expected", "few", "banks.log"], ["boot", "--before", "banks.log", "firmware.log"], ["boot", "none"])
+    yield from (["boot", "--expected", "known", "firmware.log"], ["boot", "--before", "none", "firmware.log"])
     for area in sorted((ROOT / "samples/keys").glob("*.pub")):
         (folder / area.name).write_bytes(area.read_bytes())
         yield from (["key", *purpose, "--print", part, area.name] for purpose in ([], ["--endorsement"]) for part in ("all", "name", "pem"))
@@ -178,6 +191,12 @@ def is_within(names, order):
     return all(name in rest for name in names)
 
 
+def known_rows(value):
+    """The lines of a report with known files."""
+    first = [f"known_from {value['known_from']}"] if "known_from" in value else []
+    return first + [f"unknown entry {number}" for number in value.get("unknown", [])]
+
+
 def rows_by_quote(value):
     """The lines of the text that a report by a quote has."""
     clock, verdict = value["clock"], value["verdict"]
@@ -189,7 +208,7 @@ def rows_by_quote(value):
     rows += [value["unconfirmed"]["message"]] if "unconfirmed" in value else []
     rows += [f"boot_aggregate {value['boot_aggregate']}"]
     rows += [f"{word} {number} extends {register}" for (word, number), (_, register) in (row.items() for row in value.get("extends", []))]
-    return [*rows, f"quote {value['quote']}", f"verdict {verdict}" if value["signature"] == "checked" else verdict]
+    return [*rows, *known_rows(value), f"quote {value['quote']}", f"verdict {verdict}" if value["signature"] == "checked" else verdict]
 
 
 def rows_of_key(value):
@@ -198,6 +217,16 @@ def rows_of_key(value):
         return "".join(value.values()).splitlines()
     scheme = f"{value['scheme']} {value['hash']}" if "hash" in value else value["scheme"]
     return [f"name {value['name']}", f"key {value['type']} {value['bits']}", f"scheme {scheme}", *value["pem"].splitlines()]
+
+
+def is_answer(value, row):
+    """Whether a line of text has the words of a value of `boot`, and at its end the JSON of what these say, whose characters may be escaped."""
+    words, brace, told = row.partition("{")
+    said = [value[name] for name in ("firmware_version", "claimed", "content") if isinstance(value.get(name), dict)]
+    texts = {name: value[name] for name in ("text", "text_hex") if name in value}
+    plain = [str(found) for name, found in value.items() if name not in texts and not isinstance(found, dict)]
+    has_words = words.split()[0] in value and {*plain, *value.get("digests", {}).values()} <= set(words.split())
+    return has_words and ([json.loads(brace + told)] if brace else []) == ([texts] if texts else said)
 
 
 def is_told(words, values, text):
@@ -213,9 +242,13 @@ def is_told(words, values, text):
         return [f"{row['bank']} {row['register']} {row['value']}" for row in values[0]["registers"]] == rows
     if words[0] == "verify" or "verdict" in values[0]:
         told = [" ".join(str(word) for word in row.values()) for row in values[0]["registers"]]
+        told += [f"{word} {number} extends {register}" for (word, number), (_, register) in (row.items() for row in values[0].get("extends", []))]
+        told += known_rows(values[0])
         return rows[-1] == f"verdict {values[0]['verdict']}" and told == rows[-1 - len(told) : -1]
     if words[0] == "locate":
         return (rows[-1] == "located") == values[0]["located"] and len(rows) - 1 == len(values[0]["registers"])
+    if words[0] == "boot":
+        return len(rows) == len(values) and all(is_answer(value, row) for value, row in zip(values, rows))
     if words[0] == "events":
         return len(rows) == len(values) and all(row.split()[0] == str(value["event"]) for row, value in zip(rows[1:], values[1:]))
     return True

@@ -21,6 +21,7 @@ import harness  # noqa: E402
 import reference  # noqa: E402
 from c_library import MOST_BYTES, Library  # noqa: E402
 from harness import ROOT  # noqa: E402
+from reference.boot_answers import Boot  # noqa: E402
 from reference.event_texts import guid_text  # noqa: E402
 from reference.fields import number  # noqa: E402
 from reference.json_texts import json_text  # noqa: E402
@@ -92,6 +93,13 @@ def printed_of_size(size):
     return b"\n" * rest + head + line * count + text
 
 
+def known_of_size(size):
+    """Known digests, of which one has very many lines, and one line a long name."""
+    line = f"{'0' * 64}  \n".encode()
+    count, rest = divmod(size - len(KNOWN), 2 * len(line))
+    return KNOWN[:-1] + b"a" * (rest + count * len(line)) + b"\n" + line * count
+
+
 def hexadecimal_of_size(size):
     """A log of half as many bytes, after a space if the size is odd."""
     return b" " * (size % 2) + log_of_size(size // 2).hex().encode()
@@ -108,6 +116,8 @@ replay(REGISTERS, ENTRIES)
 EXPECTED = "".join(register_line(*row) for row in REGISTERS.rows())
 PRINTED = pcrread_text(REGISTERS)
 NAMES = b"f\nL\n"
+# The digest of a file that the list has.
+KNOWN = f"{SHA256.hash(b'abc').hex()}  sh\n".encode()
 # The message of the sample's quote, but of the registers after this log and list.
 SAMPLE = ROOT / "samples/quoted"
 QUOTE = (SAMPLE / "quote.msg").read_bytes()[: -SHA256.size] + SHA256.hash(b"".join(REGISTERS.value(SHA256, register) for register in range(11)))
@@ -129,7 +139,7 @@ class Input:
 INPUTS = (
     Input("log of one event", log_of_size, (
         "registers input", "events input", "events --data input", "events --explain input", "verify input list expected", "locate input list expected",
-        "measure input f", f"{ATTEST} input list quote",
+        "measure input f", f"{ATTEST} input list quote", "boot --expected expected input", "boot --before input --expected expected L",
     )),
     Input("list with a long payload", list_of_size, (
         "show input", "replay input", f"replay --require {REQUIRE} input expected", "verify L input expected",
@@ -139,8 +149,12 @@ INPUTS = (
     Input("public area and bytes after it", lambda size: AREA + bytes(size - len(AREA)), ("key input", "key --endorsement input"), AREA + b"\0"),
     Input("96 expected registers after empty lines", with_empty_lines(EXPECTED.encode()), (
         "verify L list input", f"verify --require {REQUIRE} L list input", "locate L list input", f"replay --require {REQUIRE} list input",
-        "events --explain --expected input L",
+        "events --explain --expected input L", "boot --expected input L",
     ), EXPECTED.encode()),
+    Input("known digests", known_of_size, (
+        f"verify --require {REQUIRE} --known input L list expected", f"replay --require {REQUIRE} --known input --known short list expected",
+        f"{ATTEST} --known input L list quote", f"verify --require {REQUIRE} --prefix --known input L list expected",
+    ), KNOWN),
     Input("96 registers of tpm2_pcrread after empty lines", with_empty_lines(PRINTED.encode()), ("expected input",), PRINTED.encode()),
     Input("96 registers of tpm2_pcrread after another bank", printed_of_size, (
         "expected input", "expected --registers 0-10 input",
@@ -190,6 +204,13 @@ def many_entries(size, entry, file):
     count = size // len(entry.spelling())
     file.write_bytes(entry.spelling() * count)
     return [entry] * count
+
+
+def booted(log, event, matching):
+    """What `boot` answers on a log of an event again and again."""
+    lines = [line.text for line in Boot(log._replace(events=[event]), matching).lines()]
+    return "".join(f"{again}\n" for line in lines for again in (
+        (line.replace("image 1 ", f"image {number} ", 1) for number in range(1, len(log.events) + 1)) if line.startswith("image 1 ") else [line]))
 
 
 def answer_of(judged):
@@ -251,7 +272,8 @@ class Limits(harness.TestCase):
         """Each input by each command, of sizes up to the limit and just above it; a longer one by one command alone, but by each function."""
         shorter = self.folder()
         for each in (self.room, shorter):
-            files = {"L": LOG.spelling(), "list": list_spelling(ENTRIES), "expected": EXPECTED.encode(), "f": b"abc", "quote": QUOTE}
+            files = {"L": LOG.spelling(), "list": list_spelling(ENTRIES), "expected": EXPECTED.encode(), "f": b"abc", "quote": QUOTE,
+                     "short": KNOWN}
             for name, data in files.items():
                 (each / name).write_bytes(data)
         for size in SIZES:
@@ -277,6 +299,7 @@ class Limits(harness.TestCase):
                 "registers log": (0, registers.text()),
                 "events log": (0, Log(BANK, []).text() + "".join(map(line.format, numbers))),
                 "verify log list expected": answer_of(verdict(log, [], rows)),
+                "boot --expected expected log": (0, booted(log, event, {(SHA256, row.register) for row in rows})),
             })
         log, spelling = many_events(30 * MEBIBYTE, event)
         (self.room / "hexadecimal").write_bytes(spelling.hex().encode())

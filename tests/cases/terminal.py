@@ -31,6 +31,8 @@ import harness  # noqa: E402
 from answers import Answer, fault_of  # noqa: E402
 from reference.attestations import NotAttested, require_asked_for  # noqa: E402
 from reference.command_line import read_words  # noqa: E402
+from reference.faults import Fault  # noqa: E402
+from reference.known_files import read_known  # noqa: E402
 from reference.log import Log  # noqa: E402
 from reference.quotes import read_quote  # noqa: E402
 from reference.registers import SHA256  # noqa: E402
@@ -56,13 +58,14 @@ INPUTS = {
     "key": ["key"],
     "registers": ["log"],
     "events": ["log"],
+    "boot": ["log"],
     "show": ["list"],
     "replay": ["list", "expected"],
 }
 
 # The sentences of docs/formats.md's tables of faults, by number; those of expected registers from 4 on name no line.
-LOG, LIST, REPLAY, EXPECTED, QUOTE, KEY, CHECKPOINT, BOOK = map(
-    form.sentences_of, ("Log", "List", "Replay", "Expected", "Quote", "Key", "Checkpoint", "Book"))
+LOG, LIST, REPLAY, EXPECTED, KNOWN, QUOTE, KEY, CHECKPOINT, BOOK = map(
+    form.sentences_of, ("Log", "List", "Replay", "Expected", "Known", "Quote", "Key", "Checkpoint", "Book"))
 
 # What clap says of wrong arguments, or the program in its form where clap takes them.
 MORE = "\nFor more information, try '--help'.\n"
@@ -80,6 +83,8 @@ USAGES = [
     *((["events", "--explain", other, "L"], f"error: the argument '--explain' cannot be used with '{other}'\n") for other in ("--data", "--json")),
     *((["events", *more, "--expected", "E", "L"],
        "error: the argument '--expected <EXPECTED>' cannot be used without '--explain' or '--json'\n") for more in ([], ["--data"])),
+    *(([*words, "--known", "K"], "error: the argument '--known <FILE>' cannot be used without '--require'\n")
+      for words in (["verify", "L", "M", "N"], ["replay", "L", "M"], ["replay", "L"])),
     (["key", "--print", "ascii", "L"],
      f"error: invalid value 'ascii' for '--print <P>'\n  [possible values: all, name, pem]\n{MORE}"),
     (["\x1b[31m\nred"], f"error: unrecognized subcommand '\\x1b[31m\\x0ared'\n\nUsage: ima-agent <COMMAND>\n{MORE}"),
@@ -208,6 +213,8 @@ def fault_in_words(line, words, folder):
         return inputs["expected"], EXPECTED[int(found[1])]
     if found := re.fullmatch(r"refused: expected fault (\d+) at line (\d+)", line):
         return inputs["expected"], f"line {found[2]}: {EXPECTED[int(found[1])]}"
+    if found := re.fullmatch(r"refused: known fault (\d+) at line (\d+)", line):
+        return refused_known(words, folder), f"line {found[2]}: {KNOWN[int(found[1])]}"
     if found := re.fullmatch(r"refused: quote fault (\d+)", line):
         return inputs["quote"], quote_sentence(int(found[1]), words, folder)
     if found := re.fullmatch(r"refused: key fault (\d+)", line):
@@ -222,13 +229,23 @@ def fault_in_words(line, words, folder):
     raise ValueError(f"not the line of a fault: {line}")
 
 
+def refused_known(words, folder):
+    """The name of the first file of known digests that is refused."""
+    for name in read_words(words).values["--known"]:
+        try:
+            read_known((folder / name).read_bytes())
+        except Fault:
+            return name
+    raise ValueError("each file of known digests is taken")
+
+
 def quote_sentence(number, words, folder):
     """The sentence of a fault of a quote. Of the last the table calls `R` what is told: the first register that is not selected."""
     if number < max(QUOTE):
         return QUOTE[number]
     asked = read_words(words)
     try:
-        require_asked_for(read_quote((folder / asked.names[2]).read_bytes()), bytes.fromhex(asked.values["--nonce"]),
+        require_asked_for(read_quote((folder / names_of(words)[0]["quote"]).read_bytes()), bytes.fromhex(asked.values["--nonce"]),
                           read_requirement(asked.values["--require"]))
     except NotAttested as cause:
         return QUOTE[number].replace(" R ", f" {cause.args[2]} ")
@@ -241,8 +258,12 @@ def names_of(words):
         return {"log": "standard input"}, []
     asked = read_words(words)
     kinds = INPUTS[asked.command]
-    named = {"checkpoint": asked.values.get("--resume"), "expected": asked.values.get("--expected")}
-    return {**named, **dict(zip(kinds, asked.names))}, asked.names[len(kinds):]
+    named = {"checkpoint": "--resume", "expected": "--expected", "quote": "--quote", "list": "--list"}
+    named = {kind: asked.values.get(option) for kind, option in named.items()}
+    inputs = {**named, **dict(zip(kinds, asked.names))}
+    if asked.values.get("--before") is not None:
+        inputs["log"] = None  # (the fault of either log names none)
+    return inputs, asked.names[len(kinds):]
 
 
 def unread(name, folder):

@@ -73,6 +73,8 @@ def wanted_lines(shell):
             if choices and shell == "bash":
                 yield ["ima-agent", name, option, "=", choices[0]], [each for each in choices if each.startswith(choices[0])]
     yield ["ima-agent", "verify", "--save", "f"], ["firmware.log"]
+    yield ["ima-agent", "verify", "--known", "known", "--kn"], ["--known"]
+    yield ["ima-agent", "boot", "--before", "f"], ["firmware.log"]
     yield ["ima-agent", "measure", "--print", "registers", "--al"], ["--alg"]
     yield ["ima-agent", "verify", "--", "i"], ["ima.list"]
 
@@ -96,9 +98,9 @@ def try_zsh(share, folder):
     if offered_first != {*COMMANDS, *asked_of_program()}:
         yield f"zsh: offers {sorted(offered_first)} at first"
     for name, command in COMMANDS.items():
-        told = dict(re.match(r"(--[a-z0-9-]+)=?\[.*\](?::[a-z0-9-]+:(?:\((.*)\))?.*)?$", line).groups()
-                    for line in zsh_specifications(share, folder, ["ima-agent", name, ""]) if line.startswith("--"))
-        wanted = {option: " ".join(choices_of(row) or []) or None for option, row in command.options.items()}
+        told = dict(re.match(r"(\*?--[a-z0-9-]+)=?\[.*\](?::[a-z0-9-]+:(?:\((.*)\))?.*)?$", line).groups()
+                    for line in zsh_specifications(share, folder, ["ima-agent", name, ""]) if line.startswith(("--", "*--")))
+        wanted = {("*" if row.is_repeated else "") + option: " ".join(choices_of(row) or []) or None for option, row in command.options.items()}
         if told != wanted:
             yield f"zsh: {name}: tells {told}, and not {wanted}"
 

@@ -38,14 +38,14 @@ def event(register, kind, data):
 LAST_EVENT = event(14, EV_IPL, b"shim")
 
 
-def message_of(digest, counts=(0, 0)):
-    """The message of a quote of the registers that are selected here, with the TPM's counts of resets and restarts."""
+def message_of(digest, counts=(0, 0), selected=SELECTED):
+    """The message of a quote of these registers, with the TPM's counts of resets and restarts."""
     signer, times = bytes.fromhex("000b") + bytes(range(32)), b"".join(count.to_bytes(4, "big") for count in counts)
     clock = bytes(range(8)) + times + b"\1" + bytes(8)
-    maps = ((bank, sum(1 << register for register in registers).to_bytes(3, "little")) for bank, registers in SELECTED)
+    maps = ((bank, sum(1 << register for register in registers).to_bytes(3, "little")) for bank, registers in selected)
     selections = b"".join(bank.identifier.to_bytes(2, "big") + b"\3" + bits for bank, bits in maps)
     sized = (len(each).to_bytes(2, "big") + each for each in (signer, NONCE))
-    return HEAD + b"".join(sized) + clock + len(SELECTED).to_bytes(4, "big") + selections + len(digest).to_bytes(2, "big") + digest
+    return HEAD + b"".join(sized) + clock + len(selected).to_bytes(4, "big") + selections + len(digest).to_bytes(2, "big") + digest
 
 
 def values_after(log, listed):

@@ -90,6 +90,7 @@ KINDS = {
 }
 # What a function takes beside the inputs: a requirement, and its form.
 NOTHING_REQUIRED, AS_TEXT, OF_LOG = b"none", False, False
+NO_KNOWN, KNOWN_IS_NOT_GIVEN = b"", False
 NO_STATE, SHA1_IS_NOT_TAKEN, IS_SIGNED, OF_WHOLE = b"", False, True, False
 ENTRIES = Call("entries", [], None, AS_TEXT, False)
 DAMAGES = {
@@ -105,12 +106,13 @@ def library_answer(library, function, inputs):
             return entries_answer(library, *inputs)
         if function == "attest":
             log, *others = inputs
-            return library.ask_by_quote([log, NO_STATE, *others], SHA1_IS_NOT_TAKEN, IS_SIGNED, OF_WHOLE, AS_TEXT)[:2]
+            inputs = [log, NO_STATE, *others, NO_KNOWN]
+            return library.ask_by_quote(inputs, KNOWN_IS_NOT_GIVEN, SHA1_IS_NOT_TAKEN, IS_SIGNED, OF_WHOLE, AS_TEXT)[:2]
         if function in ("key", "endorsement key"):
             return library.ask_for_key(*inputs, function != "key", AS_TEXT)
         if function == "registers":
             return library.ask(function, inputs, [OF_LOG, AS_TEXT], ROOM)[:2]
-        return library.ask(function, [*inputs, NOTHING_REQUIRED], [AS_TEXT], ROOM)[:2]
+        return library.ask(function, [*inputs, NOTHING_REQUIRED, NO_KNOWN], [KNOWN_IS_NOT_GIVEN, AS_TEXT], ROOM)[:2]
     except Unlike as cause:
         return None, f"not answered: {cause}".encode()
 

@@ -1,13 +1,16 @@
 """Events of random logs: data of each form as a list of fields, which are then changed at random; types that fit or not; digests that are hashes of
-parts of the data or not; and expected registers, some of which match."""
+parts of the data or not; and expected registers, some of which match. Short logs have events as a boot has them, of which a few are changed."""
 
 from typing import NamedTuple
 from uuid import UUID
 
+from boots import message_of
+from reference.checkpoint import before_a_list
 from reference.event_data import COMMANDS, command_in, variable_in
 from reference.fields import number
 from reference.log import EV_NO_ACTION, TYPE_NAMES, Event, Log
-from reference.registers import ALGORITHMS, BY_IDENTIFIER, REGISTERS
+from reference.measurement_list import BOOT_AGGREGATE, IMA_NG, entry_of, list_spelling
+from reference.registers import ALGORITHMS, BY_IDENTIFIER, REGISTERS, SHA256
 from reference.variable_values import AUTHORITIES, EV_EFI_VARIABLE_AUTHORITY, FLAGS, GLOBAL, IMAGE_SECURITY, LISTS, SHIM
 
 VARIABLES = (0x80000001, 0x80000002, 0x8000000C, 0x800000E0, 0x800000E3, 0x800000E4)
@@ -24,6 +27,9 @@ NODES = {(1, 1): 2, (1, 3): 20, (1, 5): 4, (2, 1): 8, (3, 2): 4, (3, 5): 2, (3, 
 VENDORS = ((1, 4), (3, 10), (4, 3))
 ACPI = (0x0A0341D0, 0x0A0841D0, 0x060441D0, 0x030141D0, 0x050141D0, 0x040141D0, 0xA5B641D0, 0)
 END, END_OF_ONE = b"\x7f\xff\x04\0", b"\x7f\x01\x04\0"
+# What may stand in a command line beside letters.
+WORDS = ("ima_policy=tcb", "ima_tcb", "ima_policy=tcb|fail", "ima_policy=x", "ima-policy=tcb", "ima_appraise_tcb", "ima_tcb=", "quiet", "--", '"', "")
+BETWEEN = (" ", " ", " ", "  ", "\t", '"', "\u00a0", "x")
 
 
 class Form(NamedTuple):
@@ -235,6 +241,75 @@ def random_event(chance, declared, is_whole=False):
     return Event(register, kind, digests, data)
 
 
+def command_line(chance):
+    return "".join(chance.choice(WORDS) + chance.choice(BETWEEN) for _ in range(chance.choice((0, 1, 2, 4)))).strip(chance.choice((" ", "")))
+
+
+def loader_text(chance):
+    """A text that a boot loader measures: the register, the data, and the bytes that are hashed."""
+    text = command_line(chance) if chance.random() < 0.9 else word(chance)
+    if chance.random() < 0.3:
+        data = b"".join(wide_text(chance)) if chance.random() < 0.2 else text.encode("utf-16-le") + b"\0\0"
+        return chance.choice((12, 12, 8)), data, data
+    return 8, chance.choice([*COMMANDS.values()]) + text.encode() + b"\0", text.encode()
+
+
+def setting(chance):
+    """A variable in register 1."""
+    data = b"".join(variable(chance))
+    found = variable_in(data)
+    return 1, data, found.value if found and chance.random() < 0.8 else data
+
+
+def policy(chance):
+    """A variable in register 7, which may be SecureBoot."""
+    name, flag = "SecureBoot".encode("utf-16-le"), chance.choice((b"\0", b"\1", b"\1", b"\2", b""))
+    secure_boot = b"".join([UUID(GLOBAL).bytes_le, number(len(name) // 2, 8), number(len(flag), 8), name, flag])
+    data = chance.choice((secure_boot, secure_boot, b"".join(variable(chance))))
+    return 7, data, data
+
+
+def version(chance):
+    data = chance.choice((b"".join(text(chance)), b"".join(wide_text(chance)), guid(chance)))
+    return 0, data, data
+
+
+def program(chance):
+    """An image, whose data is not measured, or an action."""
+    if chance.random() < 0.5:
+        return 4, b"".join(image(chance)), b"image %d" % chance.randrange(4)
+    data = b"".join(text(chance))
+    return 4, data, data
+
+
+def separator(chance):
+    data = number(chance.choice((0, 0, 0, 1, 0xFFFFFFFF, 2)))
+    return chance.choice((0, 1, 4, 7, 8, 12)), data, data
+
+
+def boot_event(chance, declared):
+    """An event as a boot has it, of which now and then another is shown, or another was hashed, in all banks or in one."""
+    register, data, hashed = chance.choice((loader_text, loader_text, setting, policy, version, program, separator))(chance)
+    if chance.random() < 0.05:
+        data = changed(chance, [data])
+    if chance.random() < 0.05:
+        hashed = b"other"
+    digests = {identifier: digest(chance, identifier, size, hashed) if chance.random() < 0.1 else BY_IDENTIFIER[identifier].hash(hashed)
+               for identifier, size in declared.items()}
+    return Event(register, chance.choice((1, 4, 5, 13, 0x80000001, 0x80000002, 0x80000003)), digests, data)
+
+
+def random_boots(chance, events):
+    """A log of at most so many events as a boot has them, and an earlier one, which has most of them."""
+    algorithms = chance.sample(ALGORITHMS[1:], chance.choice((1, 1, 2))) + chance.sample(ALGORITHMS[:1], chance.choice((0, 1)))
+    declared = {it.identifier: it.size for it in algorithms}
+    log = Log(declared, [boot_event(chance, declared) for _ in range(chance.randrange(events + 1))])
+    earlier = [event for event in log.events if chance.random() < 0.95]
+    if chance.random() < 0.5:
+        earlier.insert(chance.randrange(len(earlier) + 1), boot_event(chance, declared))
+    return log, log._replace(events=earlier)
+
+
 def random_log(chance, events, is_whole=False):
     """A log of so many events, with one bank or several."""
     algorithms = chance.sample(ALGORITHMS, chance.choice((1, 2, 4)))
@@ -242,13 +317,29 @@ def random_log(chance, events, is_whole=False):
     return Log(declared, [random_event(chance, declared, is_whole) for _ in range(events)])
 
 
-def random_expected(chance, log):
-    """The text of expected registers: some of the log's, of which some do not match, and now and then of a bank that it has not."""
+def random_expected(chance, log, share=0.7):
+    """The text of expected registers: such a share of the log's, of which as many match, and now and then of a bank that it has not."""
     lines = []
     for algorithm, register, found in log.registers().rows():
-        if chance.random() < 0.7:
-            shown = found if chance.random() < 0.7 else bytes(algorithm.size)
+        if chance.random() < share:
+            shown = found if chance.random() < share else bytes(algorithm.size)
             lines.append(f"{algorithm.name} {register} {shown.hex()}\n")
     others = [it for it in ALGORITHMS if it not in log.algorithms]
     lines += [f"{it.name} 1 {bytes(it.size).hex()}\n" for it in others[:1] if chance.random() < 0.3]
     return "".join(lines)
+
+
+def random_quote(chance, log):
+    """A list that begins after the log, the message of a quote of both, now and then of other values, and the registers that have to be quoted."""
+    bank, *_ = banks = chance.sample(log.algorithms, len(log.algorithms))
+    listed = [entry_of(IMA_NG, bank, log.registers().boot_aggregate(bank), BOOT_AGGREGATE)]
+    after = before_a_list(log.registers()).following(listed).after
+    others = [it for it in banks[1:] if chance.random() < 0.5]
+    selected = [(bank, (*range(11), *further_registers(chance))), *((it, further_registers(chance)) for it in others)]
+    values = [after.value(it, register) for it, registers in selected for register in registers]
+    values += [b"other"] if chance.random() < 0.1 else []
+    return list_spelling(listed), message_of(SHA256.hash(b"".join(values)), selected=selected), f"{bank.name}:0-10"
+
+
+def further_registers(chance):
+    return [register for register in range(11, REGISTERS) if chance.random() < 0.5]

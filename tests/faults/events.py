@@ -4,9 +4,10 @@ with turned, missing and other bytes and numbers at boundaries; types that fit o
 
 tests/faults/events.py [--events N] [PROGRAM]: 5,000 events, or so many, in logs of 100, and by default the program that was built in this tree.
 
-Each log is shown with `--json` and `--explain`, without expected registers and with some that match. Each form of content, and each mark, must be
-among the answers. What tpm2_eventlog of tpm2-tools prints of events that are not damaged, and of the samples, must be what the program says of them,
-where both read the data. The script counts events."""
+Each log is shown with `--json` and `--explain`, without expected registers and with some that match, or with a quote; and `boot` answers on it. Each form of content,
+and each mark, must be among the answers. So must be each answer of `boot` on short logs with the events of a boot, and on an earlier log. What
+tpm2_eventlog of tpm2-tools prints of events that are not damaged, and of the samples, must be what the program says of them, where both read the
+data. The script counts events and boots."""
 
 import argparse
 import json
@@ -25,7 +26,8 @@ from pathlib import Path
 sys.path[:0] = [str(Path(__file__).resolve().parents[1])]
 import harness  # noqa: E402
 import reference  # noqa: E402
-from event_forms import random_expected, random_log  # noqa: E402
+from boots import NONCE  # noqa: E402
+from event_forms import random_boots, random_expected, random_log, random_quote  # noqa: E402
 from harness import ROOT  # noqa: E402
 from reference.json_texts import json_text  # noqa: E402
 from reference.variable_values import OPTION_NAME  # noqa: E402
@@ -35,13 +37,20 @@ parser.add_argument("--events", type=int, default=5000)
 parser.add_argument("program", nargs="?", type=Path, default=harness.PROGRAM)
 ASKED = parser.parse_args()
 EVENTS_OF_A_LOG, LEAST_WHOLE_LOGS = 100, 10
+EVENTS_OF_A_BOOT, BOOTS_OF_A_LOG = 12, 10
 SAMPLES = [ROOT / "samples" / name for name in ("real-boot/firmware.log", "ovmf-boot/secure-boot.log", "ovmf-boot/systemd-boot.log")]
-COMMANDS = [["events", form, *expected, "log"] for form in ("--json", "--explain") for expected in ([], ["--expected", "expected"])]
+EXPECTED = ["--expected", "expected"]
+QUOTED = ["--quote", "quote", "--list", "list", "--nonce", NONCE.hex(), "--sha1", "--require"]
 # What has to be among the answers: members of contents and of variables, and marks of explained events.
 MEMBERS = {"separator", "text", "text_hex", "guid", "command", "variable", "image", "gpt", "blob", "tagged", "locality", "unknown",
            "name", "name_hex", "flag", "order", "option", "lists", "signature", "path", "path_hex", "description", "description_hex"}
 MARKS = {"claimed", "confirmed data", "confirmed value", "confirmed command", "measured"}
 MARK = re.compile(r"^\d+ \d+ \w+ (claimed|confirmed \w+|measured)", re.MULTILINE)
+# What has to be among the answers of `boot`, without their numbers, digests and JSON.
+ANSWERS = {"secure_boot on", "secure_boot off", "secure_boot unknown", "firmware_version", "firmware_version unknown", "image N", "image unknown",
+           "command N N", "command unknown N", "command unknown N N", "ima_policy asked", "ima_policy possible", "ima_policy none",
+           "ima_policy unknown", "boot_variable N", "boot_variable unknown", "register N alike all", "register N alike unknown",
+           "register N alike N", "register N now N", "register N before N"}
 TOOL = "tpm2_eventlog"
 TOOL_TYPES = {"EV_EFI_VARIABLE_DRIVER_CONFIG", "EV_EFI_VARIABLE_BOOT", "EV_EFI_VARIABLE_BOOT2", "EV_EFI_VARIABLE_AUTHORITY",
               "EV_EFI_BOOT_SERVICES_APPLICATION", "EV_EFI_BOOT_SERVICES_DRIVER", "EV_EFI_RUNTIME_SERVICES_DRIVER", "EV_EFI_GPT_EVENT",
@@ -74,19 +83,64 @@ def told_in(words, text):
     return [name for line in text.splitlines()[1:] for name in members_in(json.loads(line)["content"])]
 
 
+def answers_in(text):
+    """The answers of `boot` in its text, without their numbers, banks, digests and JSON."""
+    lines = (re.sub(r" (?:sha\d+ )?[0-9a-f]{64,}| sha\d+(?= alike)| claimed.*| {.*", "", line) for line in text.decode().splitlines())
+    return [re.sub(r"\b\d+\b", "N", line) for line in lines]
+
+
+def answers(commands, folder, told_by, seed):
+    """How often the answers of commands have what, and what is wrong with them."""
+    told, wrong = Counter(), []
+    for words in commands:
+        found, wanted = answer_of(words, folder), reference.answer(words, folder)
+        told.update(told_by(words, wanted[1]))
+        wrong += [f"seed {seed}, {' '.join(words)}: {difference(found, wanted)}"] if found != wanted else []
+    return told, wrong
+
+
+def events_by(required):
+    """The commands that show events, where a quote has to be of these registers."""
+    return [["events", form, *confirming, "log"] for form in ("--json", "--explain") for confirming in ([], EXPECTED, *by_quote(required))]
+
+
+def boots_by(required):
+    """Those of `boot`."""
+    return [["boot", *form, *confirming, *before, "log"] for form in ([], ["--json"]) for confirming in (EXPECTED, *by_quote(required))
+            for before in ([], ["--before", "before"])]
+
+
+def by_quote(required):
+    return [[*QUOTED, required, *checked] for checked in ([], ["--signature-checked"])]
+
+
 def compared(seed):
-    """How often a log made from this seed has which members and marks, and what is wrong."""
+    """How often a log made from this seed has which members and marks, how often short ones have which answers, and what is wrong with either."""
     chance = random.Random(seed)
     log = random_log(chance, EVENTS_OF_A_LOG)
-    told, wrong = Counter(), []
     with tempfile.TemporaryDirectory() as folder:
-        Path(folder, "log").write_bytes(log.spelling())
-        Path(folder, "expected").write_text(random_expected(chance, log))
-        for words in COMMANDS:
-            found, wanted = answer_of(words, folder), reference.answer(words, folder)
-            told.update(told_in(words, wanted[1]))
-            wrong += [f"seed {seed}, {' '.join(words)}: {difference(found, wanted)}"] if found != wanted else []
-    return told, wrong
+        earlier = log._replace(events=[event for event in log.events if chance.random() < 0.99])
+        required = put(folder, chance, log, earlier)
+        told, wrong = answers(events_by(required), folder, told_in, seed)
+        wrong += answers(boots_by(required), folder, lambda *_: [], seed)[1]
+        boots, others = Counter(), []
+        for _ in range(BOOTS_OF_A_LOG):
+            log, earlier = random_boots(chance, EVENTS_OF_A_BOOT)
+            required = put(folder, chance, log, earlier, 0.9)
+            found = answers(boots_by(required), folder, lambda words, text: [] if "--json" in words else answers_in(text), seed)
+            boots, others = boots + found[0], others + found[1]
+    return (told, wrong), (boots, others)
+
+
+def put(folder, chance, log, earlier, share=0.7):
+    """Makes the files that the commands name, and returns which registers the quote has to be of."""
+    listed, message, required = random_quote(chance, log)
+    Path(folder, "log").write_bytes(log.spelling())
+    Path(folder, "before").write_bytes(earlier.spelling())
+    Path(folder, "expected").write_text(random_expected(chance, log, share))
+    Path(folder, "list").write_bytes(listed)
+    Path(folder, "quote").write_bytes(message)
+    return required
 
 
 def tool_events(file):
@@ -200,13 +254,18 @@ def is_plain(line):
 
 class Events(harness.TestCase):
     def test_answers(self):
-        seeds, told, wrong = range(-(-ASKED.events // EVENTS_OF_A_LOG)), Counter(), []
+        seeds = range(-(-ASKED.events // EVENTS_OF_A_LOG))
         with ProcessPoolExecutor(os.cpu_count()) as pool:
-            for found in pool.map(compared, seeds):
-                told, wrong = told + found[0], wrong + found[1]
-        shown = ", ".join(f"{name} {told[name]}" for name in sorted(MEMBERS | MARKS))
-        self.check_all(f"events: {shown}", len(seeds) * EVENTS_OF_A_LOG - len(wrong), wrong)
-        self.check("each form of content and each mark is among the answers", (MEMBERS | MARKS) - set(told), set())
+            found = [*pool.map(compared, seeds)]
+        self.of_all("events", [events for events, _ in found], len(seeds) * EVENTS_OF_A_LOG, MEMBERS | MARKS)
+        self.of_all("boots", [boots for _, boots in found], len(seeds) * BOOTS_OF_A_LOG, ANSWERS)
+
+    def of_all(self, what, found, count, needed):
+        """Counts what was found of all that was made, among which each of these has to be."""
+        told, wrong = sum((each for each, _ in found), Counter()), [fault for _, faults in found for fault in faults]
+        shown = ", ".join(f"{name} {told[name]}" for name in sorted(needed))
+        self.check_all(f"{what}: {shown}", count - len(wrong), wrong)
+        self.check(f"{what}: each answer that there is is among these", needed - set(told), set())
 
     def test_tool(self):
         """What tpm2_eventlog reads is what the program says"""

@@ -27,7 +27,7 @@
 #include <sys/stat.h>
 #include <unistd.h>
 
-enum { MOST_BLOCKS = 1 << 16, MOST_TURNS = 100000, MOST_INPUTS = 6, MARGIN = 64, FREED = 0xdd, UNUSED = 0xa7, LINE = 256 };
+enum { MOST_BLOCKS = 1 << 16, MOST_TURNS = 100000, MOST_INPUTS = 7, MARGIN = 64, FREED = 0xdd, UNUSED = 0xa7, LINE = 256 };
 
 struct answer {
     enum ima_verify_result result;
@@ -191,7 +191,7 @@ static int inputs_of(const char *function) {
                      {"key", 1}};
     for (size_t i = 0; i < sizeof functions / sizeof functions[0]; i++)
         if (is(function, functions[i].name))
-            return functions[i].inputs;
+            return functions[i].inputs + has(function, ":known");
     return 0;
 }
 
@@ -218,23 +218,33 @@ static enum ima_verify_result call(const char *function, const struct ima_verify
         return ima_verify_expected(in[0], in[1], form, out);
     if (is(function, "replay")) {
         struct ima_verify_evidence evidence = {.list = in[0], .expected = in[1], .require = in[2]};
+        if ((evidence.judges_known = has(function, ":known")))
+            evidence.known = in[3];
         return ima_verify_replay(&evidence, form, out);
     }
     if (is(function, "more")) {
         struct ima_verify_evidence evidence = {.log = in[0], .list = in[2], .expected = in[3], .require = in[4]};
+        if ((evidence.judges_known = has(function, ":known")))
+            evidence.known = in[5];
         return ima_verify_more(&evidence, in[1], has(function, ":prefix"), form, next, out);
     }
     if (is(function, "attest")) {
         struct ima_verify_quoted quoted = {.log = in[0], .list = in[1], .message = in[2], .nonce = in[3], .require = in[4]};
         quoted.signature_checked = has(function, ":signed");
+        if ((quoted.judges_known = has(function, ":known")))
+            quoted.known = in[5];
         return ima_verify_attest(&quoted, form, out);
     }
     if (is(function, "attest_more")) {
         struct ima_verify_quoted quoted = {.log = in[0], .list = in[2], .message = in[3], .nonce = in[4], .require = in[5]};
         quoted.signature_checked = has(function, ":signed");
+        if ((quoted.judges_known = has(function, ":known")))
+            quoted.known = in[6];
         return ima_verify_attest_more(&quoted, in[1], has(function, ":prefix"), form, next, out);
     }
     struct ima_verify_evidence evidence = {.log = in[0], .list = in[1], .expected = in[2], .require = in[3]};
+    if ((evidence.judges_known = has(function, ":known")))
+        evidence.known = in[4];
     return is(function, "verdict") ? ima_verify_verdict(&evidence, form, out) : ima_verify_locate(&evidence, form, out);
 }
 
@@ -266,7 +276,7 @@ static bool has_text(struct ima_verify_bytes text, const struct room *room, bool
 
 /* The fault that a line says. */
 static struct ima_verify_fault fault_in(struct ima_verify_bytes line) {
-    static const char *const kinds[] = {"", "command", "log", "list", "replay", "expected", "checkpoint", "", "quote", "key"};
+    static const char *const kinds[] = {"", "command", "log", "list", "replay", "expected", "checkpoint", "", "quote", "key", "known"};
     struct ima_verify_fault fault = {IMA_VERIFY_NO_FAULT, 0, IMA_VERIFY_NO_PLACE};
     char text[LINE] = "", kind[LINE] = "";
     unsigned number = 0;

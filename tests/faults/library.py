@@ -47,7 +47,8 @@ ELSEWHERE |= {"mmap", "munmap", "mremap", "brk", "sbrk", "strdup", "strndup"}
 
 @dataclass
 class Case:
-    """A function, as library.c names it, what it is given, and the files of that, of which the last may have an option's value."""
+    """A function, as library.c names it, what it is given, and the files of that, of which the last may have an option's value, or after that
+    known digests."""
 
     function: str
     title: str
@@ -55,12 +56,12 @@ class Case:
 
     @property
     def name(self):
-        """The function without the form."""
-        return self.function.replace(":json", "")
+        """The function without the form, and without known digests."""
+        return self.function.replace(":json", "").replace(":known", "")
 
     def is_json(self):
         """Whether the answer has this form, of which alone events are."""
-        return self.name != self.function or self.name == "events"
+        return ":json" in self.function or self.name == "events"
 
     def is_more(self):
         """Whether the function gives a checkpoint too."""
@@ -71,23 +72,24 @@ class Case:
 
     def words(self, save):
         """What asks the program for the same, and to save a checkpoint, if there is one, in that file."""
-        json = ["--json"] if self.is_json() else []
+        inputs, known = (self.inputs[:-1], [f"--known={self.inputs[-1]}"]) if ":known" in self.function else (self.inputs, [])
+        json = [*(["--json"] if self.is_json() else []), *known]
         flags = ["--prefix"] if ":prefix" in self.function else []
         flags += [f"--save={save}"] if self.is_more() else []
         if self.is_by_quote():
-            log, *state, listed, message, nonce, require = self.inputs
+            log, *state, listed, message, nonce, require = inputs
             flags += ["--signature-checked"] if ":signed" in self.function else []
             flags += [f"--resume={it}" for it in state if it.read_bytes()]
             nonce = f"--nonce={nonce.read_bytes().hex()}"
             return ["attest", *json, *flags, nonce, *option_of("--require", require), log, listed, message]
         if self.is_more():
-            log, state, listed, expected, require = self.inputs
+            log, state, listed, expected, require = inputs
             flags += [f"--resume={state}"] if state.read_bytes() else []
             return ["verify", *json, *flags, *option_of("--require", require), log, listed, expected]
         command = [*COMMANDS.get(self.name, self.name).split(), *json]
         if self.name not in OPTIONS:
-            return [*command, *self.inputs]
-        *files, value = self.inputs
+            return [*command, *inputs]
+        *files, value = inputs
         return [*command, *option_of(OPTIONS[self.name], value), *files]
 
     def rooms(self, text):
@@ -130,7 +132,7 @@ def made_files(folder, program):
     log, listed, expected = ((boot / name).read_bytes() for name in ("firmware.log", "ima.list", "expected.txt"))
     message, nonce = ((ROOT / "samples/quoted" / name).read_bytes() for name in ("quote.msg", "nonce"))
     area, curve, endorsement = ((ROOT / "samples/keys" / name).read_bytes() for name in ("ak-rsassa.pub", "ak-p521.pub", "ek-rsa.pub"))
-    nonce = bytes.fromhex(nonce.decode())
+    nonce, known = bytes.fromhex(nonce.decode()), (ROOT / "samples/known/SHA256SUMS").read_bytes()
     made = {
         "log": log,
         "one event": bytes.fromhex((ROOT / "samples/one-event.hex").read_text()),
@@ -163,6 +165,10 @@ def made_files(folder, program):
         "cut area": area[:-1],
         "longer area": area + b"\0",
         "endorsement": endorsement,
+        "known": known,
+        "known without line end": known[:-1],
+        "few known": b"".join(known.splitlines(True)[:3]),
+        "weak": known + b"0" * 40 + b"  a\n",
         "low": b"sha256:0-10",
         "all": b"sha256:0-23",
         "ten": b"sha256:10",
@@ -184,9 +190,9 @@ def made_files(folder, program):
     files["damaged"].write_bytes(text[:-2])
     files["quoted"] = folder / "quoted"
     files["quoted"].write_bytes(attest_report(log, listed, message, nonce, "sha256:0-10").next)
-    known = read_checkpoint(files["quoted"].read_bytes())
+    quoted = read_checkpoint(files["quoted"].read_bytes())
     files["other counts"] = folder / "other-counts"
-    files["other counts"].write_bytes(known._replace(boot=(known.boot[0], known.boot[1] + 1)).text())
+    files["other counts"].write_bytes(quoted._replace(boot=(quoted.boot[0], quoted.boot[1] + 1)).text())
     files["other version"].write_bytes(text.replace(b"checkpoint 3", b"checkpoint 2"))
     return files
 
@@ -271,6 +277,38 @@ CASES = (
         ("an empty requirement", "list", "tenth", "empty"),
         ("a requirement that names none", "list", "tenth", "no registers"),
         ("a list that is cut short", "cut list", "tenth", "ten"),
+    )),
+    (("verdict:known",), BOTH, (
+        ("the real boot", "log", "list", "expected", "all", "known"),
+        ("the real boot, and few known files", "log", "list", "expected", "ten", "few known"),
+        ("the real boot, and no known file", "log", "list", "expected", "ten", "empty"),
+        ("a digest by SHA-1", "cut log", "list", "expected", "ten", "weak"),
+        ("known files that are none", "log", "cut list", "expected", "ten", "expected"),
+    )),
+    (("verdict:known",), ("",), (
+        ("known files without registers that are required", "log", "list", "expected", "none", "known"),
+    )),
+    (("replay:known",), BOTH, (
+        ("the real boot", "list", "tenth", "ten", "known without line end"),
+        ("the real boot, and no known file", "list", "tenth", "ten", "empty"),
+        ("known files that are none", "cut list", "tenth", "ten", "list"),
+    )),
+    (("more:known", "more:known:prefix"), BOTH, (
+        ("the real boot", "log", "empty", "list", "expected", "ten", "known"),
+        ("what follows a checkpoint", "log", "checkpoint", "rest", "expected", "all", "known"),
+        ("more than that, and no known file", "log", "checkpoint", "rest and more", "expected", "ten", "empty"),
+        ("a digest by SHA-1", "one event", "checkpoint", "rest", "expected", "ten", "weak"),
+        ("a damaged checkpoint, and a digest by SHA-1", "log", "damaged", "rest", "expected", "ten", "weak"),
+    )),
+    (("attest:signed:known",), BOTH, (
+        ("the real boot", "log", "list", "message", "nonce", "low", "known"),
+        ("the real boot, and no known file", "log", "list", "message", "nonce", "low", "empty"),
+        ("known files that are none", "log", "list", "message", "nonce", "low", "message"),
+    )),
+    (("attest_more:signed:known", "attest_more:signed:known:prefix"), BOTH, (
+        ("a longer list", "log", "empty", "longer list", "message", "nonce", "low", "known"),
+        ("nothing after a checkpoint", "log", "quoted", "empty", "message", "nonce", "low", "few known"),
+        ("a digest by SHA-1", "one event", "quoted", "empty", "message", "nonce", "low", "weak"),
     )),
     (("expected",), BOTH, (
         ("what was printed", "printed", "empty"),

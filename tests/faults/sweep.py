@@ -13,9 +13,9 @@ call does count, since nothing outside shows where that begins.
 Each crate of crates.txt that has such tests in its sources must have its binary, which must list just these. The help of the program and
 of each command must be among the commands, with a file of its case that it has to be, and so must each command with `--json`.
 
-Commands are of one kind if they have the same word, options and status, as many names (three or more are alike), the same fault where
-they are refused, and both or neither ask for help or the version, name a sample, or have a text with more names. Of each kind the first
-runs, in the order of the cases, that names no file of the system, in a case whose files have at most 64 KiB.
+Commands are of one kind if they have the same word, options and status, as many names (three or more are alike) and files of known digests (two or
+more are alike), the same fault where they are refused, and both or neither ask for help or the version, name a sample, or have a text with more
+names. Of each kind the first runs, in the order of the cases, that names no file of the system, in a case whose files have at most 64 KiB.
 
 Before that, the program measures 50 files of 40 MiB within 64 MiB of address space. It shows a list of 64 MiB as JSON, with a peak of memory
 at most 8 MiB above that of an empty list. It replays a log of 64 MiB, of events of 16 bytes, and shows its events, with a peak at most as
@@ -128,7 +128,8 @@ def request_of(command, folder):
     names, given = read_arguments(COMMANDS[command.words[0]], command.words[1:])
     listed = folder / given.pop("--files-from", "")
     has_listed = listed.is_file() and listed.stat().st_size > 0
-    given |= {name: True for name in ("--save", "--resume", "--nonce", "--expected") if name in given}
+    given |= {name: True for name in ("--save", "--resume", "--nonce", "--expected", "--quote", "--list", "--before") if name in given}
+    given |= {name: len(values) for name, values in given.items() if isinstance(values, list)}
     options = frozenset((name, value if isinstance(value, str) else value == 1) for name, value in given.items())
     return options, min(len(names), 3), has_listed
 

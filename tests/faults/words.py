@@ -24,6 +24,7 @@ NUMBERED = {
     "ima_list ListFault": ("List", "entry"),
     "ima_list ReplayFault": ("Replay", "entry"),
     "boot_verdict ExpectFault": ("Expected", "line"),
+    "known_files KnownFault": ("Known", "line"),
     "tpm_quotes QuoteFault": ("Quote", None),
     "attestations QuoteRefusal": ("Quote", None),
     "tpm_keys KeyFault": ("Key", None),

@@ -17,7 +17,7 @@ from fleet_verify.work import verify_batch
 folder, require = sys.argv[1:]
 paths = [f"{folder}/{file}" for file in ("firmware.log", "ima.list", "expected.txt")]
 for seconds in (0, 1000):
-    request = {"machines": [(paths, None)] * 5, "require": require, "is_poll": False, "seconds": seconds, "deadline": 60}
+    request = {"machines": [(paths, None)] * 5, "require": require, "known": None, "is_poll": False, "seconds": seconds, "deadline": 60}
     told, *reports = verify_batch(json.dumps(request)).split("\\n")
     print([answer["verdict"] for answer in json.loads(told)["answers"]], len(reports))
 """
@@ -31,6 +31,7 @@ from fleet_verify.answers import BadAnswers, read_answers
 from fleet_verify.machines import Machine
 MACHINES = [Machine("a", ("/a",)), Machine("b", ("/b", "/c", "/d"))]
 MATCH, DIFFER = '{"registers":[],"verdict":"match"}', '{"registers":[],"verdict":"differ"}'
+KNOWN = '{{"registers":[],"known_from":0,"unknown":[{}],"verdict":"{}"}}'
 first = {"places": ["/a"], "verdict": "match"}
 second = {"places": ["/b", "/c", "/d"], "verdict": "match"}
 for others, reports in (
@@ -47,12 +48,20 @@ for others, reports in (
     ([second], [MATCH]),
     ([second], [MATCH, MATCH, MATCH]),
     ([{**second, "verdict": "refused"}], [MATCH, MATCH]),
+    ([second], [MATCH, KNOWN.format("", "match")]),
 ):
     text = "\\n".join([json.dumps({"worker": "here", "answers": [first, *others], "seconds": 1}), *reports])
     try:
         print([(answer["verdict"], answer.get("cause")) for answer in read_answers(text, MACHINES).answers])
     except BadAnswers as fault:
         print(fault)
+for verdict, report in (
+    ("match", KNOWN.format("", "match")), ("differ", KNOWN.format("17,40", "differ")), ("differ", KNOWN.format("0", "differ")),
+    ("match", MATCH), ("differ", DIFFER), ("match", KNOWN.format("17", "match")), ("match", KNOWN.format("x", "match")),
+):
+    text = "\\n".join([json.dumps({"worker": "here", "answers": [{**first, "verdict": verdict}], "seconds": 1}), report])
+    (answer,) = read_answers(text, MACHINES, True).answers
+    print(answer["verdict"], answer.get("unknown"), answer.get("first_unknown"), answer.get("cause"))
 """
 TAKEN = [("match", None)]
 FAULTS = [
@@ -63,7 +72,10 @@ FAULTS = [
 ANSWERS_WANTED = [
     str(TAKEN * 2), str(TAKEN), *(str([*TAKEN, fault]) for fault in FAULTS),
     "worker here gave 3 answers on 2 machines", "worker here gave 1 reports on 2 machines", "worker here gave 3 reports on 2 machines",
-    "worker here gave 2 reports on 1 machines",
+    "worker here gave 2 reports on 1 machines", str([*TAKEN, ("troubled", "the worker's report is by known files")]),
+    "match 0 None None", "differ 2 17 None", "differ 1 0 None", *2 * ["troubled None None the worker's report is not by the known files"],
+    "troubled None None the worker's verdict is a match with unknown entries",
+    "troubled None None the worker's report is not by the known files",
 ]
 
 # Stops runs of three machines, of which two are in flight: the first is answered at that moment, the second not, or a moment later. Prints
@@ -90,7 +102,7 @@ class Future:
         set_answer = lambda: self.answer.set_result(self.text)
         asyncio.get_running_loop().call_later(seconds, set_answer) if seconds else set_answer()
 class Client:
-    threads = {"here": 1}
+    threads, known = {"here": 1}, None
     def __init__(self):
         self.futures, self.client = [], self
     def submit(self, function, request, **given):
@@ -170,13 +182,21 @@ def judge(require):
             print(type(fault).__module__, type(fault).__name__, str(fault).startswith(f"--require {require!r} is neither"))
 for require in ("sha256:0-10", "none", "", "sha256:24", "sha256:0-9", "None"):
     judge(require)
+digest = 64 * b"a"
+for text in (b"", digest + b"  /a", digest + b"  /a" + bytes([10]) + b"x", 40 * b"a" + b"  /a"):
+    try:
+        require_fitness("sha256:0-10", True, text)
+        print("fit")
+    except Exception as fault:
+        print(type(fault).__module__, type(fault).__name__, *fault.args)
 print(required("none"), required("sha256:0-10"), repr(required("")))
 os.environ["IMA_VERIFY_LIBRARY"] = "/nowhere/libima_verify.so"
 ima_verify._library.loaded.cache_clear()
 judge("sha256:0-10")
 """
 FITNESS_WANTED = [
-    *4 * ["fit"], *8 * ["builtins ValueError True"], "Nothing.NOTHING sha256:0-10 ''", *2 * ["builtins ImportError False"],
+    *4 * ["fit"], *8 * ["builtins ValueError True"], *2 * ["fit"], "builtins ValueError 2 2", "builtins ValueError 1 1",
+    "Nothing.NOTHING sha256:0-10 ''", *2 * ["builtins ImportError False"],
 ]
 
 

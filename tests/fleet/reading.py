@@ -57,7 +57,7 @@ LATE = STORE + """
 print(answer_on(["store://pieces", "store://drops", "store://pieces"], None, "none", False, 1)["cause"])
 for is_poll in (False, True):
     machines = [(["/none"] * 3, None), (["store://pieces", "store://stuck", "store://pieces"], None), (["/none"] * 3, None)]
-    request = {"machines": machines, "require": "none", "is_poll": is_poll, "seconds": 1000, "deadline": 1}
+    request = {"machines": machines, "require": "none", "known": None, "is_poll": is_poll, "seconds": 1000, "deadline": 1}
     told = json.loads(verify_batch(json.dumps(request)))
     print([(answer["verdict"], answer["cause"], answer["places"]) for answer in told["answers"]], 1 < told["seconds"] < 20)
 threads = [thread.daemon for thread in threading.enumerate()]

@@ -29,7 +29,7 @@ BLOCK = re.compile(r"^```sh\n(.*?)^```$", re.MULTILINE | re.DOTALL)
 EXAMPLES = re.compile(r"(?:^    \$ .*\n(?:^    .*\n)*)", re.MULTILINE)
 EXAMPLE = re.compile(r"^\$ ((?:.*\\\n)*.*)\n((?:(?!\$ ).*\n)*)", re.MULTILINE)
 # What only the recipe's block has.
-JUDGE, TAKE, EVENTS = "--rawfile known", "--argjson confirmed", "diff before.events"
+JUDGE, TAKE, EVENTS = '--known "$known"', "--argjson confirmed", "diff before.events"
 AGGREGATE, PATHS = "--arg aggregate", 'select(has("payload"))'
 JUDGED, MEASURED = "ima-agent verify --require sha256:0-10 firmware.log ima.list expected.txt", "--files-from names"
 
@@ -38,7 +38,7 @@ LOG = read_log((SAMPLE / "firmware.log").read_bytes())
 SHA256 = BY_NAME["sha256"]
 KNOWN, UNKNOWN = SHA256.hash(b"known"), SHA256.hash(b"unknown")
 WEAK, LONG = SHA1.hash(b"known"), BY_NAME["sha512"].hash(b"known")
-SUMS = "".join(f"{digest.hex()}  /usr/bin/ls\n" for digest in (KNOWN, WEAK, LONG)).encode()
+SUMS = "".join(f"{digest.hex()}  /usr/bin/ls\n" for digest in (KNOWN, LONG)).encode()
 SAYS_KNOWN = b"ima-ng sha256:%s" % KNOWN.hex().encode()
 FIRST = entry_of(IMA_NG, SHA256, SHA256.hash(b"registers"), b"boot_aggregate")
 
@@ -115,14 +115,16 @@ def makes_known(number, entry):
     return bool(is_confirmed and entry.fields() and entry.fields().algorithm is not SHA1)
 
 
-def shown(number, entry):
-    """What is shown of an entry: of a violation nothing that no register confirms."""
-    told = entry.as_json(number)
-    return {name: told[name] for name in ("entry", "register", "violation")} if entry.is_violation else told
-
-
 def of_list(*entries):
     return {"ima.list": list_spelling(entries)}
+
+
+def of_verdict(log, entries):
+    """A log, a list, and the values that both give the registers, but for entries that are not genuine."""
+    now = log.registers()
+    replay(now, [entry for entry in entries if entry.is_genuine])
+    values = "".join(f"sha256 {register} {now.value(SHA256, register).hex()}\n" for register in range(11))
+    return {"firmware.log": log.spelling(), "expected.txt": values.encode()} | of_list(*entries)
 
 
 def damaged_lists():
@@ -181,6 +183,8 @@ class Recipes(harness.TestCase):
             path.unlink()
         left = {"ima-agent": b"#!/bin/sh\nexit 0\n", "known.txt": b"%s  /usr/bin/ls\n" % UNKNOWN.hex().encode()}
         for name, data in (left | files).items():
+            if data is None:
+                continue
             path = self.kept / name[5:] if name.startswith("kept/") else self.sent / name
             path.write_bytes(data)
         self.sent.joinpath("ima-agent").chmod(0o755)
@@ -209,32 +213,42 @@ class Recipes(harness.TestCase):
         """Whether the recipe fails, and with another status than those of answers (4: no entry, of jq)."""
         return self.ran(mark, files, agent, **settings)[0] not in (0, 1, 4)
 
+    def compared(self, sums, *entries, **how):
+        """The status of the recipe on the sample's log, these entries and these sums, and what it says of entries, where all registers have the
+        values of log and list; or else the line of a fault."""
+        first = entry_of(IMA_NG, SHA256, LOG.registers().boot_aggregate(SHA256), b"boot_aggregate")
+        entries = [first if entry is FIRST else entry for entry in entries]
+        status, output = self.ran(JUDGE, of_verdict(LOG, entries) | {"kept/known.txt": sums}, **how)
+        return status, [line for line in output.decode().splitlines() if "unknown" in line or "known_from" in line or "refused" in line]
+
     def test_judged(self):
         """the recipe for known digests"""
-        sums = {"kept/known.txt": SUMS}
-        for what, entry in (PASSED_OVER | SHOWN).items():
-            rest = [shown(1, entry)] if what in SHOWN else []
-            self.check(what, self.shown(JUDGE, of_list(FIRST, entry) | sums), [shown(0, FIRST), *rest, {"judged": 2}])
+        passed, differs = (0, ["known_from 0"]), (1, ["known_from 0", "unknown entry 1"])
+        for what, entry in PASSED_OVER.items():
+            self.check(what, self.compared(SUMS, FIRST, entry), passed)
+        for what, entry in SHOWN.items():
+            wanted = differs if entry.is_genuine else (2, ["refused: replay fault 1 at entry 1"])
+            self.check(what, self.compared(SUMS, FIRST, entry), wanted)
         known = measured(KNOWN)
-        self.check("a known digest as the first entry", self.shown(JUDGE, of_list(known, known) | sums), [shown(0, known), {"judged": 2}])
-        for what, text, is_known in (
-            ("no sums", b"", False), ("sums of white space", b" \n\n  \n", False), ("a sum without a name", KNOWN.hex().encode(), True),
-            ("a part of a sum", SUMS[1:], False), ("a known digest as a name", b"0  %s\n" % KNOWN.hex().encode(), False),
-            ("sums that are not UTF-8", b"00  \xff\n" + SUMS, True),
+        self.check("a known digest as the first entry", self.compared(SUMS, known, known)[1], ["known_from 0"])
+        self.check("an unknown digest as the first entry", self.compared(SUMS, measured(UNKNOWN), known)[1], ["known_from 0", "unknown entry 0"])
+        self.check("two that are unknown", self.compared(SUMS, FIRST, *[measured(UNKNOWN)] * 2), (1, ["known_from 0", "unknown entry 1", "unknown entry 2"]))
+        for what, text, wanted in (
+            ("no sums", b"", differs), ("sums that are not UTF-8", b"%s  \xff\n" % UNKNOWN.hex().encode() + SUMS, passed),
+            ("sums of white space", b" \n\n  \n", (2, ["refused: known fault 2 at line 1"])),
+            ("a sum without a name", KNOWN.hex().encode(), (2, ["refused: known fault 2 at line 1"])),
+            ("a part of a sum", SUMS[1:], (2, ["refused: known fault 2 at line 1"])),
+            ("a known digest as a name", b"0  %s\n" % KNOWN.hex().encode(), (2, ["refused: known fault 2 at line 1"])),
+            ("a sum by SHA-1", SUMS + b"%s  /usr/bin/ls\n" % WEAK.hex().encode(), (2, ["refused: known fault 1 at line 3"])),
         ):
-            rest = [] if is_known else [shown(1, known)]
-            self.check(what, self.shown(JUDGE, of_list(FIRST, known) | {"kept/known.txt": text}), [shown(0, FIRST), *rest, {"judged": 2}])
-        bare = of_template(b"x", b"")
-        found = self.shown(JUDGE, of_list(FIRST, bare) | {"kept/known.txt": b"\n null\nnull\n"})
-        self.check("sums, and payloads without digests", found, [shown(0, FIRST), shown(1, bare), {"judged": 2}])
-        for what, files in (*damaged_lists(), ("an empty list", of_list())):
-            self.check(what, self.fails(JUDGE, files | sums))
-        self.check("no sums", self.fails(JUDGE, of_list(known)))
-        self.check("no name of sums", self.fails(JUDGE, of_list(known) | sums, known=""))
-        self.check("a program that dies", self.fails(JUDGE, of_list(known) | sums, DYING))
-        self.check("an entry that is left out", self.fails(JUDGE, of_list(FIRST, known) | sums, " | sed 1d"))
-        self.check("another program's JSON", self.fails(JUDGE, of_list(known) | sums, FOREIGN))
-        self.check("another program's text", self.fails(JUDGE, of_list(known) | sums, " | sed 's/.*/refused/'"))
+            self.check(what, self.compared(text, FIRST, known), wanted)
+        self.check("an empty list", self.compared(SUMS), (1, ["known_from 0"]))
+        whole = of_verdict(LOG, [FIRST, known])
+        for what, files in damaged_lists():
+            self.check(what, self.fails(JUDGE, whole | {"ima.list": None} | files | {"kept/known.txt": SUMS}))
+        self.check("no file of sums", self.fails(JUDGE, whole))
+        self.check("no name of sums", self.fails(JUDGE, whole | {"kept/known.txt": SUMS}, known=""))
+        self.check("a program that dies", self.fails(JUDGE, whole | {"kept/known.txt": SUMS}, DYING))
 
     def test_taken(self):
         """the digests of an earlier boot"""
@@ -247,9 +261,9 @@ class Recipes(harness.TestCase):
         found = [[digest, json.loads(f'"{path}"')] for digest, path in lines]
         wanted = [[line["digest"], line.get("path", line.get("path_hex"))] for line in known]
         self.check("an earlier list", is_done and end == [""] and found == wanted)
-        rest = [shown(number, entry) for number, entry in enumerate(entries) if not makes_known(number, entry)]
-        found = self.shown(JUDGE, {"ima.list": list_spelling(entries), "kept/known.txt": sums})
-        self.check("what an earlier list makes known", found, [*rest, {"judged": len(entries)}])
+        genuine = [entry for entry in entries if entry.is_genuine]
+        rest = [f"unknown entry {number}" for number, entry in enumerate(genuine) if number and not makes_known(number, entry)]
+        self.check("what an earlier list makes known", self.compared(sums, *genuine), (1, ["known_from 0", *rest]))
         for what, files in damaged_lists():
             self.check(what, self.fails(TAKE, {"kept/ima.list": data for data in files.values()}, **whole))
         for what, agent in (("that dies", DYING), ("with other JSON", FOREIGN)):
@@ -270,11 +284,7 @@ class Recipes(harness.TestCase):
         """What the guide's verdict on a log and entries says of registers that are not theirs, where all registers have their values."""
         first = entry_of(IMA_NG, SHA256, log.registers().boot_aggregate(SHA256), b"boot_aggregate")
         entries = [first if entry is FIRST else entry for entry in entries]
-        now = log.registers()
-        replay(now, [entry for entry in entries if entry.is_genuine])
-        values = "".join(f"sha256 {register} {now.value(SHA256, register).hex()}\n" for register in range(11))
-        files = {"firmware.log": log.spelling(), "expected.txt": values.encode()} | of_list(*entries)
-        status, output = self.ran(JUDGED, files)
+        status, output = self.ran(JUDGED, of_verdict(log, entries))
         return status, [line for line in output.decode().splitlines() if "extends" in line or "refused" in line]
 
     def test_extended(self):

@@ -116,6 +116,10 @@ class AttestReport(NamedTuple):
             banks.setdefault(algorithm.name, []).append(register)
         return banks
 
+    def looked_at(self, unknown):
+        """The report where these entries are not known, or None without known files."""
+        return self._replace(report=self.report.looked_at(unknown))
+
     def text(self):
         quote, word = self.quote, "match" if self.is_quoted else "differ"
         *lines, verdict = self.report.text().splitlines()
@@ -136,10 +140,10 @@ class AttestReport(NamedTuple):
                   "signer": quote.signer.hex(), "clock": clock, "firmware": quote.firmware}
         counts = dict(self.report.counts)
         compared = {"expected": word for word in self.expected} | ({"registers": report["registers"]} if self.is_confirmed else {})
-        extends = {"extends": report["extends"]} if "extends" in report else {}
+        against = {name: report[name] for name in ("extends", "known_from", "unknown") if name in report}
         concluded = {"quote": "match" if self.is_quoted else "differ", "signature": "checked" if self.is_signed else "not checked",
                      "verdict": report["verdict"] if self.is_signed else "signature not checked"}
-        return {**stated, **counts, **compared, **extends, **concluded}
+        return {**stated, **counts, **compared, **against, **concluded}
 
 
 def boot_of(quote):

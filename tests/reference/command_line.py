@@ -7,6 +7,7 @@ from .faults import USAGE
 from .registers import BY_NAME
 
 FLAG = None
+KNOWN = "--known"
 
 
 class HelpAsked(Exception):
@@ -18,11 +19,13 @@ class VersionAsked(Exception):
 
 
 class Option(NamedTuple):
-    """An option: what its value is read as, where None is a wrong value, the value without it, and whether it has to be there."""
+    """An option: what its value is read as, where None is a wrong value, the value without it, and whether it has to be there. One that may
+    come again has a list of values."""
 
     read: Optional[Callable]
     default: object
     is_required: bool = False
+    is_repeated: bool = False
 
 
 class Command(NamedTuple):
@@ -51,6 +54,12 @@ def number_within(least, most):
     return read
 
 
+# What a quote has to be given with, and what goes only with one.
+BESIDE_QUOTE = {"--list": Option(str, None), "--nonce": Option(str, None), "--require": Option(str, None)}
+ONLY_BESIDE_QUOTE = {**BESIDE_QUOTE, "--sha1": Option(FLAG, False), "--signature-checked": Option(FLAG, False)}
+# What tells which data of a log is confirmed.
+CONFIRMING = {"--expected": Option(str, None), "--quote": Option(str, None), **ONLY_BESIDE_QUOTE}
+
 COMMANDS = {
     "measure": Command(1, None, {
         "--alg": Option(one_of(*BY_NAME), "sha256"),
@@ -64,6 +73,7 @@ COMMANDS = {
     }),
     "verify": Command(3, 3, {
         "--require": Option(str, None),
+        KNOWN: Option(str, [], is_repeated=True),
         "--prefix": Option(FLAG, False),
         "--save": Option(str, None),
         "--resume": Option(str, None),
@@ -72,6 +82,7 @@ COMMANDS = {
     "attest": Command(3, 4, {
         "--nonce": Option(str, None, is_required=True),
         "--require": Option(str, None, is_required=True),
+        KNOWN: Option(str, [], is_repeated=True),
         "--sha1": Option(FLAG, False),
         "--signature-checked": Option(FLAG, False),
         "--prefix": Option(FLAG, False),
@@ -90,11 +101,20 @@ COMMANDS = {
     "events": Command(1, 1, {
         "--data": Option(FLAG, False),
         "--explain": Option(FLAG, False),
-        "--expected": Option(str, None),
+        **CONFIRMING,
+        "--json": Option(FLAG, False),
+    }),
+    "boot": Command(1, 1, {
+        **CONFIRMING,
+        "--before": Option(str, None),
         "--json": Option(FLAG, False),
     }),
     "show": Command(1, 1, {"--json": Option(FLAG, False)}),
-    "replay": Command(1, 2, {"--require": Option(str, None), "--json": Option(FLAG, False)}),
+    "replay": Command(1, 2, {
+        "--require": Option(str, None),
+        KNOWN: Option(str, [], is_repeated=True),
+        "--json": Option(FLAG, False),
+    }),
 }
 
 
@@ -119,7 +139,9 @@ def read_words(words):
     names, values = read_arguments(command, rest)
     if len(names) < command.fewest_names or lacks_another(name, names, values) or lacks_required(command, values):
         raise USAGE
-    if is_json_of_binary(values) or has_wrong_pair(values) or not is_hexadecimal(values.get("--nonce", "")):
+    if is_json_of_binary(values) or (name == "events" and has_wrong_pair(values)) or not is_hexadecimal(values.get("--nonce", "")):
+        raise USAGE
+    if name in ("events", "boot") and has_wrong_quote(values):
         raise USAGE
     defaults = {option: it.default for option, it in command.options.items()}
     return Words(name, names, {**defaults, **values})
@@ -127,6 +149,8 @@ def read_words(words):
 
 def lacks_another(command, names, values):
     """Whether an option is there without the one, or the name, that it goes with."""
+    if KNOWN in values and "--require" not in values:
+        return True
     if command == "replay":
         return "--require" in values and len(names) < 2
     return "--null" in values and "--files-from" not in values
@@ -148,10 +172,17 @@ def is_json_of_binary(values):
 
 
 def has_wrong_pair(values):
-    """Whether events are to be explained in another form, or expected registers are given where nothing is said of them."""
+    """Whether events are to be explained in another form, or expected registers or a quote are given where nothing is said of them."""
     if "--explain" in values:
         return "--data" in values or "--json" in values
-    return "--expected" in values and "--json" not in values
+    return ("--expected" in values or "--quote" in values) and "--json" not in values
+
+
+def has_wrong_quote(values):
+    """Whether a quote is given beside expected registers, or lacks what it has to be given with; or what goes only with one is given without."""
+    if "--quote" in values:
+        return "--expected" in values or not BESIDE_QUOTE.keys() <= values.keys()
+    return not ONLY_BESIDE_QUOTE.keys().isdisjoint(values)
 
 
 def read_arguments(command, words):
@@ -177,7 +208,7 @@ def read_option(command, word, words, values):
     """Adds the value of an option, which may be the first of the words after it."""
     name, has_value, text = word.partition("=")
     option = command.options.get(name)
-    if option is None or name in values or (option.read is FLAG and has_value):
+    if option is None or (name in values and not option.is_repeated) or (option.read is FLAG and has_value):
         raise USAGE
     if option.read is FLAG:
         values[name] = True
@@ -189,4 +220,4 @@ def read_option(command, word, words, values):
     value = option.read(text)
     if value is None:
         raise USAGE
-    values[name] = value
+    values[name] = [*values.get(name, []), value] if option.is_repeated else value

@@ -95,6 +95,14 @@ class ExpectedFault(IntEnum):
         return Fault(f"refused: expected fault {self.value}", "expected", number=self.value)
 
 
+class KnownFault(IntEnum):
+    WEAK_HASH = 1
+    MALFORMED = 2
+
+    def at(self, line):
+        return Fault(f"refused: known fault {self.value} at line {line}", "known", number=self.value)
+
+
 class CheckpointFault(IntEnum):
     DAMAGED = 1
     VERSION = 2

@@ -9,6 +9,7 @@ from pathlib import Path
 from typing import Callable, NamedTuple
 
 from .attestations import asked_quote, quoted_report, read_state, sound_requirement, stated_rows
+from .boot_answers import Boot
 from .checkpoint import before_a_list, read_checkpoint
 from .command_line import HelpAsked, VersionAsked, read_words
 from .faults import (
@@ -26,11 +27,13 @@ from .faults import (
 )
 from .json_texts import json_lines
 from .keys import read_key
+from .known_files import read_known, unknown_entries
 from .log import read_log, read_log_front
 from .measured_data import matching_registers
 from .measurement_list import (
     BOOT_AGGREGATE,
     IMA,
+    IMA_REGISTER,
     LONGEST_IMA_PATH,
     entry_of,
     entry_values,
@@ -48,6 +51,8 @@ LONGEST_PATH = 4095
 # How many names there are for the file beside one that is saved, and the mode of one that its user alone reads and writes.
 MOST_BESIDE = 100
 PRIVATE = 0o600
+# How a list is judged that is taken as a whole, where no files have to be known.
+OF_A_WHOLE_LIST = {"--prefix": False, "--resume": None, "--known": []}
 # The exit status where nobody says that the signature of a quote was checked, whatever else holds.
 NOT_ATTESTED = 4
 
@@ -173,17 +178,38 @@ def registers_command(inputs, values, log):
     return told_of(read_log(inputs.load(log)).registers())
 
 
+def confirming_registers(inputs, values, log):
+    """The registers that match after a log of these bytes, or None where nothing tells which do; and the status once all is told."""
+    if values["--quote"] is not None:
+        report = report_by_quote(inputs, {**values, **OF_A_WHOLE_LIST}, lambda: log, values["--list"], values["--quote"])
+        quoted = {(algorithm, register) for algorithm, register in report.quote.selected if register != IMA_REGISTER}
+        return quoted if report.matches else set(), attest_status(report)
+    if values["--expected"] is None:
+        return None, 0
+    expected = read_expected(inputs.load(values["--expected"]))
+    return matching_registers(read_log(log).registers(), expected), 0
+
+
 def events_command(inputs, values, log):
     data = inputs.load(log)
-    expected = None if values["--expected"] is None else read_expected(inputs.load(values["--expected"]))
+    matching, status = confirming_registers(inputs, values, data)
     log, fault = read_log_front(data)
-    if fault and (not values["--json"] or expected is not None):
+    if fault and not values["--json"]:
         raise fault
-    matching = None if expected is None else matching_registers(log.registers(), expected)
     shown = log.values(matching) if log and values["--json"] else []
     ended = [fault.as_json()] if fault else []
     text = (lambda: log.explained(matching)) if values["--explain"] else (lambda: log.text(values["--data"]))
-    return Told(text, lambda: shown + ended, fault.status if fault else 0)
+    return Told(text, lambda: shown + ended, fault.status if fault else status)
+
+
+def boot_command(inputs, values, log):
+    data = inputs.load(log)
+    matching, status = confirming_registers(inputs, values, data)
+    boot = Boot(read_log(data), matching or set())
+    lines = [*boot.lines()]
+    if values["--before"] is not None:
+        lines += boot.differences(read_log(inputs.load(values["--before"])))
+    return Told(lambda: "".join(f"{line.text}\n" for line in lines), lambda: [line.value for line in lines], status)
 
 
 def show_command(inputs, values, listed):
@@ -206,7 +232,9 @@ def replay_command(inputs, values, listed, expected=None):
         return told_of(registers)
     required = required_by(values)
     expected = read_expected(inputs.load(expected))
-    report = list_report(list_of(*inputs.opened(listed)()), expected, required)
+    known = known_by(inputs, values)
+    entries = list_of(*inputs.opened(listed)())
+    report = list_report(entries, expected, required).looked_at(unknown_entries(known, entries, 0))
     return told_of(report, report.matches)
 
 
@@ -219,6 +247,12 @@ def required_by(values):
     if required is None:
         raise USAGE
     return required
+
+
+def known_by(inputs, values):
+    """The digests of the known files, or None where none are given."""
+    texts = (read_known(inputs.load(name)) for name in values["--known"])
+    return set().union(*texts) if values["--known"] else None
 
 
 def expected_command(inputs, values, text):
@@ -237,16 +271,22 @@ def key_command(inputs, values, area):
 
 
 def read_boot(inputs, values, log, listed, read_state=read_checkpoint):
-    """What a log of these bytes states, the checkpoint from which its list goes on, the entries that follow, and the fault that ends these, or
-    None."""
+    """What a log of these bytes states, the digests of known files, the checkpoint from which its list goes on, the entries that follow, and the
+    fault that ends these, or None."""
     start = read_state(inputs.load(values["--resume"])) if values["--resume"] is not None else None
+    known = known_by(inputs, values)
     read = inputs.opened(listed)
     log = read_log(log)
     before = log.registers()
     start = start or before_a_list(before)
     if start.before.banks != before.banks:
         raise CheckpointFault.OTHER_BOOT.fault()
-    return log, start, *front_of(*read(), start.entries)
+    return log, known, start, *front_of(*read(), start.entries)
+
+
+def unknown_up_to(end, known, start, entries):
+    """The entries that are not known up to a checkpoint, of those that follow another one."""
+    return unknown_entries(known, entries[: end.entries - start.entries], start.entries)
 
 
 def judged_front(log, start, entries, fault, front, expected, required=None):
@@ -267,9 +307,10 @@ def verify_command(inputs, values, log, listed, expected):
     required = required_by(values)
     log = inputs.load(log)
     expected = read_expected(inputs.load(expected))
-    log, start, entries, fault = read_boot(inputs, values, log, listed)
+    log, known, start, entries, fault = read_boot(inputs, values, log, listed)
     front = front_that_matches(log, start, entries, expected, required) if values["--prefix"] else None
     end, report = judged_front(log, start, entries, fault, front, expected, required)
+    report = report.looked_at(unknown_up_to(end, known, start, entries))
     if is_growing(values):
         report = report._replace(matches=report.matches and bool(expected))
         if not end.leaves_room:
@@ -278,19 +319,29 @@ def verify_command(inputs, values, log, listed, expected):
     return told_of(report, report.matches)
 
 
-def attest_command(inputs, values, log, listed, message, expected=None):
-    nonce, is_signed = bytes.fromhex(values["--nonce"]), values["--signature-checked"]
+def report_by_quote(inputs, values, load_log, listed, message, expected=None):
+    """The report on a log, whose bytes a call gives, and on a list by the message of a quote."""
+    nonce = bytes.fromhex(values["--nonce"])
     required = sound_requirement(values["--require"], nonce, values["--sha1"])
     quote = asked_quote(inputs.load(message), nonce, required)
-    log = inputs.load(log)
+    log = load_log()
     rows = stated_rows(quote, None if expected is None else inputs.load(expected))
-    boot, start, entries, fault = read_boot(inputs, values, log, listed, lambda text: read_state(text, quote))
-    report = quoted_report(boot, start, entries, fault, quote, is_signed, values["--prefix"], rows)
+    boot, known, start, entries, fault = read_boot(inputs, values, log, listed, lambda text: read_state(text, quote))
+    report = quoted_report(boot, start, entries, fault, quote, values["--signature-checked"], values["--prefix"], rows)
+    report = report.looked_at(unknown_up_to(report.end, known, start, entries))
     if not report.end.leaves_room:
         raise MEMORY
+    return report
+
+
+def attest_status(report):
+    return NOT_ATTESTED if not report.is_signed else 0 if report.matches else 1
+
+
+def attest_command(inputs, values, log, listed, message, expected=None):
+    report = report_by_quote(inputs, values, lambda: inputs.load(log), listed, message, expected)
     save_if_it_matches(inputs, values, report, report.next)
-    told = told_of(report, report.matches)
-    return told if is_signed else told._replace(status=NOT_ATTESTED)
+    return told_of(report)._replace(status=attest_status(report))
 
 
 def is_growing(values):
@@ -362,6 +413,7 @@ COMMANDS = {
     "key": key_command,
     "registers": registers_command,
     "events": events_command,
+    "boot": boot_command,
     "show": show_command,
     "replay": replay_command,
 }

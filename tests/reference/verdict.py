@@ -6,19 +6,26 @@ from typing import NamedTuple
 
 from .checkpoint import before_a_list
 from .faults import Fault
+from .known_files import Unknown
 from .measurement_list import IMA_REGISTER, require_genuine
 from .registers import ALGORITHMS, REGISTERS, Registers
 
 
 class Report(NamedTuple):
     """What stands before the rows, by its names; the rows, each an expected register and its state; where registers are required those that
-    are missing, else None, and what extends a register that is not its own; and whether the verdict is `match`."""
+    are missing, else None, and what extends a register that is not its own; whether the verdict is `match`; and with known files the entries
+    that are not known."""
 
     counts: dict
     rows: list
     missing: list | None
     strays: list
     matches: bool
+    unknown: Unknown | None = None
+
+    def looked_at(self, unknown):
+        """The report where these entries are not known, or None without known files."""
+        return self._replace(unknown=unknown, matches=self.matches and not (unknown and unknown.numbers))
 
     @property
     def word(self):
@@ -36,6 +43,7 @@ class Report(NamedTuple):
         lines += [f"{row.algorithm.name} {row.register} {' '.join(state)}" for row, state in self.rows]
         lines += [f"{algorithm.name} {register} missing" for algorithm, register in self.missing or []]
         lines += [f"{word} {number} extends {register}" for word, number, register in self.strays]
+        lines += self.unknown.lines() if self.unknown else []
         return "".join(f"{line}\n" for line in [*lines, f"verdict {self.word}"])
 
     def as_json(self):
@@ -43,7 +51,8 @@ class Report(NamedTuple):
         rows = [named(row.algorithm, row.register, **dict(zip(("state", "value"), state))) for row, state in self.rows]
         missing = [named(*register, state="missing") for register in self.missing or []]
         strays = [{word: number, "register": register} for word, number, register in self.strays]
-        return {**self.counts, "registers": [*rows, *missing], **({"extends": strays} if strays else {}), "verdict": self.word}
+        told = ({"extends": strays} if strays else {}) | (self.unknown.members() if self.unknown else {})
+        return {**self.counts, "registers": [*rows, *missing], **told, "verdict": self.word}
 
 
 def named(algorithm, register, **told):

@@ -15,17 +15,22 @@ import time
 from pathlib import Path
 
 import inputs
+from reference.boot_answers import Boot
+from reference.known_files import read_known, unknown_entries
+from reference.measured_data import matching_registers
 from reference.measurement_list import list_spelling, list_text
 from reference.program import json_lines
 from reference.registers import SHA256
-from reference.verdict import locate, verdict
+from reference.verdict import locate, verdict, verdict_report
 
 MOST_BYTES = 64 * 1024 * 1024
 MOST_SECONDS = 300
 START_CALLS = 41
 START_LIMIT = 0.400
 POLL_LIMIT = 0.1  # of the time of `verify` of the whole list
-STREAMED_LIMIT = 8  # MiB that a long list may take above an empty one
+STREAMED_LIMIT = 8  # MiB that a long list may take above an empty one, and a long log above its own size
+KNOWN_LIMIT = 1.5  # of the time of `verify` of the list and of `sha256sum` of the file of known digests
+BYTES_OF_A_DIGEST = 128  # that each known digest may take, beside the file that lists them
 
 ROOT, FOLDER = (Path(word).resolve() for word in sys.argv[1:3])
 RUNS = int(sys.argv[3])
@@ -222,6 +227,64 @@ def polls():
     return [(f"verify --resume with {more} entries after {known:,}, to verify of all of them", poll, whole)]
 
 
+def known():
+    """`verify --known` of a list with a file of five times as many known digests, to `verify` of the list and `sha256sum` of the file."""
+    sizes, times, peaks = (50_000, 500_000), [], []
+    log = small_log()
+    store("made.log", log.spelling())
+    for digests in sizes:
+        listed = [*inputs.made_measurements(digests)]
+        entries = inputs.made_entries(log, listed[: digests // 5 - 1])
+        expected = inputs.expected_after(log, entries)
+        text = b"".join(b"%s  %s\n" % (digest.hex().encode(), path) for path, digest in listed)
+        required = {(SHA256, register) for register in range(11)}
+        report = verdict_report(log, entries, expected, required)
+        looked_at = report.looked_at(unknown_entries(read_known(text), entries, 0)).text().encode()
+        names = "made.log", store("made.list", list_spelling(entries)), store("expected.txt", inputs.expected_text(expected))
+        words = ["verify", "--require", "sha256:0-10", "--known", store("known.txt", text), *names]
+        times.append(median_time(words, looked_at))
+        peaks.append(peak_memory(words, looked_at))
+    alone, hashed = median_time(["verify", "--require", "sha256:0-10", *names], report.text().encode()), median_of_tools(["sha256sum", "known.txt"])
+    print_growth("verify --known", "digests", sizes, times)
+    both = None if alone is None else alone + hashed
+    if None not in (times[1], both) and times[1] > KNOWN_LIMIT * both:
+        complaints.append(f"verify --known takes {times[1] / both:.2f} of verify of the same list and sha256sum of the file")
+    nothing = b"events 24 locality 3\nentries 0\ncompared 0\nboot_aggregate missing\n" + b"".join(
+        b"sha256 %d missing\n" % register for register in range(11)) + b"known_from 0\nverdict differ\n"
+    empty = peak_memory(["verify", "--require", "sha256:0-10", "--known", "none.txt", "made.log", NO_INPUT, "none.txt"], nothing, 1)
+    most = STREAMED_LIMIT + (len(text) + BYTES_OF_A_DIGEST * sizes[1]) / (1 << 20)
+    if None not in (empty, peaks[1]) and peaks[1] - empty > most:
+        complaints.append(f"verify --known takes {peaks[1] - empty:.1f} MiB more for {sizes[1]:,} digests than for none, and not {most:.1f} MiB")
+    PEAKS.append(("verify --known", "digests", sizes, empty, peaks))
+    return [(f"verify --known of {sizes[1]:,} digests, to verify of the same and sha256sum of the file", times[1], both)]
+
+
+def told_logs():
+    """What events say, and what `boot` answers: time, and peak memory of the events as JSON."""
+    sizes, shown, plain, booted, peaks = (5_000, 50_000), [], [], [], []
+    head = inputs.made_log([SHA256], 1)
+    empty = peak_memory(["events", "--json", store("log.bin", head.spelling())], json_lines(head.values()).encode())
+    for events in sizes:
+        log = inputs.made_log([SHA256], events)
+        names = store("expected.txt", inputs.expected_text(inputs.expected_after(log, []))), store("log.bin", log.spelling())
+        matching = matching_registers(log.registers(), inputs.expected_after(log, []))
+        boot = Boot(log, matching)
+        told = "".join(f"{line.text}\n" for line in [*boot.lines(), *boot.differences(log)]).encode()
+        words, values = ["events", "--json", "--expected", *names], json_lines(log.values(matching)).encode()
+        shown.append(median_time(words, values))
+        plain.append(median_time(["events", names[1]], log.text().encode()))
+        booted.append(median_time(["boot", "--before", names[1], "--expected", *names], told))
+        peaks.append(peak_memory(words, values))
+    print_growth("events --json", "events", sizes, shown)
+    print_growth("boot --before", "events", sizes, booted)
+    most = STREAMED_LIMIT + len(log.spelling()) / (1 << 20)
+    if None not in (empty, peaks[1]) and peaks[1] - empty > most:
+        complaints.append(f"events --json takes {peaks[1] - empty:.1f} MiB more for {sizes[1]:,} events than for none, and not {most:.1f} MiB")
+    PEAKS.append(("events --json", "events", sizes, empty, peaks))
+    return [(f"events --json of a log of {sizes[1]:,} events, to events of the same", shown[1], plain[1]),
+            (f"boot --before of a log of {sizes[1]:,} events, to events of the same", booted[1], plain[1])]
+
+
 def logs():
     """The events of made logs, and their registers in hexadecimal on standard input."""
     sizes = (32_000, 320_000)
@@ -328,7 +391,7 @@ def starts():
 def main():
     print(f"runs      {RUNS} for each time, which is their median\n")
     print(f"{'':<48}{'small':>11}{'large':>11}{'times':>8}{'sizes':>8}{'growth':>8}", flush=True)
-    ratios = [*lists(), *polls(), *logs(), *files(), *uneven_files()]
+    ratios = [*lists(), *polls(), *known(), *logs(), *told_logs(), *files(), *uneven_files()]
     print(f"\n{'peak memory of':<52}{'empty':>13}{'small':>13}{'large':>13}")
     for peak in PEAKS:
         print_memory(*peak)

@@ -18,6 +18,9 @@ Each verdict takes `require`: the registers that must be among the expected ones
 none, and then a verdict covers only the registers that `expected` names. A verdict on no registers is no match. With `require` a verdict is a
 match only if no event of the log extends register 10 and each entry of the list names it.
 
+With `known`, texts as sha256sum prints them, each entry must be of a file whose digest is in one of them, except the boot aggregate, with which a
+list begins. The verdict has the numbers of the others in `unknown`.
+
 `attest` compares a log and a list with a quote in place of expected registers, and `verify_quote` verifies the quote's signature, by the key
 that `read_key` reads.
 
@@ -36,7 +39,7 @@ otherwise what the system's loader finds as `libima_verify.so.1`. It is loaded b
 `LoadError`, which is an ImportError, or if it is of an earlier version `VersionError`, which is a LoadError."""
 
 from enum import Enum
-from typing import TYPE_CHECKING, Literal, Optional, Tuple, Union
+from typing import TYPE_CHECKING, Iterable, Literal, Optional, Tuple, Union
 
 from . import _answers, _library
 from ._errors import Error, InvalidSignature, Kind, LibraryError, LoadError, Misuse, OutOfMemory, Refused, VersionError
@@ -75,6 +78,7 @@ NOTHING = Nothing.NOTHING
 
 Text = Union[BytesLike, str]
 Required = Union[str, Nothing]
+Known = Iterable[Text]
 
 _OF_LOG, _OF_LIST = False, True
 _ATTESTATION, _ENDORSEMENT = False, True
@@ -90,12 +94,19 @@ def version() -> int:
     return int(_library.loaded().ima_verify_version())
 
 
-def verify(log: BytesLike, measurements: BytesLike, expected: Text, *, require: Required) -> Verdict:
+def verify(
+    log: BytesLike, measurements: BytesLike, expected: Text, *, require: Required, known: Optional[Known] = None
+) -> Verdict:
     """The verdict on a firmware event log, a measurement list and the expected registers that a text states.
 
+    Args:
+        require: The registers that must be among the expected ones, or `NOTHING`.
+        known: Texts as sha256sum, sha384sum or sha512sum print them. Each entry but the boot aggregate must be of a file whose digest one of
+            them has; without a text none is. If it is None, no file has to be known.
+
     Raises:
-        Refused: `expected`, the log or the list is not of its form, or the template digest of an entry does not match.
-        Misuse: `require` is not of its form.
+        Refused: `expected`, a text of `known`, the log or the list is not of its form, or the template digest of an entry does not match.
+        Misuse: `require` is not of its form, or it is `NOTHING` though `known` is given.
         OutOfMemory, LibraryError, LoadError: As for every call.
 
     >>> verdict = ima_verify.verify(log, measurements, expected, require="sha256:0-10,sha1:10")
@@ -103,11 +114,16 @@ def verify(log: BytesLike, measurements: BytesLike, expected: Text, *, require: 
     (False, [('sha1', 10)])
     >>> ima_verify.verify(log, bytes([9]) + measurements[1:], expected, require="sha256:0-10").extends
     (Stray(register=9, event=None, entry=0),)
+    >>> sums = Path("../known/SHA256SUMS").read_bytes()
+    >>> ima_verify.verify(log, measurements, expected, require="sha256:0-10", known=[sums]).unknown  # (violations)
+    (93, 94, 97)
     """
-    return _answers.read_verdict(*_judged("verdict", (log, measurements), expected, require))
+    return _answers.read_verdict(*_judged("verdict", (log, measurements), expected, require, known))
 
 
-def report(log: BytesLike, measurements: BytesLike, expected: Text, *, require: Required) -> Report:
+def report(
+    log: BytesLike, measurements: BytesLike, expected: Text, *, require: Required, known: Optional[Known] = None
+) -> Report:
     """The verdict of `verify` for a caller that keeps it as `json` and has no use for the rows. For a match it takes less time.
 
     Raises:
@@ -117,7 +133,7 @@ def report(log: BytesLike, measurements: BytesLike, expected: Text, *, require: 
     >>> report.matches, report.compared, report.json == ima_verify.verify(log, measurements, expected, require="sha256:0-10").json
     (True, 24, True)
     """
-    return _answers.read_report(*_judged("verdict", (log, measurements), expected, require))
+    return _answers.read_report(*_judged("verdict", (log, measurements), expected, require, known))
 
 
 class Session:
@@ -133,10 +149,13 @@ class Session:
         state: The state of an earlier session, to continue from with a log of the same boot. `expected` may be another. If it is None, the
             list begins at its first entry. A state is trusted: who can write it can choose the verdict. Never take it from the machine that
             is judged.
+        known: As for `verify`. Entries that the state covers are not looked up again: if other files are known than were then, begin a new
+            session with the whole list.
 
     Raises:
-        Refused: The state does not begin as one does. (`more` refuses one that is damaged further on.)
-        Misuse: `require` is empty, or the text `none`. (`more` raises it for one that is not of its form otherwise.)
+        Refused: The state does not begin as one does. (`more` refuses one that is damaged further on, and a text of `known`.)
+        Misuse: `require` is empty, or the text `none`, or it is `NOTHING` though `known` is given. (`more` raises it for one that is not of its
+            form otherwise.)
 
     Use a session in one thread at a time.
 
@@ -150,12 +169,14 @@ class Session:
     """
 
     def __init__(
-        self, log: BytesLike, expected: Text, *, require: Required, prefix: bool = False, state: Optional[BytesLike] = None
+        self, log: BytesLike, expected: Text, *, require: Required, prefix: bool = False, state: Optional[BytesLike] = None,
+        known: Optional[Known] = None,
     ) -> None:
         if not isinstance(prefix, bool):
             raise TypeError(f"prefix is True or False, and not {prefix!r}")
         self._log, self._expected = _copy_of(log), _copy_of(_bytes_of(expected))
         self._require, self._required = require, _required(require)
+        self._known = _copied(_joined(known, require))
         self._prefix = prefix
         self._reached = _answers.START if state is None else _answers.read_state(_copy_of(state))
 
@@ -171,21 +192,24 @@ class Session:
             Refused: As `verify` does, or the state is damaged, or of another boot.
             Misuse: `require` is not of its form.
         """
-        start, inputs = self._reached, (self._log, self._reached.text, data, self._expected, self._required)
-        verdict, self._reached = _answers.read_more(
-            *_library.call_more("more", inputs, (self._prefix,), self._require), start, memoryview(data).nbytes, self._prefix
-        )
+        start, judges_known = self._reached, self._known is not None
+        inputs = self._log, start.text, data, self._expected, self._required, self._known or b""
+        answer = _library.call_more("more", inputs, (judges_known, self._prefix), self._require)
+        verdict, self._reached = _answers.read_more(*answer, start, memoryview(data).nbytes, judges_known, self._prefix)
         return verdict
 
     @classmethod
-    def by_quotes(cls, log: BytesLike, *, prefix: bool = False, state: Optional[BytesLike] = None) -> "Session":
+    def by_quotes(
+        cls, log: BytesLike, *, prefix: bool = False, state: Optional[BytesLike] = None, known: Optional[Known] = None
+    ) -> "Session":
         """A session for `attest` alone: no registers are expected, and `more` raises `Misuse`.
 
         Args:
-            log, prefix, state: As for the class. The state must be that of a session that used `attest` last.
+            log, prefix, state, known: As for the class. The state must be that of a session that used `attest` last.
         """
         session = cls(log, b"", require=NOTHING, prefix=prefix, state=state)
         session._require, session._required = "", b""
+        session._known = _copied(_joined(known, session._require))
         return session
 
     def attest(
@@ -214,7 +238,8 @@ class Session:
         True
         """
         start = self._reached
-        found, self._reached = _attested(self._log, start, data, message, nonce, require, signature_checked, takes_sha1, self._prefix)
+        quoted = message, nonce, require, signature_checked, takes_sha1
+        found, self._reached = _attested(self._log, start, data, *quoted, self._known, self._prefix)
         return found
 
     @property
@@ -264,7 +289,7 @@ def verify_quote(key: Union[BytesLike, str, "PublicKey"], signature: BytesLike, 
 
 def attest(
     log: BytesLike, measurements: BytesLike, message: BytesLike, *,
-    nonce: BytesLike, require: str, signature_checked: bool, takes_sha1: bool = False,
+    nonce: BytesLike, require: str, signature_checked: bool, takes_sha1: bool = False, known: Optional[Known] = None,
 ) -> Attestation:
     """The verdict on a firmware event log and a measurement list by a quote. No file of register values is needed.
 
@@ -277,10 +302,11 @@ def attest(
         signature_checked: `verify_quote(key, signature, message)`, of this same message; or whether the caller has verified it otherwise,
             with the machine's attestation key, as `verify_quote` asks for it. There is no default; if it is False, there is no match.
         takes_sha1: Whether a register may be required in the SHA-1 bank alone.
+        known: As for `verify`.
 
     Raises:
-        Refused: The message is no quote, has another nonce, or does not select a required register; the log or the list is not of its form,
-            or the template digest of an entry does not match.
+        Refused: The message is no quote, has another nonce, or does not select a required register; a text of `known`, the log or the list is
+            not of its form, or the template digest of an entry does not match.
         Misuse: `require` is not of its form, leaves out one of the registers 0 to 10, or names one of the SHA-1 bank alone; or the nonce is
             too short.
 
@@ -291,7 +317,8 @@ def attest(
     >>> ima_verify.attest(log, measurements, message, nonce=nonce, require="sha256:0-10", signature_checked=False).matches
     False
     """
-    found, _ = _attested(log, _answers.START, measurements, message, nonce, require, signature_checked, takes_sha1, False)
+    quoted = message, nonce, require, signature_checked, takes_sha1
+    found, _ = _attested(log, _answers.START, measurements, *quoted, _joined(known, require), False)
     return found
 
 
@@ -306,10 +333,11 @@ def locate(log: BytesLike, measurements: BytesLike, expected: Text, *, require: 
     9 event 22
     10 entry 98
     """
-    return _answers.read_places(*_judged("locate", (log, measurements), expected, require))
+    inputs = log, measurements, _bytes_of(expected), _required(require)
+    return _answers.read_places(*_library.call("locate", inputs, (JSON,), argument=require))
 
 
-def replay(measurements: BytesLike, expected: Text, *, require: Required) -> ListVerdict:
+def replay(measurements: BytesLike, expected: Text, *, require: Required, known: Optional[Known] = None) -> ListVerdict:
     """The verdict on a measurement list without a log, and the expected registers that a text states.
 
     The list is replayed from the registers' reset values, so a register that the firmware extends too differs. A list without entries is no
@@ -322,7 +350,7 @@ def replay(measurements: BytesLike, expected: Text, *, require: Required) -> Lis
     >>> ima_verify.replay(measurements, tenth, require="sha256:10").matches
     True
     """
-    return _answers.read_list_verdict(*_judged("replay", (measurements,), expected, require))
+    return _answers.read_list_verdict(*_judged("replay", (measurements,), expected, require, known))
 
 
 def read_key(area: BytesLike) -> Key:
@@ -456,7 +484,7 @@ def show(measurements: BytesLike) -> bytes:
 
 def _attested(
     log: BytesLike, start: _answers.Checkpoint, data: BytesLike, message: BytesLike, nonce: BytesLike, require: str, signature_checked: bool,
-    takes_sha1: bool, prefix: bool,
+    takes_sha1: bool, known: Optional[BytesLike], prefix: bool,
 ) -> Tuple[Attestation, _answers.Checkpoint]:
     """The verdict by a quote on the list of a checkpoint followed by these bytes, and the next checkpoint."""
     for name, value in (("signature_checked", signature_checked), ("takes_sha1", takes_sha1)):
@@ -464,17 +492,23 @@ def _attested(
             raise TypeError(f"{name} is True or False, and not {value!r}")
     if not isinstance(require, str):
         raise TypeError(f"require is a text, and not {require!r}")
-    inputs = log, start.text, data, message, nonce, _required(require)
+    judges_known = known is not None
+    inputs = log, start.text, data, message, nonce, _required(require), b"" if known is None else known
     size = memoryview(nonce).nbytes
     if size < _NONCE_BYTES:
         raise Misuse(f"a nonce has {_NONCE_BYTES} bytes or more, and not {size}")
-    answer = _library.call_more("attest", inputs, (takes_sha1, signature_checked, prefix), require)
-    return _answers.read_attestation(*answer, signature_checked, start, memoryview(data).nbytes, prefix)
+    answer = _library.call_more("attest", inputs, (judges_known, takes_sha1, signature_checked, prefix), require)
+    return _answers.read_attestation(*answer, signature_checked, start, memoryview(data).nbytes, judges_known, prefix)
 
 
-def _judged(name: str, inputs: Tuple[BytesLike, ...], expected: Text, require: Required) -> Tuple[int, bytes]:
-    """The answer of a raw function on these inputs, expected registers and required ones."""
-    return _library.call(name, (*inputs, _bytes_of(expected), _required(require)), (JSON,), argument=require)
+def _judged(
+    name: str, inputs: Tuple[BytesLike, ...], expected: Text, require: Required, known: Optional[Known]
+) -> Tuple[int, bytes, bool]:
+    """The answer of a raw function on these inputs, expected registers, required ones and known files, and whether such are given."""
+    required, text = _required(require), _joined(known, require)
+    inputs = *inputs, _bytes_of(expected), required, b"" if text is None else text
+    judges_known = text is not None
+    return (*_library.call(name, inputs, (judges_known, JSON), argument=require), judges_known)
 
 
 def _required(require: Required) -> bytes:
@@ -486,6 +520,27 @@ def _required(require: Required) -> bytes:
     if require in ("", Nothing.NOTHING.value):
         raise Misuse(f"not of its form: {require!r}")
     return require.encode("utf-8", "surrogatepass")
+
+
+def _joined(known: Optional[Known], require: Required) -> Optional[BytesLike]:
+    """The texts of known files as one, in which each ends its last line, or None if they are not given."""
+    if known is None:
+        return None
+    if isinstance(known, (str, bytes, bytearray, memoryview)):
+        raise TypeError("known is an iterable of texts, such as [text], and not one text")
+    texts = [_bytes_of(text) for text in known]
+    if require is NOTHING:
+        raise Misuse("known files need required registers: no entry is confirmed without register 10")
+    return texts[0] if len(texts) == 1 else b"".join(map(_lines_of, texts))
+
+
+def _lines_of(text: BytesLike) -> bytes:
+    data = _copy_of(text)
+    return data if not data or data.endswith(b"\n") else data + b"\n"
+
+
+def _copied(text: Optional[BytesLike]) -> Optional[bytes]:
+    return None if text is None else _copy_of(text)
 
 
 def _copy_of(data: BytesLike) -> bytes:

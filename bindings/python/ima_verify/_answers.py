@@ -22,7 +22,7 @@ _COUNT = "(0|[1-9][0-9]{0,17})"
 _MATCHING_ROW = '{"bank":"sha(?:1|256|384|512)","register":(?:1?[0-9]|2[0-3]),"state":"match"}'
 _MATCH = re.compile(
     f'{{"events":{_COUNT},"locality":([0-9]),"entries":{_COUNT},"boot_aggregate":"good",'
-    f'"registers":\\[({_MATCHING_ROW}(?:,{_MATCHING_ROW})*)\\],"verdict":"match"}}\n'.encode()
+    f'"registers":\\[({_MATCHING_ROW}(?:,{_MATCHING_ROW})*)\\],("known_from":0,"unknown":\\[\\],)?"verdict":"match"}}\n'.encode()
 )
 
 # How a checkpoint begins.
@@ -68,34 +68,37 @@ def _reading(result: int, text: bytes) -> Iterator[None]:
         unexpected(result, text)
 
 
-def read_verdict(result: int, text: bytes) -> Verdict:
-    """The verdict on a whole list that a report states. On no registers it is no match, though the report says that it is."""
+def read_verdict(result: int, text: bytes, judges_known: bool = False) -> Verdict:
+    """The verdict on a whole list that a report states, by known files, or by none. On no registers it is no match, though the report says that
+    it is."""
     with _reading(result, text):
-        verdict = _verdict_of(result, text, may_match_nothing=True)
+        verdict = _verdict_of(result, text, _looked_from(START, judges_known), may_match_nothing=True)
         _require(verdict.confirmed is None)
         return verdict
 
 
-def read_report(result: int, text: bytes) -> Report:
-    """The verdict on a whole list that a report states, without its rows."""
+def read_report(result: int, text: bytes, judges_known: bool = False) -> Report:
+    """The verdict of `read_verdict`, without its rows."""
     match = _MATCH.fullmatch(text) if result == DONE else None
-    if match is None:
-        verdict = read_verdict(result, text)
+    if match is None or (match[5] is not None) != judges_known:
+        verdict = read_verdict(result, text, judges_known)
         counts, aggregate = (verdict.events, verdict.locality, verdict.entries), verdict.boot_aggregate
-        return Report(*counts, aggregate, verdict.compared, verdict.matches, verdict.json, verdict.extends)
-    events, locality, entries, rows = match.groups()
-    return Report(int(events), int(locality), int(entries), BootAggregate.GOOD, rows.count(b"{"), True, text[:-1].decode())
+        unknown = verdict.known_from, verdict.unknown
+        return Report(*counts, aggregate, verdict.compared, verdict.matches, verdict.json, verdict.extends, *unknown)
+    events, locality, entries, rows = match.groups()[:4]
+    counts, first = (int(events), int(locality), int(entries)), _looked_from(START, judges_known)
+    return Report(*counts, BootAggregate.GOOD, rows.count(b"{"), True, text[:-1].decode(), known_from=first)
 
 
 def read_more(
-    result: int, text: bytes, state: bytes, start: Checkpoint, size: int, has_front: bool
+    result: int, text: bytes, state: bytes, start: Checkpoint, size: int, judges_known: bool, has_front: bool
 ) -> Tuple[Verdict, Checkpoint]:
     """The verdict that a report states on a list that has more bytes after a checkpoint, so many, and the next checkpoint.
 
     Only a match has a next one: of the confirmed part, if the call asks for it, or of the whole list. After any other verdict it is the one
     before."""
     with _reading(result, text):
-        verdict = _verdict_of(result, text, may_match_nothing=False)
+        verdict = _verdict_of(result, text, _looked_from(start, judges_known), may_match_nothing=False)
         _require((verdict.confirmed is not None) == (has_front and _has_all_values(verdict)))
         return verdict, _reached_by(verdict, state, start, size)
 
@@ -125,18 +128,19 @@ def read_state(state: bytes) -> Checkpoint:
     return found
 
 
-def read_list_verdict(result: int, text: bytes) -> ListVerdict:
-    """The verdict on a list alone that a report states."""
+def read_list_verdict(result: int, text: bytes, judges_known: bool = False) -> ListVerdict:
+    """The verdict on a list alone that a report states, by known files, or by none."""
     with _reading(result, text):
         report = _object_of(text)
         entries, rows = _number(report, "entries"), _rows_of(report)
-        extends = _strays_of(report, 0, entries)
-        matches = _matches(result, report, rows, entries > 0 and bool(rows) and not extends)
-        return ListVerdict(entries, rows, matches, text[:-1].decode(), extends)
+        extends, first = _strays_of(report, 0, entries), _looked_from(START, judges_known)
+        unknown = _unknown_of(report, first, entries)
+        matches = _matches(result, report, rows, entries > 0 and bool(rows) and not extends and not unknown)
+        return ListVerdict(entries, rows, matches, text[:-1].decode(), extends, first, unknown)
 
 
 def read_attestation(
-    result: int, text: bytes, state: bytes, signature_checked: bool, start: Checkpoint, size: int, has_front: bool
+    result: int, text: bytes, state: bytes, signature_checked: bool, start: Checkpoint, size: int, judges_known: bool, has_front: bool
 ) -> Tuple[Attestation, Checkpoint]:
     """The verdict by a quote that a report states, where the caller has checked the signature, or has not; and the next checkpoint, as of
     `read_more`."""
@@ -144,11 +148,12 @@ def read_attestation(
         report = _object_of(text)
         aggregate, events, entries = BootAggregate(report["boot_aggregate"]), _number(report, "events"), _number(report, "entries")
         confirmed, unconfirmed = _front_of(report, entries)
-        extends = _strays_of(report, events, entries if confirmed is None else confirmed)
+        covered, first = entries if confirmed is None else confirmed, _looked_from(start, judges_known)
+        extends, unknown = _strays_of(report, events, covered), _unknown_of(report, first, covered)
         quote_matches = report["quote"] == "match"
         is_confirmed = quote_matches and aggregate is BootAggregate.GOOD
         _require((confirmed is not None) == (has_front and is_confirmed))
-        is_attested = is_confirmed and not extends
+        is_attested = is_confirmed and not extends and not unknown
         matches = is_attested and signature_checked
         verdict = ("match" if is_attested else "differ") if signature_checked else "signature not checked"
         _require((report["quote"], report["signature"]) == (
@@ -158,7 +163,7 @@ def read_attestation(
         found = Attestation(
             _quoted_of(_member(report, "quoted", list)), _bytes(report, "signer"), _clock_of(_member(report, "clock", dict)),
             _number(report, "firmware"), events, _number(report, "locality", 255), entries, aggregate, quote_matches, signature_checked,
-            matches, text[:-1].decode(), extends, confirmed, unconfirmed,
+            matches, text[:-1].decode(), extends, confirmed, unconfirmed, first, unknown,
         )
         return found, _reached_by(found, state, start, size)
 
@@ -225,20 +230,23 @@ def _checkpoint_in(text: bytes) -> Optional[Checkpoint]:
     return found if found and found.entries <= found.bytes <= MOST_BYTES else None
 
 
-def _verdict_of(result: int, text: bytes, may_match_nothing: bool) -> Verdict:
-    """The verdict that a report states, where one on no registers may say that it is a match, or may not."""
+def _verdict_of(result: int, text: bytes, first: Optional[int], may_match_nothing: bool) -> Verdict:
+    """The verdict that a report states, by files that have to be known from this entry on, or by none. One on no registers may say that it is
+    a match, or may not."""
     report = _object_of(text)
     aggregate, rows = BootAggregate(report["boot_aggregate"]), _rows_of(report)
     events, locality, entries = _number(report, "events"), _number(report, "locality", 255), _number(report, "entries")
     confirmed, unconfirmed = _front_of(report, entries)
-    extends = _strays_of(report, events, entries if confirmed is None else confirmed)
-    is_good = aggregate is BootAggregate.GOOD and (bool(rows) or may_match_nothing) and not extends
+    covered = entries if confirmed is None else confirmed
+    extends, unknown = _strays_of(report, events, covered), _unknown_of(report, first, covered)
+    is_good = aggregate is BootAggregate.GOOD and (bool(rows) or may_match_nothing) and not extends and not unknown
     matches = _matches(result, report, rows, is_good) and bool(rows)
-    return Verdict(events, locality, entries, aggregate, rows, matches, text[:-1].decode(), confirmed, unconfirmed, extends)
+    told = text[:-1].decode(), confirmed, unconfirmed, extends, first, unknown
+    return Verdict(events, locality, entries, aggregate, rows, matches, *told)
 
 
 def _has_all_values(verdict: Verdict) -> bool:
-    """Whether the verdict is a match, apart from `extends`."""
+    """Whether the verdict is a match, apart from `extends` and `unknown`."""
     is_good = verdict.boot_aggregate is BootAggregate.GOOD and bool(verdict.rows)
     return is_good and all(row.state is State.MATCH for row in verdict.rows)
 
@@ -261,6 +269,22 @@ def _stray_of(stray: Object, events: int, entries: int) -> Stray:
     event = _number(stray, "event", events)
     _require(event > 0)
     return Stray(register, event=event)
+
+
+def _looked_from(start: Checkpoint, judges_known: bool) -> Optional[int]:
+    """From which entry on files have to be known after a checkpoint, or None."""
+    return start.entries if judges_known else None
+
+
+def _unknown_of(report: Object, first: Optional[int], entries: int) -> Tuple[int, ...]:
+    """The entries of no known file, from this one on, of so many. A report has them exactly if known files are given."""
+    _require(("known_from" in report) == ("unknown" in report) == (first is not None))
+    if first is None:
+        return ()
+    unknown = tuple(_member(report, "unknown", list))
+    _require(_number(report, "known_from") == first and all(type(entry) is int and first <= entry < entries for entry in unknown))
+    _require(all(one < next_one for one, next_one in zip(unknown, unknown[1:])))
+    return unknown
 
 
 def _front_of(report: Object, entries: int) -> Tuple[Optional[int], Optional[Unconfirmed]]:

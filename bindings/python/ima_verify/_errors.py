@@ -3,7 +3,7 @@
 import enum
 from typing import Optional
 
-_PLACES = {"log": "event", "list": "entry", "replay": "entry", "expected": "line"}
+_PLACES = {"log": "event", "list": "entry", "replay": "entry", "expected": "line", "known": "line"}
 
 
 class Kind(str, enum.Enum):
@@ -16,6 +16,7 @@ class Kind(str, enum.Enum):
     CHECKPOINT = "checkpoint"  # a session's state: it is damaged (1), of another version (2), or of another boot by the log (3) or by a quote (4)
     QUOTE = "quote"  # the message of a quote: it is none (1 to 10), has another nonce (11), or lacks a required register (12)
     KEY = "key"  # the public area of a key: it is none (1 to 10), or the key lacks what its purpose needs (11 to 22)
+    KNOWN = "known"  # the known files: a line has a digest by SHA-1 (1), or is no digest and name (2)
 
 
 class Error(Exception):
@@ -28,7 +29,8 @@ class Refused(Error):
     Attributes:
         kind: Which input, and for an entry of the list, whether its form or its digest is wrong.
         number: The error's number among those of its kind; docs/formats.md says what each means.
-        place: The number of the event (LOG; the header is 0), the entry (LIST, REPLAY; from 0) or the line (EXPECTED; from 1), or None.
+        place: The number of the event (LOG; the header is 0), the entry (LIST, REPLAY; from 0) or the line (EXPECTED, KNOWN; from 1), or None.
+            Of several texts of known files lines count on from one to the next.
     """
 
     def __init__(self, kind: Kind, number: int, place: Optional[int] = None):

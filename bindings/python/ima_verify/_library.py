@@ -22,7 +22,9 @@ TEXT, JSON = False, True
 
 # The kinds of faults, by their numbers; `NO_PLACE` is the place of a fault that has none.
 NO_FAULT, ARGUMENT, MEMORY = 0, 1, 7
-KINDS = {2: Kind.LOG, 3: Kind.LIST, 4: Kind.REPLAY, 5: Kind.EXPECTED, 6: Kind.CHECKPOINT, 8: Kind.QUOTE, 9: Kind.KEY}
+KINDS = {
+    2: Kind.LOG, 3: Kind.LIST, 4: Kind.REPLAY, 5: Kind.EXPECTED, 6: Kind.CHECKPOINT, 8: Kind.QUOTE, 9: Kind.KEY, 10: Kind.KNOWN,
+}
 WITHOUT_PLACES = Kind.CHECKPOINT, Kind.QUOTE, Kind.KEY
 NO_PLACE = c_uint64(-1).value
 
@@ -46,11 +48,11 @@ class Told(ctypes.Structure):
 # For each raw function: how many inputs it takes, and the types of the arguments between these and the output.
 _SIZE = POINTER(c_size_t)
 FUNCTIONS = {
-    "verdict": (4, (c_bool,)),
+    "verdict": (5, (c_bool, c_bool)),
     "locate": (4, (c_bool,)),
-    "replay": (3, (c_bool,)),
-    "more": (5, (c_bool, c_bool, c_void_p, c_size_t, _SIZE)),
-    "attest": (6, (c_bool, c_bool, c_bool, c_bool, c_void_p, c_size_t, _SIZE)),
+    "replay": (4, (c_bool, c_bool)),
+    "more": (6, (c_bool, c_bool, c_bool, c_void_p, c_size_t, _SIZE)),
+    "attest": (7, (c_bool, c_bool, c_bool, c_bool, c_bool, c_void_p, c_size_t, _SIZE)),
     "expected": (2, (c_bool,)),
     "registers": (1, (c_bool, c_bool)),
     "key": (1, (c_bool, c_bool)),

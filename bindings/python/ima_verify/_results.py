@@ -136,12 +136,15 @@ class Verdict(_Judged):
         entries: How many entries the list has.
         boot_aggregate: How the list's first entry compares with the log.
         rows: The expected registers, compared, and then the required ones that are missing.
-        matches: Whether the boot aggregate is good, a register is expected, each has its value, no required one is missing, and `extends` is
-            empty. It covers no register without a row.
+        matches: Whether the boot aggregate is good, a register is expected, each has its value, no required one is missing, and `extends` and
+            `unknown` are empty. It covers no register without a row.
         json: The report as `ima-agent verify --json` prints it, without the line feed.
         confirmed: How many of all entries the verdict covers, if a `Session` with `prefix` gave it and their registers match, otherwise None.
         unconfirmed: The first error in the entries after these, if there is one, otherwise None.
         extends: The first event that extends register 10, and the first entry that extends another, if registers are required.
+        known_from: From which entry on files had to be known, if known files were given, otherwise None. It is 0, or after a session's `state`
+            the number of entries that this covers.
+        unknown: The numbers of the entries, from that one on, that are of no known file.
     """
 
     events: int
@@ -154,6 +157,8 @@ class Verdict(_Judged):
     confirmed: Optional[int] = None
     unconfirmed: Optional[Unconfirmed] = None
     extends: Tuple[Stray, ...] = ()
+    known_from: Optional[int] = None
+    unknown: Tuple[int, ...] = ()
 
 
 @dataclass(frozen=True)
@@ -172,6 +177,8 @@ class Report:
     matches: bool
     json: str
     extends: Tuple[Stray, ...] = ()
+    known_from: Optional[int] = None
+    unknown: Tuple[int, ...] = ()
 
     def __bool__(self) -> bool:
         return self.matches
@@ -184,9 +191,11 @@ class ListVerdict(_Judged):
     Attributes:
         entries: How many entries the list has.
         rows: The expected registers, compared, and then the required ones that are missing.
-        matches: Whether the list has an entry, a register is expected, each has its value, no required one is missing, and `extends` is empty.
+        matches: Whether the list has an entry, a register is expected, each has its value, no required one is missing, and `extends` and
+            `unknown` are empty.
         json: The report as `ima-agent replay --json` prints it, without the line feed.
         extends: The first entry that extends another register than 10, if registers are required.
+        known_from, unknown: As of a `Verdict`.
     """
 
     entries: int
@@ -194,6 +203,8 @@ class ListVerdict(_Judged):
     matches: bool
     json: str
     extends: Tuple[Stray, ...] = ()
+    known_from: Optional[int] = None
+    unknown: Tuple[int, ...] = ()
 
 
 @dataclass(frozen=True)
@@ -231,11 +242,12 @@ class Attestation:
         boot_aggregate: How the list's first entry compares with the log.
         quote_matches: Whether the quote is of the values to which log and list replay.
         signature_checked: What the caller said.
-        matches: Whether `quote_matches`, the boot aggregate is good, `extends` is empty, and the caller checked the signature. It covers the
-            registers in `quoted`, and no others.
+        matches: Whether `quote_matches`, the boot aggregate is good, `extends` and `unknown` are empty, and the caller checked the signature. It
+            covers the registers in `quoted`, and no others.
         json: The report as JSON, without the line feed.
         extends: The first event that extends register 10, and the first entry that extends another.
         confirmed, unconfirmed: As of a `Verdict`: only from a `Session` with a prefix.
+        known_from, unknown: As of a `Verdict`.
     """
 
     quoted: Dict[Algorithm, Tuple[int, ...]]
@@ -253,6 +265,8 @@ class Attestation:
     extends: Tuple[Stray, ...] = ()
     confirmed: Optional[int] = None
     unconfirmed: Optional[Unconfirmed] = None
+    known_from: Optional[int] = None
+    unknown: Tuple[int, ...] = ()
 
     def __bool__(self) -> bool:
         return self.matches

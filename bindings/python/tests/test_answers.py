@@ -63,7 +63,24 @@ STATE = b"ima-agent checkpoint 3\nentries 3\nbytes 300\nboot_aggregate none\n"
 
 def read_attestation(result, text, signature_checked):
     """The verdict by a quote on a whole list, with the checkpoint that only a match has."""
-    return _answers.read_attestation(result, text, b"" if result else STATE, signature_checked, _answers.START, 300, False)[0]
+    return _answers.read_attestation(result, text, b"" if result else STATE, signature_checked, _answers.START, 300, False, False)[0]
+
+
+def read_known_attestation(result, text):
+    """The same by known files, where the signature was checked."""
+    return _answers.read_attestation(result, text, b"" if result else STATE, True, _answers.START, 300, True, False)[0]
+
+
+def with_unknown(report, numbers):
+    """A report that looked for files that are not known, and found these entries."""
+    return re.sub(b'("quote"|"verdict")', b'"known_from":0,"unknown":[%b],\\1' % numbers, report, count=1)
+
+
+# A report of one row, of no list and by a quote, with what reads it where files have to be known.
+KNOWING = (
+    (REPORT, lambda result, text: _answers.read_verdict(result, text, True)), (REPORT, lambda result, text: _answers.read_report(result, text, True)),
+    (LIST_REPORT, lambda result, text: _answers.read_list_verdict(result, text, True)), (ATTESTED, read_known_attestation),
+)
 
 
 class Buffers(unittest.TestCase):
@@ -113,7 +130,7 @@ class Buffers(unittest.TestCase):
         self.assertEqual(len(rooms), 1)
 
     def test_report_longer_than_the_buffer(self):
-        result, text = _library.call("verdict", (LOG, LIST, EXPECTED, b"none"), (_library.JSON,), 100)
+        result, text = _library.call("verdict", (LOG, LIST, EXPECTED, b"none", b""), (False, _library.JSON), 100)
         self.assertEqual(_answers.read_verdict(result, text), ima_verify.verify(LOG, LIST, EXPECTED, require=NOTHING))
 
     def test_entries_longer_than_the_buffer(self):
@@ -308,6 +325,44 @@ class Answers(unittest.TestCase):
         self.check_changes(_answers.read_list_verdict, 1, alone, [change for change in changes if change[0] in alone])
         self.check_wrong(_answers.read_list_verdict, 0, alone)
 
+    def test_right_reports_by_known_files_are_read(self):
+        for report, read in KNOWING:
+            found = read(0, with_unknown(report, b""))
+            self.assertEqual((found.known_from, found.unknown, found.matches, bool(found)), (0, (), True, True))
+            differing = report.replace(b'"verdict":"match"', b'"verdict":"differ"')
+            for numbers, wanted in ((b"0", (0,)), (b"2", (2,)), (b"1,2", (1, 2)), (b" 1 , 2 ", (1, 2))):
+                text = with_unknown(differing, numbers)
+                found = read(1, text)
+                self.assertEqual((found.known_from, found.unknown, found.matches, bool(found)), (0, wanted, False, False))
+                self.assertEqual((found.json, found.extends), (text[:-1].decode(), ()))
+        for report, read in ((REPORT, _answers.read_verdict), (REPORT, _answers.read_report), (LIST_REPORT, _answers.read_list_verdict)):
+            self.assertEqual((read(0, report).known_from, read(0, report).unknown), (None, ()))
+
+    def test_wrong_reports_by_known_files_are_no_verdicts(self):
+        members = b'"known_from":0,"unknown":[1,2],'
+        changes = [(members, wrong) for wrong in (
+            b"", b'"known_from":0,', b'"unknown":[1,2],', b'"known_from":1,"unknown":[1,2],', b'"known_from":2,"unknown":[2],',
+            b'"known_from":-1,"unknown":[1,2],', b'"known_from":null,"unknown":[1,2],', b'"known_from":"0","unknown":[1,2],',
+            b'"known_from":false,"unknown":[1,2],', b'"known_from":0.0,"unknown":[1,2],',
+            *(b'"known_from":0,"unknown":%b,' % wrong for wrong in (
+                b"[1,0]", b"[1,3]", b"[3]", b"[2,1]", b"[1,1]", b"[-1]", b"[1.0]", b"[true]", b'["1"]', b"[null]", b"[[1]]", b"null", b"1", b"{}",
+                b'"1"', b"[18446744073709551616]",
+            )),
+        )]
+        for report, read in KNOWING:
+            text = with_unknown(report.replace(b'"verdict":"match"', b'"verdict":"differ"'), b"1,2")
+            self.check_changes(read, 1, text, changes)
+            self.check_wrong(read, 0, text)
+            for result in (0, 1):
+                self.check_wrong(read, result, with_unknown(report, b"1,2"))
+                self.check_wrong(read, result, report if result == 0 else report.replace(b'"verdict":"match"', b'"verdict":"differ"'))
+            self.check_wrong(read, 1, with_unknown(report, b""))
+            self.check_wrong(read, 0, with_unknown(report, b"").replace(b'"match"}', b'"differ"}'))
+        # (no files had to be known)
+        for report, read in ((REPORT, _answers.read_verdict), (REPORT, _answers.read_report), (LIST_REPORT, _answers.read_list_verdict)):
+            self.check_wrong(read, 0, with_unknown(report, b""))
+            self.check_wrong(read, 1, with_unknown(report.replace(b'"verdict":"match"', b'"verdict":"differ"'), b"1"))
+
     def test_report_of_no_registers_is_no_match(self):
         row, match, differ = b'{"bank":"sha256","register":10,"state":"match"}', b'"verdict":"match"', b'"verdict":"differ"'
         # (the program's report of `verify` on no registers is a match; no other is)
@@ -397,7 +452,35 @@ class Inputs(unittest.TestCase):
                 with fake.answering(name, DONE, text) as calls:
                     self.assertTrue(called(*inputs, "\u00e9", require=require))
                 (call,) = calls
-                self.assertEqual((call.inputs, call.options, call.room), ([*inputs, b"\xc3\xa9", crosses], (True,), _library.ROOM))
+                crossed, options = ([], (True,)) if name == "locate" else ([b""], (False, True))
+                self.assertEqual((call.inputs, call.options), ([*inputs, b"\xc3\xa9", crosses, *crossed], options))
+                self.assertEqual(call.room, _library.ROOM)
+
+    def test_known_files_cross_as_one_text(self):
+        for known, crosses in (
+            ([], b""), ([b""], b""), ([b"a"], b"a"), ([b"a\n"], b"a\n"), (["\u00e9"], b"\xc3\xa9"), ([b"a", b"b"], b"a\nb\n"),
+            ((b"a\n", "b\n"), b"a\nb\n"), (iter([b"", bytearray(b"a"), b"", memoryview(b"b\nc")]), b"a\nb\nc\n"), ([b"\n", b"\n\n"], b"\n\n\n"),
+        ):
+            known = list(known)
+            for called, name, inputs, report in (
+                (ima_verify.verify, "verdict", (b"a", b"b"), REPORT), (ima_verify.report, "verdict", (b"a", b"b"), REPORT),
+                (ima_verify.replay, "replay", (b"b",), LIST_REPORT),
+            ):
+                with fake.answering(name, DONE, with_unknown(report, b"")) as calls:
+                    self.assertTrue(called(*inputs, b"", require="x", known=iter(known)))
+                (call,) = calls
+                self.assertEqual((call.inputs, call.options), ([*inputs, b"", b"x", crosses], (True, True)))
+
+    def test_nothing_else_is_a_text_of_known_files(self):
+        with fake.library() as calls:
+            for called, inputs in ((ima_verify.verify, (b"a", b"b", b"")), (ima_verify.report, (b"a", b"b", b"")), (ima_verify.replay, (b"b", b"")),
+                                   (ima_verify.Session, (b"a", b""))):
+                for wrong in (b"a", "a", b"", "", bytearray(b"a"), memoryview(b"a"), 0, True, [0, 1], [None, b"a"], [[b"a"], b"b"]):
+                    self.assertRaises(TypeError, called, *inputs, require="sha256:10", known=wrong)
+                for known in ([], [b"a"], iter(())):
+                    self.assertRaisesRegex(ima_verify.Misuse, "^known files need", called, *inputs, require=NOTHING, known=known)
+            self.assertRaises(TypeError, ima_verify.locate, b"a", b"b", b"", require="sha256:10", known=[b"a"])
+        self.assertEqual(calls, [])
 
     def test_nothing_else_that_is_required_crosses(self):
         with fake.library() as calls:
@@ -649,7 +732,7 @@ class Failures(unittest.TestCase):
             (Kind.LIST, 1, 2, "refused: list fault 1 at entry 2"), (Kind.REPLAY, 1, 2, "refused: replay fault 1 at entry 2"),
             (Kind.EXPECTED, 1, 2, "refused: expected fault 1 at line 2"), (Kind.EXPECTED, 6, NONE, "refused: expected fault 6"),
             (Kind.CHECKPOINT, 3, NONE, "refused: checkpoint fault 3"), (Kind.QUOTE, 11, NONE, "refused: quote fault 11"),
-            (Kind.KEY, 22, NONE, "refused: key fault 22"),
+            (Kind.KEY, 22, NONE, "refused: key fault 22"), (Kind.KNOWN, 2, 17, "refused: known fault 2 at line 17"),
             (Kind.LIST, 1, 0, "refused: list fault 1 at entry 0"),
             (Kind.LIST, 2**32 - 1, 2**64 - 2, "refused: list fault 4294967295 at entry 18446744073709551614"),
         ):
@@ -663,14 +746,17 @@ class Failures(unittest.TestCase):
     def test_message_is_the_line_of_the_library(self):
         """Of each kind of input, by the real library."""
         for name, inputs in (
-            ("registers", (b"",)), ("registers", (bytes(32),)), ("registers", (LOG[:-1],)), ("verdict", (LOG, LIST[:-1], EXPECTED, b"none")),
-            ("verdict", (LOG, LIST.replace(b"/bin/helper", b"/bin/helpex"), EXPECTED, b"none")), ("verdict", (LOG, LIST, b"x", b"none")),
-            ("expected", (b"", b"")), ("expected", (b"sha256:\n  0 : x\n", b"")), ("attest", (LOG, b"", LIST, b"", bytes(16), b"sha256:0-10")),
-            ("key", (b"",)), ("key", (LOG,)),
+            ("registers", (b"",)), ("registers", (bytes(32),)), ("registers", (LOG[:-1],)), ("verdict", (LOG, LIST[:-1], EXPECTED, b"none", b"")),
+            ("verdict", (LOG, LIST.replace(b"/bin/helper", b"/bin/helpex"), EXPECTED, b"none", b"")), ("verdict", (LOG, LIST, b"x", b"none", b"")),
+            ("expected", (b"", b"")), ("expected", (b"sha256:\n  0 : x\n", b"")), ("attest", (LOG, b"", LIST, b"", bytes(16), b"sha256:0-10", b"")),
+            ("key", (b"",)), ("key", (LOG,)), ("replay", (LIST, EXPECTED, b"sha256:10", 64 * b"a" + b"  /a\nx")),
+            ("replay", (LIST, EXPECTED, b"sha256:10", 40 * b"a" + b"  /a\n")),
         ):
             room, size = ctypes.create_string_buffer(1), ctypes.c_size_t()
-            quoted = False, True, False, False, room, 1, ctypes.byref(size)
-            options, line = {"registers": (False, False), "key": (False, False), "attest": quoted}.get(name, (False,)), []
+            quoted = False, False, True, False, False, room, 1, ctypes.byref(size)
+            pair, by_known = (False, False), (True, False)
+            options = {"registers": pair, "key": pair, "verdict": pair, "replay": by_known, "attest": quoted}.get(name, (False,))
+            line = []
             answered = _library.answered
 
             def noted(*words):
@@ -683,7 +769,7 @@ class Failures(unittest.TestCase):
             self.assertEqual([f"{caught.exception}\n"], line)
 
     def test_wrong_refusals_are_no_refusals(self):
-        for fault in (fake.NO_FAULT, (8, 1, 2), (10, 1, NONE), (99, 1, NONE), (_library.MEMORY, 0, NONE), (_library.ARGUMENT, 0, NONE),
+        for fault in (fake.NO_FAULT, (8, 1, 2), (11, 1, NONE), (99, 1, NONE), (_library.MEMORY, 0, NONE), (_library.ARGUMENT, 0, NONE),
                       fake.fault_of(Kind.LIST, 0, 2), fake.fault_of(Kind.LOG, 0), fake.fault_of(Kind.CHECKPOINT, 3, 3),
                       fake.fault_of(Kind.CHECKPOINT, 0), fake.fault_of(Kind.QUOTE, 11, 3), fake.fault_of(Kind.QUOTE, 0),
                       fake.fault_of(Kind.KEY, 1, 3), fake.fault_of(Kind.KEY, 0)):

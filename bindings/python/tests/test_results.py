@@ -19,7 +19,7 @@ sys.path[:0] = [str(ROOT / "bindings/python"), str(ROOT / "tools/bench")]
 
 import ima_verify
 import inputs
-from ima_verify import NOTHING, Algorithm, BootAggregate, Entry, Event, Kind, Part, Place, PlaceRow, Register, Row, State, Stray
+from ima_verify import NOTHING, Algorithm, BootAggregate, Entry, Event, Kind, Part, Place, PlaceRow, Register, Row, Session, State, Stray
 from ima_verify import _library
 from reference.log import EV_NO_ACTION, read_log
 from reference.log import Event as LogEvent
@@ -35,6 +35,7 @@ LOG, LIST, EXPECTED, ASCII, REGISTERS, PRINTED = (
 )
 QUOTED, MESSAGE = ((ROOT / "samples/quoted" / name).read_bytes() for name in ("sha256.txt", "quote.msg"))
 NONCE = bytes.fromhex((ROOT / "samples/quoted/nonce").read_text())
+SUMS, BEFORE = ((ROOT / "samples/known" / name).read_bytes() for name in ("SHA256SUMS", "before-violations.expected"))
 LAST_ENTRY_SIZE = 95
 LONGER = LIST + LIST[-LAST_ENTRY_SIZE:]
 CHANGED = LIST.replace(b"/bin/helper", b"/bin/helpex")
@@ -272,6 +273,72 @@ class Required(unittest.TestCase):
     def test_nothing_has_a_name(self):
         self.assertEqual(repr(NOTHING), "ima_verify.NOTHING")
         self.assertIs(ima_verify.Nothing.NOTHING, NOTHING)
+
+
+class KnownFiles(unittest.TestCase):
+    """Files that have to be known: all in the sample's list, but for its violations 93, 94 and 97."""
+
+    VIOLATIONS = 93, 94, 97
+    GIVEN = {"require": "sha256:0-10"}
+
+    def calls(self, known, log=LOG, measurements=LIST):
+        """The calls that give verdicts by these known files, of each function that takes them."""
+        quoted = {"nonce": NONCE, "signature_checked": True, **self.GIVEN}
+        return (
+            lambda: ima_verify.verify(log, measurements, EXPECTED, **self.GIVEN, known=known),
+            lambda: ima_verify.report(log, measurements, EXPECTED, **self.GIVEN, known=known),
+            lambda: ima_verify.replay(measurements, EXPECTED, **self.GIVEN, known=known),
+            lambda: ima_verify.attest(log, measurements, MESSAGE, **quoted, known=known),
+            lambda: Session(log, EXPECTED, **self.GIVEN, known=known).more(measurements),
+            lambda: Session.by_quotes(log, prefix=True, known=known).attest(measurements, MESSAGE, **quoted),
+        )
+
+    def test_entries_of_no_known_file_are_told(self):
+        first, rest = SUMS.split(b"\n", 1)
+        for known, wanted in (
+            ([SUMS], self.VIOLATIONS), ([rest, first], self.VIOLATIONS), ([first.decode(), b"", SUMS[:-1]], self.VIOLATIONS),
+            ([rest], (1, *self.VIOLATIONS)), ([], tuple(range(1, 99))), ([b"", ""], tuple(range(1, 99))),
+        ):
+            for call in self.calls(known):
+                found = call()
+                self.assertEqual((found.known_from, found.unknown, found.matches, bool(found)), (0, wanted, False, False))
+                members = f'"known_from":0,"unknown":[{",".join(map(str, wanted))}],'
+                self.assertIn(members, found.json)
+
+    def test_without_known_files_none_is_told(self):
+        for found in (ima_verify.verify(LOG, LIST, EXPECTED, **self.GIVEN), ima_verify.report(LOG, LIST, EXPECTED, **self.GIVEN)):
+            self.assertEqual((found.known_from, found.unknown, found.matches), (None, (), True))
+            self.assertNotIn("known", found.json)
+
+    def test_prefix_of_known_files_matches_and_a_session_looks_on_from_there(self):
+        session = Session(LOG, BEFORE, **self.GIVEN, prefix=True, known=[SUMS])
+        found = session.more(LIST)
+        self.assertEqual((found.matches, found.confirmed, found.entries, found.known_from, found.unknown), (True, 93, 99, 0, ()))
+        state, offset = session.state, session.offset
+        later = Session(LOG, EXPECTED, **self.GIVEN, state=state, known=[SUMS])
+        found = later.more(LIST[offset:])
+        self.assertEqual((found.matches, found.entries, found.known_from, found.unknown), (False, 99, 93, self.VIOLATIONS))
+        self.assertEqual((later.state, later.offset), (state, offset))
+        by_quotes = Session.by_quotes(LOG, known=[SUMS])
+        self.assertFalse(by_quotes.attest(LIST, MESSAGE, nonce=NONCE, signature_checked=True, **self.GIVEN))
+        self.assertIsNone(by_quotes.state)
+        # (what the state covers is not looked up again)
+        found = Session(LOG, BEFORE, **self.GIVEN, state=state, known=[]).more(b"")
+        self.assertEqual((found.matches, found.known_from, found.unknown), (True, 93, ()))
+        session = Session(LOG, BEFORE, **self.GIVEN, prefix=True, known=[SUMS.split(b"\n", 1)[1]])
+        found = session.more(LIST)
+        self.assertEqual((found.matches, found.confirmed, found.known_from, found.unknown, session.state), (False, 93, 0, (1,), None))
+
+    def test_wrong_line_is_refused_before_the_log(self):
+        weak = 40 * "a" + "  /a"
+        for known, number, line in (
+            ([b"x"], 2, 1), ([b"\n"], 2, 1), ([SUMS, "x"], 2, 94), ([SUMS[:-1], b"", b"x\n"], 2, 94), ([weak], 1, 1), ([SUMS, SUMS, weak], 1, 187),
+        ):
+            for log, measurements in ((LOG, LIST), (b"", b""), (LOG, LIST[:-1])):
+                for call in self.calls(known, log, measurements):
+                    with self.assertRaisesRegex(ima_verify.Refused, f"^refused: known fault {number} at line {line}$") as caught:
+                        call()
+                    self.assertEqual((caught.exception.kind, caught.exception.number, caught.exception.place), (Kind.KNOWN, number, line))
 
 
 class Quoted(unittest.TestCase):

@@ -555,7 +555,8 @@ class Quoted(Refusing):
                 given = {"nonce": 16 * b"e", "require": "f", "signature_checked": False, "takes_sha1": takes_sha1}
                 session.attest(b"c", b"d", **given)
         for call, takes_sha1 in zip(calls, (False, True)):
-            self.assertEqual((call.inputs, call.options[:4]), ([b"a", STATE, b"c", b"d", 16 * b"e", b"f"], (takes_sha1, False, False, True)))
+            self.assertEqual(call.inputs, [b"a", STATE, b"c", b"d", 16 * b"e", b"f", b""])
+            self.assertEqual(call.options[:5], (False, takes_sha1, False, False, True))
 
     def test_answers_that_cannot_be_are_none(self):
         report = ima_verify.attest(LOG, LIST, MESSAGE, **self.GIVEN).json.encode() + b"\n"
@@ -577,7 +578,7 @@ class Quoted(Refusing):
 class Buffers(unittest.TestCase):
     """A report, which may be longer than its buffer, and a state, which never is."""
 
-    INPUTS = LOG, b"", LIST, EXPECTED, b"sha256:10"
+    INPUTS = LOG, b"", LIST, EXPECTED, b"sha256:10", b""
 
     def ask(self, room, inputs=INPUTS):
         """The answer of the library where this buffer is the first for the report, and the sizes of the buffers."""
@@ -591,7 +592,7 @@ class Buffers(unittest.TestCase):
                     sizes.extend(rooms)
 
         with unittest.mock.patch.object(_library, "call", called):
-            return _library.call_more("more", inputs, (False,), None), sizes
+            return _library.call_more("more", inputs, (False, False), None), sizes
 
     def test_second_call_has_room_for_the_report_and_gives_the_state(self):
         state, report = state_after(99), ima_verify.verify(LOG, LIST, EXPECTED, require="sha256:10").json.encode() + b"\n"
@@ -614,7 +615,7 @@ class Buffers(unittest.TestCase):
     def test_first_buffers_are_large_enough(self):
         four = inputs.made_log(ALGORITHMS, 24).spelling()
         every_register = "".join(f"{bank.value} {number} {2 * bank.digest_size * '1'}\n" for bank in Algorithm for number in range(24)).encode()
-        (_, report, state), sizes = self.ask(_library.ROOM, (four, b"", LIST, every_register, b"none"))
+        (_, report, state), sizes = self.ask(_library.ROOM, (four, b"", LIST, every_register, b"none", b""))
         self.assertEqual((len(sizes), state), (1, b""))
         self.assertGreater(len(report), 10_000)
         longest = state_after(99, four)
@@ -792,7 +793,17 @@ class Answers(unittest.TestCase):
             with answering(1, b"", DIFFERING) as calls:
                 Session(b"a", b"d", require="e", prefix=prefix, state=STATE).more(b"c")
             (call,) = calls
-            self.assertEqual((call.inputs, call.options[:2]), ([b"a", STATE, b"c", b"d", b"e"], (prefix, True)))
+            self.assertEqual((call.inputs, call.options[:3]), ([b"a", STATE, b"c", b"d", b"e", b""], (False, prefix, True)))
+
+    def test_known_files_cross_as_one_text(self):
+        for known, crosses in (([], b""), ([b"a"], b"a"), (["a", b"b"], b"a\nb\n"), (iter([bytearray(b"a\n")]), b"a\n")):
+            text = DIFFERING.replace(b'"verdict"', b'"known_from":3,"unknown":[],"verdict"')
+            with answering(1, b"", text) as calls:
+                session = Session(b"a", b"d", require="e", prefix=True, state=STATE, known=known)
+                found = [session.more(b"c") for _ in range(2)]
+            self.assertEqual([(each.known_from, each.unknown) for each in found], 2 * [(3, ())])
+            for call in calls:
+                self.assertEqual((call.inputs, call.options[:3]), ([b"a", STATE, b"c", b"d", b"e", crosses], (True, True, True)))
 
     def test_wrong_answers_are_no_verdicts(self):
         for status, text in ((0, b""), (0, b"\n"), (0, b"{}\n"), (0, REPORT[:-1]), (1, REPORT), (0, DIFFERING), (2, REPORT), (3, REPORT), (4, REPORT),
@@ -821,7 +832,7 @@ class Answers(unittest.TestCase):
             refused = caught.exception
             self.assertEqual((refused.kind, refused.number, refused.place), ("checkpoint", number, None))
             self.assertEqual((refused.kind, refused.message), (Kind.CHECKPOINT, f"refused: checkpoint fault {number}"))
-        for kind, number, place in ((6, 0, NONE), (6, 3, 3), (0, 0, NONE), (7, 0, NONE), (10, 3, NONE)):
+        for kind, number, place in ((6, 0, NONE), (6, 3, 3), (0, 0, NONE), (7, 0, NONE), (11, 3, NONE)):
             self.check_wrong(2, FAULT, fault=(kind, number, place))
 
 

@@ -43,22 +43,30 @@ impl Answer {
             c::IMA_VERIFY_CHECKPOINT => Kind::Checkpoint,
             c::IMA_VERIFY_QUOTE => Kind::Quote,
             c::IMA_VERIFY_KEY => Kind::Key,
+            c::IMA_VERIFY_KNOWN => Kind::Known,
             _ => return None,
         };
         let place = Some(self.told.fault_place).filter(|place| *place != c::IMA_VERIFY_NO_PLACE);
         Some(Error::Refused { line: fault_line(&self.text)?, kind, number: self.told.fault_number.into(), place })
     }
 
-    /// The verdict on a whole list. On no PCRs it is no match, though the report says that it is.
-    pub(crate) fn verdict(self) -> Result<Verdict, Error> {
-        self.read(|answer| answer.report(true).filter(|verdict| verdict.confirmed.is_none()))
+    /// The verdict on a whole list, by known files, or by none. On no PCRs it is no match, though the report says that it is.
+    pub(crate) fn verdict(self, by_known: bool) -> Result<Verdict, Error> {
+        let first = Checkpoint::default().looked_from(by_known);
+        self.read(|answer| answer.report(first, true).filter(|verdict| verdict.confirmed.is_none()))
     }
 
     /// The verdict on a list that has so many bytes after a checkpoint, and the next checkpoint. Only a match has one: of the
     /// confirmed part, if the call asks for it, or of the whole list.
-    pub(crate) fn more(self, from: &Checkpoint, size: u64, prefix: bool) -> Result<(Verdict, Option<Checkpoint>), Error> {
+    pub(crate) fn more(
+        self,
+        from: &Checkpoint,
+        size: u64,
+        by_known: bool,
+        prefix: bool,
+    ) -> Result<(Verdict, Option<Checkpoint>), Error> {
         self.read(|answer| {
-            let verdict = answer.report(false)?;
+            let verdict = answer.report(from.looked_from(by_known), false)?;
             (verdict.confirmed.is_some() == (prefix && verdict.has_all_values())).then_some(())?;
             let reached = answer.reached(from, size, verdict.entries, verdict.confirmed, verdict.matches)?;
             Some((verdict, reached))
@@ -84,25 +92,44 @@ impl Answer {
         (is_right_end && entries == reached.entries).then_some(Some(reached))
     }
 
-    /// The verdict of a report, where one on no PCRs may say that it is a match, or may not.
-    fn report(&self, may_match_nothing: bool) -> Option<Verdict> {
+    /// The verdict of a report, in which entries are looked up among known files from this one on, if any is. One on no PCRs may say
+    /// that it is a match, or may not.
+    fn report(&self, known_from: Option<u64>, may_match_nothing: bool) -> Option<Verdict> {
         let Report { events, locality, boot_aggregate, confirmed, unconfirmed, rest } = object(&self.text)?;
         let has_rows = !rest.registers.is_empty();
-        let extends = rest.strays(events, confirmed.unwrap_or(rest.entries))?;
-        let is_good = boot_aggregate == BootAggregate::Good && (has_rows || may_match_nothing) && extends.is_empty();
+        let covered = confirmed.unwrap_or(rest.entries);
+        let (extends, unknown) = (rest.strays(events, covered)?, rest.looked.unknown(known_from, covered)?);
+        let has_boot = boot_aggregate == BootAggregate::Good && (has_rows || may_match_nothing);
+        let is_good = has_boot && extends.is_empty() && unknown.is_empty();
         let matches = self.matches(&rest, is_good)? && has_rows;
         let (entries, rows, json) = (rest.entries, rest.registers, self.line()?);
         let unconfirmed = unconfirmed_of(confirmed, unconfirmed, entries)?;
-        Some(Verdict { events, locality, entries, boot_aggregate, rows, matches, json, confirmed, unconfirmed, extends })
+        Some(Verdict {
+            events,
+            locality,
+            entries,
+            boot_aggregate,
+            rows,
+            matches,
+            json,
+            confirmed,
+            unconfirmed,
+            extends,
+            known_from,
+            unknown,
+        })
     }
 
-    /// The verdict on a list alone. On no PCRs it is no match.
-    pub(crate) fn list_verdict(self) -> Result<ListVerdict, Error> {
+    /// The verdict on a list alone, by known files, or by none. On no PCRs it is no match.
+    pub(crate) fn list_verdict(self, by_known: bool) -> Result<ListVerdict, Error> {
+        let known_from = Checkpoint::default().looked_from(by_known);
         self.read(|answer| {
             let report: ListReport = object(&answer.text)?;
             let (extends, has_rows) = (report.strays(0, report.entries)?, !report.registers.is_empty());
-            let matches = answer.matches(&report, report.entries > 0 && has_rows && extends.is_empty())?;
-            Some(ListVerdict { entries: report.entries, rows: report.registers, matches, json: answer.line()?, extends })
+            let unknown = report.looked.unknown(known_from, report.entries)?;
+            let is_good = report.entries > 0 && has_rows && extends.is_empty() && unknown.is_empty();
+            let (matches, json) = (answer.matches(&report, is_good)?, answer.line()?);
+            Some(ListVerdict { entries: report.entries, rows: report.registers, matches, json, extends, known_from, unknown })
         })
     }
 
@@ -112,18 +139,22 @@ impl Answer {
         self,
         from: &Checkpoint,
         size: u64,
+        by_known: bool,
         prefix: bool,
         signature_checked: bool,
     ) -> Result<(Attestation, Option<Checkpoint>), Error> {
+        let known_from = from.looked_from(by_known);
         self.read(|answer| {
             let report: QuoteReport = object(&answer.text)?;
             let (entries, confirmed) = (report.entries, report.confirmed);
             let unconfirmed = unconfirmed_of(confirmed, report.unconfirmed, entries)?;
-            let extends = strays_of(&report.extends, report.events, confirmed.unwrap_or(entries))?;
+            let covered = confirmed.unwrap_or(entries);
+            let extends = strays_of(&report.extends, report.events, covered)?;
+            let unknown = report.looked.unknown(known_from, covered)?;
             let quote_matches = report.quote == Said::Match;
             let is_confirmed = quote_matches && report.boot_aggregate == BootAggregate::Good;
             (confirmed.is_some() == (prefix && is_confirmed)).then_some(())?;
-            let is_attested = is_confirmed && extends.is_empty();
+            let is_attested = is_confirmed && extends.is_empty() && unknown.is_empty();
             let matches = is_attested && signature_checked;
             let (signature, verdict) = match (signature_checked, is_attested) {
                 (false, _) => ("not checked", "signature not checked"),
@@ -148,6 +179,8 @@ impl Answer {
                 confirmed,
                 unconfirmed,
                 extends,
+                known_from,
+                unknown,
             };
             Some((found, reached))
         })
@@ -223,7 +256,7 @@ impl Answer {
 }
 
 impl Verdict {
-    /// Whether it is a match, apart from `extends`.
+    /// Whether it is a match, apart from `extends` and `unknown`.
     fn has_all_values(&self) -> bool {
         let is_good = self.boot_aggregate == BootAggregate::Good && !self.rows.is_empty();
         is_good && self.rows.iter().all(|row| row.state == State::Match)
@@ -249,6 +282,11 @@ impl Checkpoint {
         let mut count = |name| number_in(std::str::from_utf8(lines.next()?).ok()?.strip_prefix(name)?);
         let (entries, bytes) = (count("entries ")?, count("bytes ")?);
         (lines.next().is_some() && entries <= bytes && bytes <= Self::MOST_BYTES).then_some(Self { text, entries, bytes })
+    }
+
+    /// The first entry after it, which is the first that is looked up among known files, if they are given.
+    fn looked_from(&self, by_known: bool) -> Option<u64> {
+        by_known.then_some(self.entries)
     }
 
     /// The checkpoint, or the error of a text that does not begin as one.
@@ -295,6 +333,8 @@ struct ListReport {
     registers: Vec<Row>,
     #[serde(default, deserialize_with = "told")]
     extends: Option<Vec<Extending>>,
+    #[serde(flatten)]
+    looked: Looked,
     verdict: Said,
     #[serde(default, rename = "fault")]
     _fault: NoFault,
@@ -313,6 +353,26 @@ fn strays_of(extends: &Option<Vec<Extending>>, events: u64, entries: u64) -> Opt
     matches!(strays[..], [_] | [Stray::Event { .. }, Stray::Entry { .. }]).then_some(strays)
 }
 
+/// What a report has of entries that were looked up among known files.
+#[derive(Deserialize)]
+struct Looked {
+    #[serde(default, deserialize_with = "told")]
+    known_from: Option<u64>,
+    #[serde(default, deserialize_with = "told")]
+    unknown: Option<Vec<u64>>,
+}
+
+impl Looked {
+    /// The entries of no known file, from this one on, of so many. A report has them exactly if known files are given.
+    fn unknown(&self, known_from: Option<u64>, entries: u64) -> Option<Vec<u64>> {
+        let is_right = self.known_from == known_from && self.unknown.is_some() == known_from.is_some();
+        let unknown = self.unknown.clone().unwrap_or_default();
+        let are_ascending = unknown.windows(2).all(|two| two[0] < two[1]);
+        let are_looked_up = unknown.iter().all(|entry| (known_from.unwrap_or_default()..entries).contains(entry));
+        (is_right && are_ascending && are_looked_up).then_some(unknown)
+    }
+}
+
 /// A report by a quote.
 #[derive(Deserialize)]
 struct QuoteReport {
@@ -326,6 +386,8 @@ struct QuoteReport {
     boot_aggregate: BootAggregate,
     #[serde(default, deserialize_with = "told")]
     extends: Option<Vec<Extending>>,
+    #[serde(flatten)]
+    looked: Looked,
     quote: Said,
     signature: String,
     verdict: String,

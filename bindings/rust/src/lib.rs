@@ -16,7 +16,8 @@
 //! ```
 //!
 //! A verdict covers only the boot aggregate and the PCRs in the expected text. So each call says which PCRs it must cover, as here.
-//! With such a requirement a verdict is a match only if no event of the log extends PCR 10 and each entry of the list names it.
+//! With such a requirement a verdict is a match only if no event of the log extends PCR 10 and each entry of the list names it. With
+//! [`Required::known`] each entry but the boot aggregate must also be of a known file.
 //! [`entries`] and [`events`] go through the inputs themselves. A [`Session`] is for a list that grows, and for one that grew after
 //! the expected PCRs were read. [`attest`] compares a log and a list with a quote in place of expected PCRs, and `verify_quote`, with
 //! the feature `quotes`, verifies the quote's signature, by the key that [`read_key`] reads.
@@ -170,8 +171,8 @@ pub struct Verdict {
     pub boot_aggregate: BootAggregate,
     /// A row for each expected PCR, in their order, and then one for each that is missing.
     pub rows: Vec<Row>,
-    /// The boot aggregate is good, each expected PCR has its value, there is one, no required one is missing, and `extends` is
-    /// empty. It covers no PCR that has no row.
+    /// The boot aggregate is good, each expected PCR has its value, there is one, no required one is missing, and `extends` and
+    /// `unknown` are empty. It covers no PCR that has no row.
     pub matches: bool,
     /// The report as `ima-agent verify --json` prints it, without the line feed.
     pub json: String,
@@ -182,6 +183,11 @@ pub struct Verdict {
     pub unconfirmed: Option<Unconfirmed>,
     /// The first event that extends PCR 10, and the first entry that extends another, if PCRs are required.
     pub extends: Vec<Stray>,
+    /// The first entry that was looked up among known files, if they are given: 0, or in a session with a state the number of entries
+    /// that it covers.
+    pub known_from: Option<u64>,
+    /// The numbers of the entries from that one on that are of no known file.
+    pub unknown: Vec<u64>,
 }
 
 /// An error in a list after its confirmed part, for which the list is not refused.
@@ -219,6 +225,8 @@ pub struct Quote<'a> {
     /// What `verify_quote` gives for this message; or whether the caller has verified the signature otherwise, with the machine's
     /// attestation key, as `verify_quote` asks for it. If it is false there is no match.
     pub signature_checked: bool,
+    /// The texts of known files, as of [`Required::known`], if entries must be of these; in a session of its own ones if this is `None`.
+    pub known: Option<&'a [&'a [u8]]>,
 }
 
 /// A TPM's clock and its counts when it made a quote.
@@ -263,8 +271,8 @@ pub struct Attestation {
     pub quote_matches: bool,
     /// What the caller said.
     pub signature_checked: bool,
-    /// `quote_matches`, the boot aggregate is good, `extends` is empty, and the caller has checked the signature. It covers the PCRs
-    /// in `quoted`, and no others.
+    /// `quote_matches`, the boot aggregate is good, `extends` and `unknown` are empty, and the caller has checked the signature. It covers
+    /// the PCRs in `quoted`, and no others.
     pub matches: bool,
     /// The report as JSON, without the line feed.
     pub json: String,
@@ -274,6 +282,10 @@ pub struct Attestation {
     pub unconfirmed: Option<Unconfirmed>,
     /// The first event that extends PCR 10, and the first entry that extends another.
     pub extends: Vec<Stray>,
+    /// The first entry that was looked up among known files, as of [`Verdict`].
+    pub known_from: Option<u64>,
+    /// The numbers of the entries from that one on that are of no known file.
+    pub unknown: Vec<u64>,
 }
 
 /// The verdict on a list without a log, and expected PCRs.
@@ -285,12 +297,17 @@ pub struct ListVerdict {
     pub entries: u64,
     /// A row for each expected PCR, in their order, and then one for each that is missing.
     pub rows: Vec<Row>,
-    /// The list has an entry, each expected PCR has its value, there is one, no required one is missing, and `extends` is empty.
+    /// The list has an entry, each expected PCR has its value, there is one, no required one is missing, and `extends` and `unknown` are
+    /// empty.
     pub matches: bool,
     /// The report as `ima-agent replay --json` prints it, without the line feed.
     pub json: String,
     /// The first entry that extends another PCR than 10, if PCRs are required.
     pub extends: Vec<Stray>,
+    /// The first entry that was looked up among known files, if they are given: 0.
+    pub known_from: Option<u64>,
+    /// The numbers of the entries from that one on that are of no known file.
+    pub unknown: Vec<u64>,
 }
 
 impl ListVerdict {
@@ -567,8 +584,8 @@ impl FusedIterator for Events<'_> {}
 #[derive(Debug, Clone, Copy, PartialEq, Eq, Hash)]
 #[non_exhaustive]
 pub enum Kind {
-    /// The requirement, or the range of PCRs, is not of its form, or does not suit a quote; or a nonce is too short. It has no
-    /// number.
+    /// The requirement, or the range of PCRs, is not of its form, or does not suit a quote or known files; or a nonce is too short. It
+    /// has no number.
     Argument,
     /// The firmware event log.
     Log,
@@ -584,6 +601,8 @@ pub enum Kind {
     Quote,
     /// The public area of a key: it is none (1 to 10), or the key lacks what its purpose needs (11 to 22).
     Key,
+    /// A line of the known files has a digest by SHA-1 (1), or is no digest and name (2).
+    Known,
 }
 
 /// Why there is no result.
@@ -627,7 +646,8 @@ impl fmt::Display for Error {
         match self {
             Self::Refused { line, kind: Kind::Argument, .. } => {
                 let names = "PCRs are named as in sha256:0-10, with PCR 10, or as in 0-10";
-                write!(f, "{line} ({names}; a quote needs PCRs 0 to 10, and a nonce of at least 16 bytes)")
+                let needs = "known files need such a requirement; a quote needs PCRs 0 to 10, and a nonce of at least 16 bytes";
+                write!(f, "{line} ({names}; {needs})")
             }
             Self::Refused { line, .. } => f.write_str(line),
             Self::OutOfMemory => f.write_str("no memory for libima_verify"),
@@ -649,6 +669,61 @@ impl std::error::Error for Error {}
 /// if its `json` says so.
 pub const NOTHING_REQUIRED: &str = "none";
 
+/// What a verdict requires: PCRs that must be among the expected ones, and maybe that each file is known.
+#[derive(Debug, Clone, Copy)]
+pub struct Required<'a> {
+    registers: &'a str,
+    known: Option<&'a [&'a [u8]]>,
+}
+
+impl<'a> Required<'a> {
+    /// These PCRs, and that each entry but the boot aggregate, with which a list begins, is of a known file: one whose digest these
+    /// texts have, a line for each file, as sha256sum, sha384sum and sha512sum print them. The verdict has the others in `unknown`, and
+    /// is then no match. Without a text no file is known.
+    ///
+    /// A text with another line, or with a digest by SHA-1, is refused with [`Kind::Known`]; lines count on from one text to the next.
+    /// With [`NOTHING_REQUIRED`] the error has [`Kind::Argument`].
+    ///
+    /// ```
+    /// # fn main() -> Result<(), Box<dyn std::error::Error>> {
+    /// # let sample = |name| std::fs::read(format!("samples/{name}"));
+    /// # let (log, list, expected) = (sample("firmware.log")?, sample("ima.list")?, sample("expected.txt")?);
+    /// let verdict = ima_verify::verify(&log, &list, &expected, ima_verify::Required::known("sha256:0-10", &[]))?;
+    /// assert!(!verdict.matches && verdict.unknown == [1, 2, 3]); // (no file is known)
+    /// # Ok(())
+    /// # }
+    /// ```
+    pub fn known(registers: &'a str, texts: &'a [&'a [u8]]) -> Self {
+        Self { registers, known: Some(texts) }
+    }
+}
+
+/// These PCRs, such as `sha256:0-10`, and no known files.
+impl<'a> From<&'a str> for Required<'a> {
+    fn from(registers: &'a str) -> Self {
+        Self { registers, known: None }
+    }
+}
+
+/// These PCRs, such as `sha256:0-10`, and no known files.
+impl<'a> From<&'a String> for Required<'a> {
+    fn from(registers: &'a String) -> Self {
+        registers.as_str().into()
+    }
+}
+
+/// Texts one after another, each with a line feed at its end.
+fn lines_of(texts: &[&[u8]]) -> Vec<u8> {
+    let mut lines = Vec::with_capacity(texts.iter().map(|text| text.len() + 1).sum());
+    for text in texts {
+        lines.extend_from_slice(text);
+        if text.last().map_or(false, |last| *last != b'\n') {
+            lines.push(b'\n');
+        }
+    }
+    lines
+}
+
 /// The version of the library's interface.
 pub fn version() -> u32 {
     library::version()
@@ -658,7 +733,7 @@ pub fn version() -> u32 {
 ///
 /// `require` names the PCRs that must be among the expected ones, such as `sha256:0-10` or `sha256:0-7,sha1:10`. Each that is not has
 /// a row whose state is [`State::Missing`], and then the verdict is no match. [`NOTHING_REQUIRED`] requires none; a text without PCR
-/// 10, or an empty one, is refused.
+/// 10, or an empty one, is refused. It is a text, or a [`Required`] with known files.
 ///
 /// ```
 /// # fn main() -> Result<(), Box<dyn std::error::Error>> {
@@ -678,8 +753,11 @@ pub fn version() -> u32 {
 ///
 /// [`Error::Refused`] if the requirement is not of its form, or an input not of its; [`Error::OutOfMemory`]; and
 /// [`Error::Unexpected`] or [`Error::Version`] if the library is not as its header describes.
-pub fn verify(log: &[u8], list: &[u8], expected: &[u8], require: &str) -> Result<Verdict, Error> {
-    ask(|out| library::verdict(log, list, expected, require.as_bytes(), out))?.verdict()
+pub fn verify<'a>(log: &[u8], list: &[u8], expected: &[u8], require: impl Into<Required<'a>>) -> Result<Verdict, Error> {
+    let Required { registers, known } = require.into();
+    let known = known.map(lines_of);
+    let answer = ask(|out| library::verdict(log, list, expected, registers.as_bytes(), known.as_deref(), out))?;
+    answer.verdict(known.is_some())
 }
 
 /// The verdict on a firmware event log and a measurement list by a quote. No file of PCR values is needed.
@@ -689,7 +767,8 @@ pub fn verify(log: &[u8], list: &[u8], expected: &[u8], require: &str) -> Result
 /// ```no_run
 /// # fn judge(log: &[u8], list: &[u8], message: &[u8], nonce: &[u8]) -> Result<(), ima_verify::Error> {
 /// // (here the signature of the message was verified otherwise, with the machine's own restricted key)
-/// let quote = ima_verify::Quote { message, nonce, require: "sha256:0-10", takes_sha1: false, signature_checked: true };
+/// let quote =
+///     ima_verify::Quote { message, nonce, require: "sha256:0-10", takes_sha1: false, signature_checked: true, known: None };
 /// let verdict = ima_verify::attest(log, list, &quote)?;
 /// println!("{} {}", verdict.matches, verdict.entries);
 /// # Ok(())
@@ -702,11 +781,12 @@ pub fn verify(log: &[u8], list: &[u8], expected: &[u8], require: &str) -> Result
 /// [`Kind::Argument`] if the requirement is not of its form, leaves out one of the PCRs 0 to 10, or names one of the SHA-1 bank
 /// alone, or if the nonce is too short; otherwise as for [`verify`].
 pub fn attest(log: &[u8], list: &[u8], quote: &Quote<'_>) -> Result<Attestation, Error> {
-    let inputs = library::Attested { log, state: &[], data: list, prefix: false };
+    let known = quote.known.map(lines_of);
+    let inputs = library::Attested { log, state: &[], data: list, known: known.as_deref(), prefix: false };
     Ok(session::attested(&inputs, quote, &answers::Checkpoint::default())?.0)
 }
 
-/// Where each expected PCR first has its value. The arguments are as in [`verify`].
+/// Where each expected PCR first has its value. The arguments are as in [`verify`], without known files.
 ///
 /// # Errors
 ///
@@ -723,8 +803,11 @@ pub fn locate(log: &[u8], list: &[u8], expected: &[u8], require: &str) -> Result
 /// # Errors
 ///
 /// As for [`verify`].
-pub fn replay(list: &[u8], expected: &[u8], require: &str) -> Result<ListVerdict, Error> {
-    ask(|out| library::replay(list, expected, require.as_bytes(), out))?.list_verdict()
+pub fn replay<'a>(list: &[u8], expected: &[u8], require: impl Into<Required<'a>>) -> Result<ListVerdict, Error> {
+    let Required { registers, known } = require.into();
+    let known = known.map(lines_of);
+    let answer = ask(|out| library::replay(list, expected, registers.as_bytes(), known.as_deref(), out))?;
+    answer.list_verdict(known.is_some())
 }
 
 /// The lines of expected PCRs, as [`verify`] takes them, that a text which tpm2_pcrread or tpm2_checkquote printed states: of the PCRs

@@ -21,16 +21,20 @@ pub(crate) fn version() -> u32 {
     unsafe { c::ima_verify_version() }
 }
 
-/// The calls: each gives the result, and what is reported of the text.
+/// The calls: each gives the result, and what is reported of the text. Behind the bar is the text of known files, if they are given.
 macro_rules! calls {
-    ($($name:ident = $function:ident($($input:ident),*; $($flag:expr),*);)*) => {
-        $(pub(crate) fn $name($($input: &[u8],)* out: &mut [u8]) -> (i32, Told) {
+    ($($name:ident = $function:ident($($input:ident),* $(| $known:ident)?; $($flag:expr),*);)*) => {
+        $(pub(crate) fn $name($($input: &[u8],)* $($known: Option<&[u8]>,)? out: &mut [u8]) -> (i32, Told) {
             let mut told = NOTHING_TOLD;
             // SAFETY: the pointers are those of slices that live through the call, so they are not null, and the sizes are
             // theirs; `out` and `told` are borrowed for writing, so they overlap nothing else. The library keeps nothing, and
             // any thread may call it.
             let result = unsafe {
-                c::$function($($input.as_ptr(), $input.len(),)* $($flag,)* out.as_mut_ptr(), out.len(), &mut told)
+                c::$function(
+                    $($input.as_ptr(), $input.len(),)*
+                    $($known.unwrap_or_default().as_ptr(), $known.unwrap_or_default().len(), $known.is_some(),)?
+                    $($flag,)* out.as_mut_ptr(), out.len(), &mut told,
+                )
             };
             (result, told)
         })*
@@ -38,9 +42,9 @@ macro_rules! calls {
 }
 
 calls! {
-    verdict = ima_verify_raw_verdict(log, list, expected, require; true);
+    verdict = ima_verify_raw_verdict(log, list, expected, require | known; true);
     locate = ima_verify_raw_locate(log, list, expected, require; true);
-    replay = ima_verify_raw_replay(list, expected, require; true);
+    replay = ima_verify_raw_replay(list, expected, require | known; true);
     expected = ima_verify_raw_expected(printed, registers; false);
     log_registers = ima_verify_raw_registers(log; false, true);
     list_registers = ima_verify_raw_registers(list; true, true);
@@ -55,19 +59,21 @@ pub(crate) struct More<'a> {
     pub(crate) data: &'a [u8],
     pub(crate) expected: &'a [u8],
     pub(crate) require: &'a [u8],
+    pub(crate) known: Option<&'a [u8]>,
     pub(crate) prefix: bool,
 }
 
 /// The call of a session: it also gives the size of the next state.
 #[rustfmt::skip]
 pub(crate) fn verify_more(inputs: &More, next: &mut [u8], out: &mut [u8]) -> (i32, usize, Told) {
-    let &More { log, state, data, expected, require, prefix } = inputs;
+    let &More { log, state, data, expected, require, known, prefix } = inputs;
+    let (known, known_given) = (known.unwrap_or_default(), known.is_some());
     let (mut next_size, mut told) = (usize::MAX, NOTHING_TOLD);
     // SAFETY: as of the calls above; `next` and `out` are two buffers, and `next_size` is a variable of its own.
     let result = unsafe {
         c::ima_verify_raw_more(
             log.as_ptr(), log.len(), state.as_ptr(), state.len(), data.as_ptr(), data.len(),
-            expected.as_ptr(), expected.len(), require.as_ptr(), require.len(), prefix, true,
+            expected.as_ptr(), expected.len(), require.as_ptr(), require.len(), known.as_ptr(), known.len(), known_given, prefix, true,
             next.as_mut_ptr(), next.len(), &mut next_size, out.as_mut_ptr(), out.len(), &mut told,
         )
     };
@@ -79,20 +85,23 @@ pub(crate) struct Attested<'a> {
     pub(crate) log: &'a [u8],
     pub(crate) state: &'a [u8],
     pub(crate) data: &'a [u8],
+    pub(crate) known: Option<&'a [u8]>,
     pub(crate) prefix: bool,
 }
 
 /// The call of a quote: it also gives the size of the next state.
 #[rustfmt::skip]
 pub(crate) fn attest(inputs: &Attested, quote: &Quote<'_>, next: &mut [u8], out: &mut [u8]) -> (i32, usize, Told) {
-    let &Attested { log, state, data, prefix } = inputs;
-    let &Quote { message, nonce, require, takes_sha1, signature_checked } = quote;
+    let &Attested { log, state, data, known, prefix } = inputs;
+    let (known, known_given) = (known.unwrap_or_default(), known.is_some());
+    let &Quote { message, nonce, require, takes_sha1, signature_checked, .. } = quote;
     let (mut next_size, mut told) = (usize::MAX, NOTHING_TOLD);
     // SAFETY: as of `verify_more`.
     let result = unsafe {
         c::ima_verify_raw_attest(
             log.as_ptr(), log.len(), state.as_ptr(), state.len(), data.as_ptr(), data.len(), message.as_ptr(), message.len(),
-            nonce.as_ptr(), nonce.len(), require.as_ptr(), require.len(), takes_sha1, signature_checked, prefix, true,
+            nonce.as_ptr(), nonce.len(), require.as_ptr(), require.len(), known.as_ptr(), known.len(), known_given,
+            takes_sha1, signature_checked, prefix, true,
             next.as_mut_ptr(), next.len(), &mut next_size, out.as_mut_ptr(), out.len(), &mut told,
         )
     };

@@ -2,7 +2,7 @@
 
 use crate::answers::{Answer, Checkpoint};
 use crate::library::{self, ask_for_both, verify_more, zeros, Attested, More, ROOM};
-use crate::{Attestation, Error, Quote, Verdict};
+use crate::{lines_of, Attestation, Error, Quote, Required, Verdict};
 
 /// Verdicts on a measurement list that grows: each is on all of the list so far, but only what is new of it is given.
 ///
@@ -29,16 +29,21 @@ pub struct Session {
     log: Vec<u8>,
     expected: Vec<u8>,
     require: String,
+    known: Option<Vec<u8>>,
     prefix: bool,
     reached: Checkpoint,
 }
 
 impl Session {
-    /// A session on a list from its start. The arguments are as in [`verify`](crate::verify); `log` and `expected` are copied. For
-    /// a requirement that is not of its form, such as an empty one, [`more`](Self::more) gives the error.
-    pub fn new(log: &[u8], expected: &[u8], require: &str) -> Self {
-        let (log, expected, require) = (log.to_vec(), expected.to_vec(), require.to_owned());
-        Self { log, expected, require, prefix: false, reached: Checkpoint::default() }
+    /// A session on a list from its start. The arguments are as in [`verify`](crate::verify), and are copied. For a requirement that is
+    /// not of its form, such as an empty one, [`more`](Self::more) gives the error.
+    ///
+    /// Entries that the state covers are not looked up again among known files: if other files are known than were then, begin a new
+    /// session with the whole list.
+    pub fn new<'a>(log: &[u8], expected: &[u8], require: impl Into<Required<'a>>) -> Self {
+        let Required { registers, known } = require.into();
+        let (log, expected, require) = (log.to_vec(), expected.to_vec(), registers.to_owned());
+        Self { log, expected, require, known: known.map(lines_of), prefix: false, reached: Checkpoint::default() }
     }
 
     /// A session for [`attest`](Self::attest) alone: no PCRs are expected, and [`more`](Self::more) gives an error.
@@ -76,7 +81,7 @@ impl Session {
     /// [`Error::Refused`] if the requirement, an input or the state is refused, otherwise as for [`verify`](crate::verify).
     pub fn more(&mut self, data: &[u8]) -> Result<Verdict, Error> {
         let (log, state, expected, require) = (&self.log, &self.reached.text, &self.expected, self.require.as_bytes());
-        let inputs = More { log, state, data, expected, require, prefix: self.prefix };
+        let inputs = More { log, state, data, expected, require, known: self.known.as_deref(), prefix: self.prefix };
         let answer = ask_for_both(zeros(ROOM)?, zeros(ROOM)?, |next, out| verify_more(&inputs, next, out))?;
         self.answered(data.len(), answer)
     }
@@ -86,14 +91,17 @@ impl Session {
     ///
     /// A state is continued by a quote only in its boot: `resets` and `restarts` of the quote's clock are those of the last quote, and
     /// the state is that of a session that used this function last. (A suspend counts as a restart: then begin a new session with the
-    /// whole list.)
+    /// whole list.) So it is if other files are known than were by the last quote: entries that the state covers are not looked up again.
+    /// The known files are those of the quote, or of the session if the quote has none.
     ///
     /// # Errors
     ///
     /// [`Error::Refused`] with [`Kind::Checkpoint`](crate::Kind::Checkpoint) if the state is damaged, of another boot, or of no quote
     /// (number 4); otherwise as for [`attest`](crate::attest).
     pub fn attest(&mut self, data: &[u8], quote: &Quote<'_>) -> Result<Attestation, Error> {
-        let inputs = Attested { log: &self.log, state: &self.reached.text, data, prefix: self.prefix };
+        let of_quote = quote.known.map(lines_of);
+        let known = of_quote.as_deref().or(self.known.as_deref());
+        let inputs = Attested { log: &self.log, state: &self.reached.text, data, known, prefix: self.prefix };
         let (found, reached) = attested(&inputs, quote, &self.reached)?;
         if let Some(reached) = reached {
             self.reached = reached;
@@ -103,7 +111,7 @@ impl Session {
 
     /// The verdict that the answer to a call with so many bytes has.
     fn answered(&mut self, size: usize, answer: Answer) -> Result<Verdict, Error> {
-        let (verdict, reached) = answer.more(&self.reached, size as u64, self.prefix)?;
+        let (verdict, reached) = answer.more(&self.reached, size as u64, self.known.is_some(), self.prefix)?;
         if let Some(reached) = reached {
             self.reached = reached;
         }
@@ -128,7 +136,7 @@ pub(crate) fn attested(
     from: &Checkpoint,
 ) -> Result<(Attestation, Option<Checkpoint>), Error> {
     let answer = ask_for_both(zeros(ROOM)?, zeros(ROOM)?, |next, out| library::attest(inputs, quote, next, out))?;
-    answer.attestation(from, inputs.data.len() as u64, inputs.prefix, quote.signature_checked)
+    answer.attestation(from, inputs.data.len() as u64, inputs.known.is_some(), inputs.prefix, quote.signature_checked)
 }
 
 #[cfg(test)]

@@ -37,7 +37,7 @@ const WANTED: &str = "a key is of RSA, with 2048 bits or more and an odd exponen
 /// ```no_run
 /// # fn judge(log: &[u8], list: &[u8], key: &[u8], nonce: &[u8], message: &[u8], signature: &[u8]) -> Result<(), ima_verify::Error> {
 /// let signature_checked = ima_verify::verify_quote(key, signature, message)?;
-/// let quote = ima_verify::Quote { message, nonce, require: "sha256:0-10", takes_sha1: false, signature_checked };
+/// let quote = ima_verify::Quote { message, nonce, require: "sha256:0-10", takes_sha1: false, signature_checked, known: None };
 /// println!("{}", ima_verify::attest(log, list, &quote)?.matches);
 /// # Ok(())
 /// # }

@@ -16,6 +16,8 @@ use Rattle.measure_book.specs.Faults.{fault_number, gather_fault_number}
 use Rattle.boot_verdict.specs.declared.expected.ExpectFault.{ExpectFault}
 use Rattle.boot_verdict.specs.declared.expected.ExpectFault.TheVariants as expects
 use Rattle.boot_verdict.specs.ExpectFaults.{expect_fault_line, expect_fault_number}
+use Rattle.known_files.specs.declared.fault.KnownFault.{KnownFault}
+use Rattle.known_files.specs.declared.fault.KnownFault.TheVariants as known
 use Rattle.attestations.specs.Judging.{quote_refusal_number}
 use Rattle.tpm_keys.specs.Faults.{key_fault_number}
 use Rattle.agent_inputs.specs.declared.fault.FaultHead.{FaultHead}
@@ -55,6 +57,11 @@ abbrev pub fault_of_expected : ExpectFault → RunFault
 fault_of_expected expects.Memory = runs.Memory
 fault_of_expected fault = runs.Expect fault
 
+-- Of the files by which others are known, the text of the one of this number was refused for this reason.
+abbrev pub fault_of_known : ℕ → KnownFault → RunFault
+fault_of_known file known.Memory = runs.Memory
+fault_of_known file fault = runs.Known file fault
+
 -- The file of this number was refused for this reason.
 abbrev pub fault_of_job : ℕ → BookFault → RunFault
 fault_of_job job books.Memory = runs.Memory
@@ -77,6 +84,7 @@ fault_head (runs.List lists.Memory) = head_with kinds.Memory None None
 fault_head (runs.Expect expects.Memory) = head_with kinds.Memory None None
 fault_head (runs.Book books.Memory) = head_with kinds.Memory None None
 fault_head (runs.Outcome job books.Memory) = head_with kinds.Memory None None
+fault_head (runs.Known file known.Memory) = head_with kinds.Memory None None
 fault_head (runs.Gather gathers.Memory) = head_with kinds.Memory None None
 fault_head runs.Memory = head_with kinds.Memory None None
 fault_head runs.Usage = head_with kinds.Usage None None
@@ -87,6 +95,8 @@ fault_head (runs.Replay fault) = head_with kinds.Replay (Some (replay_fault_numb
 fault_head (runs.Expect fault) = head_with kinds.Expect (Some (expect_fault_number fault)) (expect_fault_line fault)
 fault_head (runs.Quote refusal) = head_with kinds.Quote (Some (quote_refusal_number refusal)) None
 fault_head (runs.Key fault) = head_with kinds.Key (Some (key_fault_number fault)) None
+fault_head (runs.Known file (known.WeakHash line)) = head_with kinds.Known (Some 1) (Some line)
+fault_head (runs.Known file (known.Malformed line)) = head_with kinds.Known (Some 2) (Some line)
 fault_head (runs.Checkpoint fault) = head_with kinds.Checkpoint (Some (not_resumed_number fault)) None
 fault_head (runs.Book fault) = head_with kinds.Book (Some (fault_number fault)) None
 fault_head (runs.Outcome job fault) = head_with kinds.Outcome (Some (fault_number fault)) (Some job)

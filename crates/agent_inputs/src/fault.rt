@@ -1,14 +1,15 @@
 //! Why the program failed.
 
-ghost use Rattle.std.specs.Prelude.{◌≡◌};
-ghost use Rattle.agent_inputs.specs.Faults.{fault_head, fault_of_expected, fault_of_list, fault_of_log, fault_of_arguments, not_resumed_number};
-ghost use Rattle.agent_inputs.specs.declared.fault.RunFault.TheVariants.{Key, Memory, Quote};
+ghost use Rattle.std.specs.Prelude.{◌≡◌, ℕ};
+ghost use Rattle.agent_inputs.specs.Faults.{fault_head, head_with, fault_of_expected, fault_of_known, fault_of_list, fault_of_log, fault_of_arguments, not_resumed_number};
+ghost use Rattle.agent_inputs.specs.declared.fault.RunFault.TheVariants.{Key, Known, Memory, Quote};
 
 use agent_plans::ArgumentsFault;
 use attestations::QuoteRefusal;
 use boot_log::LogFault;
 use boot_verdict::{CheckpointFault, ExpectFault, ResumeFault};
 use ima_list::{ListFault, ReplayFault};
+use known_files::KnownFault;
 use measure_book::{BookFault, GatherFault};
 use std::alloc::{AllocError, AllocFailed};
 use std::fmt;
@@ -65,6 +66,13 @@ pub enum RunFault {
     Quote(QuoteRefusal),
     /// An input is not the public area of a key that is asked for.
     Key(KeyFault),
+    /// A text of digests, by which files are known, is refused.
+    Known {
+        /// The number of its file among those that are given, counted from 1.
+        file: usize,
+        /// Why it is refused.
+        fault: KnownFault,
+    },
     /// There is no going on from a checkpoint.
     Checkpoint(NotResumed),
     /// The book could not be opened.
@@ -101,6 +109,7 @@ pub enum FaultKind {
     Expect,
     Quote,
     Key,
+    Known,
     Checkpoint,
     Book,
     Outcome,
@@ -124,6 +133,16 @@ pub struct FaultHead {
 }
 
 impl RunFault {
+    /// The text of known files of this number, counted from 1, is refused.
+    pub fn of_known(file: usize, fault: KnownFault) -> Self
+        ensures { result ≡ fault_of_known file fault }
+    {
+        match fault {
+            KnownFault::Memory => RunFault::Memory,
+            fault => RunFault::Known { file, fault },
+        }
+    }
+
     /// Its kind, number and place. Out of memory, even inside another fault, is of the kind `Memory`.
     pub fn head(&self) -> FaultHead
         ensures { result ≡ fault_head self.now }
@@ -149,6 +168,7 @@ impl RunFault {
             RunFault::Expect(fault) => (FaultKind::Expect, Some(fault.number()), fault.line()),
             RunFault::Quote(refusal) => (FaultKind::Quote, Some(refusal.number()), None),
             RunFault::Key(fault) => (FaultKind::Key, Some(fault.number()), None),
+            RunFault::Known { fault, .. } => head_of_known(*fault),
             RunFault::Checkpoint(fault) => (FaultKind::Checkpoint, Some(fault.number()), None),
             RunFault::Book(fault) => (FaultKind::Book, Some(fault.number()), None),
             RunFault::Outcome { job, fault } => {
@@ -172,6 +192,17 @@ impl RunFault {
     }
 }
 
+// The kind, number and place of what is wrong with a text of known files.
+fn head_of_known(fault: KnownFault) -> (FaultKind, Option<u32>, Option<usize>)
+    ensures { (file : ℕ) → head_with result.0 result.1 result.2 ≡ fault_head (Known file fault) }
+{
+    match fault {
+        KnownFault::WeakHash { line } => (FaultKind::Known, Some(1), Some(line)),
+        KnownFault::Malformed { line } => (FaultKind::Known, Some(2), Some(line)),
+        KnownFault::Memory => (FaultKind::Memory, None, None),
+    }
+}
+
 /// What is wrong, in words. `TooLong`, `Read`, `Write` and `NotUtf8` name their file.
 impl fmt::Display for RunFault {
     fn fmt<W: fmt::Write>(&self, f: &mut fmt::Formatter<W>) -> fmt::Result {
@@ -184,6 +215,7 @@ impl fmt::Display for RunFault {
             RunFault::Expect(fault) => say_fault("", fault, f),
             RunFault::Quote(refusal) => say_fault("", refusal, f),
             RunFault::Key(fault) => say_fault("", fault, f),
+            RunFault::Known { file, fault } => say_known(*file, *fault, f),
             RunFault::Checkpoint(fault) => say_fault("", fault, f),
             RunFault::Book(fault) => say_fault("", fault, f),
             RunFault::Outcome { job, fault } => say_outcome(*job, *fault, f),
@@ -215,6 +247,15 @@ fn say_outcome<W: fmt::Write>(
     f: &mut fmt::Formatter<W>,
 ) -> fmt::Result {
     write!(f, "file {job} is refused: {fault}")
+}
+
+// That the text of known files of this number is refused, and why.
+fn say_known<W: fmt::Write>(
+    file: usize,
+    fault: KnownFault,
+    f: &mut fmt::Formatter<W>,
+) -> fmt::Result {
+    write!(f, "known file {file}: {fault}")
 }
 
 // A name between words.

@@ -1,7 +1,9 @@
 -- What is to be done, and the plans that request it.
 use Rattle.std.specs.Prelude.{◌≡◌, ◌≤◌, ◌<◌, ◌^◌, not, Bool, false, true, Option, None, Some, is_some, String, vec_len}
-use Rattle.std.specs.Global.{Global}
+use Rattle.std.specs.Global.{Global, Vec}
 use Rattle.agent_plans.specs.declared.plan.Scope.TheVariants.{Whole}
+use Rattle.agent_plans.specs.declared.plan.ConfirmedBy.{ConfirmedBy}
+use Rattle.agent_plans.specs.declared.plan.ConfirmedBy.TheVariants.{Nothing}
 pub use Rattle.agent_plans.specs.declared.plan.DataShown.{DataShown}
 use Rattle.agent_plans.specs.declared.plan.DataShown.TheVariants.{Size, Bytes, Meaning}
 pub use Rattle.agent_plans.specs.declared.plan.Form.{Form}
@@ -13,6 +15,7 @@ pub use Rattle.agent_plans.specs.declared.plan.Plan.{Plan}
 use Rattle.agent_plans.specs.declared.plan.Plan.TheVariants as plans
 pub use Rattle.agent_plans.specs.declared.plan.Print.{Print}
 use Rattle.agent_plans.specs.declared.plan.Print.TheVariants.{Binary}
+use Rattle.agent_plans.specs.declared.plan.Question.{Question}
 use Rattle.agent_plans.specs.declared.plan.Question.TheVariants as questions
 pub use Rattle.agent_plans.specs.declared.plan.Task.{Task}
 use Rattle.agent_plans.specs.declared.plan.Task.TheVariants as tasks
@@ -26,7 +29,7 @@ task_of (plans.Measure alg template workers limit print log files) = (
   forms.Text,
 )
 task_of (plans.Verify log list expected) =
-    (tasks.Answer (questions.Judge (record { judged = judged.Verdict log Whole None None; list = list; expected = expected; required = None })), forms.Text)
+    (tasks.Answer (questions.Judge (record { judged = judged.Verdict log Whole None None; list = list; expected = expected; required = None; known = None })), forms.Text)
 task_of (plans.Show list) = (tasks.Entries list, forms.Text)
 task_of (plans.Help text) = (tasks.Help text, forms.Text)
 task_of (plans.Task task form) = (task, form)
@@ -34,14 +37,14 @@ task_of (plans.Task task form) = (task, form)
 -- ---- one plan for each
 
 -- The verdict on a whole list, and nothing more.
-abbrev pub is_plain_verdict : Judged → Option (String Global) → Bool
-is_plain_verdict (judged.Verdict log Whole None None) None = true
-is_plain_verdict judged required = false
+abbrev pub is_plain_verdict : Judged → Option (String Global) → Option (Vec (String Global)) → Bool
+is_plain_verdict (judged.Verdict log Whole None None) None None = true
+is_plain_verdict judged required known = false
 
 -- Some other plan than `Task` requests this, as text.
 abbrev pub has_plan : Task → Bool
 has_plan tasks.Registers = true
-has_plan (tasks.Answer (questions.Judge judge)) = is_plain_verdict judge.judged judge.required
+has_plan (tasks.Answer (questions.Judge judge)) = is_plain_verdict judge.judged judge.required judge.known
 has_plan (tasks.Measure request) = not (is_some request.names)
 has_plan (tasks.Entries list) = true
 has_plan (tasks.Help text) = true
@@ -59,22 +62,36 @@ abbrev pub HasForm : Form → Print → Type 0
 HasForm forms.Json Binary = ⊥
 HasForm form print = Unit {0}
 
--- What is shown of a log's events can be shown in this form, and compared with expected registers if there are some: what data says is shown
--- as JSON in any case, as text if this is asked for; and registers are compared where it is shown.
-abbrev pub HasEventsForm : Form → DataShown → Option (String Global) → Type 0
-HasEventsForm forms.Json Meaning expected = ⊥
-HasEventsForm forms.Text Size (Some expected) = ⊥
-HasEventsForm forms.Text Bytes (Some expected) = ⊥
-HasEventsForm form shown expected = Unit {0}
+-- What is shown of a log's events can be shown in this form, and this can tell which of it is confirmed: what data says is shown as JSON in any
+-- case, as text if this is asked for; and nothing tells it where what data says is not shown.
+abbrev pub HasEventsForm : Form → DataShown → ConfirmedBy → Type 0
+HasEventsForm forms.Json Meaning confirmed_by = ⊥
+HasEventsForm forms.Json shown confirmed_by = Unit {0}
+HasEventsForm forms.Text Meaning confirmed_by = Unit {0}
+HasEventsForm forms.Text shown Nothing = Unit {0}
+HasEventsForm forms.Text shown confirmed_by = ⊥
 
 -- A measurement has 1 to 8 workers, a limit of at least one record, and fewer than 2^32 files named by arguments.
 abbrev pub IsWithinLimits : Form → Measurement → Type 0
 IsWithinLimits form request =
     (1 ≤ request.workers) × (request.workers ≤ 8) × (1 ≤ request.limit) × (vec_len request.files < 2 ^ 32) × HasForm form request.print
 
+-- Texts of known files are named only for a verdict, and only where registers are required.
+abbrev pub TakesKnown : Judged → Option (String Global) → Option (Vec (String Global)) → Type 0
+TakesKnown judged required None = Unit {0}
+TakesKnown (judged.Positions log) required (Some names) = ⊥
+TakesKnown judged None (Some names) = ⊥
+TakesKnown judged (Some text) (Some names) = Unit {0}
+
+-- So it is in a question.
+abbrev pub NamesKnown : Question → Type 0
+NamesKnown (questions.Judge judge) = TakesKnown judge.judged judge.required judge.known
+NamesKnown question = Unit {0}
+
 abbrev pub IsWithin : Form → Task → Type 0
+IsWithin form (tasks.Answer question) = NamesKnown question
 IsWithin form (tasks.Measure request) = IsWithinLimits form request
-IsWithin form (tasks.Events log shown expected) = HasEventsForm form shown expected
+IsWithin form (tasks.Events log shown confirmed_by) = HasEventsForm form shown confirmed_by
 IsWithin form task = Unit {0}
 
 -- What the plan requests is within its ranges.

@@ -6,6 +6,6 @@ mod plan;
 
 pub use fault::ArgumentsFault;
 pub use plan::{
-    Attest, DataShown, Form, Judge, Judged, Measurement, NameEnd, Names, Plan, Print, Question,
-    Scope, Task,
+    Attest, ConfirmedBy, DataShown, Form, Judge, Judged, Measurement, NameEnd, Names, Plan, Print,
+    Question, Quoting, Scope, Task,
 };

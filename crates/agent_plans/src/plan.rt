@@ -93,19 +93,17 @@ pub struct Judge {
     pub expected: String,
     /// The text of the registers that have to be among them, as `sha256:0-10`, if there is one. It is any text here.
     pub required: Option<String>,
+    /// The names of the texts of known files, if there are some: only for a verdict, and only where registers are required.
+    pub known: Option<Vec<String>>,
 }
 
-/// What is asked of a log and a list where the TPM has quoted registers.
+/// A quote of a log and a list, and what it must be.
 #[derive(Drop)]
-pub struct Attest {
-    /// The name of the firmware event log, binary.
-    pub log: String,
+pub struct Quoting {
     /// The name of the measurement list, binary; with a checkpoint, of what follows it.
     pub list: String,
     /// The name of the message that the TPM signed.
     pub quote: String,
-    /// The name of the text of expected registers, which nobody has signed, if there is one.
-    pub expected: Option<String>,
     /// The nonce that the quote must have.
     pub nonce: Vec<u8>,
     /// The text of the registers that must be quoted, as `sha256:0-10`. It is any text here.
@@ -114,12 +112,36 @@ pub struct Attest {
     pub takes_sha1: bool,
     /// Whether the caller says that he has verified the message's signature.
     pub is_signed: bool,
+}
+
+/// What is asked of a log and a list where the TPM has quoted registers.
+#[derive(Drop)]
+pub struct Attest {
+    /// The name of the firmware event log, binary.
+    pub log: String,
+    /// The list and the quote.
+    pub quoting: Quoting,
+    /// The name of the text of expected registers, which nobody has signed, if there is one.
+    pub expected: Option<String>,
+    /// The names of the texts of known files, if there are some.
+    pub known: Option<Vec<String>>,
     /// Which part of the list is judged.
     pub scope: Scope,
     /// The name of the checkpoint to go on from, if there is one.
     pub resume: Option<String>,
     /// The name under which the checkpoint is saved, if it is.
     pub save: Option<String>,
+}
+
+/// What tells which data of a log is confirmed.
+#[derive(Drop)]
+pub enum ConfirmedBy {
+    /// Nothing does.
+    Nothing,
+    /// Values that nobody has signed: those in the text of expected registers of this name.
+    Expected(String),
+    /// A quote, of the log and a list.
+    Quote(Quoting),
 }
 
 /// A text that names further files.
@@ -202,9 +224,17 @@ pub enum Task {
         log: String,
         /// What to show of their data. In JSON all of it is shown, with what it says: then this is not `Meaning`.
         data: DataShown,
-        /// The name of the text of expected registers, which tell what of the data is confirmed, if there is one. There is none where
-        /// what the data says is not shown.
-        expected: Option<String>,
+        /// What tells which of it is confirmed: nothing where what the data says is not shown.
+        confirmed_by: ConfirmedBy,
+    },
+    /// Answer what the machine booted that left a firmware event log.
+    Boot {
+        /// The name of the firmware event log, binary.
+        log: String,
+        /// What tells which of it is confirmed.
+        confirmed_by: ConfirmedBy,
+        /// The name of the log of an earlier boot, with which this one is compared, if there is one.
+        before: Option<String>,
     },
     /// Show the entries of a list.
     Entries {
@@ -303,6 +333,7 @@ impl Plan {
                     list,
                     expected,
                     required: None,
+                    known: None,
                 };
                 (Task::Answer(Question::Judge(judge)), Form::Text)
             }
@@ -360,8 +391,9 @@ fn judge_plan(judge: Judge) -> Plan
         list,
         expected,
         required,
+        known,
     } = judge;
-    match (judged, required) {
+    match (judged, required, known) {
         (
             Judged::Verdict {
                 log,
@@ -370,17 +402,19 @@ fn judge_plan(judge: Judge) -> Plan
                 save: None,
             },
             None,
+            None,
         ) => Plan::Verify {
             log,
             list,
             expected,
         },
-        (judged, required) => {
+        (judged, required, known) => {
             let judge = Judge {
                 judged,
                 list,
                 expected,
                 required,
+                known,
             };
             Plan::Task(Task::Answer(Question::Judge(judge)), Form::Text)
         }

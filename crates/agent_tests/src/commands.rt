@@ -8,7 +8,7 @@ use test_kit::samples::{
 };
 
 /// The files, by their names; `-` is standard input, and has `log` in hexadecimal.
-pub static FILES: [(&str, &[u8]); 13] = [
+pub static FILES: [(&str, &[u8]); 15] = [
     (
         "-",
         b"00000000 03000000 0000000000000000000000000000000000000000 21000000
@@ -26,6 +26,8 @@ pub static FILES: [(&str, &[u8]); 13] = [
     ("header", HEADER),
     ("entry", MEASUREMENT),
     ("ten", MEASUREMENT_REGISTERS),
+    ("four", LOG_LINE),
+    ("digests", SHELL_DIGEST),
     ("printed", PRINTED),
     ("key", KEY),
     ("/bin/sh", b"abc"),
@@ -52,6 +54,22 @@ const KEY_NAME: &[u8] = b"000b55660a0937bd86bbb4da300f3cc9a84b131184912cb72fcf54
 const SHELL_LINE: &[u8] =
     b"sha256 10 5fcef84d490a160058b8f1b7e33abea9f2df325f2b7ccb294d1d28f3459db9d5\n";
 
+/// The digest of `/bin/sh` with `abc`, as `sha256sum` prints it.
+const SHELL_DIGEST: &[u8] =
+    b"ba7816bf8f01cfea414140de5dae2223b00361a396177a9cb410ff61f20015ad  /bin/sh\n";
+
+/// What the log and its PCR 4 answer, beside the same log.
+const BOOT_LINES: &[u8] = b"\
+secure_boot unknown
+firmware_version unknown
+image 1 sha256 0000000000000000000000000000000000000000000000000000000000000000 claimed {\"separator\":0}
+command unknown 8
+command unknown 12
+ima_policy unknown
+boot_variable unknown
+register 4 alike all
+";
+
 /// The event of the log, whose digest is no hash of its data.
 const EXPLAINED_LINES: &[u8] =
     b"algorithms sha256:32\n1 4 EV_SEPARATOR claimed\n  {\"separator\":0}\n";
@@ -64,7 +82,7 @@ pub const MEASURE: Command = Command {
 };
 
 /// Every command.
-pub static COMMANDS: [Command; 15] = [
+pub static COMMANDS: [Command; 17] = [
     Command {
         arguments: &[],
         status: 0,
@@ -84,6 +102,11 @@ pub static COMMANDS: [Command; 15] = [
         arguments: &["events", "--explain", "--expected", "values", "log"],
         status: 0,
         output: EXPLAINED_LINES,
+    },
+    Command {
+        arguments: &["boot", "--expected", "four", "--before=log", "log"],
+        status: 0,
+        output: BOOT_LINES,
     },
     Command {
         arguments: &["show", "entry"],
@@ -136,6 +159,29 @@ verdict match
 ",
     },
     Command {
+        arguments: &[
+            "verify",
+            "--require=sha256:10",
+            "--known",
+            "digests",
+            "--known=digests",
+            "log",
+            "list",
+            "row",
+        ],
+        status: 1,
+        output: b"\
+events 1 locality 0
+entries 3
+compared 1
+boot_aggregate good
+sha256 10 match
+known_from 0
+unknown entry 2
+verdict differ
+",
+    },
+    Command {
         arguments: &["locate", "log", "list", "values"],
         status: 1,
         output: PLACES,
@@ -166,7 +212,7 @@ not located
 ];
 
 /// Commands that are refused, or fail.
-pub static FAULTS: [Command; 3] = [
+pub static FAULTS: [Command; 4] = [
     Command {
         arguments: &["registers", "entry"],
         status: 2,
@@ -176,6 +222,19 @@ pub static FAULTS: [Command; 3] = [
         arguments: &["show", "a b"],
         status: 3,
         output: b"failed: read a b\n",
+    },
+    Command {
+        arguments: &[
+            "verify",
+            "--require=sha256:10",
+            "--known",
+            "names",
+            "log",
+            "list",
+            "row",
+        ],
+        status: 2,
+        output: b"refused: known fault 2 at line 1\n",
     },
     Command {
         arguments: &["measure", "--limit=1", "header", "/bin/sh"],

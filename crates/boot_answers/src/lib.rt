@@ -30,7 +30,7 @@
 //!   register 10 under a policy too; a policy keeps only what Linux measured from being taken out.
 //! - [`boot_variable`]: a variable whose value, or whose data, was hashed. Vendor and name are always claimed, also where all of the data is
 //!   measured: root can set a variable to the bytes of another one. They are told up to the first event that may be a separator, which may
-//!   be a BootOrder ([`Until`]); what comes after it is unknown, not absent.
+//!   be a BootOrder ([`Until`], [`may_be_separator`]); what comes after it is unknown, not absent.
 //! - [`first_difference`]: how far two boots extended a register alike, by their digests alone. An event without a digest is like none.
 //!
 //! `matched` has the registers of a bank whose value is the log's. Each call goes over the log once, or for each bank once or twice, and
@@ -61,6 +61,7 @@ pub use front_events::{FrontEvents, are_all_first};
 pub use ima_measuring::asks_to_measure;
 pub use ima_policy::may_set_ima_policy;
 pub use images::{image_digest, may_be_image};
+pub use passing::may_be_separator;
 pub use register_events::RegisterEvents;
 pub use secure_boot_state::{SecureBoot, secure_boot};
 pub use until::Until;

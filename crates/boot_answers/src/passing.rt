@@ -26,8 +26,9 @@ fn has_digest_of(event: &Event<'_>, alg: Alg, value: u32) -> bool
     }
 }
 
-// Whether the event has the digest of a separator.
-fn may_be_separator(event: &Event<'_>, alg: Alg) -> bool
+/// Whether the event may be a separator: it has the digest of one in the algorithm's bank. It may be a BootOrder as well
+/// ([`Until::PossibleSeparator`]).
+pub fn may_be_separator(event: &Event<'_>, alg: Alg) -> bool
     ensures { IsTrue result ↔ MayBeSeparator alg (log_event_of event.now) }
 {
     has_digest_of(event, alg, 0)

@@ -20,7 +20,7 @@ use Rattle.boot_verdict.specs.declared.report.State.{State}
 use Rattle.boot_verdict.specs.declared.report.State.TheVariants.{Match, Differ, Absent}
 use Rattle.boot_verdict.specs.declared.requirement.BankRange.{BankRange}
 use Rattle.boot_verdict.specs.declared.isolation.Strays.{Strays}
-use Rattle.boot_verdict.specs.Isolation.{IsListApart, IsLogApart, are_none, first_extending, first_stray, list_register}
+use Rattle.boot_verdict.specs.Isolation.{IsListApart, IsLogApart, are_none, list_register}
 use Rattle.boot_verdict.specs.RegisterRanges.{IsRangeText, is_within}
 use Rattle.boot_verdict.specs.RegisterTexts.{all_registers}
 use Rattle.boot_verdict.specs.Requirements.{AreBankRanges, BeginsWithBankRange, HasMatch, IsBankRangeText, IsRequirementText, SpellsRanges, bind_list, expected_of_rows, is_complete, is_complete_in, is_in, is_missing, is_of, names, required_matches, split_at_commas, states}

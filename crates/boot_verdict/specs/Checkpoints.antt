@@ -8,7 +8,9 @@ use Rattle.boot_verdict.specs.declared.checkpoint.Checkpoint.{Checkpoint}
 use Rattle.boot_verdict.specs.declared.verifier.VerifyFault.{VerifyFault}
 use Rattle.boot_verdict.specs.declared.verifier.VerifyFault.TheVariants as faults
 use Rattle.boot_verdict.specs.Isolation.{first_stray}
+use Rattle.boot_verdict.specs.ListReplays.{AreTracked}
 use Rattle.boot_verdict.specs.ListSources.{CameWhole, IsListFaultAfter}
+use Rattle.boot_verdict.specs.Tracking.{After}
 use Rattle.boot_verdict.specs.Verdicts.{IsForged, recorded_aggregate}
 
 -- The bytes are a list of genuine entries, and this is known after it.
@@ -31,6 +33,13 @@ pub record GoesOn (list : List ℕ) (old new : Option (List ℕ)) (limit : ℕ) 
   pub more : List ℕ
   pub came : CameWhole old new limit more
   pub checkpoint : IsCheckpoint (list ++ more) next
+
+-- The same, where `watch` has tracked the entries of the whole list.
+pub record WatchesOn {W : Type 0} (IsAfter : After W) (start : W) (list : List ℕ) (old new : Option (List ℕ)) (limit : ℕ) (next : Checkpoint) (watch : W) : Type 0 where
+  pub more : List ℕ
+  pub came : CameWhole old new limit more
+  pub checkpoint : IsCheckpoint (list ++ more) next
+  pub tracked : AreTracked IsAfter start checkpoint.entries watch
 
 -- Why the bytes that a source has left are not taken after this list: the first of these that holds. `Replay` comes only after all of
 -- them.

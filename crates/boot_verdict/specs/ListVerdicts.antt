@@ -12,8 +12,10 @@ use Rattle.boot_verdict.specs.declared.list_verifier.ListReport.{ListReport}
 use Rattle.boot_verdict.specs.declared.report.Row.{Row}
 use Rattle.boot_verdict.specs.declared.requirement.BankRange.{BankRange}
 use Rattle.boot_verdict.specs.Isolation.{are_none, strays_of}
+use Rattle.boot_verdict.specs.ListReplays.{AreTracked}
 use Rattle.boot_verdict.specs.ListSources.{CameWhole}
 use Rattle.boot_verdict.specs.Requirements.{expected_of_rows, is_complete}
+use Rattle.boot_verdict.specs.Tracking.{After}
 use Rattle.boot_verdict.specs.Verdicts.{is_match, row_state}
 
 -- ---- registers
@@ -61,6 +63,13 @@ pub record IsListVerdictFrom (old new : Option (List ℕ)) (limit : ℕ) (expect
   pub list : List ℕ
   pub came : CameWhole old new limit list
   pub verdict_is : IsListVerdict list expected verdict
+
+-- The same, where `watch` has tracked its entries.
+pub record WatchesList {W : Type 0} (IsAfter : After W) (start : W) (old new : Option (List ℕ)) (limit : ℕ) (expected : List Expected) (verdict : ListVerdict) (watch : W) : Type 0 where
+  pub list : List ℕ
+  pub came : CameWhole old new limit list
+  pub verdict_is : IsListVerdict list expected verdict
+  pub tracked : AreTracked IsAfter start verdict_is.entries watch
 
 -- ---- what contracts see of a report
 

@@ -5,6 +5,7 @@ use Rattle.pcr_banks.specs.declared.banks.Banks.{Banks}
 use Rattle.pcr_banks.specs.Registers.{is_active, value_at}
 use Rattle.boot_log.specs.Spelling.{log_event_of}
 use Rattle.ima_list.specs.Digesting.{IsGenuine}
+use Rattle.boot_verdict.specs.declared.steps.Nobody.{Nobody}
 use Rattle.boot_verdict.specs.declared.steps.Step.{Step as TakenStep}
 use Rattle.boot_verdict.specs.declared.steps.Step.TheVariants as taken
 use Rattle.boot_verdict.specs.Steps.{Step, OfEvent, OfEntry, value_after}
@@ -39,3 +40,7 @@ After Tracking = Tracking → ℕ → List Step → Tracking → Type 0
 -- The banks as a tracker.
 abbrev pub BanksAfter : After Banks
 BanksAfter start events steps now = AreAfter start steps now
+
+-- Of what tracks nothing, nothing is said.
+abbrev pub NobodyAfter : After Nobody
+NobodyAfter start events steps now = Unit {0}

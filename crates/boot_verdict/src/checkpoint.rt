@@ -7,12 +7,13 @@ ghost use Rattle.ima_list.specs.Spelling.{IsReading};
 ghost use Rattle.ima_list.specs.Replaying.{AreGenuine};
 ghost use Rattle.boot_verdict.specs.ListSources.{failures_after_list};
 ghost use Rattle.boot_verdict.specs.Tracking.{BanksAfter};
-ghost use Rattle.boot_verdict.specs.ListReplays.{ReplaysAll};
+ghost use Rattle.boot_verdict.specs.ListReplays.{AreTracked, ReplaysAll};
 ghost use Rattle.boot_verdict.specs.Verdicts.{IsSomeLog, IsVerifyFault};
-ghost use Rattle.boot_verdict.specs.Checkpoints.{GoesOn, IsCheckpoint, IsMoreFault, most_after};
+ghost use Rattle.boot_verdict.specs.Checkpoints.{GoesOn, IsCheckpoint, IsMoreFault, WatchesOn, most_after};
 
 use crate::isolation::Stray;
 use crate::list_replay::ListReplay;
+use crate::steps::Tracker;
 use crate::verifier::VerifyFault;
 use byte_streams::Source;
 use pcr_banks::{Banks, Digest};
@@ -63,20 +64,25 @@ impl Checkpoint {
     }
 
     /// The checkpoint after all that the source has left, at most `limit` bytes, as what follows the list. The entries so far and `limit`
-    /// must be below 2^64 together, and so must the bytes so far and `limit`: see [`Checkpoint::room`].
+    /// must be below 2^64 together, and so must the bytes so far and `limit`: see [`Checkpoint::room`]. `watch` takes the new entries, and
+    /// is returned.
     ///
     /// Fails as [`crate::verify_from`] does of the whole list, but never with [`VerifyFault::Log`].
-    pub fn go_on<R: Source>(
+    pub fn go_on<R: Source, W: Tracker>(
         &self,
         alloc: Global,
         source: &mut R,
         limit: u64,
-    ) -> Result<Checkpoint, VerifyFault>
+        watch: W,
+    ) -> Result<(Checkpoint, W), VerifyFault>
         requires entries { self.now.entries + limit < 2 ^ 64 }
         requires bytes { self.now.bytes + limit < 2 ^ 64 }
         ensures known { IfOk result (λ next. (list : List ℕ) → IsCheckpoint list self.now
-            → GoesOn list (R.state source.old).remaining (R.state source.new).remaining limit next) }
-        ensures before { IfOk result (λ next. next.before ≡ self.now.before) }
+            → GoesOn list (R.state source.old).remaining (R.state source.new).remaining limit next.0) }
+        ensures watched { IfOk result (λ next. (start : W) (list : List ℕ) (known : IsCheckpoint list self.now)
+            → AreTracked W.is_after start known.entries watch
+            → WatchesOn W.is_after start list (R.state source.old).remaining (R.state source.new).remaining limit next.0 next.1) }
+        ensures before { IfOk result (λ next. next.0.before ≡ self.now.before) }
         ensures fault { IfErr result (λ fault. (list : List ℕ) → IsCheckpoint list self.now
             → IsMoreFault list (R.state source.old).remaining (R.state source.new).remaining limit fault) }
         ensures prefix { LosesPrefix (R.state source.old).remaining (R.state source.new).remaining }
@@ -84,13 +90,16 @@ impl Checkpoint {
         ensures counts { (R.state source.new).failures ≡ failures_after_list result (R.state source.old).failures }
     {
         let mut replay = self.replay();
-        let count = replay.replay_more(alloc, source, limit)?;
-        Ok(Checkpoint::after(self.before, replay, self.bytes + count))
+        let mut watch = watch;
+        let count = replay.replay_more(alloc, source, limit, &mut watch)?;
+        let next = Checkpoint::after(self.before, replay, self.bytes + count);
+        Ok((next, watch))
     }
 
     // The checkpoint after a list of so many bytes, which was replayed from these registers.
     fn after(before: Banks, replay: ListReplay<Banks>, bytes: u64) -> Checkpoint
-        ensures known { (list : List ℕ) → ReplaysAll BanksAfter before list replay → bytes ≡ length list → IsCheckpoint list result }
+        ensures known { (list : List ℕ) (all : ReplaysAll BanksAfter before list replay) → bytes ≡ length list
+            → (known : IsCheckpoint list result) × (known.entries ≡ all.entries) }
         ensures before { result.before ≡ before }
         ensures entries { result.entries ≡ replay.entries }
         ensures bytes { result.bytes ≡ bytes }
@@ -107,7 +116,8 @@ impl Checkpoint {
 
     // The replay of the list.
     fn replay(&self) -> ListReplay<Banks>
-        ensures replays { (list : List ℕ) → IsCheckpoint list self.now → ReplaysAll BanksAfter self.now.before list result }
+        ensures replays { (list : List ℕ) (known : IsCheckpoint list self.now) → (all : ReplaysAll BanksAfter self.now.before list result)
+            × (all.entries ≡ known.entries) }
         ensures entries { result.entries ≡ self.now.entries }
     {
         ListReplay {

@@ -43,6 +43,6 @@ pub use printed::read_printed;
 pub use register_range::RegisterRange;
 pub use report::{Aggregate, Report, Row, State, aggregate_word};
 pub use requirement::{BankRange, HasExpected, Requirement, RequirementFault};
-pub use steps::{Step, Tracker};
+pub use steps::{Nobody, Step, Tracker};
 pub use texts::{digits_of, write_change, write_expected, write_registers};
 pub use verifier::{VerifyFault, aggregate_of, report_on, verify, verify_from};

@@ -9,6 +9,7 @@ ghost use Rattle.boot_verdict.specs.ListSources.{HoldsGenuineList, failures_afte
 ghost use Rattle.boot_verdict.specs.Replays.{IsListReplay, IsListReplayFault, IsListReplayFrom, IsListStart, every_alg};
 
 use crate::checkpoint::Checkpoint;
+use crate::steps::Nobody;
 use crate::verifier::VerifyFault;
 use byte_streams::Source;
 use pcr_banks::{Alg, AlgSet, Banks};
@@ -53,6 +54,6 @@ pub fn replay_from<R: Source>(alloc: Global, list: &mut R, limit: u64) -> Result
     ensures telling { is_some (R.state list.new).remaining ≡ is_some (R.state list.old).remaining }
     ensures counts { (R.state list.new).failures ≡ failures_after_list result (R.state list.old).failures }
 {
-    let known = Checkpoint::before_list(list_start()).go_on(alloc, list, limit)?;
+    let (known, _nobody) = Checkpoint::before_list(list_start()).go_on(alloc, list, limit, Nobody)?;
     Ok(known.after)
 }

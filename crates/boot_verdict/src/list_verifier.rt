@@ -1,11 +1,12 @@
 //! The verdict on a measurement list alone and expected registers.
 
-ghost use Rattle.std.specs.Prelude.{◌≡◌, ◌⊎◌, List, is_some, Ok, IfOk, IfErr, IsErrOf};
+ghost use Rattle.std.specs.Prelude.{◌≡◌, ◌⊎◌, List, [], is_some, Ok, IfOk, IfErr, IsErrOf};
 ghost use Rattle.byte_fields.specs.Reading.{ReadsInMemory};
 ghost use Rattle.byte_streams.specs.Streams.{LosesPrefix};
 ghost use Rattle.ima_list.specs.ListEntry.{ListEntry};
+ghost use Rattle.boot_verdict.specs.ListReplays.{AreTracked};
 ghost use Rattle.boot_verdict.specs.ListSources.{HoldsGenuineList, failures_after_list};
-ghost use Rattle.boot_verdict.specs.ListVerdicts.{IsListVerdictFrom, list_matches, list_verdict_of, list_verdict_on, required_list_matches};
+ghost use Rattle.boot_verdict.specs.ListVerdicts.{IsListVerdictFrom, WatchesList, list_matches, list_verdict_of, list_verdict_on, required_list_matches};
 ghost use Rattle.boot_verdict.specs.Replays.{IsListReplayFault};
 
 use crate::checkpoint::Checkpoint;
@@ -14,6 +15,7 @@ use crate::isolation::Strays;
 use crate::list_registers::list_start;
 use crate::report::{Row, all_match};
 use crate::requirement::Requirement;
+use crate::steps::Tracker;
 use crate::verifier::{VerifyFault, rows_on};
 use byte_streams::Source;
 use std::alloc::Global;
@@ -47,22 +49,27 @@ impl ListReport {
 
 /// Replays a measurement list of at most `limit` bytes without a firmware event log, as [`crate::replay_from`] does, and compares the
 /// registers with the expected ones, in their order. Without an entry, or an expected register, there is a report, but it
-/// does not match.
+/// does not match. `watch` takes the entries, and is returned.
 ///
 /// Fails as [`crate::replay_from`] does.
-pub fn verify_list_from<R: Source>(
+pub fn verify_list_from<R: Source, W: Tracker>(
     alloc: Global,
     list: &mut R,
     limit: u64,
     expected: &[Expected],
-) -> Result<ListReport, VerifyFault>
+    watch: W,
+) -> Result<(ListReport, W), VerifyFault>
     // The report is the verdict on the list that the source had left, and the expected registers.
     ensures report { IfOk result (λ report. IsListVerdictFrom (R.state list.old).remaining (R.state list.new).remaining limit expected.now
-        (list_verdict_of report)) }
+        (list_verdict_of report.0)) }
+    // What watched has tracked the entries of that list.
+    ensures watched { IfOk result (λ report. (start : W) → AreTracked W.is_after start [] watch
+        → WatchesList W.is_after start (R.state list.old).remaining (R.state list.new).remaining limit expected.now
+        (list_verdict_of report.0) report.1) }
     // For a list of genuine entries within the limit there is a report, unless the source fails or memory runs out.
     ensures only { (entries : List ListEntry) → HoldsGenuineList (R.state list.old).remaining limit entries
         → IsErrOf result VerifyFault.Source
-        ⊎ ReadsInMemory VerifyFault.Memory list_verdict_of result (Ok (list_verdict_on entries expected.now)) }
+        ⊎ ReadsInMemory VerifyFault.Memory (λ report. list_verdict_of report.0) result (Ok (list_verdict_on entries expected.now)) }
     // Any fault is the first reason.
     ensures fault { IfErr result (IsListReplayFault (R.state list.old).remaining (R.state list.new).remaining limit) }
     // In any case the source loses bytes from its start, and nothing else.
@@ -70,13 +77,14 @@ pub fn verify_list_from<R: Source>(
     ensures telling { is_some (R.state list.new).remaining ≡ is_some (R.state list.old).remaining }
     ensures counts { (R.state list.new).failures ≡ failures_after_list result (R.state list.old).failures }
 {
-    let known = Checkpoint::before_list(list_start()).go_on(alloc, list, limit)?;
-    Ok(ListReport {
+    let (known, watch) = Checkpoint::before_list(list_start()).go_on(alloc, list, limit, watch)?;
+    let report = ListReport {
         entries: known.entries,
         strays: Strays {
             event: None,
             entry: known.stray,
         },
         rows: rows_on(alloc, &known.after, expected)?,
-    })
+    };
+    Ok((report, watch))
 }

@@ -22,6 +22,7 @@ use crate::checkpoint::Checkpoint;
 use crate::expected::Expected;
 use crate::isolation::{Strays, first_extending};
 use crate::report::{Aggregate, Report, Row, State};
+use crate::steps::Nobody;
 use boot_log::{LogFault, LogView};
 use byte_streams::{ReadFault, Source};
 use ima_list::{ListFault, ReplayFault, boot_aggregate};
@@ -158,7 +159,9 @@ pub fn verify_from<R: Source>(
     ensures counts { (R.state list.new).failures ≡ failures_after_list result (R.state list.old).failures }
 {
     let firmware = LogView::new(log)?;
-    let known = Checkpoint::before_list(firmware.registers()).go_on(alloc, list, limit)?;
+    let (known, _nobody) = Checkpoint::before_list(firmware.registers()).go_on(
+        alloc, list, limit, Nobody,
+    )?;
     Ok(report_on(alloc, &firmware, &known, expected)?)
 }
 

@@ -29,6 +29,12 @@ no_values f id missing = sym (raw_values-rows f id) ∙ go (matched_of f id) mis
     go None e = refl
     go (Some found) e = cc
 
+-- The values of an argument, as they were found.
+pub all_given : (o : Option (Bor (List (Bor Text)))) (f : Found) (id : Text)
+    → option_map (λ arguments. map (λ word. word.now) arguments.now) o ≡ option_map raw_values (matched_of f id)
+    → all_of id (rows_of f) ≡ option_map (λ arguments. map (λ word. word.now) arguments.now) o
+all_given o f id found = sym (raw_values-rows f id) ∙ sym found
+
 -- The first argument is the command.
 pub requested_by : (arguments : List (String Global)) (word : String Global) (command : Text) (plan : Plan) → Some word ≡ slice_get arguments 0
     → command ≡ string_bytes word → IsPlanOrHelp arguments command plan → IsRequestedBy arguments plan

@@ -1,6 +1,6 @@
 -- The commands as clap takes them, and the plan that comes from the arguments.
 use Rattle.std.specs.Prelude.{◌≡◌, Bool, true, false, Option, None, String, List, [], ◌∷◌, codes, Ok, Some, ℕ, ◌⊎◌, ◌||◌, ◌==◌, IsTrue, bytes_eq, map, option_map, unwrap_or, string_bytes}
-use Rattle.std.specs.Global.{Global}
+use Rattle.std.specs.Global.{Global, Vec}
 use Rattle.std.specs.List.{fold, list_any, starts_with}
 use Rattle.clap.specs.Words.{App, Rule, Text, new_app, new_rule, with_rule, with_subcommand, Row, all_of, first_of, subcommand_of}
 use Rattle.clap.specs.Lexer.{usize_max}
@@ -13,6 +13,8 @@ use Rattle.ima_list.specs.Templates.{template_name}
 use Rattle.agent_plans.specs.Plans.{IsOneOf, task_of}
 use Rattle.hex.specs.Hex.{decode_of}
 use Rattle.agent_plans.specs.declared.plan.Attest.{Attest}
+use Rattle.agent_plans.specs.declared.plan.ConfirmedBy.{ConfirmedBy}
+use Rattle.agent_plans.specs.declared.plan.ConfirmedBy.TheVariants.{Expected, Nothing, Quote}
 use Rattle.agent_plans.specs.declared.plan.DataShown.{DataShown}
 use Rattle.agent_plans.specs.declared.plan.DataShown.TheVariants.{Bytes, Meaning}
 use Rattle.agent_plans.specs.declared.plan.Form.{Form}
@@ -28,6 +30,7 @@ use Rattle.agent_plans.specs.declared.plan.Print.{Print}
 use Rattle.agent_plans.specs.declared.plan.Print.TheVariants as prints
 use Rattle.agent_plans.specs.declared.plan.Question.{Question}
 use Rattle.agent_plans.specs.declared.plan.Question.TheVariants as questions
+use Rattle.agent_plans.specs.declared.plan.Quoting.{Quoting}
 use Rattle.agent_plans.specs.declared.plan.Scope.TheVariants.{Whole, Prefix}
 use Rattle.agent_plans.specs.declared.plan.Task.{Task}
 use Rattle.agent_plans.specs.declared.plan.Task.TheVariants as tasks
@@ -54,6 +57,10 @@ required id = record (new_rule id) { required = true }
 -- An option without a default value.
 abbrev pub without_default : Text → Rule
 without_default id = record (new_rule id) { long = Some id; value_names = 1 }
+
+-- An option without a default value, which may be there several times.
+abbrev pub several : Text → Rule
+several id = record (without_default id) { action = Some Append }
 
 -- An option that has to be there.
 abbrev pub required_option : Text → Rule
@@ -97,6 +104,7 @@ table parsers = (
     ∷ (
       codes "verify",
       without_default (codes "require")
+          ∷ several (codes "known")
           ∷ flag (codes "prefix")
           ∷ without_default (codes "save")
           ∷ without_default (codes "resume")
@@ -110,6 +118,7 @@ table parsers = (
       codes "attest",
       required_option (codes "nonce")
           ∷ required_option (codes "require")
+          ∷ several (codes "known")
           ∷ flag (codes "sha1")
           ∷ flag (codes "signature-checked")
           ∷ flag (codes "prefix")
@@ -131,12 +140,40 @@ table parsers = (
       flag (codes "data")
           ∷ flag (codes "explain")
           ∷ without_default (codes "expected")
+          ∷ without_default (codes "quote")
+          ∷ without_default (codes "list")
+          ∷ without_default (codes "nonce")
+          ∷ without_default (codes "require")
+          ∷ flag (codes "sha1")
+          ∷ flag (codes "signature-checked")
+          ∷ flag (codes "json")
+          ∷ required (codes "LOG")
+          ∷ [],
+    )
+    ∷ (
+      codes "boot",
+      without_default (codes "expected")
+          ∷ without_default (codes "quote")
+          ∷ without_default (codes "list")
+          ∷ without_default (codes "nonce")
+          ∷ without_default (codes "require")
+          ∷ flag (codes "sha1")
+          ∷ flag (codes "signature-checked")
+          ∷ without_default (codes "before")
           ∷ flag (codes "json")
           ∷ required (codes "LOG")
           ∷ [],
     )
     ∷ (codes "show", flag (codes "json") ∷ required (codes "LIST") ∷ [])
-    ∷ (codes "replay", beside (without_default (codes "require")) ∷ flag (codes "json") ∷ required (codes "LIST") ∷ new_rule (codes "EXPECTED") ∷ [])
+    ∷ (
+      codes "replay",
+      beside (without_default (codes "require"))
+          ∷ several (codes "known")
+          ∷ flag (codes "json")
+          ∷ required (codes "LIST")
+          ∷ new_rule (codes "EXPECTED")
+          ∷ [],
+    )
     ∷ []
 
 -- The program, whose first argument is a command's name or the flag that asks for the version.
@@ -155,6 +192,11 @@ commands parsers = fold (λ app row. with_subcommand app (fold with_rule (new_ap
 abbrev pub IsGivenAs : Text → List Row → Option (String Global) → Type 0
 IsGivenAs id rows None = all_of id rows ≡ None
 IsGivenAs id rows (Some text) = first_of id rows ≡ Some (string_bytes text)
+
+-- The argument of this name has these values, or it is not present.
+abbrev pub AreGivenAs : Text → List Row → Option (Vec (String Global)) → Type 0
+AreGivenAs id rows None = all_of id rows ≡ None
+AreGivenAs id rows (Some texts) = all_of id rows ≡ Some (map string_bytes texts.items)
 
 -- The flag of this name says this: the second of two if it is present, else the first. clap gives it the value `true` or `false`.
 abbrev pub IsFlag : {A : Type 0} → Text → List Row → A → A → A → Type 0
@@ -196,16 +238,22 @@ pub record HasBytes (id : Text) (rows : List Row) (bytes : List ℕ) : Type 0 wh
   pub has : first_of id rows ≡ Some text
   pub spells : decode_of text ≡ Ok bytes
 
+-- The matches have what is asked of the quote in the file of this name, and the list, which the argument of this name has.
+pub record HasQuoting (list : Text) (rows : List Row) (quote : String Global) (quoting : Quoting) : Type 0 where
+  pub list_is : IsGivenAs list rows (Some quoting.list)
+  pub quote_is : quoting.quote ≡ quote
+  pub nonce_is : HasBytes (codes "nonce") rows quoting.nonce.items
+  pub required_is : IsGivenAs (codes "require") rows (Some quoting.required)
+  pub takes_sha1_is : IsFlag (codes "sha1") rows false true quoting.takes_sha1
+  pub is_signed_is : IsFlag (codes "signature-checked") rows false true quoting.is_signed
+
 -- The matches have the options and names of this attestation.
 pub record HasAttest (rows : List Row) (attest : Attest) : Type 0 where
   pub log_is : IsGivenAs (codes "LOG") rows (Some attest.log)
-  pub list_is : IsGivenAs (codes "LIST") rows (Some attest.list)
-  pub quote_is : IsGivenAs (codes "QUOTE") rows (Some attest.quote)
+  pub quote_is : IsGivenAs (codes "QUOTE") rows (Some attest.quoting.quote)
+  pub quoting_is : HasQuoting (codes "LIST") rows attest.quoting.quote attest.quoting
   pub expected_is : IsGivenAs (codes "EXPECTED") rows attest.expected
-  pub nonce_is : HasBytes (codes "nonce") rows attest.nonce.items
-  pub required_is : IsGivenAs (codes "require") rows (Some attest.required)
-  pub takes_sha1_is : IsFlag (codes "sha1") rows false true attest.takes_sha1
-  pub is_signed_is : IsFlag (codes "signature-checked") rows false true attest.is_signed
+  pub known_are : AreGivenAs (codes "known") rows attest.known
   pub scope_is : IsFlag (codes "prefix") rows Whole Prefix attest.scope
   pub resume_is : IsGivenAs (codes "resume") rows attest.resume
   pub save_is : IsGivenAs (codes "save") rows attest.save
@@ -235,6 +283,24 @@ abbrev pub IsDataShown : List Row → DataShown → Type 0
 IsDataShown rows shown =
     IsFlag (codes "data") rows false true (shows_bytes shown) × IsFlag (codes "explain") rows false true (explains shown)
 
+-- The matches have nothing that is asked of a quote beside its name.
+pub record HasNoQuoting (rows : List Row) : Type 0 where
+  pub list_is : IsGivenAs (codes "list") rows None
+  pub nonce_is : IsGivenAs (codes "nonce") rows None
+  pub required_is : IsGivenAs (codes "require") rows None
+  pub takes_sha1_is : IsFlag (codes "sha1") rows false true false
+  pub is_signed_is : IsFlag (codes "signature-checked") rows false true false
+
+-- This tells which data is confirmed: of `--expected` and `--quote`, no more than one is present.
+abbrev pub IsConfirmedBy : List Row → ConfirmedBy → Type 0
+IsConfirmedBy rows Nothing =
+    IsGivenAs (codes "expected") rows None × IsGivenAs (codes "quote") rows None × HasNoQuoting rows
+IsConfirmedBy rows (Expected name) =
+    IsGivenAs (codes "expected") rows (Some name) × IsGivenAs (codes "quote") rows None × HasNoQuoting rows
+IsConfirmedBy rows (Quote quoting) =
+    IsGivenAs (codes "expected") rows None × IsGivenAs (codes "quote") rows (Some quoting.quote)
+    × HasQuoting (codes "list") rows quoting.quote quoting
+
 -- ---- commands and their tasks
 
 -- The command of this name judges this, and the matches have the options and names that only this has.
@@ -248,8 +314,8 @@ HasJudged command rows (judged.Verdict log scope resume save) =
 HasJudged command rows (judged.Positions log) = (command ≡ codes "locate") × IsGivenAs (codes "LOG") rows (Some log)
 HasJudged command rows judged.ListVerdict = command ≡ codes "replay"
 
--- The command of this name asks this, and the matches have its options and names. `ListRegisters` requires that neither EXPECTED nor
--- `--require` is present.
+-- The command of this name asks this, and the matches have its options and names. `ListRegisters` requires that none of EXPECTED,
+-- `--require` and `--known` is present.
 abbrev pub HasQuestion : Text → List Row → Question → Type 0
 HasQuestion command rows (questions.LogRegisters log) = (command ≡ codes "registers") × IsGivenAs (codes "LOG") rows (Some log)
 HasQuestion command rows (questions.ListRegisters list) =
@@ -257,11 +323,13 @@ HasQuestion command rows (questions.ListRegisters list) =
     × IsGivenAs (codes "LIST") rows (Some list)
     × IsGivenAs (codes "EXPECTED") rows None
     × IsGivenAs (codes "require") rows None
+    × AreGivenAs (codes "known") rows None
 HasQuestion command rows (questions.Judge judge) =
     HasJudged command rows judge.judged
     × IsGivenAs (codes "LIST") rows (Some judge.list)
     × IsGivenAs (codes "EXPECTED") rows (Some judge.expected)
     × IsGivenAs (codes "require") rows judge.required
+    × AreGivenAs (codes "known") rows judge.known
 HasQuestion command rows (questions.Attest attest) = (command ≡ codes "attest") × HasAttest rows attest
 HasQuestion command rows (questions.Expected printed registers) =
     (command ≡ codes "expected") × IsGivenAs (codes "PCRREAD") rows (Some printed) × IsGivenAs (codes "registers") rows registers
@@ -271,11 +339,13 @@ HasQuestion command rows (questions.Key area purpose part) = (command ≡ codes 
 abbrev pub HasValues : Text → List Row → Task → Type 0
 HasValues command rows (tasks.Answer question) = HasQuestion command rows question
 HasValues command rows (tasks.Measure request) = (command ≡ codes "measure") × HasMeasure rows request
-HasValues command rows (tasks.Events log shown expected) =
-    (command ≡ codes "events")
+HasValues command rows (tasks.Events log shown confirmed_by) =
+    (command ≡ codes "events") × IsGivenAs (codes "LOG") rows (Some log) × IsDataShown rows shown × IsConfirmedBy rows confirmed_by
+HasValues command rows (tasks.Boot log confirmed_by before) =
+    (command ≡ codes "boot")
     × IsGivenAs (codes "LOG") rows (Some log)
-    × IsDataShown rows shown
-    × IsGivenAs (codes "expected") rows expected
+    × IsConfirmedBy rows confirmed_by
+    × IsGivenAs (codes "before") rows before
 HasValues command rows (tasks.Entries list) = (command ≡ codes "show") × IsGivenAs (codes "LIST") rows (Some list)
 HasValues command rows task = ⊥
 

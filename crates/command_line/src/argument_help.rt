@@ -26,6 +26,19 @@ lacks is a row `missing`, and the ",
     };
 }
 
+/// The help of --known, and what else is to be said of it.
+macro_rules! known_help {
+    ($($more:literal)?) => {
+        concat!(
+            "\
+FILE lists known files by digest, as sha256sum prints them, at most 64 MiB.
+Each entry that is not known is a line `unknown entry`, and the verdict is
+`differ`. May be given several times; only with --require"
+            $(, ". ", $more)?
+        )
+    };
+}
+
 /// The help of the argument of this name, of the command of this name.
 pub(crate) fn help_of<'a>(command: &str, id: &str) -> &'a str {
     match id {
@@ -34,11 +47,16 @@ pub(crate) fn help_of<'a>(command: &str, id: &str) -> &'a str {
         "json" => help_of_json(command),
         "EXPECTED" => help_of_expected(command),
         "require" => help_of_require(command),
+        "nonce" => "Nonce that the quote must have, in hexadecimal, at least 16 bytes",
+        "sha1" =>
+            "Take registers that are required in the SHA-1 bank alone, though collisions of SHA-1 are made",
+        "known" => help_of_known(command),
         _ => match command {
             "measure" => help_of_measure(id),
             "verify" => help_of_verify(id),
             "attest" => help_of_attest(id),
             "events" => help_of_events(id),
+            "boot" => help_of_boot(id),
             _ => help_of_other(id),
         },
     }
@@ -53,6 +71,7 @@ registers, one object on one line; not with --print binary",
         "events" => "\
 Print the events as JSON, one object per line, with the data of each
 event, what it says, and which part of it was measured",
+        "boot" => "Print the answers as JSON, one object per line",
         "show" => "Print the entries as JSON, one object per line",
         _ => "Print the result as JSON, one object on one line",
     }
@@ -82,12 +101,25 @@ registers are printed that differ from their reset values"
 // The help of --require.
 fn help_of_require<'a>(command: &str) -> &'a str {
     match command {
-        "attest" => "\
+        "attest" | "events" | "boot" => "\
 Registers that must be quoted, for example sha256:0-10 or
 sha256:0-7,sha384:0-10; each from 0 to 10 must be among them",
         "locate" => require_help!("last line is `not located`"),
         "replay" => require_help!("verdict is `differ`. Only with EXPECTED"),
         _ => require_help!("verdict is `differ`"),
+    }
+}
+
+// The help of --known.
+fn help_of_known<'a>(command: &str) -> &'a str {
+    match command {
+        "replay" => known_help!(),
+        _ => known_help!(
+            "\
+With --resume
+only entries after the checkpoint are looked at: those before it may never
+have been"
+        ),
     }
 }
 
@@ -123,9 +155,6 @@ fn help_of_verify<'a>(id: &str) -> &'a str {
 // The help of the arguments of `attest`.
 fn help_of_attest<'a>(id: &str) -> &'a str {
     match id {
-        "nonce" => "Nonce that the quote must have, in hexadecimal, at least 16 bytes",
-        "sha1" =>
-            "Take registers that are required in the SHA-1 bank alone, though collisions of SHA-1 are made",
         "signature-checked" => "\
 Say that you have verified the signature of QUOTE by the machine's key:
 without this nothing is attested, and a report has status 4",
@@ -146,11 +175,43 @@ fn help_of_events<'a>(id: &str) -> &'a str {
         "explain" => "\
 Print what the data of each event says, and which part of it was
 measured; not with --data or --json",
-        _ => expected_help!(
+        "expected" => expected_help!(
             "With these
 --explain and --json also tell which data is confirmed, by a register that
 has its expected value after LOG; only with one of the two"
         ),
+        _ => help_of_quoting(id),
+    }
+}
+
+// The help of the arguments of a quote that confirms data.
+fn help_of_quoting<'a>(id: &str) -> &'a str {
+    match id {
+        "quote" => "\
+Message that the TPM signed, as `tpm2_quote -m` writes it, at most 64 MiB, in
+place of EXPECTED. If `attest` attests LOG and LIST by it, the registers that
+it is of confirm what was measured, but for register 10; else nothing is
+confirmed, and the status is that of `attest`. With --list, --nonce and
+--require",
+        "list" => "Measurement list, binary, at most 64 MiB, that QUOTE is also of",
+        _ => "\
+Say that you have verified the signature of QUOTE by the machine's key:
+without this nothing is confirmed, and the status is 4",
+    }
+}
+
+// The help of the arguments of `boot`.
+fn help_of_boot<'a>(id: &str) -> &'a str {
+    match id {
+        "before" => "\
+Firmware event log of an earlier boot, binary, at most 64 MiB: also print
+how many first events of each register both logs have, and those after them",
+        "expected" => expected_help!(
+            "They confirm
+what the log says, where a register has its expected value after LOG;
+without them every answer is `unknown`"
+        ),
+        _ => help_of_quoting(id),
     }
 }
 

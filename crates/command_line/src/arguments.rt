@@ -4,7 +4,7 @@ ghost use Rattle.std.specs.Prelude.{◌≡◌, [], None, Ok, codes, drop, string
 ghost use Rattle.clap.specs.Values.{kind_of};
 ghost use Rattle.clap.specs.Words.{Text as Words, found_of, rows_of, subcommand_rows_of};
 ghost use Rattle.std.specs.Vec.Iter.{into_iter_items};
-ghost use Rattle.agent_plans.specs.Plans.{IsWithinRanges, IsWithin};
+ghost use Rattle.agent_plans.specs.Plans.{IsWithinRanges, IsWithin, NamesKnown, TakesKnown};
 ghost use Rattle.command_line.specs.Arguments.{BeginsWithVersion, HasHelpWord, HasJudged, HasQuestion, HasValues, HasValuesIn, IsRequestedBy, IsHelp, IsPlanOrHelp, asks_help};
 ghost use Rattle.std.specs.List.{list_any};
 ghost use Rattle.agent_plans.specs.declared.plan.Form.TheVariants.{Text};
@@ -14,7 +14,8 @@ ghost use Rattle.agent_plans.specs.declared.plan.Task.TheVariants.{Version};
 
 use crate::commands::{KnownNames, VERSION, all_commands};
 use crate::values::{
-    attest_of, events_of, flag_of, key_of, measurement_of, name_of, text_if_given,
+    attest_of, boot_of, events_of, flag_of, key_of, known_of, measurement_of, name_of,
+    text_if_given,
 };
 use agent_plans::{ArgumentsFault, Form, Judge, Judged, Plan, Question, Scope, Task};
 use clap::error::ErrorKind;
@@ -28,21 +29,56 @@ use std::env::Args;
 // What is wrong with `--print binary` beside `--json`.
 const NO_JSON_OF_BYTES: &str = "error: invalid value 'binary' for '--print <P>' with '--json'\n";
 
+// What is wrong with `--known` where no registers are required.
+const KNOWN_WITHOUT_REQUIRED: &str =
+    "error: the argument '--known <FILE>' cannot be used without '--require'\n";
+
 // What is wrong with `--explain` beside `--data`, and beside `--json`.
 const EXPLAINED_AS_BYTES: &str = "error: the argument '--explain' cannot be used with '--data'\n";
 
 const EXPLAINED_AS_JSON: &str = "error: the argument '--explain' cannot be used with '--json'\n";
 
-// What is wrong with `--expected` where what data says is not shown.
+// What is wrong with `--expected` and `--quote` where what data says is not shown.
 const EXPECTED_OF_NOTHING: &str =
     "error: the argument '--expected <EXPECTED>' cannot be used without '--explain' or '--json'\n";
+
+const QUOTE_OF_NOTHING: &str =
+    "error: the argument '--quote <QUOTE>' cannot be used without '--explain' or '--json'\n";
+
+// What is wrong with `--expected` beside `--quote`.
+const EXPECTED_BESIDE_QUOTE: &str =
+    "error: the argument '--expected <EXPECTED>' cannot be used with '--quote <QUOTE>'\n";
+
+// What is wrong with `--quote` without what is asked of a quote.
+const QUOTE_WITHOUT_LIST: &str =
+    "error: the argument '--quote <QUOTE>' cannot be used without '--list'\n";
+
+const QUOTE_WITHOUT_NONCE: &str =
+    "error: the argument '--quote <QUOTE>' cannot be used without '--nonce'\n";
+
+const QUOTE_WITHOUT_REQUIRED: &str =
+    "error: the argument '--quote <QUOTE>' cannot be used without '--require'\n";
+
+// What is wrong with that without `--quote`.
+const LIST_WITHOUT_QUOTE: &str =
+    "error: the argument '--list <LIST>' cannot be used without '--quote'\n";
+
+const NONCE_WITHOUT_QUOTE: &str =
+    "error: the argument '--nonce <HEX>' cannot be used without '--quote'\n";
+
+const REQUIRED_WITHOUT_QUOTE: &str =
+    "error: the argument '--require <BANK:A-B[,BANK:C-D..]>' cannot be used without '--quote'\n";
+
+const SHA1_WITHOUT_QUOTE: &str = "error: the argument '--sha1' cannot be used without '--quote'\n";
+
+const CHECKED_WITHOUT_QUOTE: &str =
+    "error: the argument '--signature-checked' cannot be used without '--quote'\n";
 
 /// Reads the program's arguments, without its name. Without arguments the plan is `Registers`: the log on standard input. After
 /// `--version` nothing is looked at. Otherwise the first argument is the command, and the rest are its options and names, by `clap`'s
 /// own definition.
 ///
 /// Fails with `Usage` if the arguments are not those of a command, and with `Memory` if memory runs out.
-#[tactic(auto, using(crate::proofs::ReadLemmas::requested_by))]
 pub fn read_words(alloc: Global, arguments: &[String]) -> Result<Plan, ArgumentsFault>
     // The first argument is the command, the arguments match its options and names, and these are within their ranges; or they are not
     // taken, and one of them requests help; or the first is `--version`.
@@ -59,9 +95,10 @@ pub fn read_words(alloc: Global, arguments: &[String]) -> Result<Plan, Arguments
     }
 }
 
-/// What `clap` says of arguments that it refuses, or what is wrong with `--print binary` beside `--json`, with options of `events` that do
-/// not go together, or with a nonce that is not hexadecimal: lines for a person, which may have any bytes of the arguments. `None` if
-/// `clap` takes them, and they are no such; of `--help` and `--version` it is what `clap` shows.
+/// What `clap` says of arguments that it refuses, or what is wrong with `--print binary` beside `--json`, with options of `events` or `boot`
+/// that do not go together, with known files where no registers are required, or with a nonce that is not hexadecimal: lines for a person,
+/// which may have any bytes of the arguments. `None` if `clap` takes them, and they are no such; of `--help` and `--version` it is what
+/// `clap` shows.
 pub fn refusal_of(alloc: Global, arguments: &[String]) -> Result<Option<String>, AllocError>
     // Without arguments nothing is refused.
     ensures none { arguments.now ≡ [] → result ≡ Ok None }
@@ -84,10 +121,7 @@ pub fn refusal_of(alloc: Global, arguments: &[String]) -> Result<Option<String>,
 
 // What is wrong with a nonce that is not hexadecimal, which `clap` takes.
 fn nonce_refusal(alloc: Global, matches: &ArgMatches) -> Result<Option<String>, AllocError> {
-    let Some(matches) = matches.subcommand_matches("attest") else {
-        return Ok(None);
-    };
-    let Some(nonce) = matches.get_str("nonce") else {
+    let Some(nonce) = nonce_in(matches) else {
         return Ok(None);
     };
     match hex::decode(alloc, nonce) {
@@ -99,12 +133,39 @@ fn nonce_refusal(alloc: Global, matches: &ArgMatches) -> Result<Option<String>, 
     }
 }
 
+// The nonce that is given, if there is one.
+fn nonce_in<'a>(matches: &ArgMatches<'a>) -> Option<&'a str> {
+    for command in ["attest", "events", "boot"] {
+        if let Some(matches) = matches.subcommand_matches(command) {
+            return matches.get_str("nonce");
+        }
+    }
+    None
+}
+
 // What is wrong with options that do not go together, and which `clap` takes.
 fn wrong_pair(matches: &ArgMatches) -> Option<&'static str> {
     if let Some(matches) = matches.subcommand_matches("measure") {
         return wrong_pair_of_measure(matches);
     }
-    wrong_pair_of_events(matches.subcommand_matches("events")?)
+    if let Some(matches) = matches.subcommand_matches("events") {
+        return wrong_pair_of_events(matches);
+    }
+    if let Some(matches) = matches.subcommand_matches("boot") {
+        return wrong_pair_of_quote(matches);
+    }
+    let matches = match matches.subcommand_matches("verify") {
+        Some(matches) => matches,
+        None => matches.subcommand_matches("replay")?,
+    };
+    wrong_pair_of_verdict(matches)
+}
+
+// Whether known files are named where no registers are required.
+fn wrong_pair_of_verdict(matches: &ArgMatches) -> Option<&'static str> {
+    (matches.contains_id("known") && !matches.contains_id("require")).then_some(
+        KNOWN_WITHOUT_REQUIRED,
+    )
 }
 
 // Whether a measurement is to print the binary list as JSON.
@@ -114,15 +175,54 @@ fn wrong_pair_of_measure(matches: &ArgMatches) -> Option<&'static str> {
     )
 }
 
-// Whether events are to be explained in a form that has no room for it, or expected registers are given to one.
+// Whether events are to be explained in a form that has no room for it, or expected registers or a quote are given to one; or what is wrong
+// with the quote.
 fn wrong_pair_of_events(matches: &ArgMatches) -> Option<&'static str> {
     let explains = is_set(matches, "explain");
     if explains && is_set(matches, "data") {
         Some(EXPLAINED_AS_BYTES)
     } else if explains && is_set(matches, "json") {
         Some(EXPLAINED_AS_JSON)
-    } else if matches.contains_id("expected") && !explains && !is_set(matches, "json") {
+    } else if explains || is_set(matches, "json") {
+        wrong_pair_of_quote(matches)
+    } else if matches.contains_id("expected") {
         Some(EXPECTED_OF_NOTHING)
+    } else if matches.contains_id("quote") {
+        Some(QUOTE_OF_NOTHING)
+    } else {
+        without_quote(matches)
+    }
+}
+
+// Whether a quote is given beside expected registers, or lacks something that is asked of it, or this is given without one.
+fn wrong_pair_of_quote(matches: &ArgMatches) -> Option<&'static str> {
+    if !matches.contains_id("quote") {
+        without_quote(matches)
+    } else if matches.contains_id("expected") {
+        Some(EXPECTED_BESIDE_QUOTE)
+    } else if !matches.contains_id("list") {
+        Some(QUOTE_WITHOUT_LIST)
+    } else if !matches.contains_id("nonce") {
+        Some(QUOTE_WITHOUT_NONCE)
+    } else if !matches.contains_id("require") {
+        Some(QUOTE_WITHOUT_REQUIRED)
+    } else {
+        None
+    }
+}
+
+// What there is without a quote that only goes with one.
+fn without_quote(matches: &ArgMatches) -> Option<&'static str> {
+    if matches.contains_id("list") {
+        Some(LIST_WITHOUT_QUOTE)
+    } else if matches.contains_id("nonce") {
+        Some(NONCE_WITHOUT_QUOTE)
+    } else if matches.contains_id("require") {
+        Some(REQUIRED_WITHOUT_QUOTE)
+    } else if is_set(matches, "sha1") {
+        Some(SHA1_WITHOUT_QUOTE)
+    } else if is_set(matches, "signature-checked") {
+        Some(CHECKED_WITHOUT_QUOTE)
     } else {
         None
     }
@@ -189,6 +289,7 @@ fn task_of(
     match command {
         "measure" => Ok(Task::Measure(measurement_of(alloc, matches, form)?)),
         "events" => events_of(alloc, matches, form),
+        "boot" => boot_of(alloc, matches),
         "show" => Ok(Task::Entries {
             list: name_of(alloc, matches, "LIST")?,
         }),
@@ -202,7 +303,8 @@ fn question_of(
     command: &str,
     matches: &ArgMatches,
 ) -> Result<Question, ArgumentsFault>
-    ensures { IfOk result (HasQuestion command.now (rows_of (found_of matches.now))) }
+    ensures values { IfOk result (HasQuestion command.now (rows_of (found_of matches.now))) }
+    ensures known { IfOk result NamesKnown }
 {
     match command {
         "verify" => {
@@ -234,33 +336,40 @@ fn question_of(
 
 // What is asked of a list and expected registers, if this is judged.
 fn judge_of(alloc: Global, matches: &ArgMatches, judged: Judged) -> Result<Judge, ArgumentsFault>
-    ensures { IfOk result (λ judge. (command : Words) → HasJudged command (rows_of (found_of matches.now)) judged
+    ensures values { IfOk result (λ judge. (command : Words) → HasJudged command (rows_of (found_of matches.now)) judged
         → HasQuestion command (rows_of (found_of matches.now)) (questions.Judge judge)) }
+    ensures known { IfOk result (λ judge. NamesKnown (questions.Judge judge)) }
 {
+    let required = text_if_given(alloc, matches, "require")?;
     Ok(Judge {
-        judged,
         list: name_of(alloc, matches, "LIST")?,
         expected: name_of(alloc, matches, "EXPECTED")?,
-        required: text_if_given(alloc, matches, "require")?,
+        known: known_of(alloc, matches, &judged, &required)?,
+        judged,
+        required,
     })
 }
 
-// What `replay` asks. Refuses `--require` without EXPECTED.
+// What `replay` asks. Refuses `--require` without EXPECTED, and `--known` without `--require`.
 fn replay_of(alloc: Global, matches: &ArgMatches) -> Result<Question, ArgumentsFault>
-    ensures { IfOk result (HasQuestion (codes "replay") (rows_of (found_of matches.now))) }
+    ensures values { IfOk result (HasQuestion (codes "replay") (rows_of (found_of matches.now))) }
+    ensures known { IfOk result NamesKnown }
 {
     let list = name_of(alloc, matches, "LIST")?;
     let expected = text_if_given(alloc, matches, "EXPECTED")?;
     let required = text_if_given(alloc, matches, "require")?;
-    match (expected, required) {
-        (Some(expected), required) => Ok(Question::Judge(Judge {
-            judged: Judged::ListVerdict,
+    let judged = Judged::ListVerdict;
+    let known = known_of(alloc, matches, &judged, &required)?;
+    match (expected, required, known) {
+        (Some(expected), required, known) => Ok(Question::Judge(Judge {
+            judged,
             list,
             expected,
             required,
+            known,
         })),
-        (None, None) => Ok(Question::ListRegisters { list }),
-        (None, Some(_)) => Err(ArgumentsFault::Usage),
+        (None, None, None) => Ok(Question::ListRegisters { list }),
+        (None, _, _) => Err(ArgumentsFault::Usage),
     }
 }
 

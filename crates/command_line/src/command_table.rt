@@ -40,6 +40,8 @@ pub(crate) enum Form<'a> {
     Optional(&'a str),
     /// As an option with a value, or not at all, and only beside this argument, which is the second text.
     OptionalBeside(&'a str, &'a str),
+    /// As an option with a value, any number of times.
+    Several(&'a str),
     /// As an option with one of these values; without it, the value is the second text.
     Defaulted(&'a str, &'a str, Values<'a>),
 }
@@ -83,8 +85,27 @@ const EXPECTED: ArgumentRow<'static> = row!("EXPECTED"; Form::Required);
 /// Expected registers, or none.
 const EXPECTED_IF_GIVEN: ArgumentRow<'static> = row!("EXPECTED"; Form::Omittable);
 
-/// Registers that have to be among them.
+/// Expected registers that tell what of a log is confirmed.
+const CONFIRMED: ArgumentRow<'static> = row!("expected"; Form::Optional("EXPECTED"));
+
+/// A quote that tells what of a log is confirmed, with the list that it is also of, and what it must be.
+const QUOTE: ArgumentRow<'static> = row!("quote"; Form::Optional("QUOTE"));
+
+const QUOTED_LIST: ArgumentRow<'static> = row!("list"; Form::Optional("LIST"));
+
+const NONCE: ArgumentRow<'static> = row!("nonce"; Form::Optional("HEX"));
+
+/// Whether registers of the SHA-1 bank alone are taken.
+const SHA1: ArgumentRow<'static> = row!("sha1"; Form::Flag);
+
+/// Whether the caller has verified the quote's signature.
+const SIGNATURE_CHECKED: ArgumentRow<'static> = row!("signature-checked"; Form::Flag);
+
+/// Registers that have to be expected, or quoted.
 const REQUIRE: ArgumentRow<'static> = row!("require"; Form::Optional(REQUIRED_REGISTERS));
+
+/// The files that are known.
+const KNOWN: ArgumentRow<'static> = row!("known"; Form::Several("FILE"));
 
 /// Whether the verdict is on the shortest prefix that matches.
 const PREFIX: ArgumentRow<'static> = row!("prefix"; Form::Flag);
@@ -99,7 +120,7 @@ const RESUME: ArgumentRow<'static> = row!("resume"; Form::Optional("FILE"));
 const JSON: ArgumentRow<'static> = row!("json"; Form::Flag);
 
 /// The commands, in the order of the help. `table` of specs/Arguments.antt has the same.
-pub(crate) static COMMANDS: [CommandRow; 10] = [
+pub(crate) static COMMANDS: [CommandRow; 11] = [
     CommandRow {
         name: "measure",
         about: "Measures files into the registers left by a firmware event log, and prints the result",
@@ -119,7 +140,9 @@ pub(crate) static COMMANDS: [CommandRow; 10] = [
     CommandRow {
         name: "verify",
         about: "Replays a firmware event log and a measurement list, and compares the registers",
-        arguments: &[REQUIRE, PREFIX, SAVE, RESUME, JSON, LOG, LIST, EXPECTED],
+        arguments: &[
+            REQUIRE, KNOWN, PREFIX, SAVE, RESUME, JSON, LOG, LIST, EXPECTED,
+        ],
     },
     CommandRow {
         name: "attest",
@@ -127,8 +150,9 @@ pub(crate) static COMMANDS: [CommandRow; 10] = [
         arguments: &[
             row!("nonce"; Form::RequiredOption("HEX")),
             row!("require"; Form::RequiredOption(REQUIRED_REGISTERS)),
-            row!("sha1"; Form::Flag),
-            row!("signature-checked"; Form::Flag),
+            KNOWN,
+            SHA1,
+            SIGNATURE_CHECKED,
             PREFIX,
             SAVE,
             RESUME,
@@ -174,7 +198,29 @@ pub(crate) static COMMANDS: [CommandRow; 10] = [
         arguments: &[
             row!("data"; Form::Flag),
             row!("explain"; Form::Flag),
-            row!("expected"; Form::Optional("EXPECTED")),
+            CONFIRMED,
+            QUOTE,
+            QUOTED_LIST,
+            NONCE,
+            REQUIRE,
+            SHA1,
+            SIGNATURE_CHECKED,
+            JSON,
+            LOG,
+        ],
+    },
+    CommandRow {
+        name: "boot",
+        about: "Answers what a machine booted, by the events of a firmware event log that registers confirm",
+        arguments: &[
+            CONFIRMED,
+            QUOTE,
+            QUOTED_LIST,
+            NONCE,
+            REQUIRE,
+            SHA1,
+            SIGNATURE_CHECKED,
+            row!("before"; Form::Optional("OLD_LOG")),
             JSON,
             LOG,
         ],
@@ -189,6 +235,7 @@ pub(crate) static COMMANDS: [CommandRow; 10] = [
         about: "Replays a measurement list alone, and prints or compares the registers it gives",
         arguments: &[
             row!("require"; Form::OptionalBeside(REQUIRED_REGISTERS, "EXPECTED")),
+            KNOWN,
             JSON,
             LIST,
             EXPECTED_IF_GIVEN,

@@ -110,6 +110,7 @@ fn argument<'a>(
         Form::OptionalBeside(value, argument) => {
             arg.long(row.id).value_name(value).requires_arg(argument)
         }
+        Form::Several(value) => Ok(arg.long(row.id).value_name(value).action(ArgAction::Append)),
         Form::Defaulted(value, default, values) => Ok(
             arg.long(row.id)
                 .value_name(value)

@@ -47,6 +47,14 @@ Expected faults (refused: expected fault N at line K, here 'it'; the first line 
   6  no register is stated, or none of those that are wanted
 " "\n"; $($more)*; $end)
     };
+    // The faults of a text of known files.
+    ($($begun:literal)*; known $($more:ident)*; $end:literal) => {
+        with_fault_tables!($($begun)* "\
+Known faults (refused: known fault N at line K, here 'it'; the first line is 1):
+  1  it is a digest by SHA-1, of which collisions are made
+  2  it is not a digest and a name, as sha256sum prints them
+" "\n"; $($more)*; $end)
+    };
     // The faults of a checkpoint.
     ($($begun:literal)*; checkpoint $($more:ident)*; $end:literal) => {
         with_fault_tables!($($begun)* "\

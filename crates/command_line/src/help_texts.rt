@@ -12,20 +12,24 @@ macro_rules! help_end {
 Exit status:
   0  done; for verify: the expected registers and the boot aggregate match;
      for replay with EXPECTED: the expected registers match;
-     for attest: the quote is of log and list, and its signature was checked
+     for attest, and events and boot with --quote: the quote is of log and
+     list, and its signature was checked
   1  for verify: an expected register or the boot aggregate does not match;
      with --prefix, --save or --resume: no register is expected;
      for replay with EXPECTED: an expected register does not match;
      for locate: a register's value was not reached, or none is expected;
      for each of these: EXPECTED lacks a register that --require names;
-     for verify and replay with --require, and for attest: an event extends
-     register 10, or an entry extends another;
-     for attest: the boot aggregate or the quote does not match
+     for verify and replay with --require, for attest, and for events and
+     boot with --quote: an event extends register 10, or an entry another;
+     for verify, replay and attest with --known: an entry is not known;
+     for attest, and events and boot with --quote: the boot aggregate or the
+     quote does not match
   2  the arguments or an input were refused
   3  out of memory, an input could not be read, or the output failed;
      for verify and attest: the checkpoint of --save could not be written;
      for measure: an error of the program itself
-  4  for attest: QUOTE was refused, or --signature-checked is not given"
+  4  for attest, and events and boot with --quote: QUOTE was refused, or
+     --signature-checked is not given"
         )
     };
 }
@@ -51,19 +55,22 @@ pub(crate) fn help_end_of<'a>(command: &str) -> &'a str {
         "measure" =>
             help_end!("ima-agent measure --print registers firmware.log /bin/sh /bin/ls"; log book gather),
         "verify" =>
-            help_end!("ima-agent verify --require sha256:0-10 firmware.log ima.list expected.txt"; log list replay expected checkpoint),
+            help_end!("ima-agent verify --require sha256:0-10 firmware.log ima.list expected.txt"; log list replay expected checkpoint known),
         "attest" =>
-            help_end!("ima-agent attest --nonce \"$nonce\" --require sha256:0-10 firmware.log ima.list quote.msg"; quote log list replay expected checkpoint),
+            help_end!("ima-agent attest --nonce \"$nonce\" --require sha256:0-10 firmware.log ima.list quote.msg"; quote log list replay expected checkpoint known),
         "locate" =>
             help_end!("ima-agent locate firmware.log ima.list expected.txt"; log list replay expected),
         "expected" =>
             help_end!("ima-agent expected --registers 0-10 pcrread.txt > expected.txt"; expected),
         "key" => help_end!("ima-agent key --print pem ak.pub > ak.pem"; key),
         "registers" => help_end!("ima-agent registers firmware.log"; log),
-        "events" => help_end!("ima-agent events --data firmware.log"; log expected),
+        "events" =>
+            help_end!("ima-agent events --data firmware.log"; quote log list replay expected),
+        "boot" =>
+            help_end!("ima-agent boot --expected expected.txt firmware.log"; quote log list replay expected),
         "show" => help_end!("ima-agent show ima.list"; list),
         "replay" =>
-            help_end!("ima-agent replay --require sha256:10 ima.list expected.txt"; list replay expected),
+            help_end!("ima-agent replay --require sha256:10 ima.list expected.txt"; list replay expected known),
         _ => PROGRAM_END,
     }
 }

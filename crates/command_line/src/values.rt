@@ -2,19 +2,19 @@
 
 ghost use Rattle.std.specs.Prelude.{◌≡◌, ◌<◌, ◌≤◌, ◌^◌, [], Some, codes, map, string_bytes, unwrap_or, vec_len, IfOk};
 ghost use Rattle.clap.specs.Words.{all_of, first_of, found_of, rows_of};
-ghost use Rattle.agent_plans.specs.Plans.{HasForm, IsWithin, IsWithinLimits};
-ghost use Rattle.command_line.specs.Arguments.{AreFurtherNames, HasAttest, HasBytes, HasMeasure, HasNumber, HasQuestion, HasValues, IsDataShown, IsFlag, IsGivenAs, part_name, print_name};
+ghost use Rattle.agent_plans.specs.Plans.{HasForm, IsWithin, IsWithinLimits, TakesKnown};
+ghost use Rattle.command_line.specs.Arguments.{AreFurtherNames, AreGivenAs, HasAttest, HasBytes, HasMeasure, HasNoQuoting, HasNumber, HasQuestion, HasQuoting, HasValues, IsConfirmedBy, IsDataShown, IsFlag, IsGivenAs, part_name, print_name};
 
 use crate::command_table::{MOST_RECORDS, MOST_WORKERS};
 use agent_plans::{
-    ArgumentsFault, Attest, DataShown, Form, Measurement, NameEnd, Names, Print, Question, Scope,
-    Task,
+    ArgumentsFault, Attest, ConfirmedBy, DataShown, Form, Judged, Measurement, NameEnd, Names,
+    Print, Question, Quoting, Scope, Task,
 };
 use clap::ArgMatches;
 use hex::FromHexError;
 use ima_list::Template;
 use pcr_banks::Alg;
-use std::alloc::Global;
+use std::alloc::{AllocError, Global};
 use tpm_keys::{KeyPart, Purpose};
 
 /// The options and names of `measure`. Refuses the binary list as JSON.
@@ -40,7 +40,7 @@ pub(crate) fn measurement_of(
     })
 }
 
-/// What `events` shows in this form. Refuses `--explain` with JSON, and `--expected` where what data says is not shown.
+/// What `events` shows in this form. Refuses `--explain` with JSON, and `--expected` and `--quote` where what data says is not shown.
 pub(crate) fn events_of(
     alloc: Global,
     matches: &ArgMatches,
@@ -51,15 +51,81 @@ pub(crate) fn events_of(
 {
     let log = name_of(alloc, matches, "LOG")?;
     let data = data_of(matches)?;
-    let expected = text_if_given(alloc, matches, "expected")?;
-    match (form, data, expected) {
-        (Form::Json, DataShown::Meaning, _) => Err(ArgumentsFault::Usage),
-        (Form::Text, DataShown::Size | DataShown::Bytes, Some(_)) => Err(ArgumentsFault::Usage),
-        (_, data, expected) => Ok(Task::Events {
+    let confirmed_by = confirmed_by_of(alloc, matches)?;
+    match (form, data, &confirmed_by) {
+        (Form::Json, DataShown::Size | DataShown::Bytes, _)
+        | (Form::Text, DataShown::Meaning, _)
+        | (Form::Text, _, ConfirmedBy::Nothing) => Ok(Task::Events {
             log,
             data,
-            expected,
+            confirmed_by,
         }),
+        _ => Err(ArgumentsFault::Usage),
+    }
+}
+
+/// What `boot` asks.
+pub(crate) fn boot_of(alloc: Global, matches: &ArgMatches) -> Result<Task, ArgumentsFault>
+    ensures values { IfOk result (HasValues (codes "boot") (rows_of (found_of matches.now))) }
+    ensures within { (form : Form) → IfOk result (IsWithin form) }
+{
+    Ok(Task::Boot {
+        log: name_of(alloc, matches, "LOG")?,
+        confirmed_by: confirmed_by_of(alloc, matches)?,
+        before: text_if_given(alloc, matches, "before")?,
+    })
+}
+
+// What tells which data is confirmed. Refuses `--quote` beside `--expected`, and what is of a quote without one.
+fn confirmed_by_of(alloc: Global, matches: &ArgMatches) -> Result<ConfirmedBy, ArgumentsFault>
+    ensures { IfOk result (IsConfirmedBy (rows_of (found_of matches.now))) }
+{
+    let expected = text_if_given(alloc, matches, "expected")?;
+    let quote = text_if_given(alloc, matches, "quote")?;
+    match (expected, quote) {
+        (Some(_), Some(_)) => Err(ArgumentsFault::Usage),
+        (None, Some(quote)) => Ok(ConfirmedBy::Quote(quoting_of(alloc, matches, quote, "list")?)),
+        (expected, None) => {
+            has_no_quoting(alloc, matches)?;
+            Ok(match expected {
+                None => ConfirmedBy::Nothing,
+                Some(name) => ConfirmedBy::Expected(name),
+            })
+        }
+    }
+}
+
+// The quote in the file of this name, with the list that the argument of this other name has. Refuses a nonce that is not hexadecimal.
+fn quoting_of(
+    alloc: Global,
+    matches: &ArgMatches,
+    quote: String,
+    list: &str,
+) -> Result<Quoting, ArgumentsFault>
+    ensures { IfOk result (HasQuoting list.now (rows_of (found_of matches.now)) quote) }
+{
+    Ok(Quoting {
+        list: name_of(alloc, matches, list)?,
+        quote,
+        nonce: bytes_of(alloc, matches, "nonce")?,
+        required: name_of(alloc, matches, "require")?,
+        takes_sha1: flag_of(matches, "sha1", false, true)?,
+        is_signed: flag_of(matches, "signature-checked", false, true)?,
+    })
+}
+
+// Refuses what is of a quote.
+fn has_no_quoting(alloc: Global, matches: &ArgMatches) -> Result<(), ArgumentsFault>
+    ensures { IfOk result (λ _. HasNoQuoting (rows_of (found_of matches.now))) }
+{
+    let list = text_if_given(alloc, matches, "list")?;
+    let nonce = text_if_given(alloc, matches, "nonce")?;
+    let required = text_if_given(alloc, matches, "require")?;
+    let takes_sha1 = flag_of(matches, "sha1", false, true)?;
+    let is_signed = flag_of(matches, "signature-checked", false, true)?;
+    match (list, nonce, required, takes_sha1, is_signed) {
+        (None, None, None, false, false) => Ok(()),
+        _ => Err(ArgumentsFault::Usage),
     }
 }
 
@@ -81,15 +147,12 @@ fn data_of(matches: &ArgMatches) -> Result<DataShown, ArgumentsFault>
 pub(crate) fn attest_of(alloc: Global, matches: &ArgMatches) -> Result<Attest, ArgumentsFault>
     ensures { IfOk result (HasAttest (rows_of (found_of matches.now))) }
 {
+    let quote = name_of(alloc, matches, "QUOTE")?;
     Ok(Attest {
         log: name_of(alloc, matches, "LOG")?,
-        list: name_of(alloc, matches, "LIST")?,
-        quote: name_of(alloc, matches, "QUOTE")?,
+        quoting: quoting_of(alloc, matches, quote, "LIST")?,
         expected: text_if_given(alloc, matches, "EXPECTED")?,
-        nonce: bytes_of(alloc, matches, "nonce")?,
-        required: name_of(alloc, matches, "require")?,
-        takes_sha1: flag_of(matches, "sha1", false, true)?,
-        is_signed: flag_of(matches, "signature-checked", false, true)?,
+        known: names_if_given(alloc, matches, "known")?,
         scope: flag_of(matches, "prefix", Scope::Whole, Scope::Prefix)?,
         resume: text_if_given(alloc, matches, "resume")?,
         save: text_if_given(alloc, matches, "save")?,
@@ -175,13 +238,51 @@ fn files_of(alloc: Global, matches: &ArgMatches) -> Result<Vec<String>, Argument
     ensures names { IfOk result (λ names. unwrap_or (all_of (codes "FILE") (rows_of (found_of matches.now))) [] ≡ map string_bytes names.items) }
     ensures few { IfOk result (λ names. vec_len names < 2 ^ 32) }
 {
-    let arguments = matches.get_strs("FILE").unwrap_or(&[]);
-    let mut names = Vec::new(alloc);
-    for word in arguments {
-        names.push(String::from_str(alloc, word)?)?;
-    }
+    let names = names_of(alloc, matches.get_strs("FILE").unwrap_or(&[]))?;
     if names.len() > u32::MAX as usize {
         return Err(ArgumentsFault::Usage);
+    }
+    Ok(names)
+}
+
+/// The names of the texts of known files, if there are some. Refuses them unless this is a verdict, and registers are required.
+pub(crate) fn known_of(
+    alloc: Global,
+    matches: &ArgMatches,
+    judged: &Judged,
+    required: &Option<String>,
+) -> Result<Option<Vec<String>>, ArgumentsFault>
+    ensures names { IfOk result (AreGivenAs (codes "known") (rows_of (found_of matches.now))) }
+    ensures takes { IfOk result (TakesKnown judged.now required.now) }
+{
+    match (names_if_given(alloc, matches, "known")?, judged, required) {
+        (None, _, _) => Ok(None),
+        (Some(_), Judged::Positions { .. }, _) | (Some(_), _, None) => Err(ArgumentsFault::Usage),
+        (known, _, _) => Ok(known),
+    }
+}
+
+// Copies of the values of this argument, if it is present.
+fn names_if_given(
+    alloc: Global,
+    matches: &ArgMatches,
+    id: &str,
+) -> Result<Option<Vec<String>>, ArgumentsFault>
+    ensures { IfOk result (AreGivenAs id.now (rows_of (found_of matches.now))) }
+{
+    match matches.get_strs(id) {
+        None => Ok(None),
+        Some(words) => Ok(Some(names_of(alloc, words)?)),
+    }
+}
+
+// Copies of these words.
+fn names_of(alloc: Global, words: &[&str]) -> Result<Vec<String>, AllocError>
+    ensures { IfOk result (λ names. map string_bytes names.items ≡ map (λ word. word.now) words.now) }
+{
+    let mut names = Vec::new(alloc);
+    for word in words {
+        names.push(String::from_str(alloc, word)?)?;
     }
     Ok(names)
 }

@@ -1,19 +1,26 @@
 -- What a session makes of a search for the confirmed prefix.
-use Rattle.std.proofs.Common.{◌≡◌, ℕ, List, ◌++◌, Option, Some, None, Result, Ok, Err, subst}
+use Rattle.std.proofs.Common.{◌≡◌, ℕ, List, ◌∷◌, ◌++◌, length, take, Option, Some, None, Result, Ok, Err, sym, ap, subst, ◌∙◌}
+use Rattle.std.proofs.lemmas.List.{take-append-le}
 use Rattle.boot_log.specs.declared.header.Row.{Row as TableRow}
 use Rattle.boot_log.specs.Spelling.{LogEvent, IsLog, algs_in}
 use Rattle.boot_log.proofs.LogLaws.{one_reading}
 use Rattle.ima_list.specs.ListEntry.{ListEntry}
+use Rattle.ima_list.specs.Digesting.{IsGenuine}
+use Rattle.ima_list.specs.Replaying.{AreGenuine}
 use Rattle.boot_verdict.specs.declared.checkpoint.Checkpoint.{Checkpoint}
 use Rattle.growing_lists.specs.declared.confirmation.Search.{Search}
 use Rattle.boot_verdict.specs.declared.prefix_report.Unconfirmed.{Unconfirmed}
 use Rattle.boot_verdict.specs.declared.prefix_report.Unconfirmed.TheVariants as unconfirmed
 use Rattle.growing_lists.specs.declared.session.Session.{Session}
 use Rattle.boot_verdict.specs.Checkpoints.{IsMoreFault}
+use Rattle.boot_verdict.specs.ListReplays.{AreTracked, IsReplayedOrForged}
+use Rattle.boot_verdict.specs.Tracking.{After}
+use Rattle.boot_verdict.proofs.ReplayLaws.{none_forged, one_list}
 use Rattle.growing_lists.specs.Goals.{Aim}
-use Rattle.growing_lists.specs.Prefixes.{AreUnconfirmed, IsPrefixTaken, IsUnconfirmedFault, IsWrongWith, TakesUnconfirmed}
-use Rattle.growing_lists.specs.Sessions.{HasTaken}
-use Rattle.growing_lists.specs.parts.Searches.{FindsPrefix, IsConfirmedAt, IsWhole, Searches, fault_in, wrong_with}
+use Rattle.growing_lists.specs.Prefixes.{AreUnconfirmed, IsPrefixTaken, IsUnconfirmedFault, IsWrongWith, TakesUnconfirmed, WatchesPrefix}
+use Rattle.growing_lists.specs.Sessions.{HasTaken, WatchesMore}
+use Rattle.growing_lists.specs.parts.Searches.{FindsPrefix, IsConfirmedAt, IsWhole, Searches, WatchesSearch, fault_in, wrong_with}
+use Rattle.growing_lists.proofs.PrefixLaws.{within_genuine}
 use Rattle.growing_lists.proofs.SessionLaws.{taken_as}
 
 -- Entries that are unconfirmed after a log are so after any reading of it.
@@ -80,11 +87,11 @@ module _ (session : Session) (log list : List ℕ) (has : HasTaken log list sess
   -- ---- the prefix
 
   module _ (at : Checkpoint) (found : search.prefix ≡ Some at) where
-    abbrev pub here : IsConfirmedAt (algs_in has.table) has.events aim session.known (list ++ searches.came) at
+    abbrev pub here : IsConfirmedAt (algs_in has.table) has.events aim session.known (list ++ searches.came) searches.entries at
     here = subst (FindsPrefix (algs_in has.table) has.events aim session.known (list ++ searches.came) searches.entries) found
         (searches.prefix (algs_in has.table) has.events has.start)
 
-    pub prefix_taken : IsPrefixTaken log list old new limit aim session.known.entries (record { log = session.log; known = at })
+    abbrev pub prefix_taken : IsPrefixTaken log list old new limit aim session.known.entries (record { log = session.log; known = at })
         (record { entries = search.entries; unconfirmed = wrong_with search.whole })
     prefix_taken = record {
       came = searches.came;
@@ -100,3 +107,62 @@ module _ (session : Session) (log list : List ℕ) (has : HasTaken log list sess
       taken = taken_as has here.checkpoint here.before;
       wrong = searches.wrong;
     }
+
+-- ---- what watched
+
+-- The entries before the first that is not genuine begin with any genuine prefix.
+genuine_begin : (before after : List ListEntry) (forged : ListEntry) (entries prefix : List ListEntry) → entries ≡ before ++ forged ∷ after
+    → (IsGenuine forged → ⊥) → AreGenuine prefix → take (length prefix) entries ≡ prefix → take (length prefix) before ≡ prefix
+genuine_begin before after forged entries prefix parts is_forged are first =
+    let same : take (length prefix) (before ++ forged ∷ after) ≡ prefix = ap (take (length prefix)) (sym parts) ∙ first in
+    let within = within_genuine before after forged (length prefix) is_forged (subst AreGenuine (sym same) are) in
+    sym (take-append-le (length prefix) before (forged ∷ after) within) ∙ same
+
+module _ {W : Type 0} (IsAfter : After W) (start : W) (session : Session) (log list : List ℕ) (has : HasTaken log list session)
+    (old new : Option (List ℕ)) (limit : ℕ) (aim : Aim) (search : Search) (watch : W)
+    (watches : WatchesSearch IsAfter start session.known list old new limit aim search watch) where
+  -- Entries that are all genuine are all tracked.
+  all_tracked : (entries : List ListEntry) (forged : Option ℕ) → AreGenuine entries → IsReplayedOrForged IsAfter start entries watch forged
+      → AreTracked IsAfter start entries watch
+  all_tracked entries None are tracked = tracked.1
+  all_tracked entries (Some position) are (first, tracked) = absurd (none_forged entries position are first)
+
+  -- Where nothing is wrong with the list, it is tracked whole.
+  pub watches_more : (known : Checkpoint) → search.whole ≡ Ok known
+      → WatchesMore IsAfter start log list old new limit (record { log = session.log; known = known }) watch
+  watches_more known is = by (subst (IsWhole session.known list old new limit watches.searches.entries) is watches.searches.whole)
+    where
+      by : IsWhole session.known list old new limit watches.searches.entries (Ok known)
+          → WatchesMore IsAfter start log list old new limit (record { log = session.log; known = known }) watch
+      by (more, came, reading, checkpoint, before) =
+          let same = one_list reading checkpoint.list_is in
+          record {
+            takes = record { more = more; came = came; taken = taken_as has checkpoint before };
+            tracked = all_tracked checkpoint.entries watches.forged checkpoint.genuine
+                (subst (λ (l : List ListEntry). IsReplayedOrForged IsAfter start l watch watches.forged) same watches.watched);
+          }
+
+  -- A confirmed prefix is tracked, with genuine entries that follow it.
+  module _ (at : Checkpoint) (found : search.prefix ≡ Some at) where
+    abbrev taken : IsPrefixTaken log list old new limit aim session.known.entries (record { log = session.log; known = at })
+        (record { entries = search.entries; unconfirmed = wrong_with search.whole })
+    taken = prefix_taken session log list has old new limit aim search watches.searches at found
+
+    pub watches_prefix : WatchesPrefix IsAfter start log list old new limit aim session.known.entries (record { log = session.log; known = at })
+        (record { entries = search.entries; unconfirmed = wrong_with search.whole }) watch
+    watches_prefix = by watches.forged watches.watched
+      where
+        at_here : IsConfirmedAt (algs_in has.table) has.events aim session.known (list ++ watches.searches.came) watches.searches.entries at
+        at_here = here session log list has old new limit aim search watches.searches at found
+
+        by : (forged : Option ℕ) → IsReplayedOrForged IsAfter start watches.searches.entries watch forged
+            → WatchesPrefix IsAfter start log list old new limit aim session.known.entries (record { log = session.log; known = at })
+            (record { entries = search.entries; unconfirmed = wrong_with search.whole }) watch
+        by None tracked = record { prefix = taken; all = watches.searches.entries; tracked = tracked.1; first = at_here.first }
+        by (Some position) (first, tracked) = record {
+          prefix = taken;
+          all = first.before;
+          tracked = tracked;
+          first = genuine_begin first.before first.after first.forged watches.searches.entries at_here.prefix first.parts first.is_forged
+              at_here.confirmed.genuine at_here.first;
+        }

@@ -41,9 +41,9 @@ use Rattle.tpm_quotes.specs.Quoting.{Values}
 use Rattle.growing_lists.specs.declared.goal.Goal.{Goal}
 use Rattle.growing_lists.specs.Goals.{Aim, OfExpected, OfQuote, aim_of, is_confirmed, is_met}
 use Rattle.growing_lists.specs.parts.Confirming.{PrefixIs, IsConfirmingAfter, IsPrefixAt, confirms, prefix_at, is_late, search_after, search_before, size_after, size_more, values_after}
-use Rattle.boot_verdict.specs.Tracking.{AreAfter}
-use Rattle.boot_verdict.specs.ListReplays.{IsReplayedOrForged, Replays, ReplaysAll, ReplaysMore, StopsAt}
-use Rattle.growing_lists.specs.parts.Searches.{FindsPrefix, IsConfirmedAt, Searches, checkpoint_at, fault_in, prefix_after, prefix_with, stray_within, whole_after}
+use Rattle.boot_verdict.specs.Tracking.{After, AreAfter}
+use Rattle.boot_verdict.specs.ListReplays.{AreTracked, IsReplayedOrForged, Replays, ReplaysAll, ReplaysMore, StopsAt, WatchesAll}
+use Rattle.growing_lists.specs.parts.Searches.{FindsPrefix, IsConfirmedAt, Searches, WatchesSearch, checkpoint_at, fault_in, prefix_after, prefix_with, stray_within, whole_after}
 use Rattle.boot_verdict.proofs.PositionLaws.{row_matches, steps_back, steps_to, two_ways}
 use Rattle.boot_verdict.proofs.StepLaws.{TellsLeast, banks_joined, entries_value, followed_by, fun_same, least_more, least_tells, none_taken, or_all, position_of_entry, replayed_after}
 
@@ -307,11 +307,11 @@ pub record IsSearched (known : Checkpoint) (goal : Goal) (entries : List ListEnt
   pub most : (n : ℕ) → n ≤ length entries → AreGenuine (take n entries) → n ≤ length genuine
   pub after : IsConfirmingAfter (search_before known goal) 0 (entries_as_steps genuine) now
 
-search_none : (known : Checkpoint) (goal : Goal) → IsConfirmingAfter (search_before known goal) 0 [] (search_before known goal)
+pub search_none : (known : Checkpoint) (goal : Goal) → IsConfirmingAfter (search_before known goal) 0 [] (search_before known goal)
 search_none known goal = record { banks = none_taken known.before; bytes = refl; first = refl; goal = refl; prefix = tt }
 
 -- No genuine prefix goes on beyond an entry that is not.
-within_genuine : (before after : List ListEntry) (forged : ListEntry) (n : ℕ) → (IsGenuine forged → ⊥) → AreGenuine (take n (before ++ forged ∷ after))
+pub within_genuine : (before after : List ListEntry) (forged : ListEntry) (n : ℕ) → (IsGenuine forged → ⊥) → AreGenuine (take n (before ++ forged ∷ after))
     → n ≤ length before
 within_genuine before after forged zero no_is are = omega arith
 within_genuine [] after forged (suc n) no_is are = absurd (no_is are.0)
@@ -420,7 +420,8 @@ module _ (known : Checkpoint) (goal : Goal) (bytes : List ℕ) (entries : List L
         ∙ ap (λ (b : Bool). b && is_met (aim_of goal) (values_after known.before steps)) (sym tells) ∙ ap (λ (b : Bool). good && b) (sym tested)
 
     prefix_confirmed : (steps : List Step) (prefix : Prefix) → TellsLeast test steps_found (Some steps)
-        → IsPrefixAt (search_before known goal) 0 steps prefix → good ≡ true → IsConfirmedAt algs events (aim_of goal) known bytes (checkpoint_at known replay prefix)
+        → IsPrefixAt (search_before known goal) 0 steps prefix → good ≡ true
+        → IsConfirmedAt algs events (aim_of goal) known bytes entries (checkpoint_at known replay prefix)
     prefix_confirmed steps prefix least at yes_is =
         let n = length steps in
         let size = ap (λ (l : List Step). length l) least.0 in
@@ -435,6 +436,7 @@ module _ (known : Checkpoint) (goal : Goal) (bytes : List ℕ) (entries : List L
           prefix = take n entries;
           rest = list_spelling (drop n entries) ++ rest;
           begins = prefix_parts n;
+          first = ap (λ (m : ℕ). take m entries) listed;
           confirmed = record {
             genuine = prefix_genuine n within;
             enough = omega (arith, enough, listed);
@@ -476,10 +478,10 @@ GoodOf known replay prefix =
 module _ (known : Checkpoint) (goal : Goal) (list : List ℕ) (old new : Option (List ℕ)) (limit : ℕ) (replay : ListReplay Confirming)
     (prefix : Option Checkpoint) (is : IsCheckpoint list known) (room : known.bytes + limit < 2 ^ 64) (counted : replay.entries < 2 ^ 64)
     (good : GoodOf known replay prefix) where
-  few_bytes : (came over : List ℕ) → CameFrom old new limit came over → length (list ++ came) < 2 ^ 64
+  pub few_bytes : (came over : List ℕ) → CameFrom old new limit came over → length (list ++ came) < 2 ^ 64
   few_bytes came over from = let within = from.within in omega (arith, room, is.size, within, length-append list came)
 
-  finds : (bytes : List ℕ) (entries : List ListEntry) (rest : List ℕ) → BeginsWith bytes entries rest
+  pub finds : (bytes : List ℕ) (entries : List ListEntry) (rest : List ℕ) → BeginsWith bytes entries rest
       → Replays IsConfirmingAfter (search_before known goal) entries replay → length bytes < 2 ^ 64
       → (algs : AlgSet) (events : List LogEvent) → IsFirmware algs events known.before
       → FindsPrefix algs events (aim_of goal) known bytes entries prefix
@@ -488,7 +490,7 @@ module _ (known : Checkpoint) (goal : Goal) (list : List ℕ) (old new : Option 
       (ap (λ (recorded : Option (Alg × List ℕ)). is_good (aggregate_of algs events recorded)) replays.recorded))
 
   -- All that came is a list of genuine entries.
-  pub searches_whole : ReplaysMore IsConfirmingAfter (search_before known goal) list old new limit replay
+  abbrev pub searches_whole : ReplaysMore IsConfirmingAfter (search_before known goal) list old new limit replay
       → Searches known list old new limit (aim_of goal) (record { prefix = prefix; entries = replay.entries; whole = Ok (whole_after known replay) })
   searches_whole more =
       let all = more.all in
@@ -521,10 +523,11 @@ module _ (known : Checkpoint) (goal : Goal) (list : List ℕ) (old new : Option 
       }
 
   -- Something is wrong with what came.
-  pub searches_part : (wrong : Unconfirmed) → IsMoreFault list old new limit (fault_in wrong)
-      → StopsAt IsConfirmingAfter (search_before known goal) list old new limit replay (fault_in wrong)
+  abbrev pub searches_part : {W : Type 0} (IsAfter : After W) (before : List ListEntry) (watch now : W) (wrong : Unconfirmed)
+      → IsMoreFault list old new limit (fault_in wrong)
+      → StopsAt IsConfirmingAfter IsAfter (search_before known goal) list before watch old new limit replay now (fault_in wrong)
       → Searches known list old new limit (aim_of goal) (record { prefix = prefix; entries = replay.entries; whole = Err wrong })
-  searches_part (unconfirmed.List fault) why (came, over, from, number, (rest, stops)) = record {
+  searches_part IsAfter before watch now (unconfirmed.List fault) why (came, over, from, number, (rest, stops, watches)) = record {
     came = came;
     over = over;
     entries = stops.entries;
@@ -536,7 +539,7 @@ module _ (known : Checkpoint) (goal : Goal) (list : List ℕ) (old new : Option 
     wrong = (why, number);
     whole = tt;
   }
-  searches_part (unconfirmed.Replay fault) why (came, whole, forged) = record {
+  searches_part IsAfter before watch now (unconfirmed.Replay fault) why (came, whole, forged, watches) = record {
     came = came;
     over = [];
     entries = forged.entries;
@@ -548,3 +551,27 @@ module _ (known : Checkpoint) (goal : Goal) (list : List ℕ) (old new : Option 
     wrong = (came, forged.entries, whole, forged.reading, forged.first, forged.replays.count);
     whole = (came, whole, forged.reading);
   }
+
+  -- What had tracked the entries of the checkpoint's list has tracked those that came.
+  module _ {W : Type 0} (IsAfter : After W) (start watch now : W) (before : List ListEntry) (tracked : AreTracked IsAfter start before watch) where
+    pub watches_whole : (more : ReplaysMore IsConfirmingAfter (search_before known goal) list old new limit replay)
+        → WatchesAll IsAfter before watch more.all.entries now
+        → WatchesSearch IsAfter start known list old new limit (aim_of goal)
+        (record { prefix = prefix; entries = replay.entries; whole = Ok (whole_after known replay) }) now
+    watches_whole more watches =
+        record { searches = searches_whole more; forged = None; watched = (more.all.genuine, watches start tracked) }
+
+    pub watches_part : (wrong : Unconfirmed) → IsMoreFault list old new limit (fault_in wrong)
+        → StopsAt IsConfirmingAfter IsAfter (search_before known goal) list before watch old new limit replay now (fault_in wrong)
+        → WatchesSearch IsAfter start known list old new limit (aim_of goal)
+        (record { prefix = prefix; entries = replay.entries; whole = Err wrong }) now
+    watches_part (unconfirmed.List fault) why (came, over, from, number, (rest, stops, watches)) = record {
+      searches = searches_part IsAfter before watch now (unconfirmed.List fault) why (came, over, from, number, (rest, stops, watches));
+      forged = replay.forged;
+      watched = watches start tracked;
+    }
+    watches_part (unconfirmed.Replay fault) why (came, whole, forged, watches) = record {
+      searches = searches_part IsAfter before watch now (unconfirmed.Replay fault) why (came, whole, forged, watches);
+      forged = replay.forged;
+      watched = watches start tracked;
+    }

@@ -13,7 +13,7 @@ use Rattle.growing_lists.specs.Sessions.{HasTaken, IsOfBoot}
 -- ---- sessions
 
 -- What a session knows of another list of its boot.
-pub taken_as : {log list other : List ℕ} {session : Session} {next : Checkpoint} → HasTaken log list session → IsCheckpoint other next
+abbrev pub taken_as : {log list other : List ℕ} {session : Session} {next : Checkpoint} → HasTaken log list session → IsCheckpoint other next
     → next.before ≡ session.known.before → HasTaken log other (record { log = session.log; known = next })
 taken_as has is same = record {
   table = has.table;

@@ -13,9 +13,11 @@ use Rattle.growing_lists.specs.declared.confirmation.Confirmed.{Confirmed}
 use Rattle.growing_lists.specs.declared.session.Session.{Session}
 use Rattle.boot_verdict.specs.declared.verifier.VerifyFault.{VerifyFault}
 use Rattle.boot_verdict.specs.declared.verifier.VerifyFault.TheVariants as faults
+use Rattle.boot_verdict.specs.ListReplays.{AreTracked}
 use Rattle.boot_verdict.specs.ListSources.{CameFrom, CameWhole, IsListFaultAfter}
+use Rattle.boot_verdict.specs.Tracking.{After}
 use Rattle.growing_lists.specs.Goals.{Aim, is_confirmed}
-use Rattle.growing_lists.specs.Sessions.{HasTaken, TakesMore}
+use Rattle.growing_lists.specs.Sessions.{HasTaken, TakesMore, WatchesMore}
 
 -- These entries are the shortest prefix of a list that has at least `least` entries and with which log and list are confirmed. Each of
 -- them is genuine.
@@ -58,6 +60,21 @@ pub record IsPrefixTaken (log list : List ℕ) (old new : Option (List ℕ)) (li
   pub shortest : IsConfirmed (algs_in table) events aim least prefix
   pub taken : HasTaken log (list_spelling prefix) session
   pub wrong : IsWrongWith list old new limit confirmed.entries confirmed.unconfirmed
+
+-- The same, where `watch` has tracked entries that begin with those of the prefix.
+pub record WatchesPrefix {W : Type 0} (IsAfter : After W) (start : W) (log list : List ℕ) (old new : Option (List ℕ)) (limit : ℕ) (aim : Aim) (least : ℕ)
+    (session : Session) (confirmed : Confirmed) (watch : W) : Type 0 where
+  pub prefix : IsPrefixTaken log list old new limit aim least session confirmed
+  pub all : List ListEntry
+  pub tracked : AreTracked IsAfter start all watch
+  pub first : take (length prefix.prefix) all ≡ prefix.prefix
+
+-- What `watch` has tracked, whether a prefix is confirmed or not.
+abbrev pub WatchesFound : {W : Type 0} → After W → W → List ℕ → List ℕ → Option (List ℕ) → Option (List ℕ) → ℕ → Aim → ℕ → Session → Option Confirmed → W
+    → Type 0
+WatchesFound IsAfter start log list old new limit aim least session (Some confirmed) watch =
+    WatchesPrefix IsAfter start log list old new limit aim least session confirmed watch
+WatchesFound IsAfter start log list old new limit aim least session None watch = WatchesMore IsAfter start log list old new limit session watch
 
 -- The session has taken all of the list, and no prefix of it is confirmed.
 pub record TakesUnconfirmed (log list : List ℕ) (old new : Option (List ℕ)) (limit : ℕ) (aim : Aim) (least : ℕ) (session : Session) : Type 0 where

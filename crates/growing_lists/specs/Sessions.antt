@@ -7,7 +7,9 @@ use Rattle.boot_log.specs.Spelling.{LogEvent, IsLog, algs_in}
 use Rattle.boot_verdict.specs.declared.checkpoint.Checkpoint.{Checkpoint}
 use Rattle.growing_lists.specs.declared.session.Session.{Session}
 use Rattle.boot_verdict.specs.Checkpoints.{IsCheckpoint}
+use Rattle.boot_verdict.specs.ListReplays.{AreTracked}
 use Rattle.boot_verdict.specs.ListSources.{CameWhole}
+use Rattle.boot_verdict.specs.Tracking.{After}
 
 -- The session is of this log, and has taken this list.
 pub record HasTaken (log list : List ℕ) (session : Session) : Type 0 where
@@ -30,3 +32,8 @@ pub record TakesMore (log list : List ℕ) (old new : Option (List ℕ)) (limit 
   pub more : List ℕ
   pub came : CameWhole old new limit more
   pub taken : HasTaken log (list ++ more) session
+
+-- The same, where `watch` has tracked the entries of the whole list.
+pub record WatchesMore {W : Type 0} (IsAfter : After W) (start : W) (log list : List ℕ) (old new : Option (List ℕ)) (limit : ℕ) (session : Session) (watch : W) : Type 0 where
+  pub takes : TakesMore log list old new limit session
+  pub tracked : AreTracked IsAfter start takes.taken.checkpoint.entries watch

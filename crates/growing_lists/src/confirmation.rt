@@ -12,14 +12,14 @@ ghost use Rattle.boot_verdict.specs.ListSources.{failures_after_list};
 ghost use Rattle.boot_verdict.specs.Verdicts.{aggregate_of, is_good};
 ghost use Rattle.growing_lists.specs.Goals.{aim_of};
 ghost use Rattle.growing_lists.specs.parts.Confirming.{IsConfirmingAfter, search_before};
-ghost use Rattle.boot_verdict.specs.ListReplays.{ReplaysAll};
-ghost use Rattle.growing_lists.specs.parts.Searches.{IsNoListFault, Searches, fault_in, prefix_after, stray_within, whole_after, wrong_with};
+ghost use Rattle.boot_verdict.specs.ListReplays.{AreTracked, ReplaysAll};
+ghost use Rattle.growing_lists.specs.parts.Searches.{IsNoListFault, Searches, WatchesSearch, fault_in, prefix_after, stray_within, whole_after, wrong_with};
 
 use crate::goal::Goal;
 use crate::prefixes::Confirming;
 use crate::session::Session;
 use boot_verdict::{
-    Aggregate, Checkpoint, ListReplay, Stray, Unconfirmed, VerifyFault, aggregate_of,
+    Aggregate, Checkpoint, ListReplay, Stray, Tracker, Unconfirmed, VerifyFault, aggregate_of,
 };
 use byte_streams::Source;
 use std::alloc::Global;
@@ -34,7 +34,7 @@ pub struct Confirmed {
 }
 
 impl Session<'_> {
-    ghost use Rattle.growing_lists.specs.Prefixes.{IsPrefixTaken, IsUnconfirmedFault, TakesUnconfirmed};
+    ghost use Rattle.growing_lists.specs.Prefixes.{IsPrefixTaken, IsUnconfirmedFault, TakesUnconfirmed, WatchesFound};
     ghost use Rattle.growing_lists.specs.Sessions.{HasTaken};
 
     /// Takes what the source has left, as [`Session::more`] does, up to the confirmed prefix: the shortest prefix of the list, no shorter
@@ -44,21 +44,29 @@ impl Session<'_> {
     /// Without such a prefix all is taken, as by [`Session::more`], with its faults; the result is `None`.
     /// A source that fails, or has too many bytes, is a fault in any case. After `Err` the session is as before. What came after the prefix
     /// is not taken: the next call wants it again, from the byte of the list at which [`Session::checkpoint`] stands.
-    pub fn confirm<R: Source>(
+    ///
+    /// `watch` takes all new entries before the first that is not genuine, those after the prefix too, and is returned.
+    pub fn confirm<R: Source, W: Tracker>(
         &mut self,
         alloc: Global,
         source: &mut R,
         limit: u64,
         goal: Goal<'_>,
-    ) -> Result<Option<Confirmed>, VerifyFault>
+        watch: W,
+    ) -> Result<(Option<Confirmed>, W), VerifyFault>
         // The session has taken the confirmed prefix.
-        ensures prefix { IfOk result (λ found. IfSome found (λ confirmed. (log list : List ℕ) → HasTaken log list self.old
+        ensures prefix { IfOk result (λ found. IfSome found.0 (λ confirmed. (log list : List ℕ) → HasTaken log list self.old
             → IsPrefixTaken log list (R.state source.old).remaining (R.state source.new).remaining (most_after self.old.known limit) (aim_of goal.entry)
             self.old.known.entries self.new confirmed)) }
         // Else no prefix is confirmed.
-        ensures none { IfOk result (λ found. IfNone found ((log list : List ℕ) → HasTaken log list self.old
+        ensures none { IfOk result (λ found. IfNone found.0 ((log list : List ℕ) → HasTaken log list self.old
             → TakesUnconfirmed log list (R.state source.old).remaining (R.state source.new).remaining (most_after self.old.known limit) (aim_of goal.entry)
             self.old.known.entries self.new)) }
+        // What had tracked the entries taken so far has tracked those of the prefix, or of the whole list.
+        ensures watched { IfOk result (λ found. (start : W) (log list : List ℕ) (taken : HasTaken log list self.old)
+            → AreTracked W.is_after start taken.checkpoint.entries watch
+            → WatchesFound W.is_after start log list (R.state source.old).remaining (R.state source.new).remaining (most_after self.old.known limit)
+            (aim_of goal.entry) self.old.known.entries self.new found.0 found.1) }
         ensures kept { OnErr result (self.new ≡ self.old) }
         // Any fault is the first reason, and the list is refused only if no prefix is confirmed.
         ensures fault { IfErr result (λ fault. (log list : List ℕ) → HasTaken log list self.old
@@ -71,16 +79,18 @@ impl Session<'_> {
         ensures telling { is_some (R.state source.new).remaining ≡ is_some (R.state source.old).remaining }
         ensures counts { (R.state source.new).failures ≡ failures_after_list result (R.state source.old).failures }
     {
-        let search = search_list(alloc, &self.known, source, limit, goal)?;
+        let mut watch = watch;
+        let search = search_list(alloc, &self.known, source, limit, goal, &mut watch)?;
         let Some(prefix) = search.prefix else {
             self.known = whole_of(search.whole)?;
-            return Ok(None);
+            return Ok((None, watch));
         };
         self.known = prefix;
-        Ok(Some(Confirmed {
+        let confirmed = Confirmed {
             entries: search.entries,
             unconfirmed: wrong_with(search.whole),
-        }))
+        };
+        Ok((Some(confirmed), watch))
     }
 }
 
@@ -95,16 +105,21 @@ struct Search {
     whole: Result<Checkpoint, Unconfirmed>,
 }
 
-// Searches the list that goes on with all that the source has left.
-fn search_list<R: Source>(
+// Searches the list that goes on with all that the source has left. `watch` takes the new entries before the first that is not genuine.
+fn search_list<R: Source, W: Tracker>(
     alloc: Global,
     known: &Checkpoint,
     source: &mut R,
     limit: u64,
     goal: Goal<'_>,
+    watch: &mut W,
 ) -> Result<Search, VerifyFault>
     ensures found { IfOk result (λ search. (list : List ℕ) → IsCheckpoint list known.now
         → Searches known.now list (R.state source.old).remaining (R.state source.new).remaining (most_after known.now limit) (aim_of goal.entry) search) }
+    ensures watched { IfOk result (λ search. (start : W) (list : List ℕ) (is : IsCheckpoint list known.now)
+        → AreTracked W.is_after start is.entries watch.old
+        → WatchesSearch W.is_after start known.now list (R.state source.old).remaining (R.state source.new).remaining (most_after known.now limit)
+        (aim_of goal.entry) search watch.new) }
     ensures fault { IfErr result (λ fault. (list : List ℕ) → IsCheckpoint list known.now
         → IsMoreFault list (R.state source.old).remaining (R.state source.new).remaining (most_after known.now limit) fault) }
     ensures other { IfErr result IsNoListFault }
@@ -113,7 +128,7 @@ fn search_list<R: Source>(
     ensures counts { (R.state source.new).failures ≡ failures_after_list result (R.state source.old).failures }
 {
     let mut replay = searching(known, goal);
-    let whole = match replay.replay_more(alloc, source, known.room(limit)) {
+    let whole = match replay.replay_more(alloc, source, known.room(limit), watch) {
         Ok(_count) => Ok(whole_after(known, &replay)),
         Err(fault) => Err(unconfirmed_of(fault)?),
     };

@@ -7,13 +7,14 @@ ghost use Rattle.boot_log.specs.declared.header.Row.{Row as TableRow};
 ghost use Rattle.boot_log.specs.LogViews.{log_bytes};
 ghost use Rattle.boot_log.specs.Spelling.{LogEvent, IsLog};
 ghost use Rattle.boot_verdict.specs.Checkpoints.{IsCheckpoint, IsMoreFault, most_after};
+ghost use Rattle.boot_verdict.specs.ListReplays.{AreTracked};
 ghost use Rattle.boot_verdict.specs.ListSources.{failures_after_list};
 ghost use Rattle.boot_verdict.specs.Verdicts.{IsSomeLog, IsVerdict, verdict_of};
 ghost use Rattle.growing_lists.specs.CheckpointData.{LeavesRoom};
 
 use crate::same_banks::are_same_banks;
 use boot_log::{LogFault, LogView};
-use boot_verdict::{Checkpoint, Expected, Report, ResumeFault, VerifyFault, report_on};
+use boot_verdict::{Checkpoint, Expected, Report, ResumeFault, Tracker, VerifyFault, report_on};
 use byte_streams::Source;
 use std::alloc::Global;
 
@@ -26,7 +27,7 @@ pub struct Session<'a> {
 }
 
 impl<'a> Session<'a> {
-    ghost use Rattle.growing_lists.specs.Sessions.{HasTaken, IsOfBoot, TakesMore};
+    ghost use Rattle.growing_lists.specs.Sessions.{HasTaken, IsOfBoot, TakesMore, WatchesMore};
 
     /// A session of this log that has taken no bytes of the list. Fails with the fault of the log.
     pub fn new(log: &'a [u8]) -> Result<Self, LogFault>
@@ -73,17 +74,22 @@ impl<'a> Session<'a> {
     }
 
     /// Takes all that the source has left, as the bytes that follow those taken so far: at most `limit`, and no more than make a list
-    /// of 2^63 - 1 bytes. After `Err` the session is as before.
+    /// of 2^63 - 1 bytes. `watch` takes the new entries, and is returned. After `Err` the session is as before.
     ///
     /// Fails as [`boot_verdict::verify_from`] does of the whole list, with entries numbered from its first.
-    pub fn more<R: Source>(
+    pub fn more<R: Source, W: Tracker>(
         &mut self,
         alloc: Global,
         source: &mut R,
         limit: u64,
-    ) -> Result<(), VerifyFault>
+        watch: W,
+    ) -> Result<W, VerifyFault>
         ensures taken { OnOk result ((log list : List ℕ) → HasTaken log list self.old
             → TakesMore log list (R.state source.old).remaining (R.state source.new).remaining (most_after self.old.known limit) self.new) }
+        // What had tracked the entries taken so far has tracked those of the whole list.
+        ensures watched { IfOk result (λ now. (start : W) (log list : List ℕ) (taken : HasTaken log list self.old)
+            → AreTracked W.is_after start taken.checkpoint.entries watch
+            → WatchesMore W.is_after start log list (R.state source.old).remaining (R.state source.new).remaining (most_after self.old.known limit) self.new now) }
         ensures kept { OnErr result (self.new ≡ self.old) }
         // Any fault is the first reason.
         ensures fault { IfErr result (λ fault. (log list : List ℕ) → HasTaken log list self.old
@@ -93,9 +99,11 @@ impl<'a> Session<'a> {
         ensures telling { is_some (R.state source.new).remaining ≡ is_some (R.state source.old).remaining }
         ensures counts { (R.state source.new).failures ≡ failures_after_list result (R.state source.old).failures }
     {
-        let next = self.known.go_on(alloc, source, self.known.room(limit))?;
+        let (next, watch) = self
+            .known
+            .go_on(alloc, source, self.known.room(limit), watch)?;
         self.known = next;
-        Ok(())
+        Ok(watch)
     }
 
     /// The report on the log, the list taken so far and the expected registers. Fails only if memory runs out.

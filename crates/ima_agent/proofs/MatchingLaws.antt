@@ -18,9 +18,11 @@ use Rattle.boot_log.specs.Replaying.{IsFirmware}
 use Rattle.boot_log.specs.Spelling.{LogEvent}
 use Rattle.pcr_banks.specs.Registers.{value_at}
 use Rattle.boot_verdict.specs.declared.expected.Expected.{Expected}
-use Rattle.boot_verdict.specs.Verdicts.{is_value, pcr_after_log}
+use Rattle.boot_verdict.specs.Verdicts.{IsSomeLog, is_value, pcr_after_log}
+use Rattle.json_texts.specs.declared.event_form.EventForm.{EventForm}
+use Rattle.json_texts.specs.declared.event_form.EventForm.TheVariants.{Explained, Json}
 use Rattle.measured_data.specs.declared.place.Place.{Place}
-use Rattle.ima_agent.specs.Matching.{HasExpected, IsMatched, Values, counts, has_value, is_refuted, matched_places, place_of, refutes}
+use Rattle.ima_agent.specs.Matching.{HasExpected, IsKnownFor, IsMatched, Values, counts, has_value, is_refuted, matched_places, place_of, refutes}
 
 -- ---- one row more
 
@@ -199,3 +201,10 @@ matched_are algs events expected place =
           (rw (unrefuted algs events expected matched.row.register matched.agreed) refl) in
           rw matched.place_is (passing (counts value expected) expected matched.row matched.among passes),
     )
+
+-- ---- before a line is told
+
+-- Of a log lines can be told.
+pub known_for : (events : EventForm) (log : List ℕ) → IsSomeLog log → IsKnownFor events log
+known_for Json log is = tt
+known_for Explained log is = is

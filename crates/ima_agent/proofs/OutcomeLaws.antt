@@ -1,22 +1,33 @@
 -- What was sent is what is asked for, and is answered with its status.
-use Rattle.std.proofs.Common.{◌≡◌, ℕ, List, [], ◌++◌, Result, Ok, Err, refl, ap, ◌∙◌, append_assoc, append-nil, inl, inr}
-use Rattle.std.specs.Prelude.{IfErr, IfOk, OnErr, Option, Some, String, option_map, string_bytes}
-use Rattle.std.specs.Global.{Global}
+use Rattle.std.proofs.Common.{◌≡◌, ℕ, List, [], ◌∷◌, ◌++◌, true, Result, Ok, Err, refl, ap, ◌∙◌, append_assoc, append-nil, inl, inr}
+use Rattle.std.specs.Prelude.{IfErr, IfOk, OnErr, Option, None, Some, String, option_map, string_bytes}
+use Rattle.std.specs.Global.{Global, Vec}
 use Rattle.byte_streams.specs.declared.streams.Failed.{Failed}
 use Rattle.byte_streams.specs.Streams.{Sends, SinkState}
 use Rattle.byte_streams.proofs.SinkLaws.{Sends-none, Sends-then}
 use Rattle.agent_inputs.specs.declared.fault.RunFault.{RunFault}
+use Rattle.agent_inputs.specs.declared.fault.RunFault.TheVariants.{Memory}
 use Rattle.agent_inputs.specs.Loading.{Holds, Inputs, Saved}
+use Rattle.agent_plans.specs.Plans.{NamesKnown, TakesKnown}
+use Rattle.agent_plans.specs.declared.plan.ConfirmedBy.{ConfirmedBy}
 use Rattle.agent_plans.specs.declared.plan.DataShown.{DataShown}
 use Rattle.agent_plans.specs.declared.plan.Form.{Form}
 use Rattle.agent_plans.specs.declared.plan.Form.TheVariants.{Json, Text}
+use Rattle.agent_plans.specs.declared.plan.Judged.{Judged}
+use Rattle.agent_plans.specs.declared.plan.Judged.TheVariants as judged
+use Rattle.agent_plans.specs.declared.plan.Question.{Question}
+use Rattle.agent_plans.specs.declared.plan.Question.TheVariants as questions
+use Rattle.agent_plans.specs.declared.plan.Scope.{Scope}
 use Rattle.agent_plans.specs.declared.plan.Task.{Task}
 use Rattle.agent_plans.specs.declared.plan.Task.TheVariants as tasks
+use Rattle.judging.specs.Answering.{IsNoComparison}
+use Rattle.judging.specs.Inputs.{Where}
+use Rattle.judging.specs.Requests.{ListVerdictOf, These, VerdictOf, takes_known}
 use Rattle.rendering.specs.declared.renderer.Output.{Output}
 use Rattle.ima_agent.specs.declared.streams.StreamFault.{StreamFault}
 use Rattle.ima_agent.specs.declared.streams.StreamFault.TheVariants as streams
 use Rattle.rendering.specs.FaultTexts.{IsFailure}
-use Rattle.ima_agent.specs.Program.{Answers, IsFaultOf, IsOutcome, IsOutputFor, SendsOutput, SendsText, Streams, status_after}
+use Rattle.ima_agent.specs.Program.{Answers, IsFaultOf, IsOutcome, IsOutputFor, SendsOutput, SendsText, Streams, file_of, files_of, judgement_by, known_by, requires_by, status_after}
 use Rattle.measured_data.specs.declared.place.Place.{Place}
 use Rattle.verdict_texts.specs.declared.events.EventData.{EventData}
 use Rattle.ima_agent.specs.declared.events.EventLines.TheVariants as lines
@@ -77,10 +88,10 @@ reported_so : (form : Form) (fault : RunFault) (line : List ℕ) (status : ℕ) 
 reported_so Text fault line status is = is
 reported_so Json fault line status is = inl is
 
-module _ (inputs : Inputs) (log : String Global) (requested : DataShown) (expected : Option (String Global)) (form : Form) (old new : Saved)
+module _ (inputs : Inputs) (log : String Global) (requested : DataShown) (confirmed_by : ConfirmedBy) (form : Form) (old new : Saved)
     (bytes : List ℕ) (held : Holds inputs (Some (string_bytes log)) bytes) (kept : new ≡ old) where
   abbrev Outcome : List ℕ → ℕ → Type 0
-  Outcome = IsOutcome inputs (tasks.Events log requested expected) form old new
+  Outcome = IsOutcome inputs (tasks.Events log requested confirmed_by) form old new
 
   pub plain_outcome : (shown : EventData) → lines_for form requested ≡ lines.Plain shown → (text : List ℕ) (status : ℕ)
       → ShowsPlainEventsIn form shown bytes text status → Outcome text status
@@ -88,19 +99,19 @@ module _ (inputs : Inputs) (log : String Global) (requested : DataShown) (expect
   plain_outcome shown is text status (inr (fault, none, failure)) = inr (inl (fault, inr (bytes, held, rw is none), failure, kept))
 
   module _ (told : EventForm) (is : lines_for form requested ≡ lines.Told told) where
-    events_outcome : IsKnownFor told bytes → (matched : Option (List Place)) → AreMatched inputs (option_map string_bytes expected) bytes matched
-        → (text : List ℕ) (status : ℕ) → ShowsEventsIn form told matched bytes text status → Outcome text status
-    events_outcome known matched are text status (inl all) = inl ((bytes, held, rw is (known, (matched, are, inl all))), kept)
-    events_outcome known matched are text status (inr (begun, fault, line, inl fails, reported, ends)) =
-        inl ((bytes, held, rw is (known, (matched, are, inr (begun, fault, line, fails, reported, ends)))), kept)
-    events_outcome known matched are text status (inr (begun, fault, line, inr (inl out), reported, ends)) =
-        inr (inr ((bytes, held, rw is (known, (matched, are, (begun, fault, line, out, reported, ends)))), kept))
-    events_outcome known matched are text status (inr (begun, fault, line, inr (inr (memory, none)), reported, ends)) =
+    events_outcome : IsKnownFor told bytes → (matched : Option (List Place)) (done : ℕ) → AreMatched inputs confirmed_by bytes matched done
+        → (text : List ℕ) (status : ℕ) → ShowsEventsIn form told matched done bytes text status → Outcome text status
+    events_outcome known matched done are text status (inl all) = inl ((bytes, held, rw is (known, (matched, done, are, inl all))), kept)
+    events_outcome known matched done are text status (inr (begun, fault, line, inl fails, reported, ends)) =
+        inl ((bytes, held, rw is (known, (matched, done, are, inr (begun, fault, line, fails, reported, ends)))), kept)
+    events_outcome known matched done are text status (inr (begun, fault, line, inr (inl out), reported, ends)) =
+        inr (inr ((bytes, held, rw is (known, (matched, done, are, (begun, fault, line, out, reported, ends)))), kept))
+    events_outcome known matched done are text status (inr (begun, fault, line, inr (inr (memory, none)), reported, ends)) =
         inr (inl (fault, inl (inr (inr memory)), rw (ends, none) (reported_so form fault line status reported), kept))
 
-    pub told_outcome : (text : List ℕ) (status : ℕ) → ShowsToldOf inputs form told (option_map string_bytes expected) bytes text status
+    pub told_outcome : (text : List ℕ) (status : ℕ) → ShowsToldOf inputs form told confirmed_by bytes text status
         → Outcome text status
-    told_outcome text status (inl (known, (matched, are, shown))) = events_outcome known matched are text status shown
+    told_outcome text status (inl (known, (matched, done, are, shown))) = events_outcome known matched done are text status shown
     told_outcome text status (inr (fault, none, failure)) = inr (inl (fault, inr (bytes, held, rw is none), failure, kept))
 
 pub entries_outcome : (inputs : Inputs) (list : String Global) (old new : Saved) → new ≡ old → (text : List ℕ) (status : ℕ)
@@ -163,3 +174,46 @@ answers_failed P old mid new fault answer sent reported = record {
   sends = Sends-then old mid new tt reported.sent sent.text reported.text sent.sends reported.sends;
   answer_is = reported.answer_is;
 }
+
+-- ---- texts of known files that are named
+
+-- A verdict can be asked for with texts of known files, where a text spells what is required.
+verdict_takes : (log : Where) (scope : Scope) (resume : Option Where) (text : List ℕ) (known : List Where)
+    → takes_known (VerdictOf log scope resume) (These text) known ≡ true
+verdict_takes log scope resume text [] = refl
+verdict_takes log scope resume text (place ∷ places) = refl
+
+list_takes : (text : List ℕ) (known : List Where) → takes_known ListVerdictOf (These text) known ≡ true
+list_takes text [] = refl
+list_takes text (place ∷ places) = refl
+
+comparison_out : (inputs : Inputs) (list expected : Where) (judge : Judged) (required : Option (String Global)) (known : Option (Vec (String Global)))
+    → TakesKnown judge required known → (files_of known ≡ [] → ⊥)
+    → IsNoComparison inputs
+    (record {
+      judgement = judgement_by judge;
+      list = list;
+      expected = expected;
+      required = requires_by judge required;
+      known = files_of known;
+    })
+    Memory
+comparison_out inputs list expected judge required None takes some = absurd (some refl)
+comparison_out inputs list expected (judged.Positions log) required (Some names) takes some = absurd takes
+comparison_out inputs list expected (judged.Verdict log scope resume save) None (Some names) takes some = absurd takes
+comparison_out inputs list expected (judged.Verdict log scope resume save) (Some text) (Some names) takes some =
+    inr (verdict_takes (file_of log) scope (option_map file_of resume) (string_bytes text) (files_of (Some names)), inl (inr refl))
+comparison_out inputs list expected judged.ListVerdict None (Some names) takes some = absurd takes
+comparison_out inputs list expected judged.ListVerdict (Some text) (Some names) takes some =
+    inr (list_takes (string_bytes text) (files_of (Some names)), inl (inr refl))
+
+-- Memory may run out for the texts that a question names.
+pub question_out : (inputs : Inputs) (question : Question) (form : Form) → NamesKnown question → (known_by question ≡ [] → ⊥)
+    → IsFaultOf inputs (tasks.Answer question) form Memory
+question_out inputs (questions.Judge judge) form takes some =
+    inl (inl (comparison_out inputs (file_of judge.list) (file_of judge.expected) judge.judged judge.required judge.known takes some))
+question_out inputs (questions.Attest attest) form takes some = inl (inl (inr (inr refl)))
+question_out inputs (questions.LogRegisters log) form takes some = absurd (some refl)
+question_out inputs (questions.ListRegisters list) form takes some = absurd (some refl)
+question_out inputs (questions.Expected printed registers) form takes some = absurd (some refl)
+question_out inputs (questions.Key area purpose part) form takes some = absurd (some refl)

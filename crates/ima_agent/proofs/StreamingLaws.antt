@@ -55,13 +55,13 @@ own_or_memory Json fault line status is = is
 
 -- ---- what is shown up to a fault
 
-module _ (form : Form) (AreAll : List ℕ → Type 0) (Stops : List ℕ → RunFault → Type 0) (old new : SinkState) (text : List ℕ) where
+module _ (form : Form) (done : ℕ) (AreAll : List ℕ → Type 0) (Stops : List ℕ → RunFault → Type 0) (old new : SinkState) (text : List ℕ) where
   all_sent : {E : Type 0} → Sends {A = Unit {0}} {E = E} old new (Ok tt) text → AreAll text
-      → Streams form (ShowsToFault AreAll Stops (IsReported form)) old new (Ok 0)
+      → Streams form (ShowsToFault done AreAll Stops (IsReported form)) old new (Ok done)
   all_sent sends all = record { text = text; sends = Sends-ok old new tt tt text sends; goes_on = inl (all, refl) }
 
   cut_sent : {E : Type 0} (fault : E) (failed : Failed) → Sends {A = Unit {0}} {E = E} old new (Err fault) text → Stops text runs.Memory
-      → Streams form (ShowsToFault AreAll Stops (IsReported form)) old new (Err (streams.Sink failed))
+      → Streams form (ShowsToFault done AreAll Stops (IsReported form)) old new (Err (streams.Sink failed))
   cut_sent fault failed sends memory = record {
     text = text;
     sends = record { ok = tt; part = sends.part; telling = sends.telling; counts = sends.counts };
@@ -69,14 +69,14 @@ module _ (form : Form) (AreAll : List ℕ → Type 0) (Stops : List ℕ → RunF
   }
 
   line_follows : (fault : RunFault) → Stops text fault → Stops text runs.Memory → (last : List ℕ) (status : ℕ) → IsFailure form fault last status
-      → ShowsToFault AreAll Stops (IsReported form) (text ++ last) status
+      → ShowsToFault done AreAll Stops (IsReported form) (text ++ last) status
   line_follows fault stops memory last status failure = elim (own_or_memory form fault last status failure) [
     | inl reported ↦ inr (text, fault, last, stops, reported, refl)
     | inr reported ↦ inr (text, runs.Memory, last, memory, reported, refl)
   ]
 
   fault_sent : {E : Type 0} (fault : RunFault) → Sends {A = Unit {0}} {E = E} old new (Ok tt) text → Stops text fault → Stops text runs.Memory
-      → Streams form (ShowsToFault AreAll Stops (IsReported form)) old new (Err (streams.Run fault))
+      → Streams form (ShowsToFault done AreAll Stops (IsReported form)) old new (Err (streams.Run fault))
   fault_sent fault sends stops memory =
       record { text = text; sends = Sends-ok old new tt tt text sends; goes_on = line_follows fault stops memory }
 
@@ -99,7 +99,7 @@ streams_so P Q old new (Err (streams.Run fault)) so sent =
 
 -- ---- the events of a log
 
-module _ (form : Form) (told : EventForm) (matched : Option (List Place)) (log : List ℕ) (old new : SinkState) where
+module _ (form : Form) (told : EventForm) (matched : Option (List Place)) (done : ℕ) (log : List ℕ) (old new : SinkState) where
   abbrev lines : List Row → List LogEvent → List ℕ
   lines = log_lines told matched
 
@@ -110,36 +110,36 @@ module _ (form : Form) (told : EventForm) (matched : Option (List Place)) (log :
   Stops = StopsInLog told matched log
 
   abbrev Shown : List ℕ → ℕ → Type 0
-  Shown = ShowsEventsIn form told matched log
+  Shown = ShowsEventsIn form told matched done log
 
   out : (result : Result (Unit {0}) EventsFault) (sent : SendsLines told matched log old new result) → Stops (lines sent.table sent.events) runs.Memory
   out result sent = inr (inl (refl, (sent.table, sent.events, sent.rest, sent.begins, refl)))
 
-  pub events_shown : SendsEvents told matched log old new (Ok tt) → Streams form Shown old new (Ok 0)
+  pub events_shown : SendsEvents told matched log old new (Ok tt) → Streams form Shown old new (Ok done)
   events_shown (inl sent) =
-      all_sent form AreAll Stops old new (lines sent.table sent.events) sent.sends
+      all_sent form done AreAll Stops old new (lines sent.table sent.events) sent.sends
       (record { table = sent.table; events = sent.events; log_is = sent.ends; text_is = refl })
   events_shown (inr none) = absurd none.refused
 
   pub events_cut : (failed : Failed) → SendsEvents told matched log old new (Err events.Sink) → Streams form Shown old new (Err (streams.Sink failed))
   events_cut failed (inl sent) =
-      cut_sent form AreAll Stops old new (lines sent.table sent.events) events.Sink failed sent.sends (out (Err events.Sink) sent)
+      cut_sent form done AreAll Stops old new (lines sent.table sent.events) events.Sink failed sent.sends (out (Err events.Sink) sent)
   events_cut failed (inr none) = absurd none.refused
 
   pub events_to_fault : (first : LogFault) (fault : RunFault) → fault ≡ fault_of_log first
       → SendsEvents told matched log old new (Err (events.Log first)) → Streams form Shown old new (Err (streams.Run fault))
   events_to_fault first fault says (inl sent) =
-      fault_sent form AreAll Stops old new (lines sent.table sent.events) fault sent.sends
+      fault_sent form done AreAll Stops old new (lines sent.table sent.events) fault sent.sends
       (inl (first, says, inr (sent.table, sent.events, sent.ends, refl))) (out (Err (events.Log first)) sent)
   events_to_fault first fault says (inr none) =
-      fault_sent form AreAll Stops old new [] fault none.sends (inl (first, says, inl (refl, none.refused))) (inr (inr (refl, refl)))
+      fault_sent form done AreAll Stops old new [] fault none.sends (inl (first, says, inl (refl, none.refused))) (inr (inr (refl, refl)))
 
   pub events_run_out : SendsEvents told matched log old new (Err events.Memory) → Streams form Shown old new (Err (streams.Run runs.Memory))
   events_run_out (inl sent) =
-      fault_sent form AreAll Stops old new (lines sent.table sent.events) runs.Memory sent.sends (out (Err events.Memory) sent)
+      fault_sent form done AreAll Stops old new (lines sent.table sent.events) runs.Memory sent.sends (out (Err events.Memory) sent)
       (out (Err events.Memory) sent)
   events_run_out (inr none) =
-      fault_sent form AreAll Stops old new [] runs.Memory none.sends (inr (inr (refl, refl))) (inr (inr (refl, refl)))
+      fault_sent form done AreAll Stops old new [] runs.Memory none.sends (inr (inr (refl, refl))) (inr (inr (refl, refl)))
 
 -- No more than the fault is said.
 pub none_said : {form : Form} (P : List ℕ → ℕ → Type 0) (sink : SinkState) (fault : RunFault)
@@ -169,7 +169,7 @@ module _ (inputs : Inputs) (name : List ℕ) where
   pub not_opened : (sink : SinkState) (fault : RunFault) → IsReading [] (Ok []) → IsNotRead name fault ⊎ (fault ≡ runs.Memory)
       → IsTrue (inputs.may_fail (Some name)) → Streams Json (ShowsEntriesOf inputs name) sink sink (Err (streams.Run fault))
   not_opened sink fault nothing reason may =
-      fault_sent Json (AreAllInFile inputs name) (StopsInFile inputs name) sink sink [] fault (Sends-none {E = Failed} sink tt)
+      fault_sent Json 0 (AreAllInFile inputs name) (StopsInFile inputs name) sink sink [] fault (Sends-none {E = Failed} sink tt)
       (came_none fault (source_ends [] [] fault may (inl nothing) reason)) (came_none runs.Memory (inr (inr refl))) where
         came_none : (fault : RunFault) → EndsAfterEntries inputs name [] [] fault → StopsInFile inputs name [] fault
         came_none fault ends = let any = held_any (inputs.held (Some name)) in inr (record {
@@ -230,13 +230,13 @@ module _ (inputs : Inputs) (name : List ℕ) where
         → Streams Json (ShowsEntriesOf inputs name) sink_old sink_new (Ok 0)
     entries_shown sends =
         let held = whole_of sends.list sends.over sends.came sends.ends.0 sends.ends.1 in
-        all_sent Json (AreAllInFile inputs name) (StopsInFile inputs name) sink_old sink_new (entry_lines sends.entries) sends.sends
+        all_sent Json 0 (AreAllInFile inputs name) (StopsInFile inputs name) sink_old sink_new (entry_lines sends.entries) sends.sends
         (sends.list, held, record { entries = sends.entries; reading = sends.ends.2; text_is = refl })
 
     pub entries_cut : (failed : Failed) → SendsEntries old new input_limit sink_old sink_new (Err entries.Sink)
         → Streams Json (ShowsEntriesOf inputs name) sink_old sink_new (Err (streams.Sink failed))
     entries_cut failed sends =
-        cut_sent Json (AreAllInFile inputs name) (StopsInFile inputs name) sink_old sink_new (entry_lines sends.entries) entries.Sink failed sends.sends
+        cut_sent Json 0 (AreAllInFile inputs name) (StopsInFile inputs name) sink_old sink_new (entry_lines sends.entries) entries.Sink failed sends.sends
         (breaks_off (Err entries.Sink) sends runs.Memory (inr (inr refl)))
 
     -- Another fault of the list than `Truncated`, which no more bytes mend.
@@ -265,14 +265,14 @@ module _ (inputs : Inputs) (name : List ℕ) where
         → SendsEntries old new input_limit sink_old sink_new (Err (entries.List first))
         → Streams Json (ShowsEntriesOf inputs name) sink_old sink_new (Err (streams.Run fault))
     entries_to_fault first fault says sends =
-        fault_sent Json (AreAllInFile inputs name) (StopsInFile inputs name) sink_old sink_new (entry_lines sends.entries) fault sends.sends
+        fault_sent Json 0 (AreAllInFile inputs name) (StopsInFile inputs name) sink_old sink_new (entry_lines sends.entries) fault sends.sends
         (fails first sends fault says) (breaks_off (Err (entries.List first)) sends runs.Memory (inr (inr refl)))
 
     pub entries_unread : (fault : RunFault) → IsTrue (inputs.may_fail (Some name)) → IsNotRead name fault ⊎ (fault ≡ runs.Memory)
         → SendsEntries old new input_limit sink_old sink_new (Err entries.Source)
         → Streams Json (ShowsEntriesOf inputs name) sink_old sink_new (Err (streams.Run fault))
     entries_unread fault may reason sends =
-        fault_sent Json (AreAllInFile inputs name) (StopsInFile inputs name) sink_old sink_new (entry_lines sends.entries) fault sends.sends
+        fault_sent Json 0 (AreAllInFile inputs name) (StopsInFile inputs name) sink_old sink_new (entry_lines sends.entries) fault sends.sends
         (breaks_off (Err entries.Source) sends fault (source_ends sends.list sends.entries fault may sends.ends.1 reason))
         (breaks_off (Err entries.Source) sends runs.Memory (inr (inr refl)))
 
@@ -288,7 +288,7 @@ module _ (inputs : Inputs) (name : List ℕ) where
         → SendsEntries old new input_limit sink_old sink_new (Err entries.TooLong)
         → Streams Json (ShowsEntriesOf inputs name) sink_old sink_new (Err (streams.Run fault))
     entries_too_long fault reason sends =
-        fault_sent Json (AreAllInFile inputs name) (StopsInFile inputs name) sink_old sink_new (entry_lines sends.entries) fault sends.sends
+        fault_sent Json 0 (AreAllInFile inputs name) (StopsInFile inputs name) sink_old sink_new (entry_lines sends.entries) fault sends.sends
         (breaks_off (Err entries.TooLong) sends fault (long_ends sends fault reason))
         (breaks_off (Err entries.TooLong) sends runs.Memory (inr (inr refl)))
 
@@ -296,5 +296,5 @@ module _ (inputs : Inputs) (name : List ℕ) where
         → Streams Json (ShowsEntriesOf inputs name) sink_old sink_new (Err (streams.Run runs.Memory))
     entries_run_out sends =
         let stops = breaks_off (Err entries.Memory) sends runs.Memory (inr (inr refl)) in
-        fault_sent Json (AreAllInFile inputs name) (StopsInFile inputs name) sink_old sink_new (entry_lines sends.entries) runs.Memory sends.sends
+        fault_sent Json 0 (AreAllInFile inputs name) (StopsInFile inputs name) sink_old sink_new (entry_lines sends.entries) runs.Memory sends.sends
         stops stops

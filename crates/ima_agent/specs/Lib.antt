@@ -2,6 +2,7 @@ pub mod Escaping
 pub mod Showing
 pub mod Matching
 pub mod ShowingEvents
+pub mod ShowingBoot
 pub mod Program
 pub use Rattle.agent_inputs.specs.Loading
 pub use Rattle.agent_inputs.specs.Loading

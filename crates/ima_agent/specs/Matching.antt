@@ -1,5 +1,6 @@
--- The registers that match: those that have their expected values after a log, before any list.
-use Rattle.std.specs.Prelude.{◌≡◌, ◌⊎◌, ℕ, ◌==◌, ◌&&◌, Bool, false, not, List, map, filter, Option, None, Some, IsSomeAnd}
+-- The registers that match: those that have their expected values after a log, before any list; or those that a quote is of, which the list
+-- does not extend.
+use Rattle.std.specs.Prelude.{◌≡◌, ◌⊎◌, ℕ, ◌==◌, ◌&&◌, Bool, true, false, not, List, [], map, flat_map, filter, Option, None, Some, IsSomeAnd, string_bytes}
 use Rattle.std.specs.List.{Contains, list_any}
 use Rattle.std.specs.Option.{option_map_or}
 use Rattle.pcr_banks.specs.declared.alg.Alg.{Alg}
@@ -7,15 +8,29 @@ use Rattle.pcr_banks.specs.declared.alg.Alg.TheVariants.{Sha1}
 use Rattle.pcr_banks.specs.declared.sets.AlgSet.{AlgSet}
 use Rattle.pcr_banks.specs.Hashing.{same_alg}
 use Rattle.pcr_banks.specs.Digests.{alg_of, bytes_of}
+use Rattle.tpm_quotes.specs.Spelling.{BankSelection, all_registers, is_selected}
+use Rattle.attestations.specs.Quoted.{stated_of}
 use Rattle.boot_log.specs.declared.header.Row.{Row}
 use Rattle.boot_log.specs.Spelling.{IsLog, LogEvent, algs_in}
 use Rattle.boot_verdict.specs.declared.expected.ExpectFault.{ExpectFault}
 use Rattle.boot_verdict.specs.ExpectedTexts.{HasFirstFault, IsExpectedText}
 use Rattle.boot_verdict.specs.declared.expected.Expected.{Expected}
+use Rattle.boot_verdict.specs.Isolation.{list_register}
 use Rattle.boot_verdict.specs.Verdicts.{is_value, IsSomeLog, pcr_after_log}
 use Rattle.json_texts.specs.declared.event_form.EventForm.{EventForm}
 use Rattle.json_texts.specs.declared.event_form.EventForm.TheVariants as told
 use Rattle.measured_data.specs.declared.place.Place.{Place}
+use Rattle.agent_plans.specs.declared.plan.ConfirmedBy.{ConfirmedBy}
+use Rattle.agent_plans.specs.declared.plan.ConfirmedBy.TheVariants as confirmed
+use Rattle.agent_plans.specs.declared.plan.Quoting.{Quoting}
+use Rattle.agent_plans.specs.declared.plan.Scope.TheVariants.{Whole}
+use Rattle.judging.specs.declared.request.Answer.{Answer}
+use Rattle.judging.specs.declared.request.Answer.TheVariants as answers
+use Rattle.judging.specs.declared.request.Answered.{Answered}
+use Rattle.judging.specs.Answering.{IsAttestation, IsNoAttestation}
+use Rattle.judging.specs.Inputs.{BytesOf, FileOf, Where}
+use Rattle.judging.specs.Requests.{Attested}
+use Rattle.rendering.specs.Rendering.{answer_status}
 use Rattle.agent_inputs.specs.declared.fault.RunFault.{RunFault}
 use Rattle.agent_inputs.specs.declared.fault.RunFault.TheVariants as runs
 use Rattle.agent_inputs.specs.Faults.{HasLogFault, fault_of_expected}
@@ -69,6 +84,49 @@ pub record IsMatched (algs : AlgSet) (events : List LogEvent) (expected : List E
   pub agreed : (other : Expected) → Contains expected other → other.register ≡ row.register → (other.alg ≡ Sha1 → ⊥)
       → HasExpected algs events other
 
+-- ---- by a quote
+
+-- What is judged by a quote of this log, and of a whole list: nobody goes on from anything.
+abbrev pub attested_with : Where → Quoting → Attested
+attested_with log quoting = record {
+  log = log;
+  list = FileOf (string_bytes quoting.list);
+  message = FileOf (string_bytes quoting.quote);
+  nonce = quoting.nonce.items;
+  required = string_bytes quoting.required;
+  takes_sha1 = quoting.takes_sha1;
+  is_signed = quoting.is_signed;
+  expected = None;
+  scope = Whole;
+  resume = None;
+  known = [];
+}
+
+-- Whether the quote is of the register's value, which the log alone gives it: it selects the register, and the list extends another.
+abbrev pub is_of_log : List ℕ → ℕ → Bool
+is_of_log bits register = not (register == list_register) && is_selected bits register
+
+-- Those of a bank, ascending.
+abbrev pub places_in : BankSelection → List Place
+places_in selection =
+    filter (λ place. is_of_log selection.bits place.register)
+    (map (λ register. record { alg = selection.alg; register = register }) all_registers)
+
+-- Those of all banks that are selected from.
+abbrev pub quoted_places : List BankSelection → List Place
+quoted_places selections = flat_map places_in selections
+
+-- The registers that match by an answer: none, unless all is well with it.
+abbrev pub places_by : Bool → Answer → List Place
+places_by true (answers.Attestation report) = quoted_places (stated_of report.quoted).selections
+places_by is_well answer = []
+
+-- These match by the answer to what is asked of a quote; and the status is that of the answer.
+abbrev pub AreMatchedByQuote : Inputs → Attested → List Place → ℕ → Type 0
+AreMatchedByQuote inputs asked places status =
+    (given : Answered) × IsAttestation inputs asked given × (places ≡ places_by given.is_well given.answer)
+    × (status ≡ answer_status given.is_well given.answer)
+
 -- ---- in files
 
 -- The bytes are a log, the text states expected registers, and these of them match.
@@ -80,19 +138,28 @@ pub record MatchIn (log text : List ℕ) (places : List Place) : Type 0 where
   pub text_is : IsExpectedText text expected
   pub places_are : places ≡ matched_places (algs_in table) events expected
 
--- The registers that match after the log, if a file of this name states expected ones; none are compared without a name.
-abbrev pub AreMatched : Inputs → Option (List ℕ) → List ℕ → Option (List Place) → Type 0
-AreMatched inputs None log matched = matched ≡ None
-AreMatched inputs (Some name) log matched = IsSomeAnd matched (λ places. OfInput inputs (Some name) (λ text. MatchIn log text places))
+-- The registers that match after the log, if something tells it; none are compared if nothing does. And the status once all is told.
+abbrev pub AreMatched : Inputs → ConfirmedBy → List ℕ → Option (List Place) → ℕ → Type 0
+AreMatched inputs confirmed.Nothing log matched status = (matched ≡ None) × (status ≡ 0)
+AreMatched inputs (confirmed.Expected name) log matched status =
+    IsSomeAnd matched (λ places. OfInput inputs (Some (string_bytes name)) (λ text. MatchIn log text places)) × (status ≡ 0)
+AreMatched inputs (confirmed.Quote quoting) log matched status =
+    IsSomeAnd matched (λ places. AreMatchedByQuote inputs (attested_with (BytesOf log) quoting) places status)
 
--- Why they are not known: the file is not loaded; or its first wrong line; or its text is right, and the bytes are no log; or memory ran out.
-abbrev pub AreNotMatched : Inputs → Option (List ℕ) → List ℕ → RunFault → Type 0
-AreNotMatched inputs None log fault = ⊥
-AreNotMatched inputs (Some name) log fault =
-    IsInputFault inputs (Some name) fault
-    ⊎ ((first : ExpectFault) × OfInput inputs (Some name) (λ text. HasFirstFault text first) × (fault ≡ fault_of_expected first))
-    ⊎ (((expected : List Expected) × OfInput inputs (Some name) (λ text. IsExpectedText text expected)) × HasLogFault log fault)
+-- Why the file of this name tells of none: it is not loaded; or its first wrong line; or its text is right, and the bytes are no log; or memory
+-- ran out.
+abbrev pub AreNotExpected : Inputs → Option (List ℕ) → List ℕ → RunFault → Type 0
+AreNotExpected inputs name log fault =
+    IsInputFault inputs name fault
+    ⊎ ((first : ExpectFault) × OfInput inputs name (λ text. HasFirstFault text first) × (fault ≡ fault_of_expected first))
+    ⊎ (((expected : List Expected) × OfInput inputs name (λ text. IsExpectedText text expected)) × HasLogFault log fault)
     ⊎ (fault ≡ runs.Memory)
+
+-- Why they are not known.
+abbrev pub AreNotMatched : Inputs → ConfirmedBy → List ℕ → RunFault → Type 0
+AreNotMatched inputs confirmed.Nothing log fault = ⊥
+AreNotMatched inputs (confirmed.Expected name) log fault = AreNotExpected inputs (Some (string_bytes name)) log fault
+AreNotMatched inputs (confirmed.Quote quoting) log fault = IsNoAttestation inputs (attested_with (BytesOf log) quoting) fault
 
 -- ---- before a line is told
 
@@ -102,6 +169,6 @@ IsKnownFor told.Json log = Unit {0}
 IsKnownFor told.Explained log = IsSomeLog log
 
 -- Why no line is told: the bytes are no log, and no registers are compared; or the registers that match are not known.
-abbrev pub IsNotTold : Inputs → EventForm → Option (List ℕ) → List ℕ → RunFault → Type 0
-IsNotTold inputs told.Explained None log fault = HasLogFault log fault
-IsNotTold inputs events expected log fault = AreNotMatched inputs expected log fault
+abbrev pub IsNotTold : Inputs → EventForm → ConfirmedBy → List ℕ → RunFault → Type 0
+IsNotTold inputs told.Explained confirmed.Nothing log fault = HasLogFault log fault
+IsNotTold inputs events confirmed_by log fault = AreNotMatched inputs confirmed_by log fault

@@ -1,5 +1,5 @@
 -- What the program is asked for, sends and returns.
-use Rattle.std.specs.Prelude.{◌≡◌, ℕ, ◌⊎◌, List, flat_map, string_bytes, ◌++◌, Option, None, Some, option_map, Result, Ok, Err, String}
+use Rattle.std.specs.Prelude.{◌≡◌, ℕ, ◌⊎◌, List, [], map, flat_map, string_bytes, ◌++◌, Option, None, Some, option_map, Result, Ok, Err, String}
 use Rattle.std.specs.Global.{Global, Vec}
 use Rattle.byte_streams.specs.declared.streams.Failed.{Failed}
 use Rattle.byte_streams.specs.Streams.{SinkState, Sends}
@@ -31,7 +31,9 @@ use Rattle.rendering.specs.Rendering.{IsOutputFault, ShowsAnswer, print_measured
 use Rattle.ima_agent.specs.declared.streams.StreamFault.{StreamFault}
 use Rattle.ima_agent.specs.declared.streams.StreamFault.TheVariants as streams
 use Rattle.rendering.specs.FaultTexts.{fault_line, fault_status, IsFailure, IsReportedAsJson}
+use Rattle.ima_agent.specs.Matching.{attested_with}
 use Rattle.ima_agent.specs.Showing.{AreAllEntries, BreaksOffAfterEntries, EndsWithFault, IsNoListFor, IsRefusedFor, ShowsEntries, ShowsHexadecimal, version_text}
+use Rattle.ima_agent.specs.ShowingBoot.{IsNoBootFor, ShowsBoot}
 use Rattle.ima_agent.specs.ShowingEvents.{BreaksOffAfterEvents, IsNoneShownFor, ShowsEvents, lines_for}
 
 -- ---- a question
@@ -39,6 +41,11 @@ use Rattle.ima_agent.specs.ShowingEvents.{BreaksOffAfterEvents, IsNoneShownFor, 
 -- The file of this name.
 abbrev pub file_of : String Global → Where
 file_of name = FileOf (string_bytes name)
+
+-- The files of these names; none without names.
+abbrev pub files_of : Option (Vec (String Global)) → List Where
+files_of None = []
+files_of (Some names) = map file_of names.items
 
 abbrev pub judgement_by : Judged → Judgement
 judgement_by (judged.Verdict log scope resume save) = VerdictOf (file_of log) scope (option_map file_of resume)
@@ -60,21 +67,16 @@ compared_by judge = record {
   list = file_of judge.list;
   expected = file_of judge.expected;
   required = requires_by judge.judged judge.required;
+  known = files_of judge.known;
 }
 
 -- What is judged by a quote.
 abbrev pub attested_by : Attest → Attested
-attested_by attest = record {
-  log = file_of attest.log;
-  list = file_of attest.list;
-  message = file_of attest.quote;
+attested_by attest = record (attested_with (file_of attest.log) attest.quoting) {
   expected = option_map file_of attest.expected;
-  nonce = attest.nonce.items;
-  required = string_bytes attest.required;
-  takes_sha1 = attest.takes_sha1;
-  is_signed = attest.is_signed;
   scope = attest.scope;
   resume = option_map file_of attest.resume;
+  known = files_of attest.known;
 }
 
 -- What a question asks.
@@ -85,6 +87,12 @@ requested_by (questions.Judge judge) = Compares (compared_by judge)
 requested_by (questions.Attest attest) = Attests (attested_by attest)
 requested_by (questions.Expected printed registers) = ExpectedOf (file_of printed) (option_map string_bytes registers)
 requested_by (questions.Key area purpose part) = KeyOf (file_of area) purpose part
+
+-- The texts of known files that a question names.
+abbrev pub known_by : Question → List Where
+known_by (questions.Judge judge) = files_of judge.known
+known_by (questions.Attest attest) = files_of attest.known
+known_by question = []
 
 -- The name under which the checkpoint is saved, if it is.
 abbrev pub save_of : Judged → Option (List ℕ)
@@ -104,9 +112,10 @@ Shows inputs tasks.Registers form shown status = OfInput inputs None (λ text. S
 Shows inputs (tasks.Answer question) form shown status = ⊥
 Shows inputs (tasks.Measure request) form shown status =
     ((given : Measured) × IsMeasured inputs request given × (shown ≡ print_measured form request.print given)) × (status ≡ 0)
-Shows inputs (tasks.Events log requested expected) form shown status =
-    OfInput inputs (Some (string_bytes log)) (λ bytes.
-    ShowsEvents inputs form (lines_for form requested) (option_map string_bytes expected) bytes shown status)
+Shows inputs (tasks.Events log requested confirmed_by) form shown status =
+    OfInput inputs (Some (string_bytes log)) (λ bytes. ShowsEvents inputs form (lines_for form requested) confirmed_by bytes shown status)
+Shows inputs (tasks.Boot log confirmed_by before) form shown status =
+    OfInput inputs (Some (string_bytes log)) (λ bytes. ShowsBoot inputs form confirmed_by (option_map string_bytes before) bytes shown status)
 Shows inputs (tasks.Entries list) forms.Text shown status =
     OfInput inputs (Some (string_bytes list)) (λ bytes. AreAllEntries (flat_map line_of) bytes shown) × (status ≡ 0)
 Shows inputs (tasks.Entries list) forms.Json shown status =
@@ -127,10 +136,12 @@ abbrev pub IsFaultOf : Inputs → Task → Form → RunFault → Type 0
 IsFaultOf inputs tasks.Registers form fault = IsInputFault inputs None fault ⊎ OfInput inputs None (λ text. IsRefusedFor text fault)
 IsFaultOf inputs (tasks.Answer question) form fault = IsOutputFault inputs (requested_by question) (save_by question) fault
 IsFaultOf inputs (tasks.Measure request) form fault = IsMeasuringFault inputs request fault
-IsFaultOf inputs (tasks.Events log requested expected) form fault =
+IsFaultOf inputs (tasks.Events log requested confirmed_by) form fault =
     IsInputFault inputs (Some (string_bytes log)) fault
-    ⊎ OfInput inputs (Some (string_bytes log)) (λ bytes.
-    IsNoneShownFor inputs (lines_for form requested) (option_map string_bytes expected) bytes fault)
+    ⊎ OfInput inputs (Some (string_bytes log)) (λ bytes. IsNoneShownFor inputs (lines_for form requested) confirmed_by bytes fault)
+IsFaultOf inputs (tasks.Boot log confirmed_by before) form fault =
+    IsInputFault inputs (Some (string_bytes log)) fault
+    ⊎ OfInput inputs (Some (string_bytes log)) (λ bytes. IsNoBootFor inputs confirmed_by (option_map string_bytes before) bytes fault)
 IsFaultOf inputs (tasks.Entries list) forms.Text fault =
     IsInputFault inputs (Some (string_bytes list)) fault
     ⊎ OfInput inputs (Some (string_bytes list)) (λ bytes. IsNoListFor bytes fault)
@@ -138,9 +149,9 @@ IsFaultOf inputs task form fault = ⊥
 
 -- The output of a task that is written while its input is read, if it fails in between: what was read till then, and then the fault.
 abbrev pub IsBrokenOff : Inputs → Task → Form → List ℕ → ℕ → Type 0
-IsBrokenOff inputs (tasks.Events log requested expected) form text status =
+IsBrokenOff inputs (tasks.Events log requested confirmed_by) form text status =
     OfInput inputs (Some (string_bytes log)) (λ bytes.
-    BreaksOffAfterEvents inputs form (lines_for form requested) (option_map string_bytes expected) bytes text status)
+    BreaksOffAfterEvents inputs form (lines_for form requested) confirmed_by bytes text status)
 IsBrokenOff inputs (tasks.Entries list) forms.Json text status = EndsWithFault (BreaksOffAfterEntries inputs (string_bytes list)) IsReportedAsJson text status
 IsBrokenOff inputs task form text status = ⊥
 

@@ -4,7 +4,7 @@ use Rattle.hex.specs.Hex.{decode_of}
 use Rattle.ima_list.specs.declared.fault.ListFault.{ListFault}
 use Rattle.ima_list.specs.ListEntry.{ListEntry}
 use Rattle.ima_list.specs.Spelling.{BeginsWith, IsReading}
-pub use Rattle.json_texts.specs.ItemLines.{entry_lines, numbered_lines, AreAllEntries, EndsWithFault, FailsAfterEntries, ShowsToFault}
+pub use Rattle.json_texts.specs.ItemLines.{entry_lines, numbered_lines, AreAllEntries, EndsWithFault, FailsAfterEntries}
 use Rattle.json_texts.specs.SentEntries.{AreAllIn}
 use Rattle.agent_plans.specs.declared.plan.Form.{Form}
 use Rattle.agent_inputs.specs.declared.fault.RunFault.{RunFault}
@@ -55,12 +55,16 @@ IsNoLogFor log fault = HasLogFault log fault ⊎ (fault ≡ runs.Memory)
 abbrev pub IsNoListFor : List ℕ → RunFault → Type 0
 IsNoListFor list fault = ((first : ListFault) × IsReading list (Err first) × (fault ≡ fault_of_list first)) ⊎ (fault ≡ runs.Memory)
 
+-- All is shown, with this status; or what comes before a fault, and then the line of the fault, with its status.
+abbrev pub ShowsToFault : ℕ → (List ℕ → Type 0) → (List ℕ → RunFault → Type 0) → (RunFault → List ℕ → ℕ → Type 0) → List ℕ → ℕ → Type 0
+ShowsToFault done AreAll Fails IsLine shown status = (AreAll shown × (status ≡ done)) ⊎ EndsWithFault Fails IsLine shown status
+
 -- ---- entries as JSON
 
 -- What can be read of the bytes as a list is shown.
 abbrev pub ShowsEntries : List ℕ → List ℕ → ℕ → Type 0
 ShowsEntries list shown status =
-    ShowsToFault (AreAllEntries entry_lines list) (FailsAfterEntries entry_lines fault_of_list list) IsReportedAsJson shown status
+    ShowsToFault 0 (AreAllEntries entry_lines list) (FailsAfterEntries entry_lines fault_of_list list) IsReportedAsJson shown status
 
 -- Why no more entries of the file of this name are shown, of which the bytes `came` were read. It could not be opened or read, or it is
 -- longer than an input may be and its first bytes came, as many as one may have: then these are all entries of what came, of which none was refused (how much of a file
@@ -95,4 +99,4 @@ StopsInFile inputs name text fault =
 
 -- The list in the file of this name is shown as JSON while it is read, as far as it comes.
 abbrev pub ShowsEntriesOf : Inputs → List ℕ → List ℕ → ℕ → Type 0
-ShowsEntriesOf inputs name shown status = ShowsToFault (AreAllInFile inputs name) (StopsInFile inputs name) IsReportedAsJson shown status
+ShowsEntriesOf inputs name shown status = ShowsToFault 0 (AreAllInFile inputs name) (StopsInFile inputs name) IsReportedAsJson shown status

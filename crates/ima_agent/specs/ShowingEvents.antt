@@ -8,8 +8,9 @@ use Rattle.verdict_texts.specs.declared.events.EventData.TheVariants as texts
 use Rattle.verdict_texts.specs.EventTexts.{events_text}
 pub use Rattle.json_texts.specs.declared.event_form.EventForm.{EventForm}
 use Rattle.json_texts.specs.declared.event_form.EventForm.TheVariants as told
-pub use Rattle.json_texts.specs.ItemLines.{AreAllEvents, EndsWithFault, FailsAfterEvents, ShowsToFault}
+pub use Rattle.json_texts.specs.ItemLines.{AreAllEvents, EndsWithFault, FailsAfterEvents}
 pub use Rattle.json_texts.specs.SentEvents.{log_lines}
+use Rattle.agent_plans.specs.declared.plan.ConfirmedBy.{ConfirmedBy}
 use Rattle.agent_plans.specs.declared.plan.DataShown.{DataShown}
 use Rattle.agent_plans.specs.declared.plan.DataShown.TheVariants as arguments
 use Rattle.agent_plans.specs.declared.plan.Form.{Form}
@@ -22,7 +23,7 @@ use Rattle.rendering.specs.FaultTexts.{fault_line, fault_status, IsFailure, IsRe
 use Rattle.ima_agent.specs.declared.events.EventLines.{EventLines}
 use Rattle.ima_agent.specs.declared.events.EventLines.TheVariants as lines
 use Rattle.ima_agent.specs.Matching.{AreMatched, IsKnownFor, IsNotTold}
-use Rattle.ima_agent.specs.Showing.{IsNoLogFor}
+use Rattle.ima_agent.specs.Showing.{IsNoLogFor, ShowsToFault}
 
 -- How events are shown in this form, where this is requested of their data: in JSON with what it says in any case.
 abbrev pub lines_for : Form → DataShown → EventLines
@@ -36,10 +37,11 @@ abbrev pub IsReported : Form → RunFault → List ℕ → ℕ → Type 0
 IsReported forms.Text fault text status = (text ≡ fault_line fault) × (status ≡ fault_status fault)
 IsReported forms.Json fault text status = IsReportedAsJson fault text status
 
--- What can be read of the bytes as a log is shown with what its data says, and with what the registers that match confirm.
-abbrev pub ShowsTold : Form → EventForm → Option (List Place) → List ℕ → List ℕ → ℕ → Type 0
-ShowsTold form events matched log shown status =
-    ShowsToFault (AreAllEvents (log_lines events matched) log) (FailsAfterEvents (log_lines events matched) fault_of_log log) (IsReported form) shown
+-- What can be read of the bytes as a log is shown with what its data says, and with what the registers that match confirm; with this status, if
+-- that is all.
+abbrev pub ShowsTold : Form → EventForm → Option (List Place) → ℕ → List ℕ → List ℕ → ℕ → Type 0
+ShowsTold form events matched done log shown status =
+    ShowsToFault done (AreAllEvents (log_lines events matched) log) (FailsAfterEvents (log_lines events matched) fault_of_log log) (IsReported form) shown
     status
 
 -- The text is the lines of a header and events that the bytes begin with, and then memory ran out.
@@ -51,24 +53,25 @@ RunsOutAfterEvents events matched log text fault =
 -- ---- a log whose bytes were loaded
 
 -- Its events are shown in this form, and so: in plain lines all of them; else as far as they go, which for people is all of them, and with
--- what the registers confirm that match, where a file of this name states expected ones.
-abbrev pub ShowsEvents : Inputs → Form → EventLines → Option (List ℕ) → List ℕ → List ℕ → ℕ → Type 0
-ShowsEvents inputs form (lines.Plain shown) expected log text status = AreAllEvents (events_text shown) log text × (status ≡ 0)
-ShowsEvents inputs form (lines.Told events) expected log text status =
+-- what the registers confirm that match, by what tells it.
+abbrev pub ShowsEvents : Inputs → Form → EventLines → ConfirmedBy → List ℕ → List ℕ → ℕ → Type 0
+ShowsEvents inputs form (lines.Plain shown) confirmed_by log text status = AreAllEvents (events_text shown) log text × (status ≡ 0)
+ShowsEvents inputs form (lines.Told events) confirmed_by log text status =
     IsKnownFor events log
-    × ((matched : Option (List Place)) × AreMatched inputs expected log matched × ShowsTold form events matched log text status)
+    × ((matched : Option (List Place)) × (done : ℕ) × AreMatched inputs confirmed_by log matched done
+    × ShowsTold form events matched done log text status)
 
 -- Why no line of it is shown: the bytes are no log, or memory ran out; or else what is to be known before is not.
-abbrev pub IsNoneShownFor : Inputs → EventLines → Option (List ℕ) → List ℕ → RunFault → Type 0
-IsNoneShownFor inputs (lines.Plain shown) expected log fault = IsNoLogFor log fault
-IsNoneShownFor inputs (lines.Told events) expected log fault = IsNotTold inputs events expected log fault
+abbrev pub IsNoneShownFor : Inputs → EventLines → ConfirmedBy → List ℕ → RunFault → Type 0
+IsNoneShownFor inputs (lines.Plain shown) confirmed_by log fault = IsNoLogFor log fault
+IsNoneShownFor inputs (lines.Told events) confirmed_by log fault = IsNotTold inputs events confirmed_by log fault
 
 -- Memory ran out after the lines of some of its events.
-abbrev pub BreaksOffAfterEvents : Inputs → Form → EventLines → Option (List ℕ) → List ℕ → List ℕ → ℕ → Type 0
-BreaksOffAfterEvents inputs form (lines.Plain shown) expected log text status = ⊥
-BreaksOffAfterEvents inputs form (lines.Told events) expected log text status =
+abbrev pub BreaksOffAfterEvents : Inputs → Form → EventLines → ConfirmedBy → List ℕ → List ℕ → ℕ → Type 0
+BreaksOffAfterEvents inputs form (lines.Plain shown) confirmed_by log text status = ⊥
+BreaksOffAfterEvents inputs form (lines.Told events) confirmed_by log text status =
     IsKnownFor events log
-    × ((matched : Option (List Place)) × AreMatched inputs expected log matched
+    × ((matched : Option (List Place)) × (done : ℕ) × AreMatched inputs confirmed_by log matched done
     × EndsWithFault (RunsOutAfterEvents events matched log) (IsReported form) text status)
 
 -- ---- what is shown while its input is read
@@ -86,14 +89,15 @@ StopsInLog events matched log text fault =
     ⊎ RunsOutAfterEvents events matched log text fault
     ⊎ ((fault ≡ runs.Memory) × (text ≡ []))
 
--- The log in these bytes is shown with what its data says, as far as it goes.
-abbrev pub ShowsEventsIn : Form → EventForm → Option (List Place) → List ℕ → List ℕ → ℕ → Type 0
-ShowsEventsIn form events matched log shown status =
-    ShowsToFault (AreAllEvents (log_lines events matched) log) (StopsInLog events matched log) (IsReported form) shown status
+-- The log in these bytes is shown with what its data says, as far as it goes; with this status, if that is all.
+abbrev pub ShowsEventsIn : Form → EventForm → Option (List Place) → ℕ → List ℕ → List ℕ → ℕ → Type 0
+ShowsEventsIn form events matched done log shown status =
+    ShowsToFault done (AreAllEvents (log_lines events matched) log) (StopsInLog events matched log) (IsReported form) shown status
 
 -- It is, with what the registers confirm that match; or why it is not told.
-abbrev pub ShowsToldOf : Inputs → Form → EventForm → Option (List ℕ) → List ℕ → List ℕ → ℕ → Type 0
-ShowsToldOf inputs form events expected log shown status =
+abbrev pub ShowsToldOf : Inputs → Form → EventForm → ConfirmedBy → List ℕ → List ℕ → ℕ → Type 0
+ShowsToldOf inputs form events confirmed_by log shown status =
     (IsKnownFor events log
-    × ((matched : Option (List Place)) × AreMatched inputs expected log matched × ShowsEventsIn form events matched log shown status))
-    ⊎ ((fault : RunFault) × IsNotTold inputs events expected log fault × IsFailure form fault shown status)
+    × ((matched : Option (List Place)) × (done : ℕ) × AreMatched inputs confirmed_by log matched done
+    × ShowsEventsIn form events matched done log shown status))
+    ⊎ ((fault : RunFault) × IsNotTold inputs events confirmed_by log fault × IsFailure form fault shown status)

@@ -1,6 +1,6 @@
 //! The events of a log, as the program shows them.
 
-ghost use Rattle.std.specs.Prelude.{◌≡◌, option_map, string_bytes};
+ghost use Rattle.std.specs.Prelude.{◌≡◌, string_bytes};
 ghost use Rattle.agent_plans.specs.declared.plan.Form.{Form};
 ghost use Rattle.agent_plans.specs.declared.plan.Task.TheVariants as tasks;
 ghost use Rattle.ima_agent.specs.Program.{IsOutcome, Streams};
@@ -9,7 +9,7 @@ ghost use Rattle.ima_agent.specs.ShowingEvents.{ShowsPlainEventsIn, ShowsToldOf,
 use crate::matches::matched_in;
 use crate::streams::{DONE, Sent, StreamFault, send_log};
 use agent_inputs::{AgentFiles, load_input};
-use agent_plans::{DataShown, Form};
+use agent_plans::{ConfirmedBy, DataShown, Form};
 use boot_log::LogView;
 use byte_streams::Sink;
 use json_texts::EventForm;
@@ -25,18 +25,18 @@ pub(crate) enum EventLines {
     Told(EventForm),
 }
 
-/// Sends the header and the events of the log in the file of this name, in this form. Where what data says is told, registers are compared
-/// with those that the text in the file of the second name expects, if it is given.
+/// Sends the header and the events of the log in the file of this name, in this form. Where what data says is told, this tells which of it is
+/// confirmed.
 pub(crate) fn events_for<F: AgentFiles, S: Sink>(
     alloc: Global,
     files: &mut F,
     log: &String,
     requested: DataShown,
-    expected: &Option<String>,
+    confirmed_by: &ConfirmedBy,
     form: Form,
     sink: &mut S,
 ) -> Sent
-    ensures { Streams form (IsOutcome (F.known files.old) (tasks.Events log.now requested expected.now) form (F.saved files.old) (F.saved files.new))
+    ensures { Streams form (IsOutcome (F.known files.old) (tasks.Events log.now requested confirmed_by.now) form (F.saved files.old) (F.saved files.new))
         (S.state sink.old) (S.state sink.new) result }
 {
     let bytes = match load_input(alloc, files, Some(log)) {
@@ -45,7 +45,7 @@ pub(crate) fn events_for<F: AgentFiles, S: Sink>(
     };
     match lines_for(form, requested) {
         EventLines::Plain(shown) => write_log(alloc, &bytes, shown, sink),
-        EventLines::Told(told) => tell_log(alloc, files, &bytes, told, expected.as_deref(), sink),
+        EventLines::Told(told) => tell_log(alloc, files, &bytes, told, confirmed_by, sink),
     }
 }
 
@@ -75,23 +75,30 @@ fn write_log<S: Sink>(alloc: Global, bytes: &[u8], shown: EventData, sink: &mut 
     }
 }
 
-// Sends the lines that tell what the data of the log in these bytes says. With expected registers, and for people, the log is looked through
-// for its fault before; else the lines before a fault are sent.
+// Sends the lines that tell what the data of the log in these bytes says. If something tells which of it is confirmed, and for people, the log is
+// looked through for its fault before; else the lines before a fault are sent.
 fn tell_log<F: AgentFiles, S: Sink>(
     alloc: Global,
     files: &mut F,
     log: &[u8],
     told: EventForm,
-    expected: Option<&str>,
+    confirmed_by: &ConfirmedBy,
     sink: &mut S,
 ) -> Sent
     ensures streams { (form : Form) → Streams form
-        (ShowsToldOf (F.known files.old) form told (option_map (λ name. name.now) expected.entry) log.now)
+        (ShowsToldOf (F.known files.old) form told confirmed_by.now log.now)
         (S.state sink.old) (S.state sink.new) result }
     ensures saved { F.saved files.new ≡ F.saved files.old }
 {
-    match matched_in(alloc, files, log, told, expected) {
-        Ok(matched) => send_log(alloc, log, told, matched.as_deref(), sink),
+    match matched_in(alloc, files, log, told, confirmed_by) {
+        Ok(matched) => send_log(
+            alloc,
+            log,
+            told,
+            matched.places.as_deref(),
+            matched.status,
+            sink,
+        ),
         Err(fault) => Err(StreamFault::Run(fault)),
     }
 }

@@ -6,7 +6,7 @@ ghost use Rattle.ima_agent.specs.Escaping.{is_shown};
 
 use crate::escapes::{escape_each, shown_line, shown_lines};
 use agent_inputs::RunFault;
-use agent_plans::{Attest, Judge, Judged, Measurement, Question, Task};
+use agent_plans::{Attest, ConfirmedBy, Judge, Judged, Measurement, Question, Quoting, Task};
 use attestations::{Policy, PolicyFault};
 use boot_verdict::Requirement;
 use command_line::refusal_of;
@@ -95,6 +95,10 @@ fn of_fault<R: FileSystem + io::Input>(
             let fault = RunFault::TooLong(String::from_str(alloc, STANDARD_INPUT)?);
             shown_line(alloc, &format!(in alloc; "{fault}")?)
         }
+        RunFault::Known { file, fault } => match known_name(task, *file) {
+            Some(name) => shown_line(alloc, &format!(in alloc; "{name}: {fault}")?),
+            None => shown_line(alloc, &format!(in alloc; "known file {file}: {fault}")?),
+        },
         _ => match input_of(task, fault) {
             Some(input) => shown_line(alloc, &format!(in alloc; "{input}: {fault}")?),
             None => shown_line(alloc, &format!(in alloc; "{fault}")?),
@@ -120,6 +124,9 @@ fn of_refusal(alloc: Global, fault: &RunFault, arguments: &[String]) -> Result<S
 fn of_value_in(alloc: Global, task: &Task) -> Result<String, AllocError>
     ensures { IfOk result (λ text. list_all is_shown (string_bytes text) ≡ true) }
 {
+    if let Some(quoting) = quoting_of(task) {
+        return shown_line(alloc, &of_policy(alloc, quoting)?);
+    }
     let text = match task {
         Task::Answer(
             Question::Judge(
@@ -129,7 +136,6 @@ fn of_value_in(alloc: Global, task: &Task) -> Result<String, AllocError>
                 },
             ),
         ) => of_requirement(alloc, text)?,
-        Task::Answer(Question::Attest(attest)) => of_policy(alloc, attest)?,
         Task::Answer(
             Question::Expected {
                 registers: Some(range),
@@ -150,20 +156,20 @@ fn of_requirement(alloc: Global, text: &str) -> Result<String, AllocError> {
 }
 
 // Why a quote is not asked for so.
-fn of_policy(alloc: Global, attest: &Attest) -> Result<String, AllocError> {
-    let text = &attest.required;
+fn of_policy(alloc: Global, quoting: &Quoting) -> Result<String, AllocError> {
+    let text = &quoting.required;
     let Ok(required) = Requirement::from_text(alloc, text.as_bytes()) else {
         return of_requirement(alloc, text);
     };
     let policy = Policy {
-        nonce: &attest.nonce,
+        nonce: &quoting.nonce,
         required: &required,
-        takes_sha1: attest.takes_sha1,
+        takes_sha1: quoting.takes_sha1,
     };
     match policy.fault() {
         None => Err(AllocError),
         Some(fault @ PolicyFault::ShortNonce) => {
-            let nonce = hex::encode(alloc, &attest.nonce)?;
+            let nonce = hex::encode(alloc, &quoting.nonce)?;
             format!(in alloc; "error: invalid value '{nonce}' for '--nonce <HEX>': {fault}")
         }
         Some(fault) => format!(in alloc; "error: invalid value '{text}' for '{REQUIRE}': {fault}"),
@@ -219,8 +225,18 @@ fn input_of<'a>(task: &'a Task, fault: &RunFault) -> Option<&'a str> {
         (RunFault::Expect(_), Task::Answer(Question::Attest(attest))) => {
             attest.expected.as_deref()
         }
-        (RunFault::Expect(_), Task::Events { expected, .. }) => expected.as_deref(),
-        (RunFault::Quote(_), Task::Answer(Question::Attest(attest))) => Some(attest.quote.as_str()),
+        (
+            RunFault::Expect(_),
+            Task::Events {
+                confirmed_by: ConfirmedBy::Expected(name),
+                ..
+            }
+            | Task::Boot {
+                confirmed_by: ConfirmedBy::Expected(name),
+                ..
+            },
+        ) => Some(name.as_str()),
+        (RunFault::Quote(_), _) => Some(quoting_of(task)?.quote.as_str()),
         (RunFault::Key(_), Task::Answer(Question::Key { area, .. })) => Some(area.as_str()),
         (RunFault::Checkpoint(_), Task::Answer(Question::Attest(attest))) => {
             attest.resume.as_deref()
@@ -237,14 +253,30 @@ fn input_of<'a>(task: &'a Task, fault: &RunFault) -> Option<&'a str> {
     }
 }
 
-// The log of a task.
+// The name of the text of known files of this number, counted from 1.
+fn known_name(task: &Task, file: usize) -> Option<&str> {
+    let names = match task {
+        Task::Answer(Question::Judge(judge)) => judge.known.as_ref()?,
+        Task::Answer(Question::Attest(attest)) => attest.known.as_ref()?,
+        _ => return None,
+    };
+    let name = names.get(file.checked_sub(1)?)?;
+    Some(name.as_str())
+}
+
+// The log of a task, unless there is another.
 fn log_of(task: &Task) -> Option<&str> {
     match task {
         Task::Registers => Some(STANDARD_INPUT),
         Task::Measure(Measurement { log, .. })
         | Task::Answer(Question::LogRegisters { log })
         | Task::Answer(Question::Attest(Attest { log, .. }))
-        | Task::Events { log, .. } => Some(log.as_str()),
+        | Task::Events { log, .. }
+        | Task::Boot {
+            log,
+            before: None,
+            ..
+        } => Some(log.as_str()),
         Task::Answer(Question::Judge(judge)) => match &judge.judged {
             Judged::Verdict { log, .. } | Judged::Positions { log } => Some(log.as_str()),
             Judged::ListVerdict => None,
@@ -257,9 +289,24 @@ fn log_of(task: &Task) -> Option<&str> {
 fn list_of(task: &Task) -> Option<&str> {
     match task {
         Task::Answer(Question::Judge(Judge { list, .. }))
-        | Task::Answer(Question::Attest(Attest { list, .. }))
         | Task::Answer(Question::ListRegisters { list })
         | Task::Entries { list } => Some(list.as_str()),
+        _ => Some(quoting_of(task)?.list.as_str()),
+    }
+}
+
+// The quote that a task is of, if it is of one.
+fn quoting_of(task: &Task) -> Option<&Quoting> {
+    match task {
+        Task::Answer(Question::Attest(Attest { quoting, .. }))
+        | Task::Events {
+            confirmed_by: ConfirmedBy::Quote(quoting),
+            ..
+        }
+        | Task::Boot {
+            confirmed_by: ConfirmedBy::Quote(quoting),
+            ..
+        } => Some(quoting),
         _ => None,
     }
 }

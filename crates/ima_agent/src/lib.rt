@@ -3,6 +3,7 @@
 //! and its texts from `verdict_texts`.
 #![tactic(auto)]
 
+mod boot;
 mod escapes;
 mod events;
 mod explanations;
@@ -10,6 +11,7 @@ mod hexadecimal;
 mod matches;
 mod program;
 mod progress;
+mod quoted;
 mod requests;
 mod shown;
 mod streams;
@@ -20,8 +22,8 @@ pub use agent_inputs::{
     SystemFiles, WriteSink, hash_from, load,
 };
 pub use agent_plans::{
-    Attest, DataShown, Form, Judge, Judged, Measurement, NameEnd, Names, Plan, Print, Question,
-    Scope, Task,
+    Attest, ConfirmedBy, DataShown, Form, Judge, Judged, Measurement, NameEnd, Names, Plan, Print,
+    Question, Quoting, Scope, Task,
 };
 pub use boot_verdict::{
     Aggregate, BankRange, ExpectFault, Expected, Located, Position, RegisterRange, Report,

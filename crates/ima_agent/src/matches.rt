@@ -1,16 +1,21 @@
-//! The registers that match: those that have their expected values after a log.
+//! The registers that match: those that have their expected values after a log, or by a quote of it.
 
-ghost use Rattle.std.specs.Prelude.{◌≡◌, ◌↔◌, List, IfOk, IfErr, option_map};
+ghost use Rattle.std.specs.Prelude.{◌≡◌, ◌↔◌, List, IfOk, IfErr, Some, option_map, string_bytes};
 ghost use Rattle.std.specs.List.{Contains};
+ghost use Rattle.agent_plans.specs.declared.plan.ConfirmedBy.TheVariants as confirmed;
+ghost use Rattle.boot_verdict.specs.Verdicts.{IsSomeLog};
 ghost use Rattle.boot_log.specs.declared.header.Row.{Row};
 ghost use Rattle.boot_log.specs.LogViews.{log_bytes};
 ghost use Rattle.boot_log.specs.Spelling.{LogEvent, IsLog, algs_in};
 ghost use Rattle.pcr_banks.specs.Registers.{value_at};
 ghost use Rattle.measured_data.specs.declared.place.Place.{Place};
 ghost use Rattle.ima_agent.specs.Showing.{IsNoLogFor};
-ghost use Rattle.ima_agent.specs.Matching.{AreMatched, IsKnownFor, IsMatched, IsNotTold, counts, has_value, is_refuted, matched_among, matched_places, place_of, refutes};
+ghost use Rattle.ima_agent.specs.Matching.{AreMatched, AreNotExpected, IsKnownFor, IsMatched, IsNotTold, counts, has_value, is_refuted, matched_among, matched_places, place_of, refutes};
 
+use crate::quoted::quoted_in;
+use crate::streams::DONE;
 use agent_inputs::{AgentFiles, RunFault, load_input};
+use agent_plans::ConfirmedBy;
 use boot_log::LogView;
 use boot_verdict::{Expected, read_expected};
 use json_texts::EventForm;
@@ -18,34 +23,70 @@ use measured_data::Place;
 use pcr_banks::{Alg, Banks};
 use std::alloc::{AllocError, Global};
 
-/// The registers that match: of the registers that are expected by the text in the file of this name, those that have their values after
-/// the log in these bytes. Without a name none are compared. The text is loaded and read before the log is looked through, for its first
-/// fault: with a name, and where it is told to people.
+/// What matches after a log.
+#[derive(Drop)]
+pub(crate) struct Matched {
+    /// The registers that match; `None` where none are compared.
+    pub places: Option<Vec<Place>>,
+    /// The exit status once all is told.
+    pub status: u8,
+}
+
+/// The registers that match after the log in these bytes, by what tells which data is confirmed: by expected registers, those that have their
+/// values; by a quote of the log and a list, those that it is of, but for the list's, if the answer of `attest` is well. If nothing tells it,
+/// none are compared. What tells it is loaded and read before the log is looked through, for its first fault; where nothing does, this is only
+/// done where the log is told to people.
 pub(crate) fn matched_in<F: AgentFiles>(
     alloc: Global,
     files: &mut F,
     log: &[u8],
     told: EventForm,
-    expected: Option<&str>,
-) -> Result<Option<Vec<Place>>, RunFault>
-    ensures matched { IfOk result (λ matched. AreMatched (F.known files.old) (option_map (λ name. name.now) expected.entry) log.now
-        (option_map (λ places. places.items) matched)) }
+    confirmed_by: &ConfirmedBy,
+) -> Result<Matched, RunFault>
+    ensures matched { IfOk result (λ matched. AreMatched (F.known files.old) confirmed_by.now log.now
+        (option_map (λ places. places.items) matched.places) matched.status) }
     ensures known { IfOk result (λ _. IsKnownFor told log.now) }
-    ensures fault { IfErr result (IsNotTold (F.known files.old) told (option_map (λ name. name.now) expected.entry) log.now) }
+    ensures fault { IfErr result (IsNotTold (F.known files.old) told confirmed_by.now log.now) }
+    ensures inputs { F.known files.new ≡ F.known files.old }
     ensures saved { F.saved files.new ≡ F.saved files.old }
 {
-    match (told, expected) {
-        (_, Some(name)) => {
-            let text = load_input(alloc, files, Some(name))?;
-            let rows = read_expected(alloc, &text)?;
-            Ok(Some(places_in(alloc, log, &rows)?))
-        }
-        (EventForm::Json, None) => Ok(None),
-        (EventForm::Explained, None) => {
+    match (told, confirmed_by) {
+        (_, ConfirmedBy::Expected(name)) => expected_in(alloc, files, log, name),
+        (_, ConfirmedBy::Quote(quoting)) => quoted_in(alloc, files, log, quoting),
+        (EventForm::Json, ConfirmedBy::Nothing) => Ok(NOTHING),
+        (EventForm::Explained, ConfirmedBy::Nothing) => {
             let _whole = LogView::new(log)?;
-            Ok(None)
+            Ok(NOTHING)
         }
     }
+}
+
+// No registers are compared.
+const NOTHING: Matched = Matched {
+    places: None,
+    status: DONE,
+};
+
+// Those that have their values after the log in these bytes, of the registers that are expected by the text in the file of this name.
+fn expected_in<F: AgentFiles>(
+    alloc: Global,
+    files: &mut F,
+    log: &[u8],
+    name: &String,
+) -> Result<Matched, RunFault>
+    ensures matched { IfOk result (λ matched. AreMatched (F.known files.old) (confirmed.Expected name.now) log.now
+        (option_map (λ places. places.items) matched.places) matched.status) }
+    ensures known { IfOk result (λ _. IsSomeLog log.now) }
+    ensures fault { IfErr result (AreNotExpected (F.known files.old) (Some (string_bytes name.now)) log.now) }
+    ensures inputs { F.known files.new ≡ F.known files.old }
+    ensures saved { F.saved files.new ≡ F.saved files.old }
+{
+    let text = load_input(alloc, files, Some(name))?;
+    let rows = read_expected(alloc, &text)?;
+    Ok(Matched {
+        places: Some(places_in(alloc, log, &rows)?),
+        status: DONE,
+    })
 }
 
 // Those of the expected registers that match after the log in these bytes.

@@ -3,7 +3,7 @@
 ghost use Rattle.std.specs.Prelude.{◌≡◌, [], Ok, IfOk, IfErr, OnErr};
 ghost use Rattle.std.specs.Process.{exit_status};
 ghost use Rattle.agent_inputs.specs.Faults.{IsArgumentsFault};
-ghost use Rattle.agent_plans.specs.Plans.{IsWithin, IsWithinLimits, IsWithinRanges};
+ghost use Rattle.agent_plans.specs.Plans.{IsWithin, IsWithinLimits, IsWithinRanges, NamesKnown};
 ghost use Rattle.command_line.specs.Arguments.{BeginsWithVersion, IsRequestedBy};
 ghost use Rattle.agent_plans.specs.declared.plan.Form.TheVariants.{Text};
 ghost use Rattle.agent_plans.specs.declared.plan.Plan.TheVariants as plans;
@@ -11,15 +11,16 @@ ghost use Rattle.agent_plans.specs.declared.plan.Task.TheVariants as tasks;
 ghost use Rattle.rendering.specs.FaultTexts.{fault_status, IsFailure};
 ghost use Rattle.ima_agent.specs.Program.{Answers, IsFaultOf, IsOutcome, IsOutput, IsOutputFor, IsOutputOf, Streams, status_after};
 
+use crate::boot::boot_for;
 use crate::events::events_for;
 use crate::explanations::Failure;
 use crate::progress::{NoProgress, Progress};
-use crate::requests::{request_of, save_of};
+use crate::requests::{known_inputs, request_of, save_of};
 use crate::shown::{entries_for, shown_registers};
 use crate::streams::{DONE, Prepared, Sent, StreamFault, send_output, send_text};
 use crate::version::version_text;
 use agent_inputs::{AgentFiles, RunFault};
-use agent_plans::{Form, Measurement, Plan, Task};
+use agent_plans::{Form, Measurement, Plan, Question, Task};
 use byte_streams::{Failed, Sink, send};
 use measuring::measure;
 use rendering::{
@@ -90,17 +91,17 @@ fn exits_with(status: u8) -> ExitCode
 /// writes the list or the registers; `verify` writes the report on a log, a list and expected registers, and `locate` where in the log
 /// and the list each of these registers first has its value; `expected` writes the lines of expected registers, from what tpm2-tools
 /// printed; `key` writes what is told of a TPM's key; `registers` writes the registers that differ from their reset values after a log, and `replay` those after a list alone,
-/// or the report on the list alone and expected registers; `events` writes the lines of a log's events, and `show` those of a list's
-/// entries; `--help` writes the help, and `--version` the version.
+/// or the report on the list alone and expected registers; `events` writes the lines of a log's events, `boot` what they answer on the boot,
+/// and `show` the lines of a list's entries; `--help` writes the help, and `--version` the version.
 ///
 /// The whole output is prepared before its first byte is written; a fault is written as one line. But `events` looks its log through
 /// for a fault, and then writes the lines of the events one after another, so that memory does not grow with them; `show --json` writes the lines of
 /// the entries while it reads the list, so that memory does not grow with the list, and `events --json` those of the events while it
-/// reads the loaded log: a fault's line then comes after those of the entries or events before it, whatever the fault. With `--expected` the log
-/// is looked through before, and so it is with `--explain`: then only the line of a fault of memory may come after some. The status is 0 on success, 1
+/// reads the loaded log: a fault's line then comes after those of the entries or events before it, whatever the fault. With `--expected` or
+/// `--quote` the log is looked through before, and so it is with `--explain`: then only the line of a fault of memory may come after some. The status is 0 on success, 1
 /// if the report does not match, a register's value was not reached, none was looked for or a required one is missing, 2 for refused
 /// input, 3 if memory ran out, outcomes do not account for the book, or a device failed, and 4 for a refused quote, or one whose signature
-/// the caller has not checked. After the sink fails, nothing more is written.
+/// the caller has not checked; `events` and `boot` have the status of such a quote, if one confirms nothing. After the sink fails, nothing more is written.
 ///
 /// A file is replaced only by `verify --save` and `attest --save` with the verdict `match`: by the checkpoint of what the report is on, before the report is
 /// written. With a fault none is.
@@ -194,22 +195,50 @@ fn perform<R: Threads + Wait + Sync, F: AgentFiles, S: Sink, P: Progress>(
 {
     match task {
         Task::Registers => send_output(shown_registers(alloc, files, form), sink),
-        Task::Answer(question) => {
-            let (request, save) = (request_of(question), save_of(question));
-            send_output(output_for(alloc, files, request, save, form), sink)
-        }
+        Task::Answer(question) => send_output(answer_for(alloc, question, form, files), sink),
         Task::Measure(request) => {
             send_output(measure_for(rt, alloc, request, form, files, progress), sink)
         }
         Task::Events {
             log,
             data,
-            expected,
-        } => events_for(alloc, files, log, *data, expected, form, sink),
+            confirmed_by,
+        } => events_for(alloc, files, log, *data, confirmed_by, form, sink),
+        Task::Boot {
+            log,
+            confirmed_by,
+            before,
+        } => send_output(
+            boot_for(alloc, files, log, confirmed_by, before, form),
+            sink,
+        ),
         Task::Entries { list } => entries_for(alloc, files, list, form, sink),
         Task::Help(text) => send_text(text.as_bytes(), DONE, sink),
         Task::Version => send_text(version_text(), DONE, sink),
     }
+}
+
+// The output of the answer to a question.
+fn answer_for<F: AgentFiles>(
+    alloc: Global,
+    question: &Question,
+    form: Form,
+    files: &mut F,
+) -> Prepared
+    requires { NamesKnown question.now }
+    ensures shown { IfOk result (λ output. IsOutputFor (F.known files.old) (tasks.Answer question.now) form (F.saved files.old) (F.saved files.new)
+        output.text.items output.status) }
+    ensures kept { OnErr result (F.saved files.new ≡ F.saved files.old) }
+    ensures fault { IfErr result (IsFaultOf (F.known files.old) (tasks.Answer question.now) form) }
+{
+    let known = known_inputs(alloc, question)?;
+    output_for(
+        alloc,
+        files,
+        request_of(question, &known),
+        save_of(question),
+        form,
+    )
 }
 
 // The output of a measurement.

@@ -1,15 +1,45 @@
 //! What questions ask of their inputs.
 
-ghost use Rattle.std.specs.Prelude.{◌≡◌, option_map};
+ghost use Rattle.std.specs.Prelude.{◌≡◌, [], map, option_map, IfOk, OnErr};
 ghost use Rattle.judging.specs.Requests.{requested_of, place_of, attested_of, compared_of, judgement_of, requires_of};
-ghost use Rattle.ima_agent.specs.Program.{requested_by, file_of, attested_by, compared_by, judgement_by, requires_by, save_by};
+ghost use Rattle.ima_agent.specs.Matching.{attested_with};
+ghost use Rattle.ima_agent.specs.Program.{requested_by, file_of, files_of, known_by, attested_by, compared_by, judgement_by, requires_by, save_by};
 
-use agent_plans::{Attest, Judge, Judged, Question, Scope};
+use agent_plans::{Attest, Judge, Judged, Question, Quoting, Scope};
 use judging::{Attesting, Comparison, Input, Request, Required, Wanted};
+use std::alloc::{AllocError, Global};
 
-/// What a question asks.
-pub(crate) fn request_of(question: &Question) -> Request<'_>
-    ensures { requested_of result ≡ requested_by question.now }
+/// The texts of known files that a question names.
+pub(crate) fn known_inputs(alloc: Global, question: &Question) -> Result<Vec<Input<'_>>, AllocError>
+    ensures inputs { IfOk result (λ known. map place_of known.items ≡ known_by question.now) }
+    // Memory runs out only where there is one.
+    ensures some { OnErr result (known_by question.now ≡ [] → ⊥) }
+{
+    let mut inputs = Vec::new(alloc);
+    for name in known_names(question) {
+        inputs.push(Input::File(name))?;
+    }
+    Ok(inputs)
+}
+
+// The names of the texts of known files.
+fn known_names(question: &Question) -> &[String]
+    ensures { map file_of result.now ≡ known_by question.now }
+{
+    let names = match question {
+        Question::Judge(judge) => &judge.known,
+        Question::Attest(attest) => &attest.known,
+        _ => return &[],
+    };
+    match names {
+        None => &[],
+        Some(names) => names,
+    }
+}
+
+/// What a question asks, where these are the texts of known files that it names.
+pub(crate) fn request_of<'a>(question: &'a Question, known: &'a [Input<'a>]) -> Request<'a>
+    ensures { map place_of known.now ≡ known_by question.now → requested_of result ≡ requested_by question.now }
 {
     match question {
         Question::LogRegisters { log } => Request::LogRegisters {
@@ -18,8 +48,8 @@ pub(crate) fn request_of(question: &Question) -> Request<'_>
         Question::ListRegisters { list } => Request::ListRegisters {
             list: Input::File(list),
         },
-        Question::Judge(judge) => Request::Comparison(comparison_of(judge)),
-        Question::Attest(attest) => Request::Attestation(attesting_of(attest)),
+        Question::Judge(judge) => Request::Comparison(comparison_of(judge, known)),
+        Question::Attest(attest) => Request::Attestation(attesting_of(attest, known)),
         Question::Expected { printed, registers } => Request::Expected {
             printed: Input::File(printed),
             range: match registers {
@@ -40,20 +70,34 @@ pub(crate) fn request_of(question: &Question) -> Request<'_>
 }
 
 // What is judged by a quote.
-fn attesting_of(attest: &Attest) -> Attesting<'_>
-    ensures { attested_of result ≡ attested_by attest.now }
+fn attesting_of<'a>(attest: &'a Attest, known: &'a [Input<'a>]) -> Attesting<'a>
+    ensures { map place_of known.now ≡ files_of attest.now.known → attested_of result ≡ attested_by attest.now }
 {
     Attesting {
-        log: Input::File(&attest.log),
-        list: Input::File(&attest.list),
-        message: Input::File(&attest.quote),
         expected: file_of(&attest.expected),
-        nonce: &attest.nonce,
-        required: attest.required.as_bytes(),
-        takes_sha1: attest.takes_sha1,
-        is_signed: attest.is_signed,
         scope: attest.scope,
         resume: file_of(&attest.resume),
+        known,
+        ..attesting_by(Input::File(&attest.log), &attest.quoting)
+    }
+}
+
+/// What is judged by a quote of this log, and of a whole list.
+pub(crate) fn attesting_by<'a>(log: Input<'a>, quoting: &'a Quoting) -> Attesting<'a>
+    ensures { attested_of result ≡ attested_with (place_of log.entry) quoting.now }
+{
+    Attesting {
+        log,
+        list: Input::File(&quoting.list),
+        message: Input::File(&quoting.quote),
+        expected: None,
+        nonce: &quoting.nonce,
+        required: quoting.required.as_bytes(),
+        takes_sha1: quoting.takes_sha1,
+        is_signed: quoting.is_signed,
+        scope: Scope::Whole,
+        resume: None,
+        known: &[],
     }
 }
 
@@ -68,14 +112,15 @@ fn file_of(name: &Option<String>) -> Option<Input<'_>>
 }
 
 // What is compared.
-fn comparison_of(judge: &Judge) -> Comparison<'_>
-    ensures { compared_of result ≡ compared_by judge.now }
+fn comparison_of<'a>(judge: &'a Judge, known: &'a [Input<'a>]) -> Comparison<'a>
+    ensures { map place_of known.now ≡ files_of judge.now.known → compared_of result ≡ compared_by judge.now }
 {
     Comparison {
         wanted: wanted_of(&judge.judged),
         list: Input::File(&judge.list),
         expected: Input::File(&judge.expected),
         required: required_of(judge),
+        known,
     }
 }
 

@@ -54,19 +54,20 @@ pub(crate) fn send_text<S: Sink>(text: &[u8], status: u8, sink: &mut S) -> Sent
 }
 
 /// Sends in this form the algorithms that the log in these bytes declares, and its events while they are read, with what the registers that
-/// match confirm of them, if registers were compared; of a damaged log those before its fault.
+/// match confirm of them, if registers were compared, and returns this status; of a damaged log those before its fault.
 pub(crate) fn send_log<S: Sink>(
     alloc: Global,
     log: &[u8],
     told: EventForm,
     matched: Option<&[Place]>,
+    status: u8,
     sink: &mut S,
 ) -> Sent
-    ensures { (form : Form) → Streams form (ShowsEventsIn form told (option_map (λ places. places.now) matched.entry) log.now)
+    ensures { (form : Form) → Streams form (ShowsEventsIn form told (option_map (λ places. places.now) matched.entry) status log.now)
         (S.state sink.old) (S.state sink.new) result }
 {
     match send_events(alloc, log, told, matched, sink) {
-        Ok(()) => Ok(DONE),
+        Ok(()) => Ok(status),
         Err(EventsFault::Sink) => Err(StreamFault::Sink(Failed)),
         Err(EventsFault::Log(fault)) => Err(StreamFault::Run(fault.into())),
         Err(EventsFault::Memory) => Err(StreamFault::Run(RunFault::Memory)),

@@ -1,5 +1,5 @@
 -- What a call with these bytes requests, and what it gives.
-use Rattle.std.specs.Prelude.{ℕ, ◌==◌, if◌then◌else◌, Bool, List, bytes_eq, codes, length, Option, None, Some, option_map, ◌≡◌, ℤ, pos, ◌<◌, ◌≤◌, ◌⊎◌, false, [], ◌++◌, drop, Result, Ok, Err, unwrap_or}
+use Rattle.std.specs.Prelude.{ℕ, ◌==◌, if◌then◌else◌, Bool, List, ◌∷◌, bytes_eq, codes, length, Option, None, Some, option_map, ◌≡◌, ℤ, pos, ◌<◌, ◌≤◌, ◌⊎◌, false, [], ◌++◌, drop, Result, Ok, Err, unwrap_or}
 use Rattle.agent_plans.specs.declared.plan.Scope.{Scope}
 use Rattle.agent_plans.specs.declared.plan.Scope.TheVariants.{Prefix, Whole}
 use Rattle.agent_plans.specs.declared.plan.Form.{Form}
@@ -39,13 +39,18 @@ given_bytes bytes = if length bytes == 0 then None else Some bytes
 abbrev pub required_by : Requires → List ℕ → Requires
 required_by none text = if bytes_eq text (codes "none") then none else These text
 
--- What a list is worth against expected registers; the word `none` requires this.
-abbrev pub requested_by : Requires → Judgement → List ℕ → List ℕ → List ℕ → Requested
-requested_by none judgement list expected require = Compares (record {
+-- The text of known files, if it is given.
+abbrev pub known_in : Bool → List ℕ → List Where
+known_in given text = if given then BytesOf text ∷ [] else []
+
+-- What a list is worth against expected registers, with these texts of known files; the word `none` requires this.
+abbrev pub requested_by : Requires → Judgement → List ℕ → List ℕ → List ℕ → List Where → Requested
+requested_by none judgement list expected require known = Compares (record {
   judgement = judgement;
   list = BytesOf list;
   expected = BytesOf expected;
   required = required_by none require;
+  known = known;
 })
 
 -- The whole list, or its confirmed prefix.
@@ -61,22 +66,22 @@ abbrev pub verdict_of : List ℕ → List ℕ → Bool → Judgement
 verdict_of log state prefix = VerdictOf (BytesOf log) (scope_of prefix) (resume_of state)
 
 -- The verdict on a log and a list; where the registers have their values; and the verdict on a list alone. `none` requires nothing.
-abbrev pub requested_of_verdict : List ℕ → List ℕ → List ℕ → List ℕ → Requested
-requested_of_verdict log list expected require = requested_by Nothing (VerdictOf (BytesOf log) Whole None) list expected require
+abbrev pub requested_of_verdict : List ℕ → List ℕ → List ℕ → List ℕ → List Where → Requested
+requested_of_verdict log list expected require known = requested_by Nothing (VerdictOf (BytesOf log) Whole None) list expected require known
 
 abbrev pub requested_of_positions : List ℕ → List ℕ → List ℕ → List ℕ → Requested
-requested_of_positions log list expected require = requested_by Nothing (PositionsOf (BytesOf log)) list expected require
+requested_of_positions log list expected require = requested_by Nothing (PositionsOf (BytesOf log)) list expected require []
 
-abbrev pub requested_of_list : List ℕ → List ℕ → List ℕ → Requested
-requested_of_list list expected require = requested_by Nothing ListVerdictOf list expected require
+abbrev pub requested_of_list : List ℕ → List ℕ → List ℕ → List Where → Requested
+requested_of_list list expected require known = requested_by Nothing ListVerdictOf list expected require known
 
 -- The verdict on a list that grows; `none` requires that some register is expected.
-abbrev pub requested_of_more : List ℕ → List ℕ → List ℕ → List ℕ → List ℕ → Bool → Requested
-requested_of_more log state more expected require prefix = requested_by Any (verdict_of log state prefix) more expected require
+abbrev pub requested_of_more : List ℕ → List ℕ → List ℕ → List ℕ → List ℕ → List Where → Bool → Requested
+requested_of_more log state more expected require known prefix = requested_by Any (verdict_of log state prefix) more expected require known
 
 -- Whether a quote is of a log and a list, or of its confirmed prefix, from a checkpoint on, if there is one.
-abbrev pub requested_of_attestation : List ℕ → List ℕ → List ℕ → List ℕ → List ℕ → List ℕ → Bool → Bool → Bool → Requested
-requested_of_attestation log state more message nonce require takes_sha1 is_signed prefix = Attests (record {
+abbrev pub requested_of_attestation : List ℕ → List ℕ → List ℕ → List ℕ → List ℕ → List ℕ → List Where → Bool → Bool → Bool → Requested
+requested_of_attestation log state more message nonce require known takes_sha1 is_signed prefix = Attests (record {
   log = BytesOf log;
   list = BytesOf more;
   message = BytesOf message;
@@ -87,6 +92,7 @@ requested_of_attestation log state more message nonce require takes_sha1 is_sign
   expected = None;
   scope = scope_of prefix;
   resume = resume_of state;
+  known = known;
 })
 
 -- The registers after a list alone, or after a log.
@@ -123,6 +129,7 @@ head_told size kinds.Checkpoint number place = told_with size 6 number place
 head_told size kinds.Memory number place = told_with size 7 number place
 head_told size kinds.Quote number place = told_with size 8 number place
 head_told size kinds.Key number place = told_with size 9 number place
+head_told size kinds.Known number place = told_with size 10 number place
 head_told size kind number place = told_with size 0 None None
 
 -- What is told of a text of this size, which is the line of the fault, if there is one.

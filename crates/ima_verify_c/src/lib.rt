@@ -5,7 +5,8 @@
 //! memory ran out, with the line of the fault in the room; 4 if there is too little room, which is then as it was; for lines 5 if there are more,
 //! and 6 if the position is none. In any case `told` has the size of the text, and the fault if the text is the line of one. With `json` the text is
 //! that of the command with `--json`. `require` names registers that must be among the expected ones, as `sha256:0-10`; the word `none` names
-//! none.
+//! none. `known` lists known files, as a FILE of `--known`; a caller joins the texts of several, each of whole lines. It counts if `known_given`, even
+//! without bytes: then no file is known. It is given only where `require` names registers.
 #![tactic(auto)]
 
 mod replies;
@@ -15,11 +16,12 @@ mod told;
 ghost use Rattle.std.specs.Prelude.{◌≡◌};
 ghost use Rattle.judging.specs.Requests.{ExpectedOf};
 ghost use Rattle.judging.specs.Inputs.{BytesOf};
-ghost use Rattle.ima_verify_c.specs.Answers.{Answers, AnswersMore, GivesEntries, GivesEvents, IsAnswerAndNext, IsAnswerTo, requested_of_attestation, requested_of_key, requested_of_list, requested_of_more, requested_of_positions, requested_of_registers, requested_of_verdict, form_of, given_bytes, interface_version};
+ghost use Rattle.ima_verify_c.specs.Answers.{Answers, AnswersMore, GivesEntries, GivesEvents, IsAnswerAndNext, IsAnswerTo, requested_of_attestation, requested_of_key, requested_of_list, requested_of_more, requested_of_positions, requested_of_registers, requested_of_verdict, form_of, given_bytes, interface_version, known_in};
 
 use crate::replies::{give, give_both, give_lines};
 use crate::requests::{
-    form_of, given_bytes, key_in, registers_on, requested_by, resume_of, scope_of, verdict_of,
+    form_of, given_bytes, key_in, known_in, registers_on, requested_by, resume_of, scope_of,
+    verdict_of,
 };
 use agent_plans::Form;
 use judging::{Attesting, Input, Request, Required, Wanted};
@@ -44,14 +46,19 @@ pub extern "C" fn ima_verify_raw_verdict<'a>(
     list: &'a [u8],
     expected: &'a [u8],
     require: &'a [u8],
+    known: &'a [u8],
+    known_given: bool,
     json: bool,
     out: &mut [u8],
     told: &mut Told,
 ) -> i32
-    ensures { Answers (IsAnswerTo (requested_of_verdict log.now list.now expected.now require.now) (form_of json)) result told.new out.old out.new }
+    ensures { Answers (IsAnswerTo (requested_of_verdict log.now list.now expected.now require.now (known_in known_given known.now)) (form_of json)) result
+        told.new out.old out.new }
 {
     let verdict = verdict_of(log, b"", false);
-    let request = requested_by(Required::Nothing, verdict, list, expected, require);
+    let texts = [Input::Bytes(known)];
+    let known = known_in(known_given, &texts);
+    let request = requested_by(Required::Nothing, verdict, list, expected, require, known);
     give(alloc, request, form_of(json), out, told)
 }
 
@@ -72,7 +79,7 @@ pub extern "C" fn ima_verify_raw_locate<'a>(
 {
     let log = Input::Bytes(log);
     let positions = Wanted::Positions { log };
-    let request = requested_by(Required::Nothing, positions, list, expected, require);
+    let request = requested_by(Required::Nothing, positions, list, expected, require, &[]);
     give(alloc, request, form_of(json), out, told)
 }
 
@@ -83,14 +90,19 @@ pub extern "C" fn ima_verify_raw_replay<'a>(
     list: &'a [u8],
     expected: &'a [u8],
     require: &'a [u8],
+    known: &'a [u8],
+    known_given: bool,
     json: bool,
     out: &mut [u8],
     told: &mut Told,
 ) -> i32
-    ensures { Answers (IsAnswerTo (requested_of_list list.now expected.now require.now) (form_of json)) result told.new out.old out.new }
+    ensures { Answers (IsAnswerTo (requested_of_list list.now expected.now require.now (known_in known_given known.now)) (form_of json)) result
+        told.new out.old out.new }
 {
     let alone = Wanted::ListVerdict;
-    let request = requested_by(Required::Nothing, alone, list, expected, require);
+    let texts = [Input::Bytes(known)];
+    let known = known_in(known_given, &texts);
+    let request = requested_by(Required::Nothing, alone, list, expected, require, known);
     give(alloc, request, form_of(json), out, told)
 }
 
@@ -106,6 +118,8 @@ pub extern "C" fn ima_verify_raw_more<'a>(
     more: &'a [u8],
     expected: &'a [u8],
     require: &'a [u8],
+    known: &'a [u8],
+    known_given: bool,
     prefix: bool,
     json: bool,
     next: &mut [u8],
@@ -113,11 +127,14 @@ pub extern "C" fn ima_verify_raw_more<'a>(
     out: &mut [u8],
     told: &mut Told,
 ) -> i32
-    ensures { AnswersMore (IsAnswerAndNext (requested_of_more log.now state.now more.now expected.now require.now prefix) (form_of json)) result
+    ensures { AnswersMore (IsAnswerAndNext
+        (requested_of_more log.now state.now more.now expected.now require.now (known_in known_given known.now) prefix) (form_of json)) result
         told.new out.old out.new next_size.new next.old next.new }
 {
     let verdict = verdict_of(log, state, prefix);
-    let request = requested_by(Required::Any, verdict, more, expected, require);
+    let texts = [Input::Bytes(known)];
+    let known = known_in(known_given, &texts);
+    let request = requested_by(Required::Any, verdict, more, expected, require, known);
     give_both(alloc, request, form_of(json), next, next_size, out, told)
 }
 
@@ -135,6 +152,8 @@ pub extern "C" fn ima_verify_raw_attest<'a>(
     message: &'a [u8],
     nonce: &'a [u8],
     require: &'a [u8],
+    known: &'a [u8],
+    known_given: bool,
     takes_sha1: bool,
     is_signed: bool,
     prefix: bool,
@@ -145,15 +164,17 @@ pub extern "C" fn ima_verify_raw_attest<'a>(
     told: &mut Told,
 ) -> i32
     ensures { AnswersMore (IsAnswerAndNext
-        (requested_of_attestation log.now state.now more.now message.now nonce.now require.now takes_sha1 is_signed prefix) (form_of json)) result
-        told.new out.old out.new next_size.new next.old next.new }
+        (requested_of_attestation log.now state.now more.now message.now nonce.now require.now (known_in known_given known.now) takes_sha1 is_signed prefix)
+        (form_of json)) result told.new out.old out.new next_size.new next.old next.new }
 {
+    let texts = [Input::Bytes(known)];
     let request = Request::Attestation(Attesting {
         log: Input::Bytes(log),
         list: Input::Bytes(more),
         message: Input::Bytes(message),
         nonce,
         required: require,
+        known: known_in(known_given, &texts),
         takes_sha1,
         is_signed,
         expected: None,

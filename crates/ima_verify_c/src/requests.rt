@@ -1,6 +1,6 @@
 //! What a call with these bytes asks for.
 
-ghost use Rattle.std.specs.Prelude.{◌≡◌, option_map};
+ghost use Rattle.std.specs.Prelude.{◌≡◌, [], if◌then◌else◌, map, option_map};
 ghost use Rattle.judging.specs.Requests.{requested_of, judgement_of, place_of, requires_of};
 ghost use Rattle.ima_verify_c.specs.Answers.{requested_by, requested_of_key, requested_of_registers, form_of, given_bytes, purpose_of, required_by, resume_of, scope_of, verdict_of};
 
@@ -50,21 +50,31 @@ pub(crate) fn verdict_of<'a>(log: &'a [u8], state: &'a [u8], prefix: bool) -> Wa
     }
 }
 
-/// What a list is worth against expected registers; the word `none` requires this.
+/// These texts of known files, if they are given.
+pub(crate) fn known_in<'a>(given: bool, texts: &'a [Input<'a>]) -> &'a [Input<'a>]
+    ensures { map place_of result.now ≡ (if given then map place_of texts.now else []) }
+{
+    if given { texts } else { &[] }
+}
+
+/// What a list is worth against expected registers, with these texts of known files; the word `none` requires this.
 pub(crate) fn requested_by<'a>(
     none: Required<'a>,
     wanted: Wanted<'a>,
     list: &'a [u8],
     expected: &'a [u8],
     require: &'a [u8],
+    known: &'a [Input<'a>],
 ) -> Request<'a>
-    ensures { requested_of result ≡ requested_by (requires_of none.entry) (judgement_of wanted.entry) list.now expected.now require.now }
+    ensures { requested_of result ≡ requested_by (requires_of none.entry) (judgement_of wanted.entry) list.now expected.now require.now
+        (map place_of known.now) }
 {
     Request::Comparison(Comparison {
         wanted,
         list: Input::Bytes(list),
         expected: Input::Bytes(expected),
         required: required_by(none, require),
+        known,
     })
 }
 

@@ -43,6 +43,7 @@ impl Told {
             FaultKind::Memory => 7,
             FaultKind::Quote => 8,
             FaultKind::Key => 9,
+            FaultKind::Known => 10,
             _ => return Told::with(size, 0, None, None),
         };
         Told::with(size, kind, head.number, head.place)

@@ -15,12 +15,13 @@ use Rattle.attestations.specs.declared.expected.ExpectedValues.TheVariants as va
 use Rattle.attestations.specs.declared.report.Whole.{Whole}
 use Rattle.attestations.specs.Quoted.{Stated}
 use Rattle.attestations.specs.Reports.{AttestVerdict}
+use Rattle.known_files.specs.declared.unknown.Unknown.{Unknown}
 use Rattle.json_texts.specs.JsonValues.{IsCount, IsOneLine, Member, items_of, members_of, number_json}
-use Rattle.json_texts.specs.ReportJson.{AreCounted, extends_members, unconfirmed_members}
-use Rattle.json_texts.specs.AttestJson.{IsCountedClock, IsCountedWhole, attest_count_members, attest_json, comparison_members, number_if_selected, selection_json, selection_values, stated_members, values_members}
+use Rattle.json_texts.specs.ReportJson.{AreCounted, IsCountedUnknown, extends_members, unconfirmed_members, unknown_members}
+use Rattle.json_texts.specs.AttestJson.{IsCountedClock, IsCountedWhole, attest_count_members, attest_json, comparison_members, conclusion_members, number_if_selected, selection_json, selection_values, stated_members, values_members}
 use Rattle.json_texts.proofs.LineLaws.{ArePlain, ItemsArePlain, line_within, members_deeper, members_joined}
-use Rattle.json_texts.proofs.ValueLaws.{extends_plain, report_plain, unconfirmed_plain, values_joined}
-use Rattle.json_texts.proofs.FaultMemberLaws.{AreOther, lacks, others_joined}
+use Rattle.json_texts.proofs.ValueLaws.{extends_plain, report_plain, unconfirmed_plain, unknown_plain, values_joined}
+use Rattle.json_texts.proofs.FaultMemberLaws.{AreOther, lacks, others_joined, unknown_other}
 
 -- ---- what the quote states
 
@@ -86,19 +87,21 @@ values_plain values.NotGiven rows fit = tt
 values_plain values.Confirmed rows fit = members_deeper (members_of (values_members values.Confirmed rows)) 2 (tt, (report_plain None rows fit, tt))
 values_plain values.Unconfirmed rows fit = (tt, tt)
 
-pub attest_line : (report : AttestVerdict) → IsCountedClock report.quoted.clock → IsCount report.quoted.firmware
+pub attest_line : (unknown : Option Unknown) (report : AttestVerdict) → IsCountedClock report.quoted.clock → IsCount report.quoted.firmware
     → IsCount report.verdict.events → IsCount report.verdict.locality → IsCount report.verdict.entries
-    → IfSome report.prefix IsCountedWhole → AreCounted report.verdict.strays
-    → AllByRecursion (λ row. IsCount row.expected.register) report.verdict.rows → IsOneLine (attest_json report)
-attest_line report clock firmware events locality entries prefix strays rows =
+    → IfSome report.prefix IsCountedWhole → AreCounted report.verdict.strays → IfSome unknown IsCountedUnknown
+    → AllByRecursion (λ row. IsCount row.expected.register) report.verdict.rows → IsOneLine (attest_json unknown report)
+attest_line unknown report clock firmware events locality entries prefix strays counted rows =
     let few : 4 ≤ 8 = omega arith in
     let extends = members_deeper (members_of (extends_members report.verdict.strays)) 2 (extends_plain report.verdict.strays strays) in
     let given = values_plain report.expected report.verdict.rows rows in
     let compared : ArePlain (comparison_members report) 3 =
     (tt, members_joined 3 (values_members report.expected report.verdict.rows) _ given extends) in
-    let ended = members_joined 3 (comparison_members report) _ compared (tt, (tt, (tt, tt))) in
+    let numbers = members_deeper (members_of (unknown_members unknown)) 2 (unknown_plain unknown counted) in
+    let last = members_joined 3 (unknown_members unknown) (conclusion_members unknown report) numbers (tt, (tt, (tt, tt))) in
+    let ended = members_joined 3 (comparison_members report) _ compared last in
     let counts = counts_plain report.verdict report.prefix events locality entries prefix in
-    line_within 4 (attest_json report) few
+    line_within 4 (attest_json unknown report) few
     (members_joined 3 (stated_members report.quoted) _ (stated_plain report.quoted clock firmware)
     (members_joined 3 (attest_count_members report.verdict report.prefix) _ counts ended))
 
@@ -124,10 +127,11 @@ values_other values.NotGiven rows = tt
 values_other values.Confirmed rows = (refl, (refl, tt))
 values_other values.Unconfirmed rows = (refl, tt)
 
-pub attest_lacks : (report : AttestVerdict) → get (codes "fault") (attest_json report) ≡ None
-attest_lacks report =
+pub attest_lacks : (unknown : Option Unknown) (report : AttestVerdict) → get (codes "fault") (attest_json unknown report) ≡ None
+attest_lacks unknown report =
     let given = others_joined (values_members report.expected report.verdict.rows) _ (values_other report.expected report.verdict.rows)
     (extends_other report.verdict.strays) in
-    let ended = others_joined (comparison_members report) _ (refl, given) (refl, (refl, (refl, tt))) in
+    let last = others_joined (unknown_members unknown) (conclusion_members unknown report) (unknown_other unknown) (refl, (refl, (refl, tt))) in
+    let ended = others_joined (comparison_members report) _ (refl, given) last in
     let counted = others_joined (attest_count_members report.verdict report.prefix) _ (counts_other report.verdict report.prefix) ended in
-    lacks (attest_json report) refl (refl, (refl, (refl, (refl, counted))))
+    lacks (attest_json unknown report) refl (refl, (refl, (refl, (refl, counted))))

@@ -11,8 +11,10 @@ use Rattle.ima_list.specs.FieldKinds.{FileFields}
 use Rattle.ima_list.specs.Fields.{fields_of}
 use Rattle.ima_list.specs.KernelFields.{FieldData, kernel_fields_of}
 use Rattle.ima_list.specs.Templates.{template_named}
+use Rattle.known_files.specs.declared.unknown.Unknown.{Unknown}
 use Rattle.json_texts.specs.JsonValues.{Member, members_of}
 use Rattle.json_texts.specs.EntryJson.{content_members, entry_json, signature_members}
+use Rattle.json_texts.specs.ReportJson.{unknown_members}
 
 abbrev the_name : List ℕ
 the_name = codes "fault"
@@ -32,6 +34,10 @@ lacks {members} value is other = rw is (no_member members other)
 pub others_joined : (ms ns : List Member) → AreOther (members_of ms) → AreOther (members_of ns) → AreOther (members_of (ms ++ ns))
 others_joined [] ns first second = second
 others_joined (m ∷ ms) ns first second = (first.0, others_joined ms ns first.1 second)
+
+pub unknown_other : (unknown : Option Unknown) → AreOther (members_of (unknown_members unknown))
+unknown_other None = tt
+unknown_other (Some unknown) = (refl, (refl, tt))
 
 -- A name that depends on the bytes that are shown.
 either : (is : Bool) (name hex_name : List ℕ) → bytes_eq name the_name ≡ false → bytes_eq hex_name the_name ≡ false

@@ -31,13 +31,14 @@ use Rattle.boot_verdict.specs.declared.register_range.RegisterRange.{RegisterRan
 use Rattle.boot_verdict.specs.RegisterRanges.{is_within}
 use Rattle.boot_verdict.specs.RegisterTexts.{all_registers, differs, every_register}
 use Rattle.boot_verdict.specs.Requirements.{is_missing}
+use Rattle.known_files.specs.declared.unknown.Unknown.{Unknown}
 use Rattle.json_texts.specs.declared.faults.FaultPlace.{FaultPlace}
 use Rattle.json_texts.specs.declared.faults.FaultPlace.TheVariants.{Event, Entry}
 use Rattle.json_texts.specs.JsonValues.{IsCount, Member, hex_json, items_of, number_json, optional}
 use Rattle.json_texts.specs.EventJson.{algorithm_json}
 use Rattle.json_texts.specs.FaultJson.{fault_members, number_at, place_members}
 use Rattle.json_texts.specs.ReportJson as position
-use Rattle.json_texts.specs.ReportJson.{AreCounted, IsCountedPosition, change_values, extends_members, missing_among, register_json, row_json, rows_values, value_if_missing, value_within, report_rows, state_members, stray_entry_values, stray_event_values, stray_members, unconfirmed_members}
+use Rattle.json_texts.specs.ReportJson.{AreCounted, IsCountedPosition, IsCountedUnknown, change_values, extends_members, missing_among, register_json, row_json, rows_values, value_if_missing, value_within, report_rows, state_members, stray_entry_values, stray_event_values, stray_members, unconfirmed_members, unknown_members, verdict_members}
 use Rattle.json_texts.proofs.LineLaws.{ArePlain, IsPlain, ItemsArePlain, members_joined}
 
 -- ---- lists of values
@@ -196,6 +197,17 @@ extends_plain strays fits =
 pub strays_plain : (required : Option (List BankRange)) (strays : Strays) → AreCounted strays → ArePlain (stray_members required strays) 2
 strays_plain None strays fits = tt
 strays_plain (Some ranges) strays fits = extends_plain strays fits
+
+-- ---- entries that are not known
+
+pub unknown_plain : (unknown : Option Unknown) → IfSome unknown IsCountedUnknown → ArePlain (unknown_members unknown) 2
+unknown_plain None fits = tt
+unknown_plain (Some unknown) fits =
+    ((unknown.first, fits.0, refl), (mapped_plain IsCount number_json (λ n is. (n, is, refl)) unknown.numbers.items fits.1, tt))
+
+pub verdict_plain : (unknown : Option Unknown) (is_match : Bool) → IfSome unknown IsCountedUnknown
+    → ArePlain (verdict_members unknown is_match) 2
+verdict_plain unknown is_match fits = members_joined 2 (unknown_members unknown) _ (unknown_plain unknown fits) (tt, tt)
 
 -- ---- places
 

@@ -1,5 +1,5 @@
 -- A report by a quote as JSON. The members and their order are this project's choice.
-use Rattle.std.specs.Prelude.{ℕ, List, [], ◌∷◌, ◌++◌, codes, flat_map, if◌then◌else◌, Option, Some, None, IfSome, Bool, true, false}
+use Rattle.std.specs.Prelude.{ℕ, List, [], ◌∷◌, ◌++◌, ◌&&◌, codes, flat_map, if◌then◌else◌, Option, Some, None, IfSome, Bool, true, false}
 use Rattle.json.specs.Json.{Json, string, boolean}
 use Rattle.pcr_banks.specs.Hashing.{name_of}
 use Rattle.boot_verdict.specs.declared.report.Row.{Row}
@@ -13,8 +13,10 @@ use Rattle.attestations.specs.declared.expected.ExpectedValues.TheVariants.{NotG
 use Rattle.attestations.specs.declared.report.Whole.{Whole}
 use Rattle.attestations.specs.Quoted.{Stated}
 use Rattle.attestations.specs.Reports.{AttestVerdict, is_attested}
+use Rattle.known_files.specs.declared.unknown.Unknown.{Unknown}
+use Rattle.known_files.specs.Unknown.{none_unknown}
 use Rattle.json_texts.specs.JsonValues.{IsCount, Member, array_of, hex_json, number_json, object_of}
-use Rattle.json_texts.specs.ReportJson.{count_members, extends_members, prefix_count_members, report_rows, verdict_word}
+use Rattle.json_texts.specs.ReportJson.{count_members, extends_members, prefix_count_members, report_rows, unknown_members, verdict_word}
 
 -- ---- what the quote states
 
@@ -80,20 +82,20 @@ abbrev pub conclusion_word : Bool → Bool → List ℕ
 conclusion_word true is_match = verdict_word is_match
 conclusion_word false is_match = codes "signature not checked"
 
--- How the quote compares, whether its signature was verified, and the verdict.
-abbrev pub conclusion_members : AttestVerdict → List Member
-conclusion_members report =
+-- How the quote compares, whether its signature was verified, and the verdict: no match where an entry is not known.
+abbrev pub conclusion_members : Option Unknown → AttestVerdict → List Member
+conclusion_members unknown report =
     (codes "quote", string (verdict_word report.is_quoted))
     ∷ (codes "signature", string (signature_word report.is_signed))
-    ∷ (codes "verdict", string (conclusion_word report.is_signed (is_attested report)))
+    ∷ (codes "verdict", string (conclusion_word report.is_signed (none_unknown unknown && is_attested report)))
     ∷ []
 
--- The report: what the quote states, the counts, how log and list compare, and the conclusion.
-abbrev pub attest_json : AttestVerdict → Json
-attest_json report = object_of (
+-- The report: what the quote states, the counts, how log and list compare, which entries are not known, and the conclusion.
+abbrev pub attest_json : Option Unknown → AttestVerdict → Json
+attest_json unknown report = object_of (
     stated_members report.quoted
     ++ (attest_count_members report.verdict report.prefix
-    ++ (comparison_members report ++ conclusion_members report)))
+    ++ (comparison_members report ++ (unknown_members unknown ++ conclusion_members unknown report))))
 
 -- ---- what fits in 64 bits
 

@@ -1,5 +1,6 @@
 -- Registers, reports and positions as JSON. The members and their order are this project's choice.
-use Rattle.std.specs.Prelude.{ℕ, List, [], ◌∷◌, ◌++◌, codes, flat_map, map, if◌then◌else◌, Option, Some, None, IfSome, Bool, true, false, option_map, ⊤}
+use Rattle.std.specs.Prelude.{ℕ, List, [], ◌∷◌, ◌++◌, ◌&&◌, codes, flat_map, map, if◌then◌else◌, Option, Some, None, IfSome, Bool, true, false, option_map, ⊤}
+use Rattle.std.specs.List.{AllByRecursion}
 use Rattle.json.specs.Json.{Json, string, boolean}
 use Rattle.pcr_banks.specs.declared.alg.Alg.{Alg}
 use Rattle.pcr_banks.specs.declared.banks.Banks.{Banks}
@@ -23,6 +24,8 @@ use Rattle.boot_verdict.specs.declared.report.State.TheVariants.{Match, Differ, 
 use Rattle.boot_verdict.specs.Words.{aggregate_word, unconfirmed_entry, unconfirmed_kind, unconfirmed_message, unconfirmed_number}
 use Rattle.boot_verdict.specs.ListVerdicts.{ListVerdict, list_matches, required_list_matches}
 use Rattle.boot_verdict.specs.Verdicts.{Verdict, matches}
+use Rattle.known_files.specs.declared.unknown.Unknown.{Unknown}
+use Rattle.known_files.specs.Unknown.{none_unknown}
 use Rattle.json_texts.specs.declared.faults.FaultPlace.TheVariants.{Entry}
 use Rattle.json_texts.specs.FaultJson.{fault_members}
 use Rattle.boot_verdict.specs.declared.positions.Located.{Located}
@@ -129,6 +132,23 @@ abbrev pub verdict_word : Bool → List ℕ
 verdict_word true = codes "match"
 verdict_word false = codes "differ"
 
+-- ---- entries that are not known
+
+-- From which number on entries were looked at, and the numbers of those that are not known; nothing where no files are known.
+abbrev pub unknown_members : Option Unknown → List Member
+unknown_members None = []
+unknown_members (Some unknown) =
+    (codes "known_from", number_json unknown.first) ∷ (codes "unknown", array_of (map number_json unknown.numbers.items)) ∷ []
+
+-- All these numbers fit.
+abbrev pub IsCountedUnknown : Unknown → Type 0
+IsCountedUnknown unknown = IsCount unknown.first × AllByRecursion IsCount unknown.numbers.items
+
+-- Which entries are not known, and the verdict: no match where there is one.
+abbrev pub verdict_members : Option Unknown → Bool → List Member
+verdict_members unknown is_match =
+    unknown_members unknown ++ (codes "verdict", string (verdict_word (none_unknown unknown && is_match))) ∷ []
+
 -- ---- a report on a log, a list and expected registers
 
 -- Whether the verdict is 'match', and all that is required holds.
@@ -143,16 +163,16 @@ count_members events locality entries =
     ∷ (codes "entries", number_json entries)
     ∷ []
 
--- What comes after the counts, with whether it is a match.
-abbrev pub outcome_members : Option (List BankRange) → Bool → Verdict → List Member
-outcome_members required is_match verdict =
+-- What comes after the counts, with whether it is a match if no entry is unknown.
+abbrev pub outcome_members : Option (List BankRange) → Option Unknown → Bool → Verdict → List Member
+outcome_members required unknown is_match verdict =
     (codes "boot_aggregate", string (aggregate_word verdict.aggregate))
     ∷ (codes "registers", report_rows required verdict.rows)
-    ∷ (stray_members required verdict.strays ++ (codes "verdict", string (verdict_word is_match)) ∷ [])
+    ∷ (stray_members required verdict.strays ++ verdict_members unknown is_match)
 
-abbrev pub report_json : Option (List BankRange) → Bool → Verdict → Json
-report_json required is_match verdict =
-    object_of (count_members verdict.events verdict.locality verdict.entries ++ outcome_members required is_match verdict)
+abbrev pub report_json : Option (List BankRange) → Option Unknown → Bool → Verdict → Json
+report_json required unknown is_match verdict =
+    object_of (count_members verdict.events verdict.locality verdict.entries ++ outcome_members required unknown is_match verdict)
 
 -- ---- a report on a confirmed prefix
 
@@ -172,9 +192,9 @@ prefix_count_members prefix entries unconfirmed =
     count_members prefix.events prefix.locality entries ++ (codes "confirmed", number_json prefix.entries) ∷ unconfirmed_members unconfirmed
 
 -- These counts, and then what comes after the counts of a report on the prefix.
-abbrev pub prefix_report_json : Option (List BankRange) → Verdict → ℕ → Option Unconfirmed → Json
-prefix_report_json required prefix entries unconfirmed =
-    object_of (prefix_count_members prefix entries unconfirmed ++ outcome_members required (meets required prefix) prefix)
+abbrev pub prefix_report_json : Option (List BankRange) → Option Unknown → Verdict → ℕ → Option Unconfirmed → Json
+prefix_report_json required unknown prefix entries unconfirmed =
+    object_of (prefix_count_members prefix entries unconfirmed ++ outcome_members required unknown (meets required prefix) prefix)
 
 -- ---- a report on a list alone
 
@@ -182,11 +202,11 @@ abbrev pub list_meets : Option (List BankRange) → ListVerdict → Bool
 list_meets None verdict = list_matches verdict
 list_meets (Some ranges) verdict = required_list_matches ranges verdict
 
-abbrev pub list_report_json : Option (List BankRange) → ListVerdict → Json
-list_report_json required verdict = object_of (
+abbrev pub list_report_json : Option (List BankRange) → Option Unknown → ListVerdict → Json
+list_report_json required unknown verdict = object_of (
     (codes "entries", number_json verdict.entries)
     ∷ (codes "registers", report_rows required verdict.rows)
-    ∷ (stray_members required verdict.strays ++ (codes "verdict", string (verdict_word (list_meets required verdict))) ∷ []))
+    ∷ (stray_members required verdict.strays ++ verdict_members unknown (list_meets required verdict)))
 
 -- ---- positions
 

@@ -1,6 +1,6 @@
 //! The line of a report by a quote.
 
-ghost use Rattle.std.specs.Prelude.{◌≡◌, [], ◌∷◌, codes, flat_map, map};
+ghost use Rattle.std.specs.Prelude.{◌≡◌, [], ◌∷◌, codes, flat_map, map, option_copied};
 ghost use Rattle.boot_verdict.specs.Verdicts.{verdict_of};
 ghost use Rattle.attestations.specs.declared.expected.ExpectedValues.TheVariants.{Confirmed};
 ghost use Rattle.attestations.specs.Quoted.{bank_selection_of, stated_of};
@@ -13,9 +13,11 @@ use crate::lines::{Written, begin_line, end_line};
 use crate::members::{write_flag, write_hex, write_number, write_text};
 use crate::reports::{verdict_word, write_counts, write_extends, write_prefix_counts};
 use crate::rows::write_rows;
+use crate::unknown::write_unknown;
 use attestations::{AttestReport, ExpectedValues, Quoted, Selected, Whole};
 use boot_verdict::{Report, Row, aggregate_word};
 use json::Writer;
+use known_files::{Unknown, none_unknown};
 use pcr_banks::REGISTERS;
 use std::alloc::Global;
 use tpm_quotes::Clock;
@@ -26,27 +28,39 @@ use tpm_quotes::Clock;
 /// array of their numbers; `signer`, the qualified name of the key; `clock`, an object with `milliseconds`, `resets`, `restarts` and `safe`,
 /// which is true or false; and `firmware`, a number. Then come `events`, `locality` and `entries`, on a prefix of the list with `confirmed` and
 /// `unconfirmed` as [`crate::append_prefix_report`] has them; `boot_aggregate`; `expected`, if expected registers were given, which is `confirmed`
-/// or `unconfirmed`, and if they are confirmed `registers`, as in [`crate::append_report`]; and `extends`, if an event extends register 10 or an
-/// entry another one, as there. The last are `quote`, which is `match` or `differ`; `signature`, which is `checked` or `not checked`;
-/// and `verdict`, which is `match`, `differ` or `signature not checked`.
+/// or `unconfirmed`, and if they are confirmed `registers`, as in [`crate::append_report`]; `extends`, if an event extends register 10 or an
+/// entry another one, as there; and where files are known `known_from` and `unknown`, as there. The last are `quote`, which is `match` or
+/// `differ`; `signature`, which is `checked` or `not checked`; and `verdict`, which is `match`, `differ` or `signature not checked`.
 ///
 /// Fails only if memory runs out; the vector then is as before.
-pub fn append_attestation(alloc: Global, report: &AttestReport, line: &mut Vec<u8>) -> Written
-    ensures { AppendsLine result line.old.items line.new.items (attest_json (attest_verdict_of report.now)) }
+pub fn append_attestation(
+    alloc: Global,
+    report: &AttestReport,
+    unknown: Option<&Unknown>,
+    line: &mut Vec<u8>,
+) -> Written
+    ensures { AppendsLine result line.old.items line.new.items
+        (attest_json (option_copied unknown.entry) (attest_verdict_of report.now)) }
 {
     let (mut writer, start) = begin_line(alloc, line);
-    let written = write_attestation(alloc, report, &mut writer);
+    let written = write_attestation(alloc, report, unknown, &mut writer);
     end_line(written, writer, start, line)
 }
 
-fn write_attestation(alloc: Global, report: &AttestReport, writer: &mut Writer) -> Written
-    ensures { WritesValue result writer.old writer.new (attest_json (attest_verdict_of report.now)) }
+fn write_attestation(
+    alloc: Global,
+    report: &AttestReport,
+    unknown: Option<&Unknown>,
+    writer: &mut Writer,
+) -> Written
+    ensures { WritesValue result writer.old writer.new (attest_json (option_copied unknown.entry) (attest_verdict_of report.now)) }
 {
     writer.begin_object()?;
     write_stated(alloc, &report.quoted, writer)?;
     write_list_counts(alloc, &report.report, report.prefix, writer)?;
     write_comparison(alloc, report, writer)?;
-    write_conclusion(report, writer)?;
+    write_unknown(unknown, writer)?;
+    write_conclusion(report, unknown, writer)?;
     writer.end_object()?;
     Ok(())
 }
@@ -184,10 +198,16 @@ fn write_confirmed(alloc: Global, rows: &[Row], writer: &mut Writer) -> Written
 }
 
 // Writes how the quote compares, whether its signature is checked, and the verdict.
-fn write_conclusion(report: &AttestReport, writer: &mut Writer) -> Written
-    ensures { WritesMembers result writer.old writer.new (conclusion_members (attest_verdict_of report.now)) }
+fn write_conclusion(
+    report: &AttestReport,
+    unknown: Option<&Unknown>,
+    writer: &mut Writer,
+) -> Written
+    ensures { WritesMembers result writer.old writer.new
+        (conclusion_members (option_copied unknown.entry) (attest_verdict_of report.now)) }
 {
-    let word = conclusion_word(report.is_signed, report.is_attested());
+    let is_match = none_unknown(unknown) && report.is_attested();
+    let word = conclusion_word(report.is_signed, is_match);
     write_text("quote", verdict_word(report.is_quoted), writer)?;
     write_text("signature", signature_word(report.is_signed), writer)?;
     write_text("verdict", word, writer)?;

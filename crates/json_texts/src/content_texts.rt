@@ -10,8 +10,9 @@ use event_texts::{guid_text, hex_number, path_text, wide_text};
 use json::Writer;
 use std::alloc::Global;
 
-/// Writes a member with a text in UTF-16, or under the other name the bytes in hexadecimal, where they are none.
-pub(crate) fn write_wide(
+/// Writes a member with a text in UTF-16, or under the other name the bytes in hexadecimal, where they are none. Fails only if memory
+/// runs out.
+pub fn write_wide(
     alloc: Global,
     name: &str,
     hex_name: &str,
@@ -26,7 +27,8 @@ pub(crate) fn write_wide(
     }
 }
 
-/// Writes the member `path` with the text of a device path, or `path_hex` with the bytes in hexadecimal, where they are none.
+/// Writes the member `path` with the text of a device path, or `path_hex` with the bytes in hexadecimal, where they are none. Fails only if memory
+/// runs out.
 pub(crate) fn write_path(alloc: Global, bytes: &[u8], writer: &mut Writer) -> Written
     ensures { WritesMembers result writer.old writer.new (path_member bytes.now ∷ []) }
 {
@@ -36,7 +38,7 @@ pub(crate) fn write_path(alloc: Global, bytes: &[u8], writer: &mut Writer) -> Wr
     }
 }
 
-/// Writes a member with a GUID.
+/// Writes a member with a GUID. Fails only if memory runs out.
 pub(crate) fn write_guid(alloc: Global, name: &str, guid: &[u8], writer: &mut Writer) -> Written
     ensures { WritesMembers result writer.old writer.new ((name.now, guid_json guid.now) ∷ []) }
 {
@@ -44,7 +46,7 @@ pub(crate) fn write_guid(alloc: Global, name: &str, guid: &[u8], writer: &mut Wr
     write_text(name, &text, writer)
 }
 
-/// Writes a member with a number of 64 bits, in hexadecimal.
+/// Writes a member with a number of 64 bits, in hexadecimal. Fails only if memory runs out.
 pub(crate) fn write_address(alloc: Global, name: &str, value: u64, writer: &mut Writer) -> Written
     ensures { WritesMembers result writer.old writer.new ((name.now, address_json value) ∷ []) }
 {

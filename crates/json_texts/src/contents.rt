@@ -21,20 +21,23 @@ use event_data::{
 use json::Writer;
 use std::alloc::Global;
 
-/// Writes what the data of an event of this type says: an object with one member, which is named by the data's form.
-pub(crate) fn write_content(
-    alloc: Global,
-    kind: u32,
-    payload: &[u8],
-    writer: &mut Writer,
-) -> Written
+/// Writes what the data of an event of this type says: an object with one member, which is named by the data's form, as
+/// [`crate::append_event`] has it under `content`. Fails only if memory runs out.
+pub fn write_content(alloc: Global, kind: u32, payload: &[u8], writer: &mut Writer) -> Written
     ensures { WritesValue result writer.old writer.new (content_json kind (content_in kind payload.now)) }
 {
     let content = event_content(kind, payload);
     write_form(alloc, kind, &content, writer)
 }
 
-fn write_form(alloc: Global, kind: u32, content: &EventContent<'_>, writer: &mut Writer) -> Written
+/// Writes what decoded data of an event of this type says: as [`write_content`] does, where the data is already decoded. Fails only if
+/// memory runs out.
+pub fn write_form(
+    alloc: Global,
+    kind: u32,
+    content: &EventContent<'_>,
+    writer: &mut Writer,
+) -> Written
     ensures { WritesValue result writer.old writer.new (content_json kind (content_of content.now)) }
 {
     writer.begin_object()?;
@@ -79,7 +82,8 @@ fn write_command(alloc: Global, command: &Command<'_>, writer: &mut Writer) -> W
     Ok(())
 }
 
-fn command_word(kind: CommandKind) -> &'static str
+/// The word for a kind of command: `grub`, `kernel` or `module`.
+pub fn command_word(kind: CommandKind) -> &'static str
     ensures { result.now ≡ command_word kind }
 {
     match kind {

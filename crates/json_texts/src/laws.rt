@@ -19,6 +19,7 @@ ghost use Rattle.boot_verdict.specs.declared.requirement.BankRange.{BankRange};
 ghost use Rattle.boot_verdict.specs.Words.{unconfirmed_entry};
 ghost use Rattle.boot_verdict.specs.ListVerdicts.{ListVerdict};
 ghost use Rattle.boot_verdict.specs.Verdicts.{Verdict};
+ghost use Rattle.known_files.specs.declared.unknown.Unknown.{Unknown};
 ghost use Rattle.attestations.specs.Reports.{AttestVerdict};
 ghost use Rattle.event_data.specs.ContentReading.{content_in};
 ghost use Rattle.measured_data.specs.declared.place.Place.{Place};
@@ -35,7 +36,7 @@ ghost use Rattle.json_texts.specs.FaultJson.{fault_json, fault_members, number_a
 ghost use Rattle.json_texts.specs.AttestJson.{IsCountedClock, IsCountedWhole, attest_json};
 ghost use Rattle.json_texts.specs.KeyJson.{key_json};
 ghost use Rattle.json_texts.specs.SteeringTexts.{is_plain, unsteered};
-ghost use Rattle.json_texts.specs.ReportJson.{AreCounted, IsCountedPosition, positions_json, expected_json, registers_json, prefix_report_json, list_report_json, report_json};
+ghost use Rattle.json_texts.specs.ReportJson.{AreCounted, IsCountedPosition, IsCountedUnknown, positions_json, expected_json, registers_json, prefix_report_json, list_report_json, report_json};
 
 use ima_list::EntryRef;
 
@@ -51,20 +52,25 @@ pub fn each_value_is_one_line()
     ensures registers { (now start : Banks) → IsOneLine (registers_json now start) }
     ensures expected { (range : RegisterRange) (expected : List Expected) → AllByRecursion (λ e. IsCount e.register) expected
         → IsOneLine (expected_json range expected) }
-    ensures report { (required : Option (List BankRange)) (is_match : Bool) (verdict : Verdict)
+    ensures report { (required : Option (List BankRange)) (unknown : Option Unknown) (is_match : Bool) (verdict : Verdict)
         → IsCount verdict.events → IsCount verdict.locality → IsCount verdict.entries → AreCounted verdict.strays
-        → AllByRecursion (λ row. IsCount row.expected.register) verdict.rows → IsOneLine (report_json required is_match verdict) }
-    ensures prefix_report { (required : Option (List BankRange)) (prefix : Verdict) (entries : ℕ) (unconfirmed : Option Unconfirmed)
+        → IfSome unknown IsCountedUnknown → AllByRecursion (λ row. IsCount row.expected.register) verdict.rows
+        → IsOneLine (report_json required unknown is_match verdict) }
+    ensures prefix_report { (required : Option (List BankRange)) (unknown : Option Unknown) (prefix : Verdict) (entries : ℕ)
+        (unconfirmed : Option Unconfirmed)
         → IsCount prefix.events → IsCount prefix.locality → IsCount prefix.entries → IsCount entries
         → IfSome unconfirmed (λ fault. IfSome (unconfirmed_entry fault) IsCount) → AreCounted prefix.strays
-        → AllByRecursion (λ row. IsCount row.expected.register) prefix.rows
-        → IsOneLine (prefix_report_json required prefix entries unconfirmed) }
-    ensures list_report { (required : Option (List BankRange)) (verdict : ListVerdict) → IsCount verdict.entries → AreCounted verdict.strays
-        → AllByRecursion (λ row. IsCount row.expected.register) verdict.rows → IsOneLine (list_report_json required verdict) }
-    ensures attestation { (report : AttestVerdict) → IsCountedClock report.quoted.clock → IsCount report.quoted.firmware
+        → IfSome unknown IsCountedUnknown → AllByRecursion (λ row. IsCount row.expected.register) prefix.rows
+        → IsOneLine (prefix_report_json required unknown prefix entries unconfirmed) }
+    ensures list_report { (required : Option (List BankRange)) (unknown : Option Unknown) (verdict : ListVerdict)
+        → IsCount verdict.entries → AreCounted verdict.strays
+        → IfSome unknown IsCountedUnknown → AllByRecursion (λ row. IsCount row.expected.register) verdict.rows
+        → IsOneLine (list_report_json required unknown verdict) }
+    ensures attestation { (unknown : Option Unknown) (report : AttestVerdict)
+        → IsCountedClock report.quoted.clock → IsCount report.quoted.firmware
         → IsCount report.verdict.events → IsCount report.verdict.locality → IsCount report.verdict.entries
-        → IfSome report.prefix IsCountedWhole → AreCounted report.verdict.strays
-        → AllByRecursion (λ row. IsCount row.expected.register) report.verdict.rows → IsOneLine (attest_json report) }
+        → IfSome report.prefix IsCountedWhole → AreCounted report.verdict.strays → IfSome unknown IsCountedUnknown
+        → AllByRecursion (λ row. IsCount row.expected.register) report.verdict.rows → IsOneLine (attest_json unknown report) }
     ensures key { (part : KeyPart) (report : KeyReport) → IsCount (kind_bits report.kind) → IsOneLine (key_json part report) }
     ensures positions { (required : Option (List BankRange)) (located : List Located)
         → AllByRecursion (λ row. IsCount row.expected.register × IsCountedPosition row.position) located
@@ -83,13 +89,14 @@ pub fn only_faults_have_a_fault()
     ensures algorithms { (rows : List TableRow) → get (codes "fault") (algorithms_json rows) ≡ None }
     ensures registers { (now start : Banks) → get (codes "fault") (registers_json now start) ≡ None }
     ensures expected { (range : RegisterRange) (expected : List Expected) → get (codes "fault") (expected_json range expected) ≡ None }
-    ensures report { (required : Option (List BankRange)) (is_match : Bool) (verdict : Verdict)
-        → get (codes "fault") (report_json required is_match verdict) ≡ None }
-    ensures prefix_report { (required : Option (List BankRange)) (prefix : Verdict) (entries : ℕ) (unconfirmed : Option Unconfirmed)
-        → get (codes "fault") (prefix_report_json required prefix entries unconfirmed) ≡ None }
-    ensures list_report { (required : Option (List BankRange)) (verdict : ListVerdict)
-        → get (codes "fault") (list_report_json required verdict) ≡ None }
-    ensures attestation { (report : AttestVerdict) → get (codes "fault") (attest_json report) ≡ None }
+    ensures report { (required : Option (List BankRange)) (unknown : Option Unknown) (is_match : Bool) (verdict : Verdict)
+        → get (codes "fault") (report_json required unknown is_match verdict) ≡ None }
+    ensures prefix_report { (required : Option (List BankRange)) (unknown : Option Unknown) (prefix : Verdict) (entries : ℕ)
+        (unconfirmed : Option Unconfirmed)
+        → get (codes "fault") (prefix_report_json required unknown prefix entries unconfirmed) ≡ None }
+    ensures list_report { (required : Option (List BankRange)) (unknown : Option Unknown) (verdict : ListVerdict)
+        → get (codes "fault") (list_report_json required unknown verdict) ≡ None }
+    ensures attestation { (unknown : Option Unknown) (report : AttestVerdict) → get (codes "fault") (attest_json unknown report) ≡ None }
     ensures key { (part : KeyPart) (report : KeyReport) → get (codes "fault") (key_json part report) ≡ None }
     ensures positions { (required : Option (List BankRange)) (located : List Located)
         → get (codes "fault") (positions_json required located) ≡ None }

@@ -4,6 +4,7 @@
 //! Each value is an object on one line, in UTF-8. Its members have a fixed order. Numbers are JSON numbers; digests and data are strings
 //! of lower case hexadecimal digits. A line is appended to a vector of the caller's; [`send_entries`] sends the lines of a list to a sink,
 //! and [`send_events`] those of a log, while it is read. The events of a log can also be sent in a form for people ([`EventForm::Explained`]).
+//! For other lines there are the writers of their parts, as [`write_text`]: a line is begun ([`begin_line`]), written and ended ([`end_line`]).
 #![tactic(auto)]
 
 mod attestation;
@@ -29,18 +30,24 @@ mod registers;
 mod reports;
 mod rows;
 mod steering;
+mod unknown;
 mod values;
 mod variables;
 
 pub use attestation::append_attestation;
+pub use content_texts::write_wide;
+pub use contents::{command_word, write_content, write_form};
 pub use entries::append_entry;
 pub use entry_lines::{EntriesFault, send_entries};
 pub use event_form::EventForm;
 pub use event_lines::{EventsFault, send_events};
 pub use events::{append_algorithms, append_event};
+pub use explained::append_content;
 pub use faults::{FaultPlace, FaultText, append_fault};
 pub use keys::append_key;
-pub use lines::Written;
+pub use lines::{Written, begin_line, end_line};
+pub use members::{write_hex, write_number, write_shown, write_text};
 pub use positions::{append_positions, finds};
 pub use registers::{append_expected, append_registers};
 pub use reports::{append_list_report, append_prefix_report, append_report, list_meets, meets};
+pub use steering::append_unsteered;

@@ -25,7 +25,7 @@ pub(crate) fn send_line<S: Sink>(line: &mut Vec<u8>, sink: &mut S) -> Result<(),
 }
 
 /// A writer that goes on after the vector's bytes, and has its room; and their number.
-pub(crate) fn begin_line(alloc: Global, line: &mut Vec<u8>) -> (Writer, usize)
+pub fn begin_line(alloc: Global, line: &mut Vec<u8>) -> (Writer, usize)
     ensures before { result.0.before ≡ line.old.items }
     ensures tokens { result.0.tokens ≡ [] }
     ensures start { result.1 ≡ length line.old.items }
@@ -36,8 +36,10 @@ pub(crate) fn begin_line(alloc: Global, line: &mut Vec<u8>) -> (Writer, usize)
 
 /// Gives the vector the bytes of a writer that began after `from` bytes, and a line feed; without what the writer added, if
 /// that was refused or the line feed is.
+///
+/// Fails if `written` did, or if memory runs out for the line feed.
 #[tactic(auto, using(crate::proofs::WrittenLaws::with_line_feed))]
-pub(crate) fn end_line(written: Written, writer: Writer, from: usize, line: &mut Vec<u8>) -> Written
+pub fn end_line(written: Written, writer: Writer, from: usize, line: &mut Vec<u8>) -> Written
     requires { from ≡ length writer.before }
     ensures written { OnOk result (IsOk written) }
     ensures ok { OnOk result (line.new.items ≡ writer.before ++ (print writer.tokens ++ codes "\n")) }

@@ -9,8 +9,8 @@ use crate::lines::Written;
 use json::Writer;
 use std::alloc::Global;
 
-/// Writes a member with a number.
-pub(crate) fn write_number(name: &str, number: u64, writer: &mut Writer) -> Written
+/// Writes a member with a number. Fails only if memory runs out.
+pub fn write_number(name: &str, number: u64, writer: &mut Writer) -> Written
     ensures { WritesMembers result writer.old writer.new ((name.now, number_json number) ∷ []) }
 {
     writer.key(name)?;
@@ -18,7 +18,7 @@ pub(crate) fn write_number(name: &str, number: u64, writer: &mut Writer) -> Writ
     Ok(())
 }
 
-/// Writes a member with a truth value.
+/// Writes a member with a truth value. Fails only if memory runs out.
 pub(crate) fn write_flag(name: &str, flag: bool, writer: &mut Writer) -> Written
     ensures { WritesMembers result writer.old writer.new ((name.now, boolean flag) ∷ []) }
 {
@@ -27,8 +27,8 @@ pub(crate) fn write_flag(name: &str, flag: bool, writer: &mut Writer) -> Written
     Ok(())
 }
 
-/// Writes a member with a text.
-pub(crate) fn write_text(name: &str, text: &str, writer: &mut Writer) -> Written
+/// Writes a member with a text. Fails only if memory runs out.
+pub fn write_text(name: &str, text: &str, writer: &mut Writer) -> Written
     ensures { WritesMembers result writer.old writer.new ((name.now, string text.now) ∷ []) }
 {
     writer.key(name)?;
@@ -36,16 +36,16 @@ pub(crate) fn write_text(name: &str, text: &str, writer: &mut Writer) -> Written
     Ok(())
 }
 
-/// Writes a member with bytes in hexadecimal.
-pub(crate) fn write_hex(alloc: Global, name: &str, bytes: &[u8], writer: &mut Writer) -> Written
+/// Writes a member with bytes in hexadecimal. Fails only if memory runs out.
+pub fn write_hex(alloc: Global, name: &str, bytes: &[u8], writer: &mut Writer) -> Written
     ensures { WritesMembers result writer.old writer.new ((name.now, hex_json bytes.now) ∷ []) }
 {
     let digits = hex::encode(alloc, bytes)?;
     write_text(name, &digits, writer)
 }
 
-/// Writes a member that shows bytes: as text, or under the other name in hexadecimal where they are not UTF-8.
-pub(crate) fn write_shown(
+/// Writes a member that shows bytes: as text, or under the other name in hexadecimal where they are not UTF-8. Fails only if memory runs out.
+pub fn write_shown(
     alloc: Global,
     name: &str,
     hex_name: &str,

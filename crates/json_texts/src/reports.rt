@@ -14,37 +14,41 @@ use crate::faults::{FaultPlace, FaultText, write_fault_member};
 use crate::lines::{Written, begin_line, end_line};
 use crate::members::{write_hex, write_number, write_text};
 use crate::rows::{Says, write_rows};
+use crate::unknown::write_verdict;
 use boot_verdict::{
     LIST_REGISTER, ListReport, PrefixReport, Report, Requirement, Row, State, Stray, Strays,
     Unconfirmed, aggregate_word,
 };
 use json::Writer;
+use known_files::Unknown;
 use pcr_banks::Digest;
 use std::alloc::Global;
 
 /// Appends the line of a report, in the words of `verdict_texts::write_report`, or of `verdict_texts::write_required_report` where
-/// registers are required; the verdict is `match` if the caller says so.
+/// registers are required; the verdict is `match` if the caller says so and no entry is unknown.
 ///
 /// Its members are `events`, the number of events; `locality`; `entries`, the number of entries; `boot_aggregate`, one of `good`, `wrong`,
 /// `nobank` and `missing`; `registers`, an array; and `verdict`, which is `match` or `differ`. Each expected register has `bank`,
 /// `register` and `state`, one of `match`, `differ` and `absent`, and where it differs `value`. After them each required register that is
 /// not among them has the state `missing`. Where registers are required and something of log or list extends a register that is not
 /// its own, `extends` comes before the verdict: an array with `event` of the first event that does, or `entry` of the first entry, or both,
-/// each with the `register`.
+/// each with the `register`. Where files are known, the two members before the verdict are `known_from`, the number from which on entries were
+/// looked at, and `unknown`, an array of the numbers of those that are not known.
 ///
 /// Fails only if memory runs out; the vector then is as before.
 pub fn append_report(
     alloc: Global,
     report: &Report,
     requirement: Option<&Requirement>,
+    unknown: Option<&Unknown>,
     is_match: bool,
     line: &mut Vec<u8>,
 ) -> Written
     ensures { AppendsLine result line.old.items line.new.items
-        (report_json (option_copied requirement.entry) is_match (verdict_of report.now)) }
+        (report_json (option_copied requirement.entry) (option_copied unknown.entry) is_match (verdict_of report.now)) }
 {
     let (mut writer, start) = begin_line(alloc, line);
-    let written = write_report(alloc, report, requirement, is_match, &mut writer);
+    let written = write_report(alloc, report, requirement, unknown, is_match, &mut writer);
     end_line(written, writer, start, line)
 }
 
@@ -55,13 +59,14 @@ pub fn append_list_report(
     alloc: Global,
     report: &ListReport,
     requirement: Option<&Requirement>,
+    unknown: Option<&Unknown>,
     line: &mut Vec<u8>,
 ) -> Written
     ensures { AppendsLine result line.old.items line.new.items
-        (list_report_json (option_copied requirement.entry) (list_verdict_of report.now)) }
+        (list_report_json (option_copied requirement.entry) (option_copied unknown.entry) (list_verdict_of report.now)) }
 {
     let (mut writer, start) = begin_line(alloc, line);
-    let written = write_list_report(alloc, report, requirement, &mut writer);
+    let written = write_list_report(alloc, report, requirement, unknown, &mut writer);
     end_line(written, writer, start, line)
 }
 
@@ -77,13 +82,15 @@ pub fn append_prefix_report(
     alloc: Global,
     prefix: &PrefixReport,
     requirement: Option<&Requirement>,
+    unknown: Option<&Unknown>,
     line: &mut Vec<u8>,
 ) -> Written
     ensures { AppendsLine result line.old.items line.new.items
-        (prefix_report_json (option_copied requirement.entry) (verdict_of prefix.now.report) prefix.now.entries prefix.now.unconfirmed) }
+        (prefix_report_json (option_copied requirement.entry) (option_copied unknown.entry) (verdict_of prefix.now.report)
+        prefix.now.entries prefix.now.unconfirmed) }
 {
     let (mut writer, start) = begin_line(alloc, line);
-    let written = write_prefix_report(alloc, prefix, requirement, &mut writer);
+    let written = write_prefix_report(alloc, prefix, requirement, unknown, &mut writer);
     end_line(written, writer, start, line)
 }
 
@@ -91,14 +98,16 @@ fn write_report(
     alloc: Global,
     report: &Report,
     requirement: Option<&Requirement>,
+    unknown: Option<&Unknown>,
     is_match: bool,
     writer: &mut Writer,
 ) -> Written
-    ensures { WritesValue result writer.old writer.new (report_json (option_copied requirement.entry) is_match (verdict_of report.now)) }
+    ensures { WritesValue result writer.old writer.new
+        (report_json (option_copied requirement.entry) (option_copied unknown.entry) is_match (verdict_of report.now)) }
 {
     writer.begin_object()?;
     write_counts(report.events, report.locality, report.entries, writer)?;
-    write_outcome(alloc, report, requirement, is_match, writer)?;
+    write_outcome(alloc, report, requirement, unknown, is_match, writer)?;
     writer.end_object()?;
     Ok(())
 }
@@ -123,16 +132,17 @@ fn write_outcome(
     alloc: Global,
     report: &Report,
     requirement: Option<&Requirement>,
+    unknown: Option<&Unknown>,
     is_match: bool,
     writer: &mut Writer,
 ) -> Written
     ensures { WritesMembers result writer.old writer.new
-        (outcome_members (option_copied requirement.entry) is_match (verdict_of report.now)) }
+        (outcome_members (option_copied requirement.entry) (option_copied unknown.entry) is_match (verdict_of report.now)) }
 {
     write_text("boot_aggregate", aggregate_word(report.aggregate), writer)?;
     write_rows(alloc, "state", &report.rows, requirement, writer)?;
     write_strays(report.strays, requirement, writer)?;
-    write_text("verdict", verdict_word(is_match), writer)?;
+    write_verdict(unknown, is_match, writer)?;
     Ok(())
 }
 
@@ -203,16 +213,18 @@ fn write_list_report(
     alloc: Global,
     report: &ListReport,
     requirement: Option<&Requirement>,
+    unknown: Option<&Unknown>,
     writer: &mut Writer,
 ) -> Written
-    ensures { WritesValue result writer.old writer.new (list_report_json (option_copied requirement.entry) (list_verdict_of report.now)) }
+    ensures { WritesValue result writer.old writer.new
+        (list_report_json (option_copied requirement.entry) (option_copied unknown.entry) (list_verdict_of report.now)) }
 {
-    let word = verdict_word(list_meets(report, requirement));
+    let is_met = list_meets(report, requirement);
     writer.begin_object()?;
     write_number("entries", report.entries as u64, writer)?;
     write_rows(alloc, "state", &report.rows, requirement, writer)?;
     write_strays(report.strays, requirement, writer)?;
-    write_text("verdict", word, writer)?;
+    write_verdict(unknown, is_met, writer)?;
     writer.end_object()?;
     Ok(())
 }
@@ -221,16 +233,18 @@ fn write_prefix_report(
     alloc: Global,
     prefix: &PrefixReport,
     requirement: Option<&Requirement>,
+    unknown: Option<&Unknown>,
     writer: &mut Writer,
 ) -> Written
     ensures { WritesValue result writer.old writer.new
-        (prefix_report_json (option_copied requirement.entry) (verdict_of prefix.now.report) prefix.now.entries prefix.now.unconfirmed) }
+        (prefix_report_json (option_copied requirement.entry) (option_copied unknown.entry) (verdict_of prefix.now.report)
+        prefix.now.entries prefix.now.unconfirmed) }
 {
     let report = &prefix.report;
     let is_met = meets(report, requirement);
     writer.begin_object()?;
     write_prefix_counts(alloc, report, prefix.entries, prefix.unconfirmed, writer)?;
-    write_outcome(alloc, report, requirement, is_met, writer)?;
+    write_outcome(alloc, report, requirement, unknown, is_met, writer)?;
     writer.end_object()?;
     Ok(())
 }

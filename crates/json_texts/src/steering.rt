@@ -10,7 +10,7 @@ use std::str;
 
 /// Appends a line of JSON, with each character that steers what shows it as its escape. Fails only if memory runs out; the vector then is as
 /// before.
-pub(crate) fn append_unsteered(line: &[u8], lines: &mut Vec<u8>) -> Written
+pub fn append_unsteered(line: &[u8], lines: &mut Vec<u8>) -> Written
     requires { IsUtf8 line.now }
     ensures ok { OnOk result (lines.new.items ≡ lines.old.items ++ unsteered line.now) }
     ensures err { OnErr result (lines.new.items ≡ lines.old.items) }

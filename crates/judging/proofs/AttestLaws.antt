@@ -1,5 +1,5 @@
 -- Attestations.
-use Rattle.std.proofs.Common.{◌≡◌, ◌⊎◌, List, Bool, true, false, Option, None, Some, Ok, Err, refl, sym, ◌∙◌, ap, inl, inr}
+use Rattle.std.proofs.Common.{◌≡◌, ◌⊎◌, List, true, false, Option, None, Some, Ok, Err, refl, ap, inl, inr}
 use Rattle.std.specs.Prelude.{IfErr, IfOk, IfSome, IsSomeAnd, Result, is_some}
 use Rattle.std.proofs.lemmas.Bool.{both_ways, true≢false}
 use Rattle.boot_verdict.specs.declared.requirement.BankRange.{BankRange}

@@ -16,6 +16,7 @@ use Rattle.boot_verdict.specs.declared.expected.Expected.{Expected}
 use Rattle.boot_verdict.specs.declared.report.Report.{Report}
 use Rattle.boot_verdict.specs.declared.verifier.VerifyFault.{VerifyFault}
 use Rattle.boot_verdict.specs.declared.verifier.VerifyFault.TheVariants as verdicts
+use Rattle.boot_verdict.specs.declared.checkpoint.Checkpoint.{Checkpoint}
 use Rattle.boot_verdict.specs.Checkpoints.{IsMoreFault, most_after}
 use Rattle.boot_verdict.specs.ListSources.{CameFrom, CameWhole, FailsFor, IsListFaultAfter}
 use Rattle.boot_verdict.specs.Verdicts.{IsSomeLog, IsVerdict, IsVerifyFaultFrom, Verdict, verdict_of, verdict_on}
@@ -32,6 +33,7 @@ use Rattle.agent_inputs.specs.declared.fault.RunFault.{RunFault}
 use Rattle.agent_inputs.specs.declared.fault.RunFault.TheVariants as runs
 use Rattle.agent_inputs.specs.Faults.{HasLogFault}
 use Rattle.agent_inputs.specs.Loading.{HasFailed, Inputs}
+use Rattle.judging.specs.declared.request.Judged.{Judged}
 use Rattle.judging.specs.declared.request.Judged.TheVariants as judged
 use Rattle.judging.specs.Answering.{CanBeReadBack, Evidence, GivesInput, IsNext, IsNotFound, IsRefusedAfter, IsRefusedList, IsStarted, IsUnconfirmedIn, IsVerdictOn, IsWrongIn, aim_in, seeks_prefix}
 use Rattle.judging.specs.Requests.{VerdictOf}
@@ -87,6 +89,52 @@ verdict_here {log} {list} {rest} {prefix} {table} {events} expected verdict log_
     reading_to_the_end (list_spelling prefix) prefix (record { are = begins.are; parts = sym (append-nil (list_spelling prefix)) }) in
     let entries : is.entries ≡ prefix = one_list is.list_is listed in
     is.verdict_is ∙ (λ i. verdict_on (algs_in (same.0 i)) (same.1 i) (entries i) expected)
+
+-- The checkpoint of the spelling of a list's first entries counts them.
+spelled_count : {log list rest : List ℕ} {prefix : List ListEntry} {next : Checkpoint} → BeginsWith list prefix rest
+    → IsNext log (list_spelling prefix) next → next.entries ≡ length prefix
+spelled_count {log} {list} {rest} {prefix} {next} begins is =
+    let read : IsReading (list_spelling prefix) (Ok prefix) =
+    reading_to_the_end (list_spelling prefix) prefix (record { are = begins.are; parts = sym (append-nil (list_spelling prefix)) }) in
+    is.checkpoint.count ∙ ap length (one_list is.checkpoint.list_is read)
+
+-- What a verdict tells of its entries, of which so many are known, follows from what it told before.
+pub tells_of : (inputs : Inputs) (scope : Scope) (list : Where) (evidence : Evidence) (Tells Also : List ListEntry → Type 0) (on : Judged)
+    (next : Checkpoint) → ((entries : List ListEntry) → next.entries ≡ length entries → Tells entries → Also entries)
+    → IsVerdictOn inputs scope list evidence Tells on next → IsVerdictOn inputs scope list evidence Also on next
+tells_of inputs scope list evidence Tells Also (judged.Whole report) next so is = (
+  is.0,
+  λ taken take.
+      let more = is.1 taken take in (
+        more.0,
+        more.1,
+        (more.2.0, more.2.1, (more.2.2.0, so more.2.2.0.checkpoint.entries more.2.2.0.checkpoint.count more.2.2.1)),
+      ),
+  is.2,
+)
+tells_of inputs scope list evidence Tells Also (judged.Prefix report) next so is = (
+  is.0,
+  is.1,
+  λ taken take.
+      let more = is.2 taken take in
+      let f = more.2 in (
+        more.0,
+        more.1,
+        record {
+          table = f.table;
+          events = f.events;
+          prefix = f.prefix;
+          rest = f.rest;
+          log_is = f.log_is;
+          begins = f.begins;
+          confirmed = f.confirmed;
+          verdict_is = f.verdict_is;
+          next_is = f.next_is;
+          tells = so f.prefix (spelled_count f.begins f.next_is) f.tells;
+        },
+      ),
+  is.3,
+)
 
 -- Whoever goes on from what a session knows goes on from what it has taken.
 next_of : {log list : List ℕ} {session : Session} → HasTaken log list session → IsPossible session.known → IsNext log list session.known
@@ -160,24 +208,27 @@ module _ {inputs : Inputs} {list : Where} {old new : SourceState} (gives : Gives
   module _ (place : Where) (resume : Option Where) (scope : Scope) (evidence : Evidence) {before : Session}
       (started : IsStarted evidence.log evidence.known before) where
     -- All of the list was taken, and if a prefix is sought, none is confirmed.
-    pub whole_found : (after : Session) (report : Report) → CanBeReadBack after.known
+    pub whole_found : (Tells : List ListEntry → Type 0) (after : Session) (report : Report) → CanBeReadBack after.known
         → ((log taken : List ℕ) → HasTaken log taken before
-        → TakesMore log taken old.remaining new.remaining (most_after before.known (limit_of list)) after)
+        → (takes : TakesMore log taken old.remaining new.remaining (most_after before.known (limit_of list)) after)
+        × Tells takes.taken.checkpoint.entries)
         → (seeks_prefix scope evidence ≡ true → (log taken : List ℕ) → HasTaken log taken before
         → TakesUnconfirmed log taken old.remaining new.remaining (most_after before.known (limit_of list)) (aim_in evidence)
         before.known.entries after)
         → ((log all : List ℕ) → HasTaken log all after → IsVerdict log all evidence.expected (verdict_of report))
-        → IsVerdictOn inputs scope list evidence (judged.Whole report) after.known
-    whole_found after report room takes none verdict = (
+        → IsVerdictOn inputs scope list evidence Tells (judged.Whole report) after.known
+    unfolding next_of
+    whole_found Tells after report room takes none verdict = (
       started.boot,
       λ taken take.
-          let t = takes evidence.log taken (started.takes taken take) in (
+          let both = takes evidence.log taken (started.takes taken take) in
+          let t = both.0 in (
             t.more,
             held t.came,
             (
               subst (λ (n : ℕ). length t.more ≤ n) (started.most list) t.came.came.within,
               verdict evidence.log (taken ++ t.more) t.taken,
-              next_of t.taken (room _ t.taken.checkpoint),
+              (next_of t.taken (room _ t.taken.checkpoint), both.1),
             ),
           ),
       λ sought taken take.
@@ -185,18 +236,19 @@ module _ {inputs : Inputs} {list : Where} {old new : SourceState} (gives : Gives
           (n.takes.more, held n.takes.came, (n.entries, n.list_is, n.none)),
     )
 
-    pub prefix_found : (after : Session) (report : Report) (confirmed : Confirmed) → CanBeReadBack after.known
+    pub prefix_found : (Tells : List ListEntry → Type 0) (after : Session) (report : Report) (confirmed : Confirmed) → CanBeReadBack after.known
         → seeks_prefix scope evidence ≡ true
-        → ((log taken : List ℕ) → HasTaken log taken before → IsPrefixTaken log taken old.remaining new.remaining
-        (most_after before.known (limit_of list)) (aim_in evidence) before.known.entries after confirmed)
+        → ((log taken : List ℕ) → HasTaken log taken before → (prefix : IsPrefixTaken log taken old.remaining new.remaining
+        (most_after before.known (limit_of list)) (aim_in evidence) before.known.entries after confirmed) × Tells prefix.prefix)
         → ((log all : List ℕ) → HasTaken log all after → IsVerdict log all evidence.expected (verdict_of report))
-        → IsVerdictOn inputs scope list evidence
+        → IsVerdictOn inputs scope list evidence Tells
         (judged.Prefix (record { report = report; entries = confirmed.entries; unconfirmed = confirmed.unconfirmed })) after.known
-    prefix_found after report confirmed room sought prefixes verdict = (
+    prefix_found Tells after report confirmed room sought prefixes verdict = (
       started.boot,
       sought,
       λ taken take.
-          let f = rw started.count at (prefixes evidence.log taken (started.takes taken take)) in
+          let both = rw started.count at (prefixes evidence.log taken (started.takes taken take)) in
+          let f = both.0 in
           let more = begun f.came_is in (
             f.came ++ more.0,
             more.1,
@@ -211,11 +263,12 @@ module _ {inputs : Inputs} {list : Where} {old new : SourceState} (gives : Gives
               verdict_is = verdict_here evidence.expected (verdict_of report) f.log_is f.begins
                   (verdict evidence.log (list_spelling f.prefix) f.taken);
               next_is = next_of f.taken (room _ f.taken.checkpoint);
+              tells = both.1;
             },
           ),
       λ taken take.
           wrong_with taken (most_after before.known (limit_of list)) confirmed.entries confirmed.unconfirmed
-          (prefixes evidence.log taken (started.takes taken take)).wrong,
+          (prefixes evidence.log taken (started.takes taken take)).0.wrong,
     )
 
     unconfirmed_in : (first : VerifyFault) → ((log taken : List ℕ) → HasTaken log taken before → IsUnconfirmedFault log taken old.remaining

@@ -1,4 +1,6 @@
 pub mod AttestLaws
 pub mod InputLaws
+pub mod KnownLaws
 pub mod SessionLaws
 pub mod RegisterLaws
+pub mod LogLaws

@@ -1,5 +1,5 @@
 -- The answer to a request, and why there is none.
-use Rattle.std.specs.Prelude.{◌≡◌, ℕ, ◌<◌, ◌≤◌, ◌⊎◌, ◌==◌, not, Bool, true, false, List, [], ◌++◌, length, Option, Some, None, Result, Ok, Err, IfSome, IsSomeAnd, MatchResult, ◌&&◌, nat_lt, if◌then◌else◌, MatchOption, option_map}
+use Rattle.std.specs.Prelude.{◌≡◌, ℕ, ◌<◌, ◌≤◌, ◌⊎◌, ◌==◌, not, ◌+◌, Bool, true, false, List, [], ◌∷◌, ◌++◌, length, take, Option, Some, None, Result, Ok, Err, IfSome, IsSomeAnd, MatchResult, ◌&&◌, nat_lt, if◌then◌else◌, MatchOption, option_map}
 use Rattle.std.specs.Option.{option_map_or}
 use Rattle.byte_streams.specs.Streams.{SourceState}
 use Rattle.boot_log.specs.declared.header.Row.{Row as TableRow, Row}
@@ -14,6 +14,7 @@ use Rattle.boot_verdict.specs.declared.requirement.BankRange.{BankRange}
 use Rattle.boot_verdict.specs.declared.verifier.VerifyFault.{VerifyFault}
 use Rattle.boot_verdict.specs.declared.verifier.VerifyFault.TheVariants as verdicts
 use Rattle.boot_verdict.specs.Checkpoints.{IsCheckpoint, most_after}
+use Rattle.boot_verdict.specs.ListReplays.{AreTracked}
 use Rattle.boot_verdict.specs.ListSources.{IsSound}
 use Rattle.boot_verdict.specs.ListVerdicts.{IsListVerdict, list_verdict_of, list_matches, required_list_matches}
 use Rattle.boot_verdict.specs.Positions.{AreLocated, all_found}
@@ -22,6 +23,14 @@ use Rattle.boot_verdict.specs.Verdicts.{IsForged, IsSomeLog, IsVerdict, verdict_
 use Rattle.boot_verdict.specs.declared.prefix_report.PrefixReport.{PrefixReport}
 use Rattle.boot_verdict.specs.declared.prefix_report.Unconfirmed.{Unconfirmed}
 use Rattle.boot_verdict.specs.declared.prefix_report.Unconfirmed.TheVariants as unconfirmed
+use Rattle.known_files.specs.declared.fault.KnownFault.{KnownFault}
+use Rattle.known_files.specs.declared.known.KnownFiles.{KnownFiles}
+use Rattle.known_files.specs.declared.listed.ListedFiles.{ListedFiles}
+use Rattle.known_files.specs.declared.unknown.Unknown.{Unknown}
+use Rattle.known_files.specs.declared.unknown.UnknownEntries.{UnknownEntries}
+use Rattle.known_files.specs.Known.{HoldsAll, Knows}
+use Rattle.known_files.specs.Listing.{HasFaultOfFirst, IsGoodText}
+use Rattle.known_files.specs.Unknown.{AreUnknown, IsLookedAfter, none_unknown}
 use Rattle.tpm_quotes.specs.Quoting.{confirms}
 use Rattle.tpm_quotes.specs.Spelling.{IsQuote, TpmQuote, quote_of}
 use Rattle.attestations.specs.declared.expected.ExpectedValues.{ExpectedValues}
@@ -50,13 +59,14 @@ use Rattle.agent_plans.specs.declared.plan.Scope.TheVariants.{Whole, Prefix}
 use Rattle.agent_inputs.specs.declared.fault.NotResumed.TheVariants.{OtherBoot, OtherCounts, Damaged, Version}
 use Rattle.agent_inputs.specs.declared.fault.RunFault.{RunFault}
 use Rattle.agent_inputs.specs.declared.fault.RunFault.TheVariants as runs
-use Rattle.agent_inputs.specs.Faults.{HasLogFault, fault_of_expected}
+use Rattle.agent_inputs.specs.Faults.{HasLogFault, fault_of_expected, fault_of_known}
 use Rattle.agent_inputs.specs.Loading.{GivesAll, HasFailed, Inputs}
 use Rattle.judging.specs.declared.request.Answer.{Answer}
 use Rattle.judging.specs.declared.request.Answer.TheVariants as answers
+use Rattle.judging.specs.declared.request.Found.{Found}
 use Rattle.judging.specs.declared.request.Judged.{Judged}
 use Rattle.judging.specs.declared.request.Judged.TheVariants as judged
-use Rattle.judging.specs.Requests.{Attested, Attests, Judgement, ListVerdictOf, PositionsOf, VerdictOf, Requested, Compared, Compares, ExpectedOf, KeyOf, ListRegistersOf, LogRegistersOf, Nothing, Requires, These, held_bytes, log_of, resume_of}
+use Rattle.judging.specs.Requests.{Attested, Attests, Judgement, ListVerdictOf, PositionsOf, VerdictOf, Requested, Compared, Compares, ExpectedOf, KeyOf, ListRegistersOf, LogRegistersOf, Nothing, Requires, These, held_bytes, log_of, resume_of, takes_known}
 use Rattle.judging.specs.Inputs.{IsFaultAt, IsReadFailure, MayFail, OfInput, Where, held_in, limit_of, Holds, IsInputFault}
 use Rattle.pcr_banks.specs.declared.banks.Banks.{Banks}
 use Rattle.pcr_banks.specs.Registers.{IsReset, register_count, value_at}
@@ -75,7 +85,7 @@ use Rattle.judging.specs.declared.answers.Evidence.{Evidence as HeldEvidence}
 
 -- What a list is judged with: the registers that are required, if a text spells some; the log, no bytes without one; the expected
 -- registers, beside a quote those that count; the quote, if there is one, whether its signature was verified, and what came of the values of
--- expected registers beside it; and the checkpoint that is gone on from, if there is one.
+-- expected registers beside it; the checkpoint that is gone on from, if there is one; and the files that are known, if files have to be known.
 pub record Evidence : Type 0 where
   pub required : Option (List BankRange)
   pub log : List ℕ
@@ -84,6 +94,7 @@ pub record Evidence : Type 0 where
   pub is_signed : Bool
   pub values : ExpectedValues
   pub known : Option Checkpoint
+  pub files : Option KnownFiles
 
 -- What a prefix is confirmed by: the quote, if there is one; else the expected registers.
 abbrev pub aim_by : Option TpmQuote → List Expected → Aim
@@ -127,6 +138,19 @@ OfMore inputs place known P = (taken : List ℕ) → IsTaken known taken → OfI
 abbrev pub OfList : Inputs → Where → Option Checkpoint → (List ℕ → Type 0) → Type 0
 OfList inputs place known P = OfMore inputs place known (λ taken more. P (taken ++ more))
 
+-- ---- which entries are unknown
+
+-- These are the unknown ones of the entries from number `first` on, by the texts that list the known files.
+pub record IsUnknownOf (files : KnownFiles) (first : ℕ) (entries : List ListEntry) (unknown : Unknown) : Type 0 where
+  pub first_is : unknown.first ≡ first
+  pub numbers_are : (texts : List (List ℕ)) → Knows texts files → AreUnknown texts first entries unknown.numbers.items
+
+-- What an answer tells of the entries that it is on, of which so many were taken before: which of the others are unknown; nothing if no file
+-- has to be known.
+abbrev pub TellsUnknown : Option KnownFiles → ℕ → Option Unknown → List ListEntry → Type 0
+TellsUnknown None first unknown entries = unknown ≡ None
+TellsUnknown (Some files) first unknown entries = IsSomeAnd unknown (IsUnknownOf files first entries)
+
 -- ---- what is judged
 
 -- This is the checkpoint of the list, in the boot of this log, and its text can be gone on from.
@@ -153,8 +177,9 @@ IsWrongIn list count (Some (unconfirmed.Replay fault)) =
     (entries : List ListEntry) × IsReading list (Ok entries) × IsReplayFault entries fault × (count ≡ length entries)
 IsWrongIn list count (Some (unconfirmed.List fault)) = IsReading list (Err fault) × (list_fault_entry fault ≡ Some count)
 
--- The report is on the confirmed prefix of the list, no shorter than what was taken before; and this is the checkpoint of the prefix.
-pub record IsPrefixOf (evidence : Evidence) (list : List ℕ) (report : PrefixReport) (next : Checkpoint) : Type 0 where
+-- The report is on the confirmed prefix of the list, no shorter than what was taken before; this is the checkpoint of the prefix; and its
+-- entries have this property.
+pub record IsPrefixOf (evidence : Evidence) (Tells : List ListEntry → Type 0) (list : List ℕ) (report : PrefixReport) (next : Checkpoint) : Type 0 where
   pub table : List TableRow
   pub events : List LogEvent
   pub prefix : List ListEntry
@@ -164,6 +189,7 @@ pub record IsPrefixOf (evidence : Evidence) (list : List ℕ) (report : PrefixRe
   pub confirmed : IsConfirmed (algs_in table) events (aim_in evidence) (entries_taken evidence.known) prefix
   pub verdict_is : verdict_of report.report ≡ verdict_on (algs_in table) events prefix evidence.expected
   pub next_is : IsNext evidence.log (list_spelling prefix) next
+  pub tells : Tells prefix
 
 -- The list is refused only if no prefix is confirmed: of the entries before the one that the fault names, or of all.
 abbrev pub IsUnconfirmedIn : Inputs → Where → Evidence → VerifyFault → Type 0
@@ -174,17 +200,19 @@ IsUnconfirmedIn inputs place evidence (verdicts.Replay first) = OfList inputs pl
 IsUnconfirmedIn inputs place evidence first = Unit {0}
 
 -- This was judged on this evidence and the list of this input; and this is where to go on. A verdict is on a log that leaves the registers
--- before what is gone on from, and on the whole list, of which no prefix is confirmed, if one is sought; or on its confirmed prefix.
-abbrev pub IsVerdictOn : Inputs → Scope → Where → Evidence → Judged → Checkpoint → Type 0
-IsVerdictOn inputs scope list evidence (judged.Whole report) next =
+-- before what is gone on from, and on the whole list, of which no prefix is confirmed, if one is sought; or on its confirmed prefix. The entries
+-- that it is on have the property `Tells`.
+abbrev pub IsVerdictOn : Inputs → Scope → Where → Evidence → (List ListEntry → Type 0) → Judged → Checkpoint → Type 0
+IsVerdictOn inputs scope list evidence Tells (judged.Whole report) next =
     IfSome evidence.known (IsOfBoot evidence.log)
     × OfMore inputs list evidence.known (λ taken more. (length more ≤ most_more evidence.known list)
-    × IsVerdict evidence.log (taken ++ more) evidence.expected (verdict_of report) × IsNext evidence.log (taken ++ more) next)
+    × IsVerdict evidence.log (taken ++ more) evidence.expected (verdict_of report)
+    × ((next_is : IsNext evidence.log (taken ++ more) next) × Tells next_is.checkpoint.entries))
     × (seeks_prefix scope evidence ≡ true → OfList inputs list evidence.known (HasNoPrefix evidence))
-IsVerdictOn inputs scope list evidence (judged.Prefix report) next =
+IsVerdictOn inputs scope list evidence Tells (judged.Prefix report) next =
     IfSome evidence.known (IsOfBoot evidence.log)
     × (seeks_prefix scope evidence ≡ true)
-    × OfList inputs list evidence.known (λ all. IsPrefixOf evidence all report next)
+    × OfList inputs list evidence.known (λ all. IsPrefixOf evidence Tells all report next)
     × OfList inputs list evidence.known (λ all. IsWrongIn all report.entries report.unconfirmed)
 
 -- What a report by a quote says of what was judged, a whole list or its confirmed prefix, after which this is known: by the registers after it.
@@ -213,15 +241,17 @@ IsAnswerOn None is_signed values (judged.Prefix report) next answer = answer ≡
 IsAnswerOn (Some quote) is_signed values on next answer =
     (report : AttestReport) × (answer ≡ answers.Attestation report) × (attest_verdict_of report ≡ told_by quote is_signed values next on)
 
--- The answer is on this evidence and the list of this input; and this is where to go on.
-abbrev pub IsJudged : Inputs → Judgement → Where → Evidence → Answer → Option Checkpoint → Type 0
-IsJudged inputs (VerdictOf place scope resume) list evidence answer (Some next) =
-    (on : Judged) × IsVerdictOn inputs scope list evidence on next × IsAnswerOn evidence.quote evidence.is_signed evidence.values on next answer
-IsJudged inputs (PositionsOf place) list evidence (answers.Positions located) None =
-    OfInput inputs list (λ all. AreLocated evidence.log all evidence.expected located.items)
-IsJudged inputs ListVerdictOf list evidence (answers.ListReport report) None =
-    OfInput inputs list (λ all. IsListVerdict all evidence.expected (list_verdict_of report))
-IsJudged inputs judgement list evidence answer next = ⊥
+-- The answer is on this evidence and the list of this input; this is where to go on; and these are the unknown ones of the entries that the
+-- answer is on, without those of the list that was taken before.
+abbrev pub IsJudged : Inputs → Judgement → Where → Evidence → Answer → Option Checkpoint → Option Unknown → Type 0
+IsJudged inputs (VerdictOf place scope resume) list evidence answer (Some next) unknown =
+    (on : Judged) × IsVerdictOn inputs scope list evidence (TellsUnknown evidence.files (entries_taken evidence.known) unknown) on next
+    × IsAnswerOn evidence.quote evidence.is_signed evidence.values on next answer
+IsJudged inputs (PositionsOf place) list evidence (answers.Positions located) None unknown =
+    OfInput inputs list (λ all. AreLocated evidence.log all evidence.expected located.items) × (unknown ≡ None)
+IsJudged inputs ListVerdictOf list evidence (answers.ListReport report) None unknown =
+    OfInput inputs list (λ all. (is : IsListVerdict all evidence.expected (list_verdict_of report)) × TellsUnknown evidence.files 0 unknown is.entries)
+IsJudged inputs judgement list evidence answer next unknown = ⊥
 
 -- ---- why there is no answer
 
@@ -289,19 +319,32 @@ abbrev pub CanBeReadBack : Checkpoint → Type 0
 CanBeReadBack known = (list : List ℕ) → IsCheckpoint list known → IsPossible known
 
 -- What was found in the list of this input, or why nothing was.
-abbrev pub Finds : Inputs → Judgement → Where → Evidence → Result (Answer × Option Checkpoint) RunFault → Type 0
+abbrev pub Finds : Inputs → Judgement → Where → Evidence → Result Found RunFault → Type 0
 Finds inputs judgement list evidence result =
-    MatchResult result (λ found. IsJudged inputs judgement list evidence found.0 found.1) (IsNotFound inputs judgement list evidence)
+    MatchResult result (λ found. IsJudged inputs judgement list evidence found.answer found.next found.unknown)
+    (IsNotFound inputs judgement list evidence)
 
 -- So it is in the list of each input that the source gives.
-abbrev pub FindsFrom : Judgement → Where → Evidence → SourceState → SourceState → Result (Answer × Option Checkpoint) RunFault → Type 0
+abbrev pub FindsFrom : Judgement → Where → Evidence → SourceState → SourceState → Result Found RunFault → Type 0
 FindsFrom judgement list evidence old new result = (inputs : Inputs) → GivesInput inputs list old new → Finds inputs judgement list evidence result
 
--- So it is where a session goes on from what is known, if its checkpoint can be read back.
-abbrev pub JudgesFrom : Scope → Where → Evidence → SourceState → SourceState → Session → Session → Result Judged RunFault → Type 0
-JudgesFrom scope list evidence old new before after result =
+-- The watch that began as this one has looked at the entries of a list that begins with these.
+abbrev pub HasWatched : UnknownEntries → UnknownEntries → List ListEntry → Type 0
+HasWatched start watch entries = (all : List ListEntry) × (take (length entries) all ≡ entries) × AreTracked IsLookedAfter start all watch
+
+-- The watch begins after the list that was taken before: it looks at none of its entries.
+abbrev pub BeginsAfter : Option Checkpoint → UnknownEntries → Type 0
+BeginsAfter known start = (entries : List ListEntry) → length entries ≡ entries_taken known → AreTracked IsLookedAfter start entries start
+
+-- So it is where a session goes on from what is known, if its checkpoint can be read back; and the watch, which begins there, has looked at the
+-- entries that the verdict is on.
+abbrev pub JudgesFrom : Scope → Where → Evidence → UnknownEntries → SourceState → SourceState → Session → Session
+    → Result (Judged × UnknownEntries) RunFault → Type 0
+JudgesFrom scope list evidence start old new before after result =
     (inputs : Inputs) (log : Where) (resume : Option Where) → GivesInput inputs list old new → IsStarted evidence.log evidence.known before
-    → MatchResult result (λ on. CanBeReadBack after.known → IsVerdictOn inputs scope list evidence on after.known)
+    → BeginsAfter evidence.known start
+    → MatchResult result (λ found. CanBeReadBack after.known
+    → IsVerdictOn inputs scope list evidence (HasWatched start found.1) found.0 after.known)
     (IsNotFound inputs (VerdictOf log scope resume) list evidence)
 
 -- ---- evidence
@@ -334,6 +377,25 @@ checkpoint_of known = option_map (λ state. state.checkpoint) known
 abbrev pub state_after : Option Boot → Option Checkpoint → Option SavedState
 state_after boot next = option_map (λ checkpoint. record { checkpoint = checkpoint; boot = boot }) next
 
+-- These are the texts of these inputs, in order, and each line of them says a digest that is not by SHA-1.
+abbrev pub AreKnownTexts : Inputs → List Where → List (List ℕ) → Type 0
+AreKnownTexts inputs [] [] = Unit {0}
+AreKnownTexts inputs (place ∷ places) (text ∷ texts) = Holds inputs place text × IsGoodText text × AreKnownTexts inputs places texts
+AreKnownTexts inputs places texts = ⊥
+
+-- The text of this input is one of known files; and `new` has what `old` has, and what the text lists.
+pub record ListsAlso (inputs : Inputs) (place : Where) (old new : ListedFiles) : Type 0 where
+  pub text : List ℕ
+  pub holds : Holds inputs place text
+  pub good : IsGoodText text
+  pub lists : (texts : List (List ℕ)) → HoldsAll texts old → HoldsAll (texts ++ text ∷ []) new
+
+-- The files that are known: those whose digests the texts of these inputs list. Without such an input no file has to be known.
+abbrev pub AreKnownFiles : Inputs → List Where → Option KnownFiles → Type 0
+AreKnownFiles inputs [] files = files ≡ None
+AreKnownFiles inputs (place ∷ places) files =
+    IsSomeAnd files (λ files. (texts : List (List ℕ)) × AreKnownTexts inputs (place ∷ places) texts × Knows texts files)
+
 -- What is judged with is what the text requires, and what the inputs have that are asked for.
 pub record IsEvidence (inputs : Inputs) (request : Compared) (evidence : Evidence) : Type 0 where
   pub required_are : IsRequired request.required evidence.required
@@ -343,6 +405,7 @@ pub record IsEvidence (inputs : Inputs) (request : Compared) (evidence : Evidenc
   pub state : Option SavedState
   pub state_is : IsKnown inputs (resume_of request.judgement) state
   pub known_is : evidence.known ≡ checkpoint_of state
+  pub files_are : AreKnownFiles inputs request.known evidence.files
 
 abbrev pub evidence_of : HeldEvidence → Evidence
 evidence_of held = record {
@@ -353,6 +416,7 @@ evidence_of held = record {
   is_signed = held.is_signed;
   values = held.values;
   known = held.known;
+  files = held.files;
 }
 
 -- Why a text is not read as a checkpoint: it is of another version; or it is not, and no possible checkpoint's text; or memory ran out.
@@ -363,8 +427,25 @@ IsNoCheckpoint text fault =
     × ((state : SavedState) → IsPossibleState state → text ≡ checkpoint_text state → ⊥))
     ⊎ (fault ≡ runs.Memory)
 
+-- Why the input, the file of this number, gives no text of known files: it was not loaded, or the fault is that of its first wrong line.
+abbrev pub IsTextRefused : Inputs → Where → ℕ → RunFault → Type 0
+IsTextRefused inputs place file fault =
+    IsInputFault inputs place fault
+    ⊎ ((first : KnownFault) × OfInput inputs place (λ text. HasFaultOfFirst text first) × (fault ≡ fault_of_known file first))
+
+-- The first of these inputs that gives no text of known files, and why. Files are counted from 1.
+pub record IsFirstNotKnown (inputs : Inputs) (places : List Where) (fault : RunFault) : Type 0 where
+  pub before : List Where
+  pub place : Where
+  pub after : List Where
+  pub texts : List (List ℕ)
+  pub parts : places ≡ before ++ place ∷ after
+  pub good : AreKnownTexts inputs before texts
+  pub why : IsTextRefused inputs place (length before + 1) fault
+
 -- Why there is no evidence, where a text that is given spells registers: an input was not loaded; the text does not state expected
--- registers, and the fault is that of its first wrong line; it does, and the input to go on from has no checkpoint; or memory ran out.
+-- registers, and the fault is that of its first wrong line; it does, and the input to go on from has no checkpoint; that has one, or there is no
+-- such input, and an input gives no text of known files; or memory ran out.
 abbrev pub HasNoEvidence : Inputs → Compared → RunFault → Type 0
 HasNoEvidence inputs request fault =
     IsSomeAnd (log_of request.judgement) (λ place. IsInputFault inputs place fault)
@@ -372,6 +453,8 @@ HasNoEvidence inputs request fault =
     ⊎ ((first : ExpectFault) × OfInput inputs request.expected (λ text. HasFirstFault text first) × (fault ≡ fault_of_expected first))
     ⊎ (((expected : List Expected) × OfInput inputs request.expected (λ text. IsExpectedText text expected))
     × IsSomeAnd (resume_of request.judgement) (λ place. IsInputFault inputs place fault ⊎ OfInput inputs place (λ text. IsNoCheckpoint text fault)))
+    ⊎ (((expected : List Expected) × OfInput inputs request.expected (λ text. IsExpectedText text expected))
+    × ((state : Option SavedState) × IsKnown inputs (resume_of request.judgement) state) × IsFirstNotKnown inputs request.known fault)
     ⊎ (fault ≡ runs.Memory)
 
 -- ---- what is compared
@@ -382,37 +465,48 @@ abbrev pub is_match : Requires → Verdict → Bool
 is_match Nothing verdict = matches verdict
 is_match requires verdict = matches verdict && not (length verdict.rows == 0)
 
--- Whether all is well: the verdict is 'match', or each register was located; and no register is missing of those that are required, if a
+-- Whether an answer is good: the verdict is 'match', or each register was located; and no register is missing of those that are required, if a
 -- text spells some. (A prefix is confirmed only where some register is expected.) So it is with registers, which are compared with none.
-abbrev pub is_well : Requires → Option (List BankRange) → Answer → Bool
-is_well requires None (answers.Report report) = is_match requires (verdict_of report)
-is_well requires (Some ranges) (answers.Report report) = required_matches ranges (verdict_of report)
-is_well requires None (answers.Prefix prefix) = matches (verdict_of prefix.report)
-is_well requires (Some ranges) (answers.Prefix prefix) = required_matches ranges (verdict_of prefix.report)
-is_well requires None (answers.Positions positions) = all_found positions.items
-is_well requires (Some ranges) (answers.Positions positions) = required_found ranges positions.items
-is_well requires None (answers.ListReport report) = list_matches (list_verdict_of report)
-is_well requires (Some ranges) (answers.ListReport report) = required_list_matches ranges (list_verdict_of report)
-is_well requires ranges (answers.Attestation report) = report.is_signed && is_attested (attest_verdict_of report)
-is_well requires ranges answer = true
+abbrev pub is_good : Requires → Option (List BankRange) → Answer → Bool
+is_good requires None (answers.Report report) = is_match requires (verdict_of report)
+is_good requires (Some ranges) (answers.Report report) = required_matches ranges (verdict_of report)
+is_good requires None (answers.Prefix prefix) = matches (verdict_of prefix.report)
+is_good requires (Some ranges) (answers.Prefix prefix) = required_matches ranges (verdict_of prefix.report)
+is_good requires None (answers.Positions positions) = all_found positions.items
+is_good requires (Some ranges) (answers.Positions positions) = required_found ranges positions.items
+is_good requires None (answers.ListReport report) = list_matches (list_verdict_of report)
+is_good requires (Some ranges) (answers.ListReport report) = required_list_matches ranges (list_verdict_of report)
+is_good requires ranges (answers.Attestation report) = report.is_signed && is_attested (attest_verdict_of report)
+is_good requires ranges answer = true
+
+-- Whether all is well: no entry is told unknown, and the answer is good.
+abbrev pub is_well : Requires → Option (List BankRange) → Option Unknown → Answer → Bool
+is_well requires ranges unknown answer = none_unknown unknown && is_good requires ranges answer
 
 -- This is what comes of what is compared, and what it is worth. Nobody goes on from it, unless all is well; and no quote tells the boot.
 pub record IsComparison (inputs : Inputs) (request : Compared) (given : Answered) : Type 0 where
   pub evidence : Evidence
   pub next : Option Checkpoint
+  pub takes : takes_known request.judgement request.required request.known ≡ true
   pub evidence_is : IsEvidence inputs request evidence
   pub requirement_is : given.requirement ≡ evidence.required
-  pub judged : IsJudged inputs request.judgement request.list evidence given.answer next
-  pub well_is : given.is_well ≡ is_well request.required given.requirement given.answer
+  pub judged : IsJudged inputs request.judgement request.list evidence given.answer next given.unknown
+  pub well_is : given.is_well ≡ is_well request.required given.requirement given.unknown given.answer
   pub next_is : given.next ≡ (if given.is_well then state_after None next else None)
 
--- Why nothing comes of what is compared: the text spells no registers; it spells some or is not given, and there is no evidence; or there
--- is, and no answer.
-abbrev pub IsNoComparison : Inputs → Compared → RunFault → Type 0
-IsNoComparison inputs request fault =
+-- Why nothing comes of what is compared, where known files are asked for as they can be, or are not: the text spells no registers; it spells
+-- some or is not given, and there is no evidence; or there is, and no answer.
+abbrev pub IsNotCompared : Inputs → Compared → RunFault → Type 0
+IsNotCompared inputs request fault =
     IsNotRequired request.required fault
     ⊎ (((required : Option (List BankRange)) × IsRequired request.required required) × HasNoEvidence inputs request fault)
     ⊎ ((evidence : Evidence) × IsEvidence inputs request evidence × IsNotFound inputs request.judgement request.list evidence fault)
+
+-- Why nothing comes of what is compared: known files are asked for as they cannot be; or they are not, and this is why.
+abbrev pub IsNoComparison : Inputs → Compared → RunFault → Type 0
+IsNoComparison inputs request fault =
+    ((fault ≡ runs.Usage) × (takes_known request.judgement request.required request.known ≡ false))
+    ⊎ ((takes_known request.judgement request.required request.known ≡ true) × IsNotCompared inputs request fault)
 
 -- ---- what is judged by a quote
 
@@ -451,8 +545,8 @@ pub record AreCounted (inputs : Inputs) (expected : Option Where) (quote : TpmQu
   pub counted_is : counted ≡ counted_by quote stated
 
 -- What a list is judged with by a quote, with the expected registers that count.
-abbrev pub quoted_evidence : List ℕ → TpmQuote → Bool → ExpectedValues → List Expected → Option Checkpoint → Evidence
-quoted_evidence log quote is_signed values counted known = record {
+abbrev pub quoted_evidence : List ℕ → TpmQuote → Bool → ExpectedValues → List Expected → Option Checkpoint → Option KnownFiles → Evidence
+quoted_evidence log quote is_signed values counted known files = record {
   required = None;
   log = log;
   expected = counted;
@@ -460,6 +554,7 @@ quoted_evidence log quote is_signed values counted known = record {
   is_signed = is_signed;
   values = values;
   known = known;
+  files = files;
 }
 
 -- A quote confirmed the state, in the boot in which the TPM made this one.
@@ -475,6 +570,7 @@ pub record IsAttestation (inputs : Inputs) (asked : Attested) (given : Answered)
   pub values : ExpectedValues
   pub counted : List Expected
   pub state : Option SavedState
+  pub files : Option KnownFiles
   pub next : Option Checkpoint
   pub taken : AreTaken asked ranges
   pub asked_for : IsAskedFor inputs asked ranges quote
@@ -482,10 +578,11 @@ pub record IsAttestation (inputs : Inputs) (asked : Attested) (given : Answered)
   pub counted_are : AreCounted inputs asked.expected quote values counted
   pub state_is : IsKnown inputs asked.resume state
   pub boot_is : IfSome state (IsOfQuote quote)
+  pub files_are : AreKnownFiles inputs asked.known files
   pub judged : IsJudged inputs (VerdictOf asked.log asked.scope asked.resume) asked.list
-      (quoted_evidence log quote asked.is_signed values counted (checkpoint_of state)) given.answer next
+      (quoted_evidence log quote asked.is_signed values counted (checkpoint_of state) files) given.answer next given.unknown
   pub none_required : given.requirement ≡ None
-  pub well_is : given.is_well ≡ is_well Nothing None given.answer
+  pub well_is : given.is_well ≡ is_well Nothing None given.unknown given.answer
   pub next_is : given.next ≡ (if given.is_well then state_after (Some (boot_of quote)) next else None)
 
 -- The input to go on from has no checkpoint; or it has one, and that is not of the quote's boot, or no quote confirmed it.
@@ -507,16 +604,21 @@ IsNotStated inputs expected fault =
     ⊎ ((first : ExpectFault) × OfInput inputs place (λ text. HasFirstFault text first) × (fault ≡ fault_of_expected first)))
 
 -- Why there is no judgement by this quote: the log is not read; the expected registers are not; what is to be gone on from is not read, or is not
--- of the quote's boot; or all are, and nothing is found in the list.
+-- of the quote's boot; it is, or there is none, and an input gives no text of known files; or all are, and nothing is found in the list.
 abbrev pub IsNotJudgedBy : Inputs → Attested → TpmQuote → RunFault → Type 0
 IsNotJudgedBy inputs asked quote fault =
     IsInputFault inputs asked.log fault
     ⊎ IsNotStated inputs asked.expected fault
     ⊎ (((stated : Option (List Expected)) × IsStated inputs asked.expected stated) × IsNotKnown inputs quote asked.resume fault)
-    ⊎ ((log : List ℕ) × (values : ExpectedValues) × (counted : List Expected) × (state : Option SavedState) × Holds inputs asked.log log
+    ⊎ (((stated : Option (List Expected)) × IsStated inputs asked.expected stated)
+    × ((state : Option SavedState) × IsKnown inputs asked.resume state × IfSome state (IsOfQuote quote))
+    × IsFirstNotKnown inputs asked.known fault)
+    ⊎ ((log : List ℕ) × (values : ExpectedValues) × (counted : List Expected) × (state : Option SavedState) × (files : Option KnownFiles)
+    × Holds inputs asked.log log
     × AreCounted inputs asked.expected quote values counted × IsKnown inputs asked.resume state × IfSome state (IsOfQuote quote)
+    × AreKnownFiles inputs asked.known files
     × IsNotFound inputs (VerdictOf asked.log asked.scope asked.resume) asked.list
-    (quoted_evidence log quote asked.is_signed values counted (checkpoint_of state)) fault)
+    (quoted_evidence log quote asked.is_signed values counted (checkpoint_of state) files) fault)
 
 -- Why nothing comes of it: the text spells no registers, or with them a match would say too little; or the message is not read, or not the
 -- quote that is asked for; or the log, the expected registers or the checkpoint are not read; or there is no judgement on them and the list; or
@@ -575,7 +677,7 @@ IsNoKey purpose content fault =
 
 -- All is well with an answer that compares nothing, and nobody goes on from it.
 abbrev pub alone : Answer → Answered
-alone answer = record { answer = answer; requirement = None; is_well = true; next = None }
+alone answer = record { answer = answer; requirement = None; unknown = None; is_well = true; next = None }
 
 -- This is what is asked for, where nothing is compared.
 abbrev pub IsAlone : Inputs → Requested → Answer → Type 0

@@ -1,5 +1,5 @@
 -- What is asked for: what is judged, and what the answer says of it.
-use Rattle.std.specs.Prelude.{ℕ, Bool, List, Option, None, Some, option_map}
+use Rattle.std.specs.Prelude.{ℕ, Bool, true, false, List, [], ◌∷◌, Option, None, Some, map, option_map}
 use Rattle.agent_plans.specs.declared.plan.Scope.{Scope}
 use Rattle.tpm_keys.specs.declared.kinds.KeyPart.{KeyPart}
 use Rattle.tpm_keys.specs.declared.kinds.Purpose.{Purpose}
@@ -31,16 +31,18 @@ pub data Requires : Type 0 where
   These : List ℕ → Requires
 
 -- What is compared: the result, with what only it is of; where the list is, or what follows the checkpoint, and the text of expected
--- registers; and what has to be among these.
+-- registers; what has to be among these; and where the texts of known files are, if files have to be known.
 pub record Compared : Type 0 where
   pub judgement : Judgement
   pub list : Where
   pub expected : Where
   pub required : Requires
+  pub known : List Where
 
 -- What is judged by a quote: where the log is, the list, or what follows the checkpoint, and the quote's message; the nonce, the text of the
 -- registers that must be quoted, and whether one may be in the SHA-1 bank alone; whether the message's signature was verified; where the text of
--- expected registers is, if there is one; which part of the list; and where the checkpoint is that is gone on from, if there is one.
+-- expected registers is, if there is one; which part of the list; where the checkpoint is that is gone on from, if there is one; and where the
+-- texts of known files are, if files have to be known.
 pub record Attested : Type 0 where
   pub log : Where
   pub list : Where
@@ -52,6 +54,7 @@ pub record Attested : Type 0 where
   pub expected : Option Where
   pub scope : Scope
   pub resume : Option Where
+  pub known : List Where
 
 -- What is asked for: whether a quote is of a log and a list; what a list is worth against expected registers; the registers after a log, or after
 -- a list alone; the expected registers that a text has, as tpm2-tools printed it, of those within the range that another text spells, if there is
@@ -75,6 +78,13 @@ abbrev pub resume_of : Judgement → Option Where
 resume_of (VerdictOf log scope resume) = resume
 resume_of (PositionsOf log) = None
 resume_of ListVerdictOf = None
+
+-- Whether the texts of known files can be asked for so: for a verdict alone, and only beside a text of required registers.
+abbrev pub takes_known : Judgement → Requires → List Where → Bool
+takes_known judgement requires [] = true
+takes_known (PositionsOf log) requires (place ∷ places) = false
+takes_known judgement (These text) (place ∷ places) = true
+takes_known judgement requires (place ∷ places) = false
 
 -- ---- what contracts see of a request
 
@@ -102,6 +112,7 @@ compared_of comparison = record {
   list = place_of comparison.list;
   expected = place_of comparison.expected;
   required = requires_of comparison.required;
+  known = map place_of comparison.known.now;
 }
 
 abbrev pub attested_of : Attesting → Attested
@@ -116,6 +127,7 @@ attested_of asked = record {
   expected = option_map place_of asked.expected;
   scope = asked.scope;
   resume = option_map place_of asked.resume;
+  known = map place_of asked.known.now;
 }
 
 abbrev pub requested_of : Request → Requested

@@ -1,16 +1,19 @@
 //! The answer to what is asked for, by one path.
 
-ghost use Rattle.std.specs.Prelude.{◌≡◌, ◌⊎◌, [], IfOk, IfErr, IsSomeAnd, MatchOption};
-ghost use Rattle.judging.specs.Answering.{HasNoEvidence, IsAnswer, IsComparison, IsEvidence, IsKnown, IsNoCheckpoint, IsNoComparison, IsNotRequired, IsRefusal, IsRequired, checkpoint_of, evidence_of, Finds, FindsFrom};
-ghost use Rattle.judging.specs.Requests.{requested_of, compared_of, held_bytes, judgement_of, log_of, place_of, requires_of, resume_of};
+ghost use Rattle.std.specs.Prelude.{◌≡◌, ◌⊎◌, [], true, IfOk, IfErr, IsSomeAnd, MatchOption};
+ghost use Rattle.judging.specs.Answering.{HasNoEvidence, IsAnswer, IsComparison, IsEvidence, IsKnown, IsNoCheckpoint, IsNoComparison, IsNotCompared, IsNotRequired, IsRefusal, IsRequired, checkpoint_of, evidence_of, Finds, FindsFrom};
+ghost use Rattle.judging.specs.Requests.{ListVerdictOf, requested_of, compared_of, held_bytes, judgement_of, log_of, place_of, requires_of, resume_of, takes_known};
 ghost use Rattle.judging.specs.Inputs.{Holds, IsInputFault, OfInput};
 
 use crate::attesting::attest;
 use crate::inputs::{Held, Input, limit_of, load_at, refusal};
 use crate::keys::told_of_key;
+use crate::known_texts::known_in;
 use crate::printed_registers::printed_within;
 use crate::registers::{after_list, after_log};
-use crate::request::{Answer, Answered, Answering, Comparison, Request, Required, Wanted, weighed};
+use crate::request::{
+    Answer, Answered, Answering, Comparison, Found, Request, Required, Wanted, weighed,
+};
 use crate::sessions::checkpoint_in;
 use agent_inputs::{AgentFiles, RunFault, not_read};
 use attestations::ExpectedValues;
@@ -20,11 +23,13 @@ use boot_verdict::{
 };
 use byte_streams::{Failed, SliceSource, Source};
 use growing_lists::SavedState;
+use known_files::{KnownFiles, UnknownEntries};
 use std::alloc::Global;
 use tpm_quotes::Quote;
 
 /// The answer to what is asked for. What is compared is read in this order (only in part by the clauses): what is required; the log, which
-/// is loaded; the expected registers; the checkpoint; and then the list is opened, and replayed as it is read, without loading it.
+/// is loaded; the expected registers; the checkpoint; the texts of known files; and then the list is opened, and replayed as it is read,
+/// without loading it.
 pub fn answer_request<F: AgentFiles>(
     alloc: Global,
     files: &mut F,
@@ -32,6 +37,7 @@ pub fn answer_request<F: AgentFiles>(
 ) -> Result<Answered, RunFault>
     ensures answer { IfOk result (IsAnswer (F.known files.old) (requested_of request.entry)) }
     ensures fault { IfErr result (IsRefusal (F.known files.old) (requested_of request.entry)) }
+    ensures known { F.known files.new ≡ F.known files.old }
     ensures saved { F.saved files.new ≡ F.saved files.old }
 {
     match request {
@@ -52,13 +58,44 @@ pub fn answer_request<F: AgentFiles>(
 fn compare<F: AgentFiles>(alloc: Global, files: &mut F, request: Comparison<'_>) -> Answering
     ensures answer { IfOk result (IsComparison (F.known files.old) (compared_of request.entry)) }
     ensures fault { IfErr result (IsNoComparison (F.known files.old) (compared_of request.entry)) }
+    ensures known { F.known files.new ≡ F.known files.old }
+    ensures saved { F.saved files.new ≡ F.saved files.old }
+{
+    if takes_known(request) {
+        compare_as_asked(alloc, files, request)
+    } else {
+        Err(RunFault::Usage)
+    }
+}
+
+// Whether known files can be asked for so.
+fn takes_known(request: Comparison<'_>) -> bool
+    ensures { result ≡ takes_known (compared_of request.entry).judgement (compared_of request.entry).required (compared_of request.entry).known }
+{
+    match (request.known, request.wanted, request.required) {
+        ([], _, _) => true,
+        (_, Wanted::Positions { .. }, _) => false,
+        (_, _, Required::These(_)) => true,
+        (_, _, Required::Nothing | Required::Any) => false,
+    }
+}
+
+// What comes of what is compared, where known files are asked for as they can be, or are not.
+fn compare_as_asked<F: AgentFiles>(
+    alloc: Global,
+    files: &mut F,
+    request: Comparison<'_>,
+) -> Answering
+    requires { takes_known (compared_of request).judgement (compared_of request).required (compared_of request).known ≡ true }
+    ensures answer { IfOk result (IsComparison (F.known files.old) (compared_of request.entry)) }
+    ensures fault { IfErr result (IsNotCompared (F.known files.old) (compared_of request.entry)) }
+    ensures known { F.known files.new ≡ F.known files.old }
     ensures saved { F.saved files.new ≡ F.saved files.old }
 {
     let requirement = required_in(alloc, request.required)?;
     let evidence = evidence_of(alloc, files, request, requirement)?;
-    let (answer, next) = evidence.find(alloc, files, request)?;
-    let required = request.required;
-    Ok(weighed(required, evidence.requirement, answer, next, None))
+    let found = evidence.find(alloc, files, request)?;
+    Ok(weighed(request.required, evidence.requirement, found, None))
 }
 
 // What has to be among the expected registers, if a text spells it.
@@ -93,9 +130,11 @@ pub(crate) struct Evidence<'a> {
     pub values: ExpectedValues,
     /// The checkpoint to go on from, if there is one.
     pub known: Option<Checkpoint>,
+    /// The files that are known, if files have to be known.
+    pub files: Option<KnownFiles>,
 }
 
-// Loads the log, then loads and reads the expected registers, and then the checkpoint.
+// Loads the log, then loads and reads the expected registers, then the checkpoint, and then the texts of known files.
 fn evidence_of<'a, F: AgentFiles>(
     alloc: Global,
     files: &mut F,
@@ -112,6 +151,7 @@ fn evidence_of<'a, F: AgentFiles>(
     let text = load_at(alloc, files, request.expected)?;
     let expected = read_expected(alloc, text.bytes())?;
     let state = state_in(alloc, files, request.wanted)?;
+    let known = known_in(alloc, files, request.known)?;
     Ok(Evidence {
         requirement,
         log,
@@ -120,6 +160,7 @@ fn evidence_of<'a, F: AgentFiles>(
         is_signed: false,
         values: ExpectedValues::NotGiven,
         known: checkpoint_of(state),
+        files: known,
     })
 }
 
@@ -176,8 +217,8 @@ pub(crate) fn state_in<F: AgentFiles>(
     }
 }
 
-/// What was found in a list: the answer, and where to go on.
-pub(crate) type Finding = Result<(Answer, Option<Checkpoint>), RunFault>;
+/// What was found in a list, or why nothing was.
+pub(crate) type Finding = Result<Found, RunFault>;
 
 impl Evidence<'_> {
     /// Opens the list, and finds what is asked for in it.
@@ -188,6 +229,7 @@ impl Evidence<'_> {
         request: Comparison<'_>,
     ) -> Finding
         ensures found { Finds (F.known files.old) (judgement_of request.entry.wanted) (place_of request.entry.list) (evidence_of self.now) result }
+        ensures known { F.known files.new ≡ F.known files.old }
         ensures saved { F.saved files.new ≡ F.saved files.old }
     {
         match request.list {
@@ -215,16 +257,38 @@ impl Evidence<'_> {
             Wanted::Positions { .. } => {
                 let log = self.log.bytes();
                 match locate_from(alloc, log, source, limit_of(list), &self.expected) {
-                    Ok(positions) => Ok((Answer::Positions(positions), None)),
+                    Ok(positions) => Ok(Found {
+                        answer: Answer::Positions(positions),
+                        next: None,
+                        unknown: None,
+                    }),
                     Err(fault) => Err(refusal(alloc, list, fault)),
                 }
             }
-            Wanted::ListVerdict => {
-                match verify_list_from(alloc, source, limit_of(list), &self.expected) {
-                    Ok(report) => Ok((Answer::ListReport(report), None)),
-                    Err(fault) => Err(refusal(alloc, list, fault)),
-                }
+            Wanted::ListVerdict => self.list_verdict_from(alloc, source, list),
+        }
+    }
+
+    // The verdict on the list of this source alone.
+    fn list_verdict_from<R: Source>(
+        &self,
+        alloc: Global,
+        source: &mut R,
+        list: Input<'_>,
+    ) -> Finding
+        ensures { FindsFrom ListVerdictOf (place_of list.entry) (evidence_of self.now) (R.state source.old) (R.state source.new) result }
+    {
+        let watch = UnknownEntries::new(alloc, self.files.as_ref(), 0);
+        match verify_list_from(alloc, source, limit_of(list), &self.expected, watch) {
+            Ok((report, watch)) => {
+                let unknown = watch.within(report.entries)?;
+                Ok(Found {
+                    answer: Answer::ListReport(report),
+                    next: None,
+                    unknown,
+                })
             }
+            Err(fault) => Err(refusal(alloc, list, fault)),
         }
     }
 }

@@ -15,6 +15,7 @@ ghost use Rattle.judging.specs.Requests.{VerdictOf, attested_of, judgement_of, p
 
 use crate::answers::{Evidence, checkpoint_of, state_in};
 use crate::inputs::{Input, load_at};
+use crate::known_texts::known_in;
 use crate::request::{Answering, Attesting, Comparison, Judged, Required, Wanted, weighed};
 use agent_inputs::{AgentFiles, NotResumed, RunFault};
 use attestations::{
@@ -27,7 +28,7 @@ use tpm_quotes::Quote;
 
 /// What comes of a log, a list and a quote. It is read in this order (only in part by the clauses: not that the log comes first of its inputs):
 /// what is required; the quote's message; the log, which is loaded; the expected registers, if there are such; the checkpoint, and whether it is
-/// of the quote's boot; and then the list is opened, and replayed as it is read, without loading it.
+/// of the quote's boot; the texts of known files; and then the list is opened, and replayed as it is read, without loading it.
 pub(crate) fn attest<F: AgentFiles>(
     alloc: Global,
     files: &mut F,
@@ -35,6 +36,7 @@ pub(crate) fn attest<F: AgentFiles>(
 ) -> Answering
     ensures answer { IfOk result (IsAttestation (F.known files.old) (attested_of request.entry)) }
     ensures fault { IfErr result (IsNoAttestation (F.known files.old) (attested_of request.entry)) }
+    ensures known { F.known files.new ≡ F.known files.old }
     ensures saved { F.saved files.new ≡ F.saved files.old }
 {
     let required = required_by(alloc, request.required)?;
@@ -88,12 +90,14 @@ fn judge_by<F: AgentFiles>(
         → IsAttestation (F.known files.old) (attested_of request.entry) given) }
     ensures fault { IfErr result (λ fault. IsNotJudgedBy (F.known files.old) (attested_of request.entry) (quote_of quote.now) fault
         ⊎ (fault ≡ runs.Memory)) }
+    ensures known { F.known files.new ≡ F.known files.old }
     ensures saved { F.saved files.new ≡ F.saved files.old }
 {
     let comparison = comparison_of(request);
     let log = load_at(alloc, files, request.log)?;
     let (values, expected) = counted_in(alloc, files, request.expected, quote)?;
     let state = state_by(alloc, files, comparison.wanted, quote)?;
+    let known = known_in(alloc, files, request.known)?;
     let evidence = Evidence {
         requirement: None,
         log,
@@ -102,10 +106,11 @@ fn judge_by<F: AgentFiles>(
         is_signed: request.is_signed,
         values,
         known: checkpoint_of(state),
+        files: known,
     };
-    let (answer, next) = evidence.find(alloc, files, comparison)?;
+    let found = evidence.find(alloc, files, comparison)?;
     let boot = Boot::of(quote);
-    Ok(weighed(Required::Nothing, None, answer, next, Some(boot)))
+    Ok(weighed(Required::Nothing, None, found, Some(boot)))
 }
 
 // What came of the values of expected registers, and those that count beside this quote.
@@ -175,6 +180,7 @@ fn comparison_of(request: Attesting<'_>) -> Comparison<'_>
         list: request.list,
         expected: Input::Bytes(&[]),
         required: Required::Nothing,
+        known: &[],
     }
 }
 

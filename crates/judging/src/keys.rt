@@ -21,6 +21,7 @@ pub(crate) fn told_of_key<F: AgentFiles>(
 ) -> Answering
     ensures answer { IfOk result (IsAnswer (F.known files.old) (KeyOf (place_of area.entry) purpose part)) }
     ensures fault { IfErr result (IsRefusal (F.known files.old) (KeyOf (place_of area.entry) purpose part)) }
+    ensures known { F.known files.new ≡ F.known files.old }
     ensures saved { F.saved files.new ≡ F.saved files.old }
 {
     let area = load_at(alloc, files, area)?;

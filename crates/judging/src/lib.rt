@@ -5,6 +5,7 @@ mod answers;
 mod attesting;
 mod inputs;
 mod keys;
+mod known_texts;
 mod printed_registers;
 mod registers;
 mod request;

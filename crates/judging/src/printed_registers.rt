@@ -24,6 +24,7 @@ pub(crate) fn printed_within<F: AgentFiles>(
         (ExpectedOf (place_of printed.entry) (option_map (λ text. text.now) range.entry))) }
     ensures fault { IfErr result (IsRefusal (F.known files.old)
         (ExpectedOf (place_of printed.entry) (option_map (λ text. text.now) range.entry))) }
+    ensures known { F.known files.new ≡ F.known files.old }
     ensures saved { F.saved files.new ≡ F.saved files.old }
 {
     let range = range_of(range)?;

@@ -17,6 +17,7 @@ use std::alloc::Global;
 pub(crate) fn after_log<F: AgentFiles>(alloc: Global, files: &mut F, log: Input<'_>) -> Answering
     ensures answer { IfOk result (IsAnswer (F.known files.old) (LogRegistersOf (place_of log.entry))) }
     ensures fault { IfErr result (IsRefusal (F.known files.old) (LogRegistersOf (place_of log.entry))) }
+    ensures known { F.known files.new ≡ F.known files.old }
     ensures saved { F.saved files.new ≡ F.saved files.old }
 {
     let log = load_at(alloc, files, log)?;
@@ -31,6 +32,7 @@ pub(crate) fn after_log<F: AgentFiles>(alloc: Global, files: &mut F, log: Input<
 pub(crate) fn after_list<F: AgentFiles>(alloc: Global, files: &mut F, list: Input<'_>) -> Answering
     ensures answer { IfOk result (IsAnswer (F.known files.old) (ListRegistersOf (place_of list.entry))) }
     ensures fault { IfErr result (IsRefusal (F.known files.old) (ListRegistersOf (place_of list.entry))) }
+    ensures known { F.known files.new ≡ F.known files.old }
     ensures saved { F.saved files.new ≡ F.saved files.old }
 {
     match list {

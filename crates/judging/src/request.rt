@@ -2,7 +2,7 @@
 
 ghost use Rattle.std.specs.Prelude.{◌≡◌, None, if◌then◌else◌, option_map};
 ghost use Rattle.boot_verdict.specs.Verdicts.{verdict_of};
-ghost use Rattle.judging.specs.Answering.{alone, is_match, is_well, state_after};
+ghost use Rattle.judging.specs.Answering.{alone, is_good, is_match, is_well, state_after};
 ghost use Rattle.judging.specs.Requests.{requires_of};
 
 use crate::inputs::Input;
@@ -14,6 +14,7 @@ use boot_verdict::{
     all_found, required_found,
 };
 use growing_lists::{Boot, SavedState};
+use known_files::{Unknown, none_unknown};
 use pcr_banks::Banks;
 use tpm_keys::{KeyPart, KeyReport, Purpose};
 
@@ -60,6 +61,8 @@ pub struct Comparison<'a> {
     pub expected: Input<'a>,
     /// What has to be among them.
     pub required: Required<'a>,
+    /// The texts of known files, if files have to be known: only for a verdict, and beside a text of required registers.
+    pub known: &'a [Input<'a>],
 }
 
 /// What a log and a list are judged by, where the TPM has quoted registers.
@@ -85,6 +88,8 @@ pub struct Attesting<'a> {
     pub scope: Scope,
     /// The checkpoint to go on from, if there is one.
     pub resume: Option<Input<'a>>,
+    /// The texts of known files, if files have to be known.
+    pub known: &'a [Input<'a>],
 }
 
 /// What is asked for, and of which inputs.
@@ -178,7 +183,9 @@ pub struct Answered {
     pub answer: Answer,
     /// The registers that are required, if a text spells some.
     pub requirement: Option<Requirement>,
-    /// Whether all is well: the verdict is `match`, or each register was located; and what has to be among them is.
+    /// The entries that are not known, of those that the answer is on; none without known files.
+    pub unknown: Option<Unknown>,
+    /// Whether all is well: the verdict is `match`, or each register was located; what has to be among them is; and no entry is unknown.
     pub is_well: bool,
     /// Where to go on, if all is well: the checkpoint of what a verdict is on, and the boot, if a quote confirmed it.
     pub next: Option<SavedState>,
@@ -195,30 +202,49 @@ impl Answered {
         Answered {
             answer,
             requirement: None,
+            unknown: None,
             is_well: true,
             next: None,
         }
     }
 }
 
-/// This answer, and what it is worth where this has to be among the expected registers, of which the text spells these. If all is well,
+/// What was found in a list.
+#[derive(Drop)]
+pub(crate) struct Found {
+    /// The answer.
+    pub answer: Answer,
+    /// Where to go on, if it is the answer of a verdict on a log and a list.
+    pub next: Option<Checkpoint>,
+    /// The entries that are not known; none without known files.
+    pub unknown: Option<Unknown>,
+}
+
+/// What was found, and what it is worth where this has to be among the expected registers, of which the text spells these. If all is well,
 /// another goes on from the checkpoint, if there is one, in this boot.
 pub(crate) fn weighed(
     required: Required<'_>,
     requirement: Option<Requirement>,
-    answer: Answer,
-    next: Option<Checkpoint>,
+    found: Found,
     boot: Option<Boot>,
 ) -> Answered
-    ensures answer { result.answer ≡ answer }
+    ensures answer { result.answer ≡ found.answer }
     ensures requirement { result.requirement ≡ requirement }
-    ensures well { result.is_well ≡ is_well (requires_of required.entry) requirement answer }
-    ensures next { result.next ≡ (if result.is_well then state_after boot next else None) }
+    ensures unknown { result.unknown ≡ found.unknown }
+    ensures well { result.is_well ≡ is_well (requires_of required.entry) requirement found.unknown found.answer }
+    ensures next { result.next ≡ (if result.is_well then state_after boot found.next else None) }
 {
-    let is_well = is_well(required, requirement.as_ref(), &answer);
+    let Found {
+        answer,
+        next,
+        unknown,
+    } = found;
+    let is_well = none_unknown(unknown.as_ref())
+        && is_good(required, requirement.as_ref(), &answer);
     Answered {
         answer,
         requirement,
+        unknown,
         is_well,
         next: if is_well {
             state_after(boot, next)
@@ -238,10 +264,10 @@ fn state_after(boot: Option<Boot>, next: Option<Checkpoint>) -> Option<SavedStat
     }
 }
 
-// Whether all is well where this has to be among the expected registers, of which the text spells these; so it is with an answer that
+// Whether the answer is good where this has to be among the expected registers, of which the text spells these; so is an answer that
 // compares nothing.
-fn is_well(required: Required<'_>, ranges: Option<&Requirement>, answer: &Answer) -> bool
-    ensures { result ≡ is_well (requires_of required.entry) (option_map (λ ranges. ranges.now) ranges.entry) answer.now }
+fn is_good(required: Required<'_>, ranges: Option<&Requirement>, answer: &Answer) -> bool
+    ensures { result ≡ is_good (requires_of required.entry) (option_map (λ ranges. ranges.now) ranges.entry) answer.now }
 {
     match (answer, ranges) {
         (Answer::Report(report), None) => is_match(required, report),

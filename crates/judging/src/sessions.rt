@@ -12,7 +12,7 @@ ghost use Rattle.judging.specs.Inputs.{Where};
 use crate::answers::{Evidence, Finding};
 use crate::attesting::report_on;
 use crate::inputs::{Input, limit_of, refusal};
-use crate::request::{Answer, Judged};
+use crate::request::{Answer, Found, Judged};
 use agent_inputs::{NotResumed, RunFault};
 use agent_plans::Scope;
 use boot_verdict::{Checkpoint, CheckpointFault, Expected, PrefixReport, Report, ResumeFault};
@@ -20,6 +20,7 @@ use byte_streams::Source;
 use growing_lists::laws::counted_checkpoint_is_possible;
 use growing_lists::{Goal, SavedState, Session, leaves_room, read_checkpoint};
 use ima_list::laws::{entries_to_the_end_are_the_reading, no_bytes_have_two_readings};
+use known_files::UnknownEntries;
 use std::alloc::{AllocError, Global};
 
 /// The checkpoint whose text this is, and its boot.
@@ -48,10 +49,16 @@ impl Evidence<'_> {
             (R.state source.old) (R.state source.new) result }
     {
         let mut session = session_of(self.log.bytes(), self.known)?;
-        let judged = self.judge_from(alloc, &mut session, source, list, scope)?;
+        let watch = UnknownEntries::new(alloc, self.files.as_ref(), session.checkpoint().entries);
+        let (judged, watch) = self.judge_from(alloc, &mut session, source, list, scope, watch)?;
         let next = next_of(&session)?;
+        let unknown = watch.within(next.entries)?;
         let answer = self.answer_on(alloc, judged, &next)?;
-        Ok((answer, Some(next)))
+        Ok(Found {
+            answer,
+            next: Some(next),
+            unknown,
+        })
     }
 
     // The report on what was judged, after which this is known. It fails only if memory runs out.
@@ -74,31 +81,41 @@ impl Evidence<'_> {
         }
     }
 
-    // Has the session take the list, or its confirmed prefix if that is sought, and reports on it.
-    fn judge_from<R: Source>(
+    // Has the session take the list, or its confirmed prefix if that is sought, and reports on it. The watch looks at its entries.
+    fn judge_from<'k, R: Source>(
         &self,
         alloc: Global,
         session: &mut Session<'_>,
         source: &mut R,
         list: Input<'_>,
         scope: Scope,
-    ) -> Result<Judged, RunFault>
-        ensures { JudgesFrom scope (place_of list.entry) (evidence_of self.now) (R.state source.old) (R.state source.new)
+        watch: UnknownEntries<'k>,
+    ) -> Result<(Judged, UnknownEntries<'k>), RunFault>
+        ensures { JudgesFrom scope (place_of list.entry) (evidence_of self.now) watch.entry (R.state source.old) (R.state source.new)
             session.old session.new result }
     {
         if self.seeks_prefix(scope) {
-            match session.confirm(alloc, source, limit_of(list), self.goal()) {
-                Ok(Some(confirmed)) => Ok(Judged::Prefix(PrefixReport {
-                    report: report(alloc, session, &self.expected)?,
-                    entries: confirmed.entries,
-                    unconfirmed: confirmed.unconfirmed,
-                })),
-                Ok(None) => Ok(Judged::Whole(report(alloc, session, &self.expected)?)),
+            match session.confirm(alloc, source, limit_of(list), self.goal(), watch) {
+                Ok((Some(confirmed), watch)) => {
+                    let prefix = PrefixReport {
+                        report: report(alloc, session, &self.expected)?,
+                        entries: confirmed.entries,
+                        unconfirmed: confirmed.unconfirmed,
+                    };
+                    Ok((Judged::Prefix(prefix), watch))
+                }
+                Ok((None, watch)) => {
+                    let whole = report(alloc, session, &self.expected)?;
+                    Ok((Judged::Whole(whole), watch))
+                }
                 Err(fault) => Err(refusal(alloc, list, fault)),
             }
         } else {
-            match session.more(alloc, source, limit_of(list)) {
-                Ok(()) => Ok(Judged::Whole(report(alloc, session, &self.expected)?)),
+            match session.more(alloc, source, limit_of(list), watch) {
+                Ok(watch) => {
+                    let whole = report(alloc, session, &self.expected)?;
+                    Ok((Judged::Whole(whole), watch))
+                }
                 Err(fault) => Err(refusal(alloc, list, fault)),
             }
         }

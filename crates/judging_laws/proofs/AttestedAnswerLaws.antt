@@ -19,6 +19,7 @@ use Rattle.boot_verdict.specs.declared.report.Report.{Report}
 use Rattle.boot_verdict.specs.Isolation.{are_none, first_extending, first_stray}
 use Rattle.boot_verdict.specs.Verdicts.{IsVerdict, Verdict, aggregate_of, is_good, pcr_after_log_and_list, recorded_aggregate, verdict_of, verdict_on}
 use Rattle.boot_verdict.proofs.ReplayLaws.{one_list}
+use Rattle.known_files.specs.Unknown.{none_unknown}
 use Rattle.tpm_quotes.specs.Quoting.{confirms}
 use Rattle.tpm_quotes.specs.Spelling.{IsQuote, TpmQuote}
 use Rattle.attestations.specs.declared.expected.ExpectedValues.{ExpectedValues}
@@ -35,14 +36,14 @@ use Rattle.agent_plans.specs.declared.plan.Scope.{Scope}
 use Rattle.agent_plans.specs.declared.plan.Scope.TheVariants.{Whole}
 use Rattle.judging.specs.declared.request.Answer.TheVariants as answers
 use Rattle.judging.specs.declared.request.Answered.{Answered}
-use Rattle.judging.specs.Answering.{Evidence, IsAnswerOn, IsAttestation, IsJudged, IsKnown, IsNext, IsPrefixOf, IsTaken, IsVerdictOn, OfList, OfMore, checkpoint_of, is_well, most_more, quoted_evidence, seeks_prefix, terms_with, told_by}
+use Rattle.judging.specs.Answering.{Evidence, IsAnswerOn, IsAttestation, IsJudged, IsKnown, IsNext, IsPrefixOf, IsTaken, IsVerdictOn, OfList, OfMore, TellsUnknown, checkpoint_of, entries_taken, is_good as is_good_answer, most_more, quoted_evidence, seeks_prefix, terms_with, told_by}
 use Rattle.judging.specs.Inputs.{OfInput, Where}
 use Rattle.judging.specs.Requests.{Attested, Nothing, VerdictOf}
 use Rattle.judging_laws.specs.AttestedAnswers.{is_on_prefix, TellsAttested, TellsPrefixAttested, TellsSomeAttested}
 
 -- ---- Booleans
 
-both_true : (a b : Bool) → (a && b) ≡ true → (a ≡ true) × (b ≡ true)
+pub both_true : (a b : Bool) → (a && b) ≡ true → (a ≡ true) × (b ≡ true)
 both_true true b e = (refl, e)
 both_true false b e = absurd cc
 
@@ -100,24 +101,26 @@ attested_on log list message terms quote expected table events entries verdict n
 
 -- ---- what was judged
 
--- The verdict is on a log and the whole list of this input, and this is where to go on.
-abbrev WholeOn : Inputs → Where → Evidence → Verdict → Checkpoint → Type 0
-WholeOn inputs list evidence verdict next =
+-- The verdict is on a log and the whole list of this input, and this is where to go on. The list's entries have this property.
+abbrev pub WholeOn : Inputs → Where → Evidence → (List ListEntry → Type 0) → Verdict → Checkpoint → Type 0
+WholeOn inputs list evidence Tells verdict next =
     OfMore inputs list evidence.known (λ taken more. (length more ≤ most_more evidence.known list)
-    × IsVerdict evidence.log (taken ++ more) evidence.expected verdict × IsNext evidence.log (taken ++ more) next)
+    × IsVerdict evidence.log (taken ++ more) evidence.expected verdict
+    × ((next_is : IsNext evidence.log (taken ++ more) next) × Tells next_is.checkpoint.entries))
 
-abbrev PrefixOn : Inputs → Where → Evidence → PrefixReport → Checkpoint → Type 0
-PrefixOn inputs list evidence report next = OfList inputs list evidence.known (λ all. IsPrefixOf evidence all report next)
+abbrev pub PrefixOn : Inputs → Where → Evidence → (List ListEntry → Type 0) → PrefixReport → Checkpoint → Type 0
+PrefixOn inputs list evidence Tells report next = OfList inputs list evidence.known (λ all. IsPrefixOf evidence Tells all report next)
 
 -- What follows from a verdict on the whole list, and from one on its prefix, follows from the verdict that an answer tells. (What was
 -- judged has a type that its own crate alone can name.)
-of_each : (inputs : Inputs) (scope : Scope) (list : Where) (evidence : Evidence) (next : Checkpoint) (quote : TpmQuote) (is_signed : Bool)
-    (values : ExpectedValues) (on : _) (Q : Verdict → Bool → Type 0)
-    → ((report : Report) → WholeOn inputs list evidence (verdict_of report) next → Q (verdict_of report) false)
-    → ((report : PrefixReport) → seeks_prefix scope evidence ≡ true → PrefixOn inputs list evidence report next → Q (verdict_of report.report) true)
-    → IsVerdictOn inputs scope list evidence on next
+pub of_each : (inputs : Inputs) (scope : Scope) (list : Where) (evidence : Evidence) (Tells : List ListEntry → Type 0) (next : Checkpoint)
+    (quote : TpmQuote) (is_signed : Bool) (values : ExpectedValues) (on : _) (Q : Verdict → Bool → Type 0)
+    → ((report : Report) → WholeOn inputs list evidence Tells (verdict_of report) next → Q (verdict_of report) false)
+    → ((report : PrefixReport) → seeks_prefix scope evidence ≡ true → PrefixOn inputs list evidence Tells report next
+    → Q (verdict_of report.report) true)
+    → IsVerdictOn inputs scope list evidence Tells on next
     → Q (told_by quote is_signed values next on).verdict (is_some (told_by quote is_signed values next on).prefix)
-of_each inputs scope list evidence next quote is_signed values on Q whole part is = grind (arith, whole, part)
+of_each inputs scope list evidence Tells next quote is_signed values on Q whole part is = grind (arith, whole, part)
 
 told_signed : (quote : TpmQuote) (is_signed : Bool) (values : ExpectedValues) (next : Checkpoint) (on : _)
     → (told_by quote is_signed values next on).is_signed ≡ is_signed
@@ -142,7 +145,11 @@ from_nothing inputs asked given is resume =
 
 module _ (inputs : Inputs) (asked : Attested) (given : Answered) (is : IsAttestation inputs asked given) (well : given.is_well ≡ true) where
   abbrev evidence : Evidence
-  evidence = quoted_evidence is.log is.quote asked.is_signed is.values is.counted (checkpoint_of is.state)
+  evidence = quoted_evidence is.log is.quote asked.is_signed is.values is.counted (checkpoint_of is.state) is.files
+
+  -- What the answer tells of the entries that it is on.
+  abbrev Tells : List ListEntry → Type 0
+  Tells = TellsUnknown is.files (entries_taken (checkpoint_of is.state)) given.unknown
 
   -- The answer is a report with this verdict, on the whole list or on a prefix, and all is well with it.
   record Says (verdict : Verdict) (on_prefix : Bool) (next : Checkpoint) : Type 0 where
@@ -159,8 +166,9 @@ module _ (inputs : Inputs) (asked : Attested) (given : Answered) (is : IsAttesta
   said on next answer =
       let told = told_by is.quote asked.is_signed is.values next on in
       let report = answer.0 in
-      let here : (report.is_signed && is_attested (attest_verdict_of report)) ≡ true =
-      ap (is_well Nothing None) (sym answer.1) ∙ sym is.well_is ∙ well in
+      let good_is : is_good_answer Nothing None given.answer ≡ true =
+      (both_true (none_unknown given.unknown) (is_good_answer Nothing None given.answer) (sym is.well_is ∙ well)).1 in
+      let here : (report.is_signed && is_attested (attest_verdict_of report)) ≡ true = ap (is_good_answer Nothing None) (sym answer.1) ∙ good_is in
       let there : (told.is_signed && is_attested told) ≡ true =
       subst (λ (v : AttestVerdict). (v.is_signed && is_attested v) ≡ true) answer.2 here in
       let good = well_told told is.quote next asked.is_signed there (told_signed is.quote asked.is_signed is.values next on)
@@ -201,7 +209,7 @@ module _ (inputs : Inputs) (asked : Attested) (given : Answered) (is : IsAttesta
       }
 
   whole_tells : (report : Report) (next : Checkpoint) (taken : List ℕ) → IsTaken (checkpoint_of is.state) taken
-      → WholeOn inputs asked.list evidence (verdict_of report) next → Says (verdict_of report) false next
+      → WholeOn inputs asked.list evidence Tells (verdict_of report) next → Says (verdict_of report) false next
       → OfInput inputs asked.list (λ more. TellsAttested inputs asked given is (taken ++ more))
   whole_tells report next taken before on says =
       let more = on taken before in
@@ -209,11 +217,11 @@ module _ (inputs : Inputs) (asked : Attested) (given : Answered) (is : IsAttesta
         more.0,
         more.1,
         tells_on (taken ++ more.0) found.table found.events found.entries (verdict_of report) false next found.log_is found.list_is found.genuine
-            found.verdict_is more.2.2 says,
+            found.verdict_is more.2.2.0 says,
       )
 
   prefix_tells : (report : PrefixReport) (next : Checkpoint) (taken : List ℕ) → IsTaken (checkpoint_of is.state) taken
-      → PrefixOn inputs asked.list evidence report next → Says (verdict_of report.report) true next
+      → PrefixOn inputs asked.list evidence Tells report next → Says (verdict_of report.report) true next
       → OfInput inputs asked.list (λ more. TellsPrefixAttested inputs asked given is (taken ++ more))
   prefix_tells report next taken before on says =
       let more = on taken before in
@@ -230,7 +238,7 @@ module _ (inputs : Inputs) (asked : Attested) (given : Answered) (is : IsAttesta
       )
 
   abbrev IsFound : Option Checkpoint → Type 0
-  IsFound next = IsJudged inputs (VerdictOf asked.log asked.scope asked.resume) asked.list evidence given.answer next
+  IsFound next = IsJudged inputs (VerdictOf asked.log asked.scope asked.resume) asked.list evidence given.answer next given.unknown
 
   pub whole_attested : asked.scope ≡ Whole → OfList inputs asked.list (checkpoint_of is.state) (TellsAttested inputs asked given is)
   whole_attested scope taken before = by is.next is.judged
@@ -242,7 +250,7 @@ module _ (inputs : Inputs) (asked : Attested) (given : Answered) (is : IsAttesta
       by None judged = absurd judged
       by (Some next) judged =
           let Q : Verdict → Bool → Type 0 = λ verdict on_prefix. Says verdict on_prefix next → OfInput inputs asked.list (λ more. TellsAttested inputs asked given is (taken ++ more)) in
-          of_each inputs asked.scope asked.list evidence next is.quote asked.is_signed is.values judged.0 Q
+          of_each inputs asked.scope asked.list evidence Tells next is.quote asked.is_signed is.values judged.0 Q
           (λ report on says. whole_tells report next taken before on says) (λ report sought on says. absurd (no_prefix sought)) judged.1
           (said judged.0 next judged.2)
 
@@ -253,7 +261,7 @@ module _ (inputs : Inputs) (asked : Attested) (given : Answered) (is : IsAttesta
       by None judged = absurd judged
       by (Some next) judged =
           let Q : Verdict → Bool → Type 0 = λ verdict on_prefix. Says verdict on_prefix next → OfInput inputs asked.list (λ more. TellsSomeAttested inputs asked given is (taken ++ more)) in
-          of_each inputs asked.scope asked.list evidence next is.quote asked.is_signed is.values judged.0 Q
+          of_each inputs asked.scope asked.list evidence Tells next is.quote asked.is_signed is.values judged.0 Q
           (λ report on says. let all = whole_tells report next taken before on says in (all.0, all.1, inl (says.prefix_is, all.2)))
           (λ report sought on says. let part = prefix_tells report next taken before on says in (part.0, part.1, inr (says.prefix_is, part.2))) judged.1
           (said judged.0 next judged.2)

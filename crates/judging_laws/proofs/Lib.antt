@@ -1,1 +1,3 @@
 pub mod AttestedAnswerLaws
+pub mod KnownEntryLaws
+pub mod QuotedLogLaws

@@ -1,1 +1,3 @@
 pub mod AttestedAnswers
+pub mod KnownEntries
+pub mod QuotedLogs

@@ -2,5 +2,9 @@
 #![tactic(auto)]
 
 mod attested;
+mod known;
+mod quoted;
 
 pub use attested::answer_tells_attestation;
+pub use known::well_answer_has_known_entries;
+pub use quoted::well_answer_quotes_the_log;

@@ -1,6 +1,6 @@
 -- What a text lists is known, and what is known is listed.
-use Rattle.std.proofs.Common.{◌≡◌, ◌↔◌, ℕ, ◌+◌, Bool, true, false, List, [], ◌∷◌, ◌++◌, length, Option, Some, None, refl, sym, ap, ◌∙◌, arith, append_assoc, append-nil}
-use Rattle.std.specs.Prelude.{if◌then◌else◌, ◌&&◌, ◌==◌, not, bytes_eq}
+use Rattle.std.proofs.Common.{◌≡◌, ◌↔◌, ℕ, Bool, true, false, List, Option, Some, None, refl, ap, ◌∙◌}
+use Rattle.std.specs.Prelude.{◌&&◌, ◌==◌, not, bytes_eq}
 use Rattle.std.proofs.lemmas.Bool.{and_parts, and_from, eqb-true, eq-eqb, false_from_ne_true}
 use Rattle.std.proofs.lemmas.Slice.Eq.{bytes_eq-Decides}
 use Rattle.ima_list.specs.ListEntry.{ListEntry}
@@ -8,7 +8,6 @@ use Rattle.ima_list.specs.Aggregates.{boot_aggregate_path}
 use Rattle.ima_list.specs.Digesting.{is_violation}
 use Rattle.known_files.specs.EntryFiles.{FileTold, IsKnown, file_of, is_known, is_known_file, list_register}
 use Rattle.known_files.specs.Listing.{IsListed, is_listed}
-use Rattle.known_files.specs.Unknown.{is_unknown, unknown_at, unknown_in}
 use Rattle.known_files.proofs.ListingLaws.{listed_iff}
 
 not_true : (b : Bool) → not b ≡ true → b ≡ false
@@ -62,38 +61,3 @@ known_again texts entry known =
 
 pub known_iff : (texts : List (List ℕ)) (entry : ListEntry) → (is_known texts entry ≡ true) ↔ IsKnown texts entry
 known_iff texts entry = (known_read texts entry, known_again texts entry)
-
--- ---- one entry after others
-
-pub unknown_more : (texts : List (List ℕ)) (first : ℕ) (entries : List ListEntry) (entry : ListEntry)
-    → unknown_in texts first (entries ++ entry ∷ []) ≡ unknown_in texts first entries ++ unknown_at texts (first + length entries) entry
-unknown_more texts first [] entry =
-    append-nil (unknown_at texts first entry) ∙ ap (λ n. unknown_at texts n entry) (omega arith)
-unknown_more texts first (other ∷ entries) entry =
-    ap (λ l. unknown_at texts first other ++ l) (unknown_more texts (first + 1) entries entry
-    ∙ ap (λ n. unknown_in texts (first + 1) entries ++ unknown_at texts n entry) (omega arith))
-    ∙ sym (append_assoc (unknown_at texts first other) (unknown_in texts (first + 1) entries)
-    (unknown_at texts (first + length (other ∷ entries)) entry))
-
--- The numbers after one more entry, which has this number.
-more_at : (texts : List (List ℕ)) (first : ℕ) (entries : List ListEntry) (entry : ListEntry) (number : ℕ) (told : Bool)
-    → number ≡ first + length entries → told ≡ is_unknown texts number entry
-    → unknown_in texts first (entries ++ entry ∷ []) ≡ unknown_in texts first entries ++ (if told then number ∷ [] else [])
-more_at texts first entries entry number told at is =
-    unknown_more texts first entries entry ∙ ap (λ n. unknown_in texts first entries ++ unknown_at texts n entry) (sym at)
-    ∙ ap (λ (b : Bool). unknown_in texts first entries ++ (if b then number ∷ [] else [])) (sym is)
-
-pub unknown_next : (texts : List (List ℕ)) (first : ℕ) (entries : List ListEntry) (entry : ListEntry) (number : ℕ) (told : Bool)
-    → number ≡ first + length entries → told ≡ is_unknown texts number entry → told ≡ true
-    → unknown_in texts first (entries ++ entry ∷ []) ≡ unknown_in texts first entries ++ number ∷ []
-unknown_next texts first entries entry number told at is yes_told =
-    more_at texts first entries entry number told at is
-    ∙ ap (λ (b : Bool). unknown_in texts first entries ++ (if b then number ∷ [] else [])) yes_told
-
-pub known_next : (texts : List (List ℕ)) (first : ℕ) (entries : List ListEntry) (entry : ListEntry) (number : ℕ) (told : Bool)
-    → number ≡ first + length entries → told ≡ is_unknown texts number entry → told ≡ false
-    → unknown_in texts first (entries ++ entry ∷ []) ≡ unknown_in texts first entries
-known_next texts first entries entry number told at is not_told =
-    more_at texts first entries entry number told at is
-    ∙ ap (λ (b : Bool). unknown_in texts first entries ++ (if b then number ∷ [] else [])) not_told
-    ∙ append-nil (unknown_in texts first entries)

@@ -5,4 +5,5 @@ pub mod ListingLaws
 pub mod ListedLaws
 pub mod SortedLaws
 pub mod KnownLaws
+pub mod UnknownLaws
 pub mod AnswerLaws

@@ -62,7 +62,7 @@ abbrev pub list_register : ℕ
 list_register = 10
 
 -- The entry is known: it is of a file whose digest one of the texts lists, and it is no violation, of the list's register, and not of the
--- boot aggregate's path, of which the kernel makes one entry, the first. That the entry is genuine is not said.
+-- boot aggregate's path, since a kernel makes one entry of that, its first. That the entry is genuine is not said.
 pub record IsKnown (texts : List (List ℕ)) (entry : ListEntry) : Type 0 where
   pub file : FileTold
   pub told : file_of entry ≡ Some file
@@ -79,6 +79,17 @@ is_known_file texts (Some file) = not (bytes_eq file.path boot_aggregate_path) &
 
 abbrev pub is_known : List (List ℕ) → ListEntry → Bool
 is_known texts entry = not (is_violation entry) && ((entry.register == list_register) && is_known_file texts (file_of entry))
+
+-- ---- the boot aggregate
+
+-- Whether this is the boot aggregate's path.
+abbrev pub has_aggregate_path : Option FileTold → Bool
+has_aggregate_path None = false
+has_aggregate_path (Some file) = bytes_eq file.path boot_aggregate_path
+
+-- Whether the entry is one of the boot aggregate: no file has its digest, which a verdict with a log compares.
+abbrev pub is_aggregate : ListEntry → Bool
+is_aggregate entry = not (is_violation entry) && has_aggregate_path (file_of entry)
 
 -- ---- what contracts see of the code's values
 

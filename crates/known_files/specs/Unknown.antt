@@ -1,12 +1,23 @@
 -- The entries of a list that are not known.
-use Rattle.std.specs.Prelude.{◌≡◌, ℕ, ◌+◌, ◌&&◌, nat_lt, Bool, false, not, if◌then◌else◌, List, [], ◌∷◌, ◌++◌}
+use Rattle.std.specs.Prelude.{◌≡◌, ℕ, ◌+◌, ◌&&◌, ◌==◌, nat_le, Bool, true, false, not, if◌then◌else◌, List, [], ◌∷◌, ◌++◌, length, drop, Option, None, Some, option_map}
 use Rattle.ima_list.specs.ListEntry.{ListEntry}
+use Rattle.boot_verdict.specs.declared.positions.Position.{Position}
+use Rattle.boot_verdict.specs.declared.positions.Position.TheVariants.{Reset, Event, Entry, Nowhere, Absent}
+use Rattle.boot_verdict.specs.Positions.{position_after}
+use Rattle.boot_verdict.specs.Steps.{Step, OfEntry, OfEvent}
+use Rattle.known_files.specs.declared.known.KnownFiles.{KnownFiles}
+use Rattle.known_files.specs.declared.unknown.Unknown.{Unknown}
 use Rattle.known_files.specs.declared.unknown.UnknownEntries.{UnknownEntries}
-use Rattle.known_files.specs.EntryFiles.{is_known}
+use Rattle.known_files.specs.EntryFiles.{is_aggregate, is_known}
+use Rattle.known_files.specs.Known.{Knows}
 
--- Whether the entry of this number, counted from 0, is unknown. Entry 0 is the boot aggregate, of which the verdict speaks.
+-- Whether the entry of this number is the first, counted from 0, and one of the boot aggregate.
+abbrev pub is_passed : ℕ → ListEntry → Bool
+is_passed number entry = (number == 0) && is_aggregate entry
+
+-- Whether the entry of this number is unknown.
 abbrev pub is_unknown : List (List ℕ) → ℕ → ListEntry → Bool
-is_unknown texts number entry = nat_lt 0 number && not (is_known texts entry)
+is_unknown texts number entry = not (is_passed number entry) && not (is_known texts entry)
 
 -- The number of this entry, if it is unknown.
 abbrev pub unknown_at : List (List ℕ) → ℕ → ListEntry → List ℕ
@@ -17,6 +28,51 @@ abbrev pub unknown_in : List (List ℕ) → ℕ → List ListEntry → List ℕ
 unknown_in texts number [] = []
 unknown_in texts number (entry ∷ entries) = unknown_at texts number entry ++ unknown_in texts (number + 1) entries
 
--- Unless memory ran out, these are the unknown ones of the entries from this number on.
-abbrev pub TellsUnknown : List (List ℕ) → ℕ → List ListEntry → UnknownEntries → Type 0
-TellsUnknown texts first entries unknown = unknown.failed ≡ false → unknown.numbers.items ≡ unknown_in texts first entries
+-- These are the numbers of the unknown ones among the entries from number `first` on.
+abbrev pub AreUnknown : List (List ℕ) → ℕ → List ListEntry → List ℕ → Type 0
+AreUnknown texts first entries numbers = numbers ≡ unknown_in texts first (drop first entries)
+
+-- No entry is told unknown; so it is where no files are known.
+abbrev pub none_unknown : Option Unknown → Bool
+none_unknown None = true
+none_unknown (Some unknown) = length unknown.numbers.items == 0
+
+-- ---- as a list is read
+
+-- The known files.
+abbrev pub files_of : UnknownEntries → Option KnownFiles
+files_of unknown = option_map (λ files. files.now) unknown.known
+
+-- Nothing was looked at yet.
+pub record IsFresh (known : Option KnownFiles) (first : ℕ) (unknown : UnknownEntries) : Type 0 where
+  pub known_is : files_of unknown ≡ known
+  pub first_is : unknown.first ≡ first
+  pub none : unknown.numbers.items ≡ []
+  pub whole : unknown.failed ≡ false
+
+-- Whether the entry of this number is looked at, from number `first` on, and is unknown.
+abbrev pub is_told : List (List ℕ) → ℕ → ℕ → ListEntry → Bool
+is_told texts first number entry = nat_le first number && is_unknown texts number entry
+
+-- What a step adds to the numbers.
+abbrev pub told_by_step : List (List ℕ) → ℕ → Position → Step → List ℕ
+told_by_step texts first position (OfEvent event) = []
+told_by_step texts first (Entry number) (OfEntry entry) = if is_told texts first number entry then number ∷ [] else []
+told_by_step texts first Reset (OfEntry entry) = []
+told_by_step texts first (Event number) (OfEntry entry) = []
+told_by_step texts first Nowhere (OfEntry entry) = []
+told_by_step texts first Absent (OfEntry entry) = []
+
+-- What these steps add, where the log has so many events, and so many steps were before.
+abbrev pub told_by_steps : List (List ℕ) → ℕ → ℕ → ℕ → List Step → List ℕ
+told_by_steps texts first events before [] = []
+told_by_steps texts first events before (step ∷ steps) =
+    told_by_step texts first (position_after events (before + 1)) step ++ told_by_steps texts first events (before + 1) steps
+
+-- These steps were looked at: unless memory ran out, the numbers of the unknown ones among them were added.
+pub record IsLookedAfter (start : UnknownEntries) (events : ℕ) (steps : List Step) (now : UnknownEntries) : Type 0 where
+  pub known_same : now.known ≡ start.known
+  pub first_same : now.first ≡ start.first
+  pub whole : now.failed ≡ false → start.failed ≡ false
+  pub numbers : (texts : List (List ℕ)) (files : KnownFiles) → files_of start ≡ Some files → Knows texts files → now.failed ≡ false
+      → now.numbers.items ≡ start.numbers.items ++ told_by_steps texts start.first events 0 steps

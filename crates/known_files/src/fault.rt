@@ -9,10 +9,10 @@ use thiserror::Error;
 /// Why a text of digests was refused: the first wrong line, counted from 1, or out of memory.
 #[derive(Clone, Copy, Debug, PartialEq, Eq, Error)]
 pub enum KnownFault {
-    /// The line says a digest by SHA-1: files with the same one are made.
+    /// 1: the line says a digest by SHA-1: files with the same one are made.
     #[error("line {line}: it is a digest by SHA-1, of which collisions are made")]
     WeakHash { line: usize },
-    /// The line is not a digest by SHA-256, SHA-384 or SHA-512, two spaces or a space and an asterisk, and a name.
+    /// 2: the line is not a digest by SHA-256, SHA-384 or SHA-512, two spaces or a space and an asterisk, and a name.
     #[error("line {line}: it is not a digest and a name, as sha256sum prints them")]
     Malformed { line: usize },
     /// Out of memory.

@@ -3,7 +3,7 @@
 ghost use Rattle.std.specs.Prelude.{◌≡◌, ◌↔◌, ℕ, List, [], IsTrue, option_map};
 ghost use Rattle.pcr_banks.specs.declared.alg.Alg.{Alg};
 ghost use Rattle.known_files.specs.Listing.{IsListed, is_listed};
-ghost use Rattle.known_files.specs.EntryFiles.{IsKnown, is_known, is_known_file, told_of};
+ghost use Rattle.known_files.specs.EntryFiles.{IsKnown, has_aggregate_path, is_aggregate, is_known, is_known_file, told_of};
 ghost use Rattle.known_files.specs.Known.{HoldsAll, Knows, has};
 
 use crate::entry_file::file_of;
@@ -95,5 +95,25 @@ impl KnownFiles {
             Some((digest, path)) => path != BOOT_AGGREGATE_PATH && self.has(&digest),
             None => false,
         }
+    }
+}
+
+/// Whether the entry is one of the boot aggregate: it is no violation, and its path is `boot_aggregate`. Its digest is not looked at.
+pub(crate) fn is_aggregate(entry: &EntryRef<'_>) -> bool
+    ensures { result ≡ is_aggregate entry.now }
+{
+    if entry.is_violation() {
+        return false;
+    }
+    has_aggregate_path(file_of(entry))
+}
+
+// Whether this is the boot aggregate's path.
+fn has_aggregate_path(file: Option<(Digest, &[u8])>) -> bool
+    ensures { result ≡ has_aggregate_path (option_map told_of file.entry) }
+{
+    match file {
+        Some((_, path)) => path == BOOT_AGGREGATE_PATH,
+        None => false,
     }
 }

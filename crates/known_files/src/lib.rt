@@ -1,7 +1,7 @@
 //! Which files of a measurement list are known, by the digests that `sha256sum` and its kind print.
 //!
 //! [`ListedFiles`] takes the texts, [`KnownFiles`] answers whether an entry is known, and [`UnknownEntries`] collects the numbers of those
-//! that are not, as a list is read.
+//! that are not, as a list is replayed.
 #![tactic(auto)]
 
 mod digest_line;
@@ -19,4 +19,4 @@ pub use entry_file::file_of;
 pub use fault::KnownFault;
 pub use known::KnownFiles;
 pub use listed::ListedFiles;
-pub use unknown::UnknownEntries;
+pub use unknown::{Unknown, UnknownEntries, none_unknown};

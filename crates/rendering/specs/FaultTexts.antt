@@ -23,6 +23,7 @@ said_of kinds.Replay = (codes "refused: replay fault ", codes "replay", 2)
 said_of kinds.Expect = (codes "refused: expected fault ", codes "expected", 2)
 said_of kinds.Quote = (codes "refused: quote fault ", codes "quote", 4)
 said_of kinds.Key = (codes "refused: key fault ", codes "key", 2)
+said_of kinds.Known = (codes "refused: known fault ", codes "known", 2)
 said_of kinds.Checkpoint = (codes "refused: checkpoint fault ", codes "checkpoint", 2)
 said_of kinds.Book = (codes "refused: book fault ", codes "book", 2)
 said_of kinds.Outcome = (codes "refused: job ", codes "job", 2)
@@ -38,6 +39,7 @@ abbrev pub place_words : FaultKind → Option ℕ → List ℕ
 place_words kind None = []
 place_words kinds.Log (Some event) = codes " at event "
 place_words kinds.Expect (Some line) = codes " at line "
+place_words kinds.Known (Some line) = codes " at line "
 place_words kinds.Outcome (Some number) = codes " book fault "
 place_words kind (Some entry) = codes " at entry "
 
@@ -75,7 +77,8 @@ fault_status fault = (said_of (fault_head fault).kind).2
 
 -- ---- faults as JSON
 
--- The event or the entry that a fault of this kind names by this place. The line of expected registers stands in the message alone.
+-- The event or the entry that a fault of this kind names by this place. The line of expected registers, or of known files, stands in the
+-- message alone.
 abbrev pub json_place : FaultKind → Option ℕ → Option FaultPlace
 json_place kinds.Log (Some event) = Some (Event event)
 json_place kinds.List (Some entry) = Some (Entry entry)

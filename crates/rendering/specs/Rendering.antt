@@ -2,6 +2,7 @@
 use Rattle.std.specs.Prelude.{ℕ, Bool, true, false, List, ◌++◌, Option, Some, None, flat_map, ◌≡◌, ◌⊎◌, if◌then◌else◌, []}
 use Rattle.boot_verdict.specs.declared.requirement.BankRange.{BankRange}
 use Rattle.boot_verdict.specs.ListVerdicts.{list_verdict_of}
+use Rattle.known_files.specs.declared.unknown.Unknown.{Unknown}
 use Rattle.attestations.specs.Reports.{attest_verdict_of}
 use Rattle.verdict_texts.specs.AttestTexts.{attest_text}
 use Rattle.verdict_texts.specs.ListReportTexts.{list_report_text, required_list_report_text}
@@ -37,37 +38,40 @@ use Rattle.agent_inputs.specs.Loading.{HasReplaced, Inputs, IsNotWritten, Saved}
 use Rattle.judging.specs.Answering.{IsAnswer, IsRefusal}
 use Rattle.judging.specs.Requests.{Requested}
 
--- The lines of an answer, where these registers are required, and whether all is well.
-abbrev pub lines_of : Bool → Option (List BankRange) → Answer → List ℕ
-lines_of well required (Attestation report) = attest_text (attest_verdict_of report)
-lines_of well None (Report report) =
+-- The lines of an answer, with whether all is well, where these registers are required, and with the entries that are not known. (Files are
+-- known only beside required registers, or a quote.)
+abbrev pub lines_of : Bool → Option (List BankRange) → Option Unknown → Answer → List ℕ
+lines_of well required unknown (Attestation report) = attest_text unknown (attest_verdict_of report)
+lines_of well None unknown (Report report) =
     counts_text (verdict_of report).events (verdict_of report).locality (verdict_of report).entries ++ outcome_text (verdict_of report) well
-lines_of well (Some ranges) (Report report) = required_report_text ranges (verdict_of report)
-lines_of well None (Prefix prefix) = prefix_report_text (verdict_of prefix.report) prefix.entries prefix.unconfirmed
-lines_of well (Some ranges) (Prefix prefix) = required_prefix_report_text ranges (verdict_of prefix.report) prefix.entries prefix.unconfirmed
-lines_of well None (Positions positions) = positions_text positions.items
-lines_of well (Some ranges) (Positions positions) = required_positions_text ranges positions.items
-lines_of well None (ListReport report) = list_report_text (list_verdict_of report)
-lines_of well (Some ranges) (ListReport report) = required_list_report_text ranges (list_verdict_of report)
-lines_of well required (Registers registers) = registers_text registers.now registers.start
-lines_of well required (Expected expected range) = expected_text range expected.items
-lines_of well required (Key report part) = key_text part report
+lines_of well (Some ranges) unknown (Report report) = required_report_text ranges unknown (verdict_of report)
+lines_of well None unknown (Prefix prefix) = prefix_report_text (verdict_of prefix.report) prefix.entries prefix.unconfirmed
+lines_of well (Some ranges) unknown (Prefix prefix) =
+    required_prefix_report_text ranges unknown (verdict_of prefix.report) prefix.entries prefix.unconfirmed
+lines_of well None unknown (Positions positions) = positions_text positions.items
+lines_of well (Some ranges) unknown (Positions positions) = required_positions_text ranges positions.items
+lines_of well None unknown (ListReport report) = list_report_text (list_verdict_of report)
+lines_of well (Some ranges) unknown (ListReport report) = required_list_report_text ranges unknown (list_verdict_of report)
+lines_of well required unknown (Registers registers) = registers_text registers.now registers.start
+lines_of well required unknown (Expected expected range) = expected_text range expected.items
+lines_of well required unknown (Key report part) = key_text part report
 
 -- An answer as JSON.
-abbrev pub json_of : Bool → Option (List BankRange) → Answer → Json
-json_of well required (Attestation report) = attest_json (attest_verdict_of report)
-json_of well required (Report report) = report_json required well (verdict_of report)
-json_of well required (Prefix prefix) = prefix_report_json required (verdict_of prefix.report) prefix.entries prefix.unconfirmed
-json_of well required (Positions positions) = positions_json required positions.items
-json_of well required (ListReport report) = list_report_json required (list_verdict_of report)
-json_of well required (Registers registers) = registers_json registers.now registers.start
-json_of well required (Expected expected range) = expected_json range expected.items
-json_of well required (Key report part) = key_json part report
+abbrev pub json_of : Bool → Option (List BankRange) → Option Unknown → Answer → Json
+json_of well required unknown (Attestation report) = attest_json unknown (attest_verdict_of report)
+json_of well required unknown (Report report) = report_json required unknown well (verdict_of report)
+json_of well required unknown (Prefix prefix) =
+    prefix_report_json required unknown (verdict_of prefix.report) prefix.entries prefix.unconfirmed
+json_of well required unknown (Positions positions) = positions_json required positions.items
+json_of well required unknown (ListReport report) = list_report_json required unknown (list_verdict_of report)
+json_of well required unknown (Registers registers) = registers_json registers.now registers.start
+json_of well required unknown (Expected expected range) = expected_json range expected.items
+json_of well required unknown (Key report part) = key_json part report
 
 -- The answer in this form.
 abbrev pub render : Form → Answered → List ℕ
-render forms.Text given = lines_of given.is_well given.requirement given.answer
-render forms.Json given = line_of (json_of given.is_well given.requirement given.answer)
+render forms.Text given = lines_of given.is_well given.requirement given.unknown given.answer
+render forms.Json given = line_of (json_of given.is_well given.requirement given.unknown given.answer)
 
 -- ---- a measurement
 

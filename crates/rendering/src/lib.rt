@@ -13,4 +13,4 @@ pub use fault_lines::{status_of, write_fault};
 pub use json_faults::{json_fault_line, json_memory_line};
 pub use outputs::{Given, output_for, output_on};
 pub use printed_lists::print_measured;
-pub use renderer::{Output, render};
+pub use renderer::{Output, render, status_of_answer};

@@ -65,8 +65,8 @@ pub fn render(alloc: Global, given: &Answered, form: Form) -> Result<Output, All
     })
 }
 
-// The exit status of an answer.
-fn status_of_answer(given: &Answered) -> u8
+/// The exit status of an answer.
+pub fn status_of_answer(given: &Answered) -> u8
     ensures { result ≡ answer_status given.now.is_well given.now.answer }
 {
     match (given.is_well, &given.answer) {
@@ -78,7 +78,7 @@ fn status_of_answer(given: &Answered) -> u8
 
 // The lines of an answer.
 fn lines(alloc: Global, given: &Answered) -> Result<Vec<u8>, AllocError>
-    ensures { IfOk result (λ text. text.items ≡ lines_of given.now.is_well given.now.requirement given.now.answer) }
+    ensures { IfOk result (λ text. text.items ≡ lines_of given.now.is_well given.now.requirement given.now.unknown given.now.answer) }
 {
     let mut text = VecSink::new(Vec::new(alloc));
     write_lines(given, &mut text).map_err(|_| AllocError)?;
@@ -87,22 +87,28 @@ fn lines(alloc: Global, given: &Answered) -> Result<Vec<u8>, AllocError>
 
 // Writes the lines of an answer.
 fn write_lines<S: Sink>(given: &Answered, sink: &mut S) -> Result<(), Failed>
-    ensures { Sends (S.state sink.old) (S.state sink.new) result (lines_of given.now.is_well given.now.requirement given.now.answer) }
+    ensures { Sends (S.state sink.old) (S.state sink.new) result
+        (lines_of given.now.is_well given.now.requirement given.now.unknown given.now.answer) }
 {
+    let unknown = given.unknown.as_ref();
     match (&given.answer, given.requirement.as_ref()) {
-        (Answer::Attestation(report), _) => write_attestation(report, sink),
+        (Answer::Attestation(report), _) => write_attestation(report, unknown, sink),
         (Answer::Report(report), None) => write_report(report, given.is_well, sink),
-        (Answer::Report(report), Some(ranges)) => write_required_report(report, ranges, sink),
+        (Answer::Report(report), Some(ranges)) => write_required_report(
+            report, ranges, unknown, sink,
+        ),
         (Answer::Prefix(prefix), None) => write_prefix_report(prefix, sink),
         (Answer::Prefix(prefix), Some(ranges)) => write_required_prefix_report(
-            prefix, ranges, sink,
+            prefix, ranges, unknown, sink,
         ),
         (Answer::Positions(positions), None) => write_positions(positions, sink),
         (Answer::Positions(positions), Some(ranges)) => write_required_positions(
             positions, ranges, sink,
         ),
         (Answer::ListReport(list), None) => write_list_report(list, sink),
-        (Answer::ListReport(list), Some(ranges)) => write_required_list_report(list, ranges, sink),
+        (Answer::ListReport(list), Some(ranges)) => write_required_list_report(
+            list, ranges, unknown, sink,
+        ),
         (Answer::Registers(banks), _) => write_registers(&banks.now, &banks.start, sink),
         (Answer::Expected { expected, range }, _) => write_expected(expected, *range, sink),
         (Answer::Key { report, part }, _) => write_key(report, *part, sink),
@@ -111,7 +117,7 @@ fn write_lines<S: Sink>(given: &Answered, sink: &mut S) -> Result<(), Failed>
 
 // Writes a report where no registers are required.
 fn write_report<S: Sink>(report: &Report, is_match: bool, sink: &mut S) -> Result<(), Failed>
-    ensures { Sends (S.state sink.old) (S.state sink.new) result (lines_of is_match None (answers.Report report.now)) }
+    ensures { Sends (S.state sink.old) (S.state sink.new) result (lines_of is_match None None (answers.Report report.now)) }
 {
     write_counts(report.events, report.locality, report.entries, sink)?;
     write_outcome(report, is_match, sink)
@@ -119,7 +125,8 @@ fn write_report<S: Sink>(report: &Report, is_match: bool, sink: &mut S) -> Resul
 
 // The line of JSON of an answer.
 fn line(alloc: Global, given: &Answered) -> Result<Vec<u8>, AllocError>
-    ensures { IfOk result (λ line. line.items ≡ line_of (json_of given.now.is_well given.now.requirement given.now.answer)) }
+    ensures { IfOk result (λ line. line.items
+        ≡ line_of (json_of given.now.is_well given.now.requirement given.now.unknown given.now.answer)) }
 {
     let mut line = Vec::new(alloc);
     append_line(alloc, given, &mut line)?;
@@ -129,15 +136,20 @@ fn line(alloc: Global, given: &Answered) -> Result<Vec<u8>, AllocError>
 // Appends it.
 fn append_line(alloc: Global, given: &Answered, line: &mut Vec<u8>) -> Result<(), AllocError>
     ensures { OnOk result (line.new.items ≡ line.old.items
-        ++ line_of (json_of given.now.is_well given.now.requirement given.now.answer)) }
+        ++ line_of (json_of given.now.is_well given.now.requirement given.now.unknown given.now.answer)) }
 {
     let requirement = given.requirement.as_ref();
+    let unknown = given.unknown.as_ref();
     match &given.answer {
-        Answer::Attestation(report) => append_attestation(alloc, report, line),
-        Answer::Report(report) => append_report(alloc, report, requirement, given.is_well, line),
-        Answer::Prefix(prefix) => append_prefix_report(alloc, prefix, requirement, line),
+        Answer::Attestation(report) => append_attestation(alloc, report, unknown, line),
+        Answer::Report(report) => {
+            append_report(alloc, report, requirement, unknown, given.is_well, line)
+        }
+        Answer::Prefix(prefix) => append_prefix_report(alloc, prefix, requirement, unknown, line),
         Answer::Positions(positions) => append_positions(alloc, positions, requirement, line),
-        Answer::ListReport(report) => append_list_report(alloc, report, requirement, line),
+        Answer::ListReport(report) => {
+            append_list_report(alloc, report, requirement, unknown, line)
+        }
         Answer::Registers(banks) => append_registers(alloc, &banks.now, &banks.start, line),
         Answer::Expected { expected, range } => append_expected(alloc, expected, *range, line),
         Answer::Key { report, part } => append_key(alloc, report, *part, line),

@@ -1,5 +1,5 @@
 -- The text of a report by a quote.
-use Rattle.std.specs.Prelude.{ℕ, Bool, true, false, if◌then◌else◌, List, [], ◌++◌, codes, decimal, flat_map, Option, Some, None}
+use Rattle.std.specs.Prelude.{ℕ, Bool, true, false, ◌&&◌, if◌then◌else◌, List, [], ◌++◌, codes, decimal, flat_map, Option, Some, None}
 use Rattle.hex.specs.Hex.{encode_lower}
 use Rattle.pcr_banks.specs.Hashing.{name_of}
 use Rattle.boot_verdict.specs.declared.report.Row.{Row}
@@ -12,9 +12,12 @@ use Rattle.attestations.specs.declared.expected.ExpectedValues.TheVariants.{NotG
 use Rattle.attestations.specs.declared.report.Whole.{Whole}
 use Rattle.attestations.specs.Quoted.{Stated}
 use Rattle.attestations.specs.Reports.{AttestVerdict, is_attested}
+use Rattle.known_files.specs.declared.unknown.Unknown.{Unknown}
+use Rattle.known_files.specs.Unknown.{none_unknown}
 use Rattle.verdict_texts.specs.PrefixTexts.{prefix_counts_text}
 use Rattle.verdict_texts.specs.ReportTexts.{aggregate_text, counts_text, row_text, verdict_text}
 use Rattle.verdict_texts.specs.RequiredTexts.{strays_text}
+use Rattle.verdict_texts.specs.UnknownTexts.{unknown_text}
 
 -- ---- what the quote states
 
@@ -82,10 +85,14 @@ abbrev pub conclusion_text : Bool → Bool → List ℕ
 conclusion_text true is_match = verdict_text is_match
 conclusion_text false is_match = codes "signature not checked\n"
 
--- The report: what the quote states, the counts, how log and list compare, whether the quote is of them, and the verdict.
-abbrev pub attest_text : AttestVerdict → List ℕ
-attest_text report =
+-- Which entries are not known, whether the quote is of log and list, and the verdict: no match where an entry is not known.
+abbrev pub judgement_text : Option Unknown → AttestVerdict → List ℕ
+judgement_text unknown report =
+    unknown_text unknown
+    ++ (quote_text report.is_quoted ++ conclusion_text report.is_signed (none_unknown unknown && is_attested report))
+
+-- The report: what the quote states, the counts, how log and list compare, and the judgement.
+abbrev pub attest_text : Option Unknown → AttestVerdict → List ℕ
+attest_text unknown report =
     stated_text report.quoted
-    ++ (attest_counts_text report.verdict report.prefix
-    ++ (comparison_text report
-    ++ (quote_text report.is_quoted ++ conclusion_text report.is_signed (is_attested report))))
+    ++ (attest_counts_text report.verdict report.prefix ++ (comparison_text report ++ judgement_text unknown report))

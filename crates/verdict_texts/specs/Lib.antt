@@ -2,6 +2,7 @@ pub mod EventTexts
 pub mod Gathering
 pub mod ReportTexts
 pub mod PositionTexts
+pub mod UnknownTexts
 pub mod RequiredTexts
 pub mod PrefixTexts
 pub mod ListReportTexts

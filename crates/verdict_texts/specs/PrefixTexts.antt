@@ -2,6 +2,7 @@
 use Rattle.std.specs.Prelude.{ℕ, List, [], ◌++◌, codes, decimal, Option, Some, None}
 use Rattle.boot_verdict.specs.declared.prefix_report.Unconfirmed.{Unconfirmed}
 use Rattle.boot_verdict.specs.declared.requirement.BankRange.{BankRange}
+use Rattle.known_files.specs.declared.unknown.Unknown.{Unknown}
 use Rattle.verdict_texts.specs.ReportTexts.{counts_text, outcome_text}
 use Rattle.verdict_texts.specs.RequiredTexts.{required_outcome_text}
 use Rattle.boot_verdict.specs.Verdicts.{Verdict, matches}
@@ -26,6 +27,6 @@ abbrev pub prefix_report_text : Verdict → ℕ → Option Unconfirmed → List 
 prefix_report_text prefix entries unconfirmed = prefix_counts_text prefix entries unconfirmed ++ outcome_text prefix (matches prefix)
 
 -- The report where registers are required.
-abbrev pub required_prefix_report_text : List BankRange → Verdict → ℕ → Option Unconfirmed → List ℕ
-required_prefix_report_text ranges prefix entries unconfirmed =
-    prefix_counts_text prefix entries unconfirmed ++ required_outcome_text ranges prefix
+abbrev pub required_prefix_report_text : List BankRange → Option Unknown → Verdict → ℕ → Option Unconfirmed → List ℕ
+required_prefix_report_text ranges unknown prefix entries unconfirmed =
+    prefix_counts_text prefix entries unconfirmed ++ required_outcome_text ranges unknown prefix

@@ -1,21 +1,23 @@
 //! The lines of a report by a quote.
 
-ghost use Rattle.std.specs.Prelude.{◌≡◌, flat_map, map};
+ghost use Rattle.std.specs.Prelude.{◌≡◌, flat_map, map, option_copied};
 ghost use Rattle.byte_streams.specs.Streams.{Sends};
 ghost use Rattle.boot_verdict.specs.Verdicts.{verdict_of};
 ghost use Rattle.attestations.specs.declared.expected.ExpectedValues.TheVariants.{Confirmed};
 ghost use Rattle.attestations.specs.Quoted.{bank_selection_of, stated_of};
 ghost use Rattle.attestations.specs.Reports.{attest_verdict_of};
-ghost use Rattle.verdict_texts.specs.AttestTexts.{attest_counts_text, attest_text, clock_text, comparison_text, conclusion_text, firmware_text, number_if_selected, numbers_text, quote_text, safe_text, selection_text, signer_text, stated_text, values_text};
+ghost use Rattle.verdict_texts.specs.AttestTexts.{attest_counts_text, attest_text, clock_text, comparison_text, conclusion_text, firmware_text, judgement_text, number_if_selected, numbers_text, quote_text, safe_text, selection_text, signer_text, stated_text, values_text};
 
 use crate::events::write_hexadecimal;
 use crate::prefix_report::write_prefix_counts;
 use crate::report::{verdict_line, write_aggregate, write_counts, write_rows};
 use crate::required::write_strays;
+use crate::unknown::write_unknown;
 use attestations::{AttestReport, ExpectedValues, Quoted, Selected, Whole};
 use boot_verdict::{Report, Row};
 use byte_streams::{Failed, Sink, send, send_pieces};
 use itoa::Buffer;
+use known_files::{Unknown, none_unknown};
 use pcr_banks::REGISTERS;
 use tpm_quotes::Clock;
 
@@ -28,18 +30,38 @@ use tpm_quotes::Clock;
 /// Then come the lines of events and locality, of entries and of the boot aggregate, as [`crate::write_report`] writes them; on a prefix of the
 /// list, entries as [`crate::write_prefix_report`] does. If expected registers were given, `expected confirmed` says that the quote is of their
 /// values, and the lines of its registers follow, as [`crate::write_report`] writes them; `expected unconfirmed` says that it is not, and no
-/// register follows. If an event extends register 10 or an entry another one, a line says so, as in [`crate::write_required_report`].
+/// register follows. If an event extends register 10 or an entry another one, a line says so, and where files are known, lines say which
+/// entries are not, as in [`crate::write_required_report`].
+///
 /// `quote match` or `quote differ`: whether the quote is of the values to which log and list replay. The last line is `verdict match` or
 /// `verdict differ`; it is `signature not checked` if the caller did not say that the signature is verified. After `Err` the sink has taken a
 /// prefix of the text.
-pub fn write_attestation<S: Sink>(report: &AttestReport, sink: &mut S) -> Result<(), Failed>
-    ensures { Sends (S.state sink.old) (S.state sink.new) result (attest_text (attest_verdict_of report.now)) }
+pub fn write_attestation<S: Sink>(
+    report: &AttestReport,
+    unknown: Option<&Unknown>,
+    sink: &mut S,
+) -> Result<(), Failed>
+    ensures { Sends (S.state sink.old) (S.state sink.new) result
+        (attest_text (option_copied unknown.entry) (attest_verdict_of report.now)) }
 {
     write_stated(&report.quoted, sink)?;
     write_list_counts(&report.report, report.prefix, sink)?;
     write_comparison(report, sink)?;
+    write_judgement(report, unknown, sink)
+}
+
+// Writes which entries are not known, whether the quote is of log and list, and the verdict.
+fn write_judgement<S: Sink>(
+    report: &AttestReport,
+    unknown: Option<&Unknown>,
+    sink: &mut S,
+) -> Result<(), Failed>
+    ensures { Sends (S.state sink.old) (S.state sink.new) result
+        (judgement_text (option_copied unknown.entry) (attest_verdict_of report.now)) }
+{
+    write_unknown(unknown, sink)?;
     send(quote_line(report.is_quoted), sink)?;
-    let is_match = report.is_attested();
+    let is_match = none_unknown(unknown) && report.is_attested();
     send(conclusion_line(report.is_signed, is_match), sink)
 }
 

@@ -8,6 +8,7 @@ mod positions;
 mod prefix_report;
 mod report;
 mod required;
+mod unknown;
 
 pub use attestation::write_attestation;
 pub use events::{EventData, write_declared, write_event_head, write_events};

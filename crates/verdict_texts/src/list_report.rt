@@ -1,6 +1,6 @@
 //! The lines of reports on a list alone.
 
-ghost use Rattle.std.specs.Prelude.{◌++◌, codes, decimal, length};
+ghost use Rattle.std.specs.Prelude.{◌++◌, codes, decimal, length, option_copied};
 ghost use Rattle.byte_streams.specs.Streams.{Sends};
 ghost use Rattle.boot_verdict.specs.ListVerdicts.{list_verdict_of};
 ghost use Rattle.verdict_texts.specs.ListReportTexts.{list_counts_text, list_report_text, required_list_report_text};
@@ -10,6 +10,7 @@ use crate::required::write_required_rows;
 use boot_verdict::{ListReport, Requirement};
 use byte_streams::{Failed, Sink, send, send_pieces};
 use itoa::Buffer;
+use known_files::Unknown;
 
 /// Writes the report on a list alone: a line with the number of entries, one for each expected register as [`crate::write_report`]
 /// writes it, and the verdict.
@@ -26,14 +27,22 @@ pub fn write_list_report<S: Sink>(report: &ListReport, sink: &mut S) -> Result<(
 pub fn write_required_list_report<S: Sink>(
     report: &ListReport,
     requirement: &Requirement,
+    unknown: Option<&Unknown>,
     sink: &mut S,
 ) -> Result<(), Failed>
     ensures { Sends (S.state sink.old) (S.state sink.new) result
-        (required_list_report_text requirement.now (list_verdict_of report.now)) }
+        (required_list_report_text requirement.now (option_copied unknown.entry) (list_verdict_of report.now)) }
 {
     write_counts(report, sink)?;
     let is_match = report.meets(requirement);
-    write_required_rows(&report.rows, requirement, report.strays, is_match, sink)
+    write_required_rows(
+        &report.rows,
+        requirement,
+        report.strays,
+        unknown,
+        is_match,
+        sink,
+    )
 }
 
 fn write_entries<S: Sink>(entries: usize, sink: &mut S) -> Result<(), Failed>

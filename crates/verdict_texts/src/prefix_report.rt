@@ -1,5 +1,6 @@
 //! The lines of a report on a confirmed prefix.
 
+ghost use Rattle.std.specs.Prelude.{option_copied};
 ghost use Rattle.byte_streams.specs.Streams.{Sends};
 ghost use Rattle.verdict_texts.specs.PrefixTexts.{confirmed_line, prefix_counts_text, prefix_report_text, required_prefix_report_text, unconfirmed_line};
 ghost use Rattle.boot_verdict.specs.Words.{entry_words, unconfirmed_message};
@@ -10,6 +11,7 @@ use crate::required::write_required_outcome;
 use boot_verdict::{PrefixReport, Report, Requirement, Unconfirmed};
 use byte_streams::{Failed, Sink, send, send_pieces};
 use itoa::Buffer;
+use known_files::Unknown;
 
 /// Writes the report on a confirmed prefix as [`crate::write_report`] does, with two differences. The line `entries 99` has the
 /// number of entries of the whole list. And after it is a line with that of the prefix, `confirmed 97 of 99 entries`; and if something is wrong
@@ -26,13 +28,15 @@ pub fn write_prefix_report<S: Sink>(prefix: &PrefixReport, sink: &mut S) -> Resu
 pub fn write_required_prefix_report<S: Sink>(
     prefix: &PrefixReport,
     requirement: &Requirement,
+    unknown: Option<&Unknown>,
     sink: &mut S,
 ) -> Result<(), Failed>
     ensures { Sends (S.state sink.old) (S.state sink.new) result
-        (required_prefix_report_text requirement.now (verdict_of prefix.now.report) prefix.now.entries prefix.now.unconfirmed) }
+        (required_prefix_report_text requirement.now (option_copied unknown.entry) (verdict_of prefix.now.report) prefix.now.entries
+        prefix.now.unconfirmed) }
 {
     write_prefix_counts(&prefix.report, prefix.entries, prefix.unconfirmed, sink)?;
-    write_required_outcome(&prefix.report, requirement, sink)
+    write_required_outcome(&prefix.report, requirement, unknown, sink)
 }
 
 /// Writes the counts of the whole list, how many of its entries the prefix has on which the report is, and what is wrong after it.

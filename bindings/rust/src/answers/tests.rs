@@ -4,8 +4,8 @@ use super::{Answer, Checkpoint};
 use crate::library::{ask, entries as list_entries, log_registers, zeros, Position, Told};
 use crate::library::{DIFFERS, DONE, MORE, OUT_OF_MEMORY, REFUSED, ROOM, TOO_SHORT};
 use crate::lines::{Lines, Source};
-use crate::{Algorithm, Attestation, BootAggregate, Clock, Content, Entry, Error, Event, File, Key, KeyType, Kind, LogAlgorithm};
-use crate::{Part, Place, Scheme, Stray, Value};
+use crate::{Algorithm, Attestation, BootAggregate, Clock, Content, Entry, Error, Event, File, Key, KeyType, Kind, ListVerdict};
+use crate::{LogAlgorithm, Part, Place, Scheme, Stray, Value, Verdict};
 use ima_verify_sys as c;
 use std::collections::VecDeque;
 
@@ -14,6 +14,8 @@ const REPORT: &str = concat!(
     r#""registers":[{"bank":"sha256","register":10,"state":"match"}],"verdict":"match"}"#,
     "\n"
 );
+/// The checkpoint of the list that the reports are on.
+const STATE: &str = "ima-agent checkpoint 3\nentries 3\nbytes 300\nboot_aggregate none\n";
 const ROW: &str = r#"{"bank":"sha256","register":10,"state":"match"}"#;
 const MATCH: &str = r#""state":"match""#;
 const MISSING: &str = r#"{"bank":"sha1","register":4,"state":"missing"}"#;
@@ -113,12 +115,20 @@ fn answer(result: i32, text: impl AsRef<[u8]>) -> Answer {
     Answer { result, told: told_of(result, &text), next: Vec::new(), text }
 }
 
+/// The verdicts of a report where no file has to be known.
+fn verdict_of(answer: Answer) -> Result<Verdict, Error> {
+    answer.verdict(false)
+}
+
+fn list_verdict_of(answer: Answer) -> Result<ListVerdict, Error> {
+    answer.list_verdict(false)
+}
+
 /// The verdict by a quote on a whole list, with the checkpoint that only a match has.
 fn attestation(result: i32, text: &str, signature_checked: bool) -> Result<Attestation, Error> {
-    let state = "ima-agent checkpoint 3\nentries 3\nbytes 300\nboot_aggregate none\n";
-    let next = if result == DONE { state.into() } else { Vec::new() };
+    let next = if result == DONE { STATE.into() } else { Vec::new() };
     let (found, _) =
-        Answer { next, ..answer(result, text) }.attestation(&Checkpoint::default(), 300, false, signature_checked)?;
+        Answer { next, ..answer(result, text) }.attestation(&Checkpoint::default(), 300, false, false, signature_checked)?;
     Ok(found)
 }
 
@@ -203,8 +213,8 @@ fn check_changes<T>(read: impl Fn(Answer) -> Result<T, Error>, result: i32, text
 
 #[test]
 fn right_answers_are_read() {
-    assert!(answer(DONE, REPORT).verdict().unwrap().matches);
-    assert!(!answer(DIFFERS, differing()).verdict().unwrap().matches);
+    assert!(answer(DONE, REPORT).verdict(false).unwrap().matches);
+    assert!(!answer(DIFFERS, differing()).verdict(false).unwrap().matches);
     assert!(answer(DONE, PLACES).places().unwrap().located);
     assert!(!answer(DIFFERS, NOT_LOCATED).places().unwrap().located);
     assert_eq!(answer(DONE, register()).registers().unwrap()[0].value, [0xaa; 20]);
@@ -213,7 +223,7 @@ fn right_answers_are_read() {
 
 #[test]
 fn right_answers_with_missing_registers_are_read() {
-    let verdict = answer(DIFFERS, lacking()).verdict().unwrap();
+    let verdict = answer(DIFFERS, lacking()).verdict(false).unwrap();
     assert_eq!((verdict.matches, verdict.compared(), verdict.rows.len()), (false, 1, 2));
     let places = answer(DIFFERS, lacking_places()).places().unwrap();
     assert_eq!((places.located, places.rows[3].place), (false, Place::Missing));
@@ -222,7 +232,7 @@ fn right_answers_with_missing_registers_are_read() {
 #[test]
 fn members_may_stand_in_any_order_and_be_more() {
     let text = REPORT.replacen(r#""events":1,"#, r#""x":[null],"#, 1).replace("}\n", ",\"events\":1}\n");
-    assert_eq!(answer(DONE, text).verdict().unwrap().events, 1);
+    assert_eq!(answer(DONE, text).verdict(false).unwrap().events, 1);
 }
 
 #[test]
@@ -231,7 +241,7 @@ fn wrong_reports_are_no_verdicts() {
     let matching = differing_state().replace("differ", "match");
     let deep = "[".repeat(100_000) + "\n";
     check_changes(
-        Answer::verdict,
+        verdict_of,
         DONE,
         REPORT,
         &[
@@ -284,16 +294,16 @@ fn wrong_reports_are_no_verdicts() {
             (REPORT, LIST_FAULT),
         ],
     );
-    assert!(is_unexpected(answer(DIFFERS, REPORT).verdict()));
-    assert!(is_unexpected(answer(DONE, differing()).verdict()));
-    assert!(is_unexpected(answer(DONE, [REPORT.trim_end().as_bytes(), b"\xff\n"].concat()).verdict()));
+    assert!(is_unexpected(answer(DIFFERS, REPORT).verdict(false)));
+    assert!(is_unexpected(answer(DONE, differing()).verdict(false)));
+    assert!(is_unexpected(answer(DONE, [REPORT.trim_end().as_bytes(), b"\xff\n"].concat()).verdict(false)));
     for size in 0..REPORT.len() {
-        assert!(is_unexpected(answer(DONE, &REPORT[..size]).verdict()), "{size}");
+        assert!(is_unexpected(answer(DONE, &REPORT[..size]).verdict(false)), "{size}");
     }
     let zeros = "0".repeat(64);
     for value in [format!("{}A", &zeros[1..]), zeros[2..].to_owned(), format!("{zeros}00"), String::new(), zeros[1..].to_owned()]
     {
-        assert!(is_unexpected(answer(DIFFERS, differing().replace(&zeros, &value)).verdict()), "{value}");
+        assert!(is_unexpected(answer(DIFFERS, differing().replace(&zeros, &value)).verdict(false)), "{value}");
     }
 }
 
@@ -304,15 +314,15 @@ fn wrong_reports_with_missing_registers_are_no_verdicts() {
         (r#""missing""#, r#""missing","value":"""#),
         (r#""register":4"#, r#""register":24"#),
     ];
-    check_changes(Answer::verdict, DIFFERS, &lacking(), &changes);
+    check_changes(verdict_of, DIFFERS, &lacking(), &changes);
     for text in [&lacking(), &lacking().replace(r#""differ""#, r#""match""#)] {
-        assert!(is_unexpected(answer(DONE, text).verdict()), "{text}");
+        assert!(is_unexpected(answer(DONE, text).verdict(false)), "{text}");
     }
 }
 
 #[test]
 fn right_reports_on_a_list_alone_are_read() {
-    let verdict = answer(DONE, LIST_REPORT).list_verdict().unwrap();
+    let verdict = answer(DONE, LIST_REPORT).list_verdict(false).unwrap();
     assert_eq!((verdict.matches, verdict.entries, verdict.compared()), (true, 3, 1));
     for (old, new) in [
         (r#""entries":3"#, r#""entries":0"#),
@@ -322,9 +332,9 @@ fn right_reports_on_a_list_alone_are_read() {
     ] {
         let matching = LIST_REPORT.replacen(old, new, 1);
         let text = matching.replace(r#""verdict":"match""#, r#""verdict":"differ""#);
-        assert!(!answer(DIFFERS, &text).list_verdict().unwrap().matches);
-        assert!(is_unexpected(answer(DONE, &text).list_verdict()), "{text:?}");
-        assert!(is_unexpected(answer(DONE, &matching).list_verdict()), "{matching:?}");
+        assert!(!answer(DIFFERS, &text).list_verdict(false).unwrap().matches);
+        assert!(is_unexpected(answer(DONE, &text).list_verdict(false)), "{text:?}");
+        assert!(is_unexpected(answer(DONE, &matching).list_verdict(false)), "{matching:?}");
     }
 }
 
@@ -337,8 +347,8 @@ fn wrong_reports_on_a_list_alone_are_no_verdicts() {
         ("}\n", "}"),
         (LIST_REPORT, ""),
     ];
-    check_changes(Answer::list_verdict, DONE, LIST_REPORT, &changes);
-    assert!(is_unexpected(answer(DIFFERS, LIST_REPORT).list_verdict()));
+    check_changes(list_verdict_of, DONE, LIST_REPORT, &changes);
+    assert!(is_unexpected(answer(DIFFERS, LIST_REPORT).list_verdict(false)));
 }
 
 #[test]
@@ -352,14 +362,14 @@ fn right_reports_with_strays_are_read() {
     ] {
         let text = strayed(REPORT, strays);
         for text in [&text, &text.replace(MATCH, &differing_state())] {
-            let verdict = answer(DIFFERS, text).verdict().unwrap();
+            let verdict = answer(DIFFERS, text).verdict(false).unwrap();
             assert_eq!((verdict.matches, &verdict.extends, verdict.compared()), (false, &wanted, 1));
         }
     }
-    let alone = answer(DIFFERS, strayed(LIST_REPORT, STRAY_ENTRY)).list_verdict().unwrap();
+    let alone = answer(DIFFERS, strayed(LIST_REPORT, STRAY_ENTRY)).list_verdict(false).unwrap();
     assert_eq!((alone.matches, alone.extends), (false, vec![entry]));
-    assert_eq!(answer(DONE, REPORT).verdict().unwrap().extends, []);
-    assert_eq!(answer(DONE, LIST_REPORT).list_verdict().unwrap().extends, []);
+    assert_eq!(answer(DONE, REPORT).verdict(false).unwrap().extends, []);
+    assert_eq!(answer(DONE, LIST_REPORT).list_verdict(false).unwrap().extends, []);
 }
 
 #[test]
@@ -398,38 +408,110 @@ fn wrong_reports_with_strays_are_no_verdicts() {
         (r#""extends":"#, r#""extends":{},"x":"#),
         (r#""verdict":"differ""#, r#""verdict":"match""#),
     ];
-    check_changes(Answer::verdict, DIFFERS, &strayed(REPORT, &both), &of_events);
-    check_changes(Answer::verdict, DIFFERS, &strayed(REPORT, &both), &of_entries);
-    assert!(is_unexpected(answer(DONE, strayed(REPORT, &both)).verdict()));
-    assert!(is_unexpected(answer(DIFFERS, differing().replace(r#""verdict""#, r#""extends":[],"verdict""#)).verdict()));
-    check_changes(Answer::list_verdict, DIFFERS, &strayed(LIST_REPORT, STRAY_ENTRY), &of_entries);
+    check_changes(verdict_of, DIFFERS, &strayed(REPORT, &both), &of_events);
+    check_changes(verdict_of, DIFFERS, &strayed(REPORT, &both), &of_entries);
+    assert!(is_unexpected(answer(DONE, strayed(REPORT, &both)).verdict(false)));
+    assert!(is_unexpected(answer(DIFFERS, differing().replace(r#""verdict""#, r#""extends":[],"verdict""#)).verdict(false)));
+    check_changes(list_verdict_of, DIFFERS, &strayed(LIST_REPORT, STRAY_ENTRY), &of_entries);
     for strays in [STRAY_EVENT, &both] {
         // (there is no log)
-        assert!(is_unexpected(answer(DIFFERS, strayed(LIST_REPORT, strays)).list_verdict()));
+        assert!(is_unexpected(answer(DIFFERS, strayed(LIST_REPORT, strays)).list_verdict(false)));
     }
+}
+
+/// A report that looked for entries of no known file, and found these.
+fn with_unknown(report: &str, numbers: &str) -> String {
+    let mark = if report.contains(r#""quote":"#) { r#""quote":"# } else { r#""verdict":"# };
+    report.replacen(mark, &format!(r#""known_from":0,"unknown":[{numbers}],{mark}"#), 1)
+}
+
+/// What a verdict by known files says: whether it matches, from where on entries were looked up, and those of no known file.
+type Judged = (bool, Option<u64>, Vec<u64>);
+type Judging = fn(i32, &str) -> Result<Judged, Error>;
+
+/// Reports, and what reads each where files have to be known.
+const KNOWING: [(&str, Judging); 3] = [
+    (REPORT, |result, text| answer(result, text).verdict(true).map(|found| (found.matches, found.known_from, found.unknown))),
+    (LIST_REPORT, |result, text| {
+        answer(result, text).list_verdict(true).map(|found| (found.matches, found.known_from, found.unknown))
+    }),
+    (ATTESTED, |result, text| {
+        let next = if result == DONE { STATE.into() } else { Vec::new() };
+        let answer = Answer { next, ..answer(result, text) };
+        let (found, _) = answer.attestation(&Checkpoint::default(), 300, true, false, true)?;
+        Ok((found.matches, found.known_from, found.unknown))
+    }),
+];
+
+fn to_differ(report: &str) -> String {
+    report.replace(r#""verdict":"match""#, r#""verdict":"differ""#)
+}
+
+#[test]
+fn right_reports_by_known_files_are_read() {
+    for (report, read) in KNOWING {
+        assert_eq!(read(DONE, &with_unknown(report, "")).unwrap(), (true, Some(0), vec![]));
+        for (numbers, wanted) in [("0", vec![0]), ("2", vec![2]), ("1,2", vec![1, 2])] {
+            assert_eq!(read(DIFFERS, &with_unknown(&to_differ(report), numbers)).unwrap(), (false, Some(0), wanted));
+        }
+    }
+}
+
+#[test]
+fn wrong_reports_by_known_files_are_no_verdicts() {
+    let members = r#""known_from":0,"unknown":[1,2],"#;
+    for (report, read) in KNOWING {
+        let right = with_unknown(&to_differ(report), "1,2");
+        for wrong in [
+            "",
+            r#""known_from":0,"#,
+            r#""unknown":[1,2],"#,
+            r#""known_from":1,"unknown":[1,2],"#,
+            r#""known_from":2,"unknown":[2],"#,
+            r#""known_from":null,"unknown":[1,2],"#,
+            r#""known_from":"0","unknown":[1,2],"#,
+            r#""known_from":0.0,"unknown":[1,2],"#,
+            r#""known_from":0,"unknown":null,"#,
+            r#""known_from":0,"unknown":{},"#,
+            r#""known_from":0,"unknown":1,"#,
+        ] {
+            assert!(is_unexpected(read(DIFFERS, &right.replace(members, wrong))), "{report} {wrong}");
+        }
+        for numbers in ["1,0", "1,3", "3", "2,1", "1,1", "-1", "1.0", "true", r#""1""#, "null", "[1]", "18446744073709551616"] {
+            assert!(is_unexpected(read(DIFFERS, &with_unknown(&to_differ(report), numbers))), "{report} {numbers}");
+        }
+        assert!(is_unexpected(read(DONE, &right)));
+        assert!(is_unexpected(read(DONE, &with_unknown(report, "1"))));
+        assert!(is_unexpected(read(DIFFERS, &with_unknown(report, "1"))));
+        assert!(is_unexpected(read(DIFFERS, &with_unknown(&to_differ(report), ""))));
+        assert!(is_unexpected(read(DONE, report)));
+    }
+    // (no file has to be known)
+    assert!(is_unexpected(answer(DONE, with_unknown(REPORT, "")).verdict(false)));
+    assert!(is_unexpected(answer(DONE, with_unknown(LIST_REPORT, "")).list_verdict(false)));
 }
 
 #[test]
 fn report_of_no_registers_is_no_match() {
     let text = REPORT.replace(ROW, "");
-    let verdict = answer(DONE, &text).verdict().unwrap();
+    let verdict = answer(DONE, &text).verdict(false).unwrap();
     assert_eq!((verdict.matches, verdict.compared(), verdict.json + "\n"), (false, 0, text.clone()));
-    assert!(is_unexpected(answer(DIFFERS, &text).verdict()));
-    assert!(is_unexpected(answer(DIFFERS, text.replace("match", "differ")).verdict()));
+    assert!(is_unexpected(answer(DIFFERS, &text).verdict(false)));
+    assert!(is_unexpected(answer(DIFFERS, text.replace("match", "differ")).verdict(false)));
     // (no other text on no registers says that it is well)
     let on_nothing = LIST_REPORT.replace(ROW, "");
-    let alone = answer(DIFFERS, on_nothing.replace("match", "differ")).list_verdict().unwrap();
+    let alone = answer(DIFFERS, on_nothing.replace("match", "differ")).list_verdict(false).unwrap();
     assert_eq!((alone.matches, alone.compared()), (false, 0));
     let (nowhere, located) = ("{\"registers\":[],\"located\":false}\n", "{\"registers\":[],\"located\":true}\n");
     let places = answer(DIFFERS, nowhere).places().unwrap();
     assert_eq!((places.located, places.rows.len()), (false, 0));
     assert!(is_unexpected(answer(DONE, nowhere).places()));
     for status in [DONE, DIFFERS] {
-        assert!(is_unexpected(answer(status, &on_nothing).list_verdict()));
+        assert!(is_unexpected(answer(status, &on_nothing).list_verdict(false)));
         assert!(is_unexpected(answer(status, located).places()));
     }
     for wrong in ["{}", "\"\"", "null"] {
-        assert!(is_unexpected(answer(DONE, REPORT.replace(&format!("[{ROW}]"), wrong)).verdict()), "{wrong}");
+        assert!(is_unexpected(answer(DONE, REPORT.replace(&format!("[{ROW}]"), wrong)).verdict(false)), "{wrong}");
     }
 }
 
@@ -487,9 +569,9 @@ type Reads = fn(Answer) -> Result<(), Error>;
 #[test]
 fn result_that_states_a_fault_is_none() {
     let results: [(Reads, i32, String); 9] = [
-        (|answer| answer.verdict().map(drop), DONE, REPORT.to_owned()),
-        (|answer| answer.verdict().map(drop), DIFFERS, differing()),
-        (|answer| answer.list_verdict().map(drop), DONE, LIST_REPORT.to_owned()),
+        (|answer| answer.verdict(false).map(drop), DONE, REPORT.to_owned()),
+        (|answer| answer.verdict(false).map(drop), DIFFERS, differing()),
+        (|answer| answer.list_verdict(false).map(drop), DONE, LIST_REPORT.to_owned()),
         (|answer| answer.places().map(drop), DONE, PLACES.to_owned()),
         (|answer| answer.places().map(drop), DIFFERS, NOT_LOCATED.to_owned()),
         (|answer| answer.registers().map(drop), DONE, register()),
@@ -929,9 +1011,9 @@ fn wrong_refusals_are_no_refusals() {
 
 #[test]
 fn reported_error_is_of_the_result() {
-    for kind in 0..11 {
+    for kind in 0..12 {
         let told = |text: &str| Told { size: text.len(), ..fault(kind, 1, Some(2)) };
-        let is_input = (c::IMA_VERIFY_ARGUMENT..=c::IMA_VERIFY_KEY).contains(&kind) && kind != c::IMA_VERIFY_MEMORY;
+        let is_input = (c::IMA_VERIFY_ARGUMENT..=c::IMA_VERIFY_KNOWN).contains(&kind) && kind != c::IMA_VERIFY_MEMORY;
         let refusal = answered_with(REFUSED, LIST_FAULT, told(LIST_FAULT)).unwrap_err();
         assert_eq!(matches!(refusal, Error::Refused { number: 1, place: Some(2), .. }), is_input, "{kind}");
         assert_eq!(matches!(refusal, Error::Unexpected { .. }), !is_input, "{kind}");
@@ -964,7 +1046,7 @@ fn sizes_and_results_that_cannot_be_are_errors() {
     ] {
         assert!(is_unexpected(answered(result, REPORT, size)), "{result} {size}");
     }
-    assert!(is_unexpected(answered(MORE, REPORT, REPORT.len()).unwrap().verdict()));
+    assert!(is_unexpected(answered(MORE, REPORT, REPORT.len()).unwrap().verdict(false)));
 }
 
 #[test]

@@ -107,7 +107,7 @@ fn check_changes(text: &str, changes: &[(&str, &str)]) {
 }
 
 fn is_whole(result: i32, text: &str) -> bool {
-    Answer { result, told: told_of(result, text), next: Vec::new(), text: text.into() }.verdict().is_ok()
+    Answer { result, told: told_of(result, text), next: Vec::new(), text: text.into() }.verdict(false).is_ok()
 }
 
 #[test]
@@ -363,7 +363,7 @@ fn second_call_has_room_for_both_texts() {
     let Verdict { json, .. } = session.more(&data).unwrap();
     assert_eq!(verify(&log, &data, &expected, NOTHING_REQUIRED).unwrap().json, json);
     let (state, line) = (session.state().unwrap(), format!("{json}\n"));
-    let inputs = Inputs { log: &log, state: b"", data: &data, expected: &expected, require: b"none", prefix: false };
+    let inputs = Inputs { log: &log, state: b"", data: &data, expected: &expected, require: b"none", known: None, prefix: false };
     let sizes = (state.len(), line.len());
     for (next, out) in [(1, 1), (1, 40_000), (40_000, 1), (sizes.0 - 1, sizes.1), (sizes.0, sizes.1 - 1), sizes, (40_000, 40_000)]
     {

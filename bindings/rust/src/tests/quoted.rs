@@ -30,7 +30,7 @@ pub(crate) fn files() -> Files {
 impl Files {
     pub(crate) fn quote(&self) -> Quote<'_> {
         let Self { message, nonce, .. } = self;
-        Quote { message, nonce, require: "sha256:0-10", takes_sha1: false, signature_checked: true }
+        Quote { message, nonce, require: "sha256:0-10", takes_sha1: false, signature_checked: true, known: None }
     }
 
     #[track_caller]

@@ -80,6 +80,8 @@ fn verdict_on_the_sample_is_a_match() {
         confirmed: None,
         unconfirmed: None,
         extends: Vec::new(),
+        known_from: None,
+        unknown: Vec::new(),
     };
     assert_eq!(verify(&log(), &list(), &expected(), NOTHING_REQUIRED).unwrap(), wanted);
 }
@@ -330,7 +332,7 @@ fn errors_say_what_is_wrong() {
         (
             refused("refused: command line", Kind::Argument, 0, None),
             "refused: command line (PCRs are named as in sha256:0-10, with PCR 10, or as in 0-10; \
-             a quote needs PCRs 0 to 10, and a nonce of at least 16 bytes)",
+             known files need such a requirement; a quote needs PCRs 0 to 10, and a nonce of at least 16 bytes)",
         ),
         (Error::OutOfMemory, "no memory for libima_verify"),
         (Error::Unexpected { result: 5, size: 10, text: Vec::new() }, "libima_verify gave the result 5 and the size 10"),

@@ -27,7 +27,7 @@ pub const IMA_VERIFY_MISUSED: i32 = 6;
 
 /// There is no error.
 pub const IMA_VERIFY_NO_FAULT: u32 = 0;
-/// `require` or `registers` is not of its form, or does not suit a quote, or a nonce is too short.
+/// `require` or `registers` is not of its form, or does not suit a quote or known files, or a nonce is too short.
 pub const IMA_VERIFY_ARGUMENT: u32 = 1;
 /// The firmware event log; the place is an event's.
 pub const IMA_VERIFY_LOG: u32 = 2;
@@ -45,6 +45,8 @@ pub const IMA_VERIFY_MEMORY: u32 = 7;
 pub const IMA_VERIFY_QUOTE: u32 = 8;
 /// The public area of a key.
 pub const IMA_VERIFY_KEY: u32 = 9;
+/// The known files; the place is a line's.
+pub const IMA_VERIFY_KNOWN: u32 = 10;
 
 /// The place of an error that names none.
 pub const IMA_VERIFY_NO_PLACE: u64 = u64::MAX;
@@ -78,6 +80,9 @@ extern "C" {
         expected_size: usize,
         require: *const u8,
         require_size: usize,
+        known: *const u8,
+        known_size: usize,
+        known_given: bool,
         json: bool,
         out: *mut u8,
         room: usize,
@@ -108,6 +113,9 @@ extern "C" {
         expected_size: usize,
         require: *const u8,
         require_size: usize,
+        known: *const u8,
+        known_size: usize,
+        known_given: bool,
         json: bool,
         out: *mut u8,
         room: usize,
@@ -126,6 +134,9 @@ extern "C" {
         expected_size: usize,
         require: *const u8,
         require_size: usize,
+        known: *const u8,
+        known_size: usize,
+        known_given: bool,
         prefix: bool,
         json: bool,
         next: *mut u8,
@@ -151,6 +162,9 @@ extern "C" {
         nonce_size: usize,
         require: *const u8,
         require_size: usize,
+        known: *const u8,
+        known_size: usize,
+        known_given: bool,
         takes_sha1: bool,
         is_signed: bool,
         prefix: bool,

@@ -97,6 +97,7 @@ fn numbers_are_those_of_the_header() {
         ("MEMORY", IMA_VERIFY_MEMORY),
         ("QUOTE", IMA_VERIFY_QUOTE),
         ("KEY", IMA_VERIFY_KEY),
+        ("KNOWN", IMA_VERIFY_KNOWN),
     ];
     let kinds = kinds.map(|(name, number)| (name, number as i32));
     for (name, number) in results.into_iter().chain(kinds) {
@@ -104,7 +105,7 @@ fn numbers_are_those_of_the_header() {
         assert!(header.lines().any(|found| found.trim_end_matches(',') == line), "{line}");
     }
     // (none is left out: an enumeration ends after its last number)
-    for last in ["IMA_VERIFY_MISUSED = 6\n};", "IMA_VERIFY_KEY = 9\n};", "IMA_VERIFY_NO_PLACE UINT64_MAX\n"] {
+    for last in ["IMA_VERIFY_MISUSED = 6\n};", "IMA_VERIFY_KNOWN = 10\n};", "IMA_VERIFY_NO_PLACE UINT64_MAX\n"] {
         assert!(header.contains(last), "{last}");
     }
     assert_eq!(IMA_VERIFY_NO_PLACE, u64::MAX);

@@ -6,11 +6,11 @@ use Rattle.clap.specs.declared.builder.Arg.{Arg}
 use Rattle.clap.specs.declared.builder.Command.{Command}
 use Rattle.clap.specs.declared.builder.ValueParser.{ValueParser}
 use Rattle.clap.specs.declared.builder.ValueParser.TheVariants.{Names}
-use Rattle.command_line.specs.Arguments.{beside, flag, optional, repeated, required, required_option, without_default}
+use Rattle.command_line.specs.Arguments.{beside, flag, optional, repeated, required, required_option, several, without_default}
 use Rattle.command_line.specs.declared.command_table.ArgumentRow.{ArgumentRow}
 use Rattle.command_line.specs.declared.command_table.CommandRow.{CommandRow}
 use Rattle.command_line.specs.declared.command_table.Form.{Form}
-use Rattle.command_line.specs.declared.command_table.Form.TheVariants.{Required, Omittable, Repeated, Flag, FlagBeside, RequiredOption, Optional, OptionalBeside, Defaulted}
+use Rattle.command_line.specs.declared.command_table.Form.TheVariants.{Required, Omittable, Repeated, Flag, FlagBeside, RequiredOption, Optional, OptionalBeside, Several, Defaulted}
 use Rattle.command_line.specs.declared.command_table.Values.{Values}
 use Rattle.command_line.specs.declared.command_table.Values.TheVariants.{Algs, Templates, Parsed}
 use Rattle.command_line.specs.declared.commands.KnownNames.{KnownNames}
@@ -40,6 +40,7 @@ rule_of_form known id (FlagBeside option) = beside (flag id)
 rule_of_form known id (RequiredOption value) = required_option id
 rule_of_form known id (Optional value) = without_default id
 rule_of_form known id (OptionalBeside value argument) = beside (without_default id)
+rule_of_form known id (Several value) = several id
 rule_of_form known id (Defaulted value default values) = optional id default.now (parser_of_values known values)
 
 -- A command with the argument of this row too.

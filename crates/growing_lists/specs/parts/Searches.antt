@@ -1,5 +1,5 @@
 -- What a search for the confirmed prefix found.
-use Rattle.std.specs.Prelude.{◌≡◌, ℕ, ◌+◌, ◌-◌, ◌^◌, min, nat_le, Bool, if◌then◌else◌, List, ◌++◌, length, Option, Some, None, Result, Ok, Err}
+use Rattle.std.specs.Prelude.{◌≡◌, ℕ, ◌+◌, ◌-◌, ◌^◌, min, nat_le, Bool, if◌then◌else◌, List, ◌++◌, length, take, Option, Some, None, Result, Ok, Err}
 use Rattle.pcr_banks.specs.declared.sets.AlgSet.{AlgSet}
 use Rattle.boot_log.specs.Replaying.{IsFirmware}
 use Rattle.boot_log.specs.Spelling.{LogEvent}
@@ -18,13 +18,17 @@ use Rattle.boot_verdict.specs.declared.verifier.VerifyFault.TheVariants as fault
 use Rattle.boot_verdict.specs.Checkpoints.{IsCheckpoint}
 use Rattle.growing_lists.specs.Goals.{Aim}
 use Rattle.growing_lists.specs.Prefixes.{AreUnconfirmed, IsConfirmed, IsUnconfirmedFault, IsWrongWith}
+use Rattle.boot_verdict.specs.ListReplays.{IsReplayedOrForged}
 use Rattle.boot_verdict.specs.ListSources.{CameFrom, CameWhole}
+use Rattle.boot_verdict.specs.Tracking.{After}
 
--- The checkpoint of a confirmed prefix of these bytes.
-pub record IsConfirmedAt (algs : AlgSet) (events : List LogEvent) (aim : Aim) (known : Checkpoint) (bytes : List ℕ) (at : Checkpoint) : Type 0 where
+-- The checkpoint of a confirmed prefix of these bytes and of these entries.
+pub record IsConfirmedAt (algs : AlgSet) (events : List LogEvent) (aim : Aim) (known : Checkpoint) (bytes : List ℕ) (entries : List ListEntry) (at : Checkpoint)
+    : Type 0 where
   pub prefix : List ListEntry
   pub rest : List ℕ
   pub begins : BeginsWith bytes prefix rest
+  pub first : take (length prefix) entries ≡ prefix
   pub confirmed : IsConfirmed algs events aim known.entries prefix
   pub checkpoint : IsCheckpoint (list_spelling prefix) at
   pub same : checkpoint.entries ≡ prefix
@@ -33,7 +37,7 @@ pub record IsConfirmedAt (algs : AlgSet) (events : List LogEvent) (aim : Aim) (k
 -- The confirmed prefix of these entries, with which the bytes begin, or none.
 abbrev pub FindsPrefix : AlgSet → List LogEvent → Aim → Checkpoint → List ℕ → List ListEntry → Option Checkpoint → Type 0
 FindsPrefix algs events aim known bytes entries None = AreUnconfirmed algs events aim known.entries entries
-FindsPrefix algs events aim known bytes entries (Some at) = IsConfirmedAt algs events aim known bytes at
+FindsPrefix algs events aim known bytes entries (Some at) = IsConfirmedAt algs events aim known bytes entries at
 
 abbrev pub wrong_with : Result Checkpoint Unconfirmed → Option Unconfirmed
 wrong_with (Ok whole) = None
@@ -60,6 +64,13 @@ pub record Searches (known : Checkpoint) (list : List ℕ) (old new : Option (Li
   pub count : length entries ≡ search.entries
   pub wrong : IsWrongWith list old new limit search.entries (wrong_with search.whole)
   pub whole : IsWhole known list old new limit entries search.whole
+
+-- The same, where `watch` has tracked the entries before the first that is not genuine.
+pub record WatchesSearch {W : Type 0} (IsAfter : After W) (start : W) (known : Checkpoint) (list : List ℕ) (old new : Option (List ℕ)) (limit : ℕ) (aim : Aim)
+    (search : Search) (watch : W) : Type 0 where
+  pub searches : Searches known list old new limit aim search
+  pub forged : Option ℕ
+  pub watched : IsReplayedOrForged IsAfter start searches.entries watch forged
 
 -- ---- what the code makes of the replay
 

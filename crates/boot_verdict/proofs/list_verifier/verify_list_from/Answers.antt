@@ -1,10 +1,11 @@
-use Rattle.std.proofs.Common.{◌∙◌, Ok, List, [], ap, refl, sym, inl, inr}
+use Rattle.std.proofs.Common.{◌∙◌, Ok, List, [], ap, refl, subst, sym, inl, inr}
 use Rattle.std.proofs.lemmas.Result.{err_from_is_err_and}
 use Rattle.ima_list.specs.ListEntry.{ListEntry}
+use Rattle.boot_verdict.specs.ListReplays.{AreTracked}
 use Rattle.boot_verdict.specs.ListVerdicts.{list_verdict_on}
 use Rattle.boot_verdict.specs.Replays.{IsListStart}
 use Rattle.boot_verdict.proofs.ListVerdictLaws.{list_verdict_same}
-use Rattle.boot_verdict.proofs.ReplayLaws.{list_not_read, same_entries}
+use Rattle.boot_verdict.proofs.ReplayLaws.{list_not_read, none_listed, same_entries}
 use Rattle.boot_verdict.proofs.list_verifier.verify_list_from.Goals as goal
 
 pub returns-in_err-known-clause-report : goal.returns-in_err-known-clause-report
@@ -46,6 +47,36 @@ returns-clause-report g c =
             c.in_ok-rows_on.ensures;
       };
     }
+
+pub returns-clause-watched : goal.returns-clause-watched
+returns-clause-watched g c =
+    λ first tracked.
+    let known = c.before_list.ensures.checkpoint in
+    let IsAfter = g.W.Tracker.is_after in
+    let goes = c.in_ok-known.ensures.watched first [] known
+    (subst (λ (l : List ListEntry). AreTracked IsAfter first l c.args.watch) (sym (none_listed known.list_is)) tracked) in
+    let is = goes.checkpoint in
+    let start : IsListStart c.in_ok-known.known.before = rw (c.in_ok-known.ensures.before, c.before_list.ensures.before) c.list_start.ensures in
+    record {
+      list = goes.more;
+      came = goes.came;
+      verdict_is = record {
+        entries = is.entries;
+        list_is = is.list_is;
+        genuine = is.genuine;
+        verdict_is = list_verdict_same c.in_ok-known.known.before c.in_ok-known.known.after is.entries c.args.expected.now _ _ _ start is.replayed is.count is.stray
+            c.in_ok-rows_on.ensures;
+      };
+      tracked = goes.tracked;
+    }
+
+pub returns-in_err-known-clause-watched : goal.returns-in_err-known-clause-watched
+returns-in_err-known-clause-watched g c =
+    let p = err_from_is_err_and c.from_residual.result c.from_residual.ensures.1 in rw p.1 tt
+
+pub returns-in_err-rows_on-clause-watched : goal.returns-in_err-rows_on-clause-watched
+returns-in_err-rows_on-clause-watched g c =
+    let p = err_from_is_err_and c.from_residual-in_err-rows_on.result c.from_residual-in_err-rows_on.ensures.1 in rw p.1 tt
 
 pub returns-clause-only : goal.returns-clause-only
 returns-clause-only g c =

@@ -12,10 +12,9 @@ returns-in-Registers g c =
 
 pub returns-in-Answer : goal.returns-in-Answer
 returns-in-Answer g c =
-    let said = rw (c.request_of-request.ensures, c.save_of-save.ensures) at c.output_for.ensures in
     rw c.in-Answer.is
-    (outcome_sent (g.F.Files.known c.args.files.now) (tasks.Answer c.in-Answer.question) c.args.form _ _ c.output_for.result _ _ _
-    said.shown said.kept said.fault c.send_output-in-Answer.ensures)
+    (outcome_sent (g.F.Files.known c.args.files.now) (tasks.Answer c.in-Answer.question) c.args.form _ _ c.answer_for.result _ _ _
+    c.answer_for.ensures.shown c.answer_for.ensures.kept c.answer_for.ensures.fault c.send_output-in-Answer.ensures)
 
 pub returns-in-Measure : goal.returns-in-Measure
 returns-in-Measure g c =
@@ -25,6 +24,12 @@ returns-in-Measure g c =
 
 pub returns-in-Events : goal.returns-in-Events
 returns-in-Events g c = rw c.in-Events.is c.events_for.ensures
+
+pub returns-in-Boot : goal.returns-in-Boot
+returns-in-Boot g c =
+    rw c.in-Boot.is
+    (outcome_sent (g.F.Files.known c.args.files.now) (tasks.Boot c.in-Boot.log c.in-Boot.confirmed_by c.in-Boot.before) c.args.form _ _ c.boot_for.result _ _ _
+    c.boot_for.ensures.shown c.boot_for.ensures.kept c.boot_for.ensures.fault c.send_output-in-Boot.ensures)
 
 pub returns-in-Entries : goal.returns-in-Entries
 returns-in-Entries g c = rw c.in-Entries.is c.entries_for.ensures

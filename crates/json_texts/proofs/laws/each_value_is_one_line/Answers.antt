@@ -3,13 +3,13 @@ use Rattle.pcr_banks.specs.Registers.{value_at}
 use Rattle.boot_log.specs.Spelling.{IsRow}
 use Rattle.json_texts.specs.EventJson.{algorithm_json}
 use Rattle.json_texts.specs.JsonValues.{IsCount}
-use Rattle.json_texts.specs.ReportJson.{IsCountedPosition, position_members, changed_register, value_within, stray_members, unconfirmed_members}
+use Rattle.json_texts.specs.ReportJson.{IsCountedPosition, list_meets, meets, position_members, changed_register, value_within, stray_members, unconfirmed_members}
 use Rattle.json_texts.proofs.AttestLaws.{attest_line}
 use Rattle.json_texts.proofs.EntryLaws.{entry_line}
 use Rattle.json_texts.proofs.EventLaws.{content_one_line, event_one_line}
 use Rattle.json_texts.proofs.KeyLaws.{key_line}
 use Rattle.json_texts.proofs.LineLaws.{members_joined, one_line}
-use Rattle.json_texts.proofs.ValueLaws.{algorithm_plain, change_plain, each_plain, mapped_plain, of_each_register, position_plain, report_plain, rows_plain, strays_plain, told_plain, unconfirmed_plain, within_plain}
+use Rattle.json_texts.proofs.ValueLaws.{algorithm_plain, change_plain, each_plain, mapped_plain, of_each_register, position_plain, report_plain, rows_plain, strays_plain, told_plain, unconfirmed_plain, verdict_plain, within_plain}
 use Rattle.json_texts.proofs.laws.each_value_is_one_line.Goals as goal
 
 pub returns : goal.returns
@@ -22,8 +22,9 @@ returns c = record {
       one_line _ (of_each_register (changed_register now start) (λ alg r. change_plain alg r (value_at start alg r) (value_at now alg r)), tt);
   expected = λ range expected fit.
       one_line _ (each_plain (λ e. IsCount e.register) (value_within range) (within_plain range) expected fit, tt);
-  report = λ required is_match verdict events locality entries strays rows.
-      let told = members_joined 2 (stray_members required verdict.strays) _ (strays_plain required verdict.strays strays) (tt, tt) in
+  report = λ required unknown is_match verdict events locality entries strays counted rows.
+      let told = members_joined 2 (stray_members required verdict.strays) _ (strays_plain required verdict.strays strays)
+      (verdict_plain unknown is_match counted) in
       one_line _ (
         (verdict.events, events, refl),
         (
@@ -31,16 +32,18 @@ returns c = record {
           ((verdict.entries, entries, refl), (tt, (report_plain required verdict.rows rows, told))),
         ),
       );
-  prefix_report = λ required prefix entries unconfirmed events locality confirmed all after strays rows.
-      let ended = members_joined 2 (stray_members required prefix.strays) _ (strays_plain required prefix.strays strays) (tt, tt) in
+  prefix_report = λ required unknown prefix entries unconfirmed events locality confirmed all after strays counted rows.
+      let ended = members_joined 2 (stray_members required prefix.strays) _ (strays_plain required prefix.strays strays)
+      (verdict_plain unknown (meets required prefix) counted) in
       let told = members_joined 2 (unconfirmed_members unconfirmed) _ (unconfirmed_plain unconfirmed after)
       (tt, (report_plain required prefix.rows rows, ended)) in
       one_line _ (
         (prefix.events, events, refl),
         ((prefix.locality, locality, refl), ((entries, all, refl), ((prefix.entries, confirmed, refl), told))),
       );
-  list_report = λ required verdict entries strays rows.
-      let told = members_joined 2 (stray_members required verdict.strays) _ (strays_plain required verdict.strays strays) (tt, tt) in
+  list_report = λ required unknown verdict entries strays counted rows.
+      let told = members_joined 2 (stray_members required verdict.strays) _ (strays_plain required verdict.strays strays)
+      (verdict_plain unknown (list_meets required verdict) counted) in
       one_line _ ((verdict.entries, entries, refl), (report_plain required verdict.rows rows, told));
   attestation = attest_line;
   key = key_line;

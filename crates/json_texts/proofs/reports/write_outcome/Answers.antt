@@ -5,4 +5,4 @@ pub returns : goal.returns
 returns c =
     let aggregate = rw c.aggregate_word.ensures at c.in_ok-write_text.ensures in
     let rows = rw c.deref.ensures.value at c.in_ok-write_rows.ensures in
-    joined aggregate (joined rows (joined c.in_ok-write_strays.ensures (rw c.verdict_word.ensures at c.in_ok-write_text-2.ensures)))
+    joined aggregate (joined rows (joined c.in_ok-write_strays.ensures c.in_ok-write_verdict.ensures))

@@ -1,30 +1,7 @@
-use Rattle.std.proofs.Common.{inl, inr}
-use Rattle.std.proofs.lemmas.Result.{err_from_is_err_and}
-use Rattle.judging.specs.Answering.{evidence_of}
+use Rattle.std.proofs.Common.{inr, sym, ◌∙◌}
+use Rattle.judging.proofs.AttestLaws.{of_fault}
 use Rattle.judging.proofs.answers.compare.Goals as goal
 
-pub returns-in_err-evidence-clause-fault : goal.returns-in_err-evidence-clause-fault
-returns-in_err-evidence-clause-fault g c =
-    let p = err_from_is_err_and c.from_residual-in_err-evidence.result c.from_residual-in_err-evidence.ensures.1 in
-    rw (p.1, p.2) (inr (inl ((_, c.in_ok-requirement.ensures.required), c.in_err-evidence.ensures.fault)))
-
-pub returns-in_err-answer-clause-fault : goal.returns-in_err-answer-clause-fault
-returns-in_err-answer-clause-fault g c =
-    let p = err_from_is_err_and c.from_residual-in_err-answer.result c.from_residual-in_err-answer.ensures.1 in
-    rw (p.1, p.2)
-    (inr (inr (
-      evidence_of c.in_ok-evidence.evidence,
-      c.in_ok-evidence.ensures.evidence,
-      rw c.in_ok-evidence.ensures.known at c.in_err-answer.ensures.found,
-    )))
-
-pub returns-clause-answer : goal.returns-clause-answer
-returns-clause-answer g c = record {
-  evidence = evidence_of c.in_ok-evidence.evidence;
-  next = c.in_ok-answer.next;
-  evidence_is = c.in_ok-evidence.ensures.evidence;
-  requirement_is = c.weighed.ensures.requirement;
-  judged = rw c.weighed.ensures.answer (rw c.in_ok-evidence.ensures.known at c.in_ok-answer.ensures.found);
-  well_is = rw (c.weighed.ensures.answer, c.weighed.ensures.requirement) c.weighed.ensures.well;
-  next_is = c.weighed.ensures.next;
-}
+pub returns-then-takes_known-clause-fault : goal.returns-then-takes_known-clause-fault
+returns-then-takes_known-clause-fault g c =
+    of_fault c.compare_as_asked.result _ _ (λ fault is. inr (sym c.takes_known.ensures ∙ c.if-takes_known.true, is)) c.compare_as_asked.ensures.fault

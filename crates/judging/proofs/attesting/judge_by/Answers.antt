@@ -20,30 +20,49 @@ returns-in_err-values-clause-fault g c =
       | inr memory ↦ inr memory
     ])
 
-pub returns-in_err-answer-clause-fault : goal.returns-in_err-answer-clause-fault
-returns-in_err-answer-clause-fault g c =
-    let p = err_from_is_err_and c.from_residual-in_err-answer.result c.from_residual-in_err-answer.ensures.1 in
+pub returns-in_err-found-clause-fault : goal.returns-in_err-found-clause-fault
+returns-in_err-found-clause-fault g c =
+    let p = err_from_is_err_and c.from_residual-in_err-found.result c.from_residual-in_err-found.ensures.1 in
     let known = rw (c.in_ok-values.ensures.known, c.in_ok-log.ensures.known, c.comparison_of-comparison.ensures.wanted) at c.in_ok-state.ensures.state in
+    let files = rw (c.in_ok-state.ensures.known, c.in_ok-values.ensures.known, c.in_ok-log.ensures.known) at c.in_ok-known.ensures.found in
     let why = rw (
+      c.in_ok-known.ensures.known,
       c.in_ok-state.ensures.known,
       c.in_ok-values.ensures.known,
       c.in_ok-log.ensures.known,
       c.comparison_of-comparison.ensures.wanted,
       c.comparison_of-comparison.ensures.list,
       c.checkpoint_of.ensures,
-    ) at c.in_err-answer.ensures.found in
+    ) at c.in_err-found.ensures.found in
     rw (p.1, p.2)
-    (inl (inr (inr (inr (
+    (inl (inr (inr (inr (inr (
       held_bytes c.in_ok-log.log,
       c.in_ok-values.values,
       c.in_ok-values.expected.items,
       c.in_ok-state.state,
+      c.in_ok-known.known,
       c.in_ok-log.ensures.all,
       rw c.in_ok-log.ensures.known at c.in_ok-values.ensures.counted,
       known,
       c.in_ok-state.ensures.boot,
+      files,
       why,
-    )))))
+    ))))))
+
+pub returns-in_err-known-clause-fault : goal.returns-in_err-known-clause-fault
+returns-in_err-known-clause-fault g c =
+    let p = err_from_is_err_and c.from_residual-in_err-known.result c.from_residual-in_err-known.ensures.1 in
+    let counted = rw c.in_ok-log.ensures.known at c.in_ok-values.ensures.counted in
+    let state = rw (c.in_ok-values.ensures.known, c.in_ok-log.ensures.known, c.comparison_of-comparison.ensures.wanted) at c.in_ok-state.ensures.state in
+    let why = rw (c.in_ok-state.ensures.known, c.in_ok-values.ensures.known, c.in_ok-log.ensures.known) at c.in_err-known.ensures.fault in
+    rw (p.1, p.2) (elim why [
+      | inl refused ↦ inl (inr (inr (inr (inl (
+        (counted.stated, counted.stated_is),
+        (c.in_ok-state.state, state, c.in_ok-state.ensures.boot),
+        refused,
+      )))))
+      | inr memory ↦ inr memory
+    ])
 
 pub returns-clause-answer : goal.returns-clause-answer
 returns-clause-answer g c =
@@ -54,22 +73,25 @@ returns-clause-answer g c =
       values = c.in_ok-values.values;
       counted = c.in_ok-values.expected.items;
       state = c.in_ok-state.state;
-      next = c.in_ok-answer.next;
+      files = c.in_ok-known.known;
+      next = c.in_ok-found.found.next;
       taken = taken;
       asked_for = asked;
       log_is = c.in_ok-log.ensures.all;
       counted_are = rw c.in_ok-log.ensures.known at c.in_ok-values.ensures.counted;
       state_is = rw (c.in_ok-values.ensures.known, c.in_ok-log.ensures.known, c.comparison_of-comparison.ensures.wanted) at c.in_ok-state.ensures.state;
       boot_is = c.in_ok-state.ensures.boot;
-      judged = rw c.weighed.ensures.answer (rw (
+      files_are = rw (c.in_ok-state.ensures.known, c.in_ok-values.ensures.known, c.in_ok-log.ensures.known) at c.in_ok-known.ensures.found;
+      judged = rw (c.weighed.ensures.answer, c.weighed.ensures.unknown) (rw (
+        c.in_ok-known.ensures.known,
         c.in_ok-state.ensures.known,
         c.in_ok-values.ensures.known,
         c.in_ok-log.ensures.known,
         c.comparison_of-comparison.ensures.wanted,
         c.comparison_of-comparison.ensures.list,
         c.checkpoint_of.ensures,
-      ) at c.in_ok-answer.ensures.found);
+      ) at c.in_ok-found.ensures.found);
       none_required = c.weighed.ensures.requirement;
-      well_is = rw c.weighed.ensures.answer c.weighed.ensures.well;
+      well_is = rw (c.weighed.ensures.answer, c.weighed.ensures.unknown) c.weighed.ensures.well;
       next_is = rw c.of-boot.ensures at c.weighed.ensures.next;
     }

@@ -1,9 +1,7 @@
-use Rattle.std.proofs.Common.{inl, inr, refl, sym, ◌∙◌}
-use Rattle.std.proofs.lemmas.Bool.{false≢true}
 use Rattle.std.proofs.lemmas.Result.{err_from_is_err_and}
 use Rattle.tpm_quotes.specs.Spelling.{quote_of}
 use Rattle.judging.specs.Requests.{judgement_of, resume_of}
-use Rattle.judging.proofs.AttestLaws.{not_known, other_counts}
+use Rattle.judging.proofs.AttestLaws.{not_known}
 use Rattle.judging.proofs.attesting.state_by.Goals as goal
 
 pub returns-in_err-state-clause-fault : goal.returns-in_err-state-clause-fault

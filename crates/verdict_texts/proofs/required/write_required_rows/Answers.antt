@@ -1,4 +1,4 @@
-use Rattle.byte_streams.proofs.SinkLaws.{Sends-same, Sends-then, Sends-stops}
+use Rattle.byte_streams.proofs.SinkLaws.{Sends-then, Sends-stops}
 use Rattle.verdict_texts.proofs.required.write_required_rows.Goals as goal
 
 pub returns-in_err-write_rows : goal.returns-in_err-write_rows
@@ -19,4 +19,4 @@ pub returns : goal.returns
 returns g c =
     Sends-then _ _ _ tt _ _ _ c.in_ok-write_rows.ensures
     (Sends-then _ _ _ tt _ _ _ c.in_ok-write_missing.ensures
-    (Sends-then _ _ _ tt _ _ _ c.in_ok-write_strays.ensures (Sends-same _ _ _ _ _ c.verdict_line.ensures c.send.ensures)))
+    (Sends-then _ _ _ tt _ _ _ c.in_ok-write_strays.ensures c.write_verdict.ensures))

@@ -1,6 +1,6 @@
 use Rattle.std.proofs.lemmas.Result.{err_from_is_err_and}
 use Rattle.growing_lists.specs.Goals.{aim_of}
-use Rattle.growing_lists.proofs.ConfirmLaws.{prefix_taken, refused_by, takes_unconfirmed}
+use Rattle.growing_lists.proofs.ConfirmLaws.{prefix_taken, refused_by, takes_unconfirmed, watches_more, watches_prefix}
 use Rattle.growing_lists.proofs.session.Session.confirm.Goals as goal
 
 pub returns-in_err-search-clause-fault : goal.returns-in_err-search-clause-fault
@@ -40,3 +40,15 @@ returns-clause-prefix g c =
     rw c.wrong_with.ensures (λ log list has.
     prefix_taken c.args.self.now log list has _ _ _ (aim_of c.args.goal) c.in_ok-search.search (c.in_ok-search.ensures.found list has.checkpoint)
     c.in-Some.prefix c.in-Some.is)
+
+pub returns-in_default-clause-watched : goal.returns-in_default-clause-watched
+returns-in_default-clause-watched g c =
+    λ start log list has tracked.
+    watches_more g.W.Tracker.is_after start c.args.self.now log list has _ _ _ (aim_of c.args.goal) c.in_ok-search.search _
+    (c.in_ok-search.ensures.watched start list has.checkpoint tracked) c.in_ok-self.field-0 c.in_ok-self.ensures.whole
+
+pub returns-clause-watched : goal.returns-clause-watched
+returns-clause-watched g c =
+    rw c.wrong_with.ensures (λ start log list has tracked.
+    watches_prefix g.W.Tracker.is_after start c.args.self.now log list has _ _ _ (aim_of c.args.goal) c.in_ok-search.search _
+    (c.in_ok-search.ensures.watched start list has.checkpoint tracked) c.in-Some.prefix c.in-Some.is)

@@ -1,7 +1,7 @@
-use Rattle.std.proofs.Common.{inl, inr}
+use Rattle.std.proofs.Common.{inr}
 use Rattle.agent_inputs.proofs.LoadingLemmas.{source_failed}
 use Rattle.judging.specs.Answering.{evidence_of}
-use Rattle.judging.proofs.InputLaws.{list_refused, positions_refused}
+use Rattle.judging.proofs.InputLaws.{positions_refused}
 use Rattle.judging.proofs.answers.Evidence.find_from.Goals as goal
 
 pub returns-in-Err : goal.returns-in-Err
@@ -11,12 +11,3 @@ returns-in-Err g c =
     (inr (positions_refused gives (evidence_of c.args.self.now) c.in-Err.fault _
     (source_failed c.locate_from.result c.in-Err.fault _ _ c.in-Err.is c.locate_from.ensures.counts c.locate_from.ensures.telling)
     (rw (c.bytes-log.ensures, c.limit_of.ensures) at c.in-Err.ensures.fault) c.refusal.ensures))
-
-pub returns-in-Err-verify_list_from : goal.returns-in-Err-verify_list_from
-returns-in-Err-verify_list_from g c =
-    λ inputs gives.
-    rw c.in-ListVerdict.is
-    (inr (inl (list_refused gives c.in-Err-verify_list_from.fault _
-    (source_failed c.verify_list_from.result c.in-Err-verify_list_from.fault _ _ c.in-Err-verify_list_from.is c.verify_list_from.ensures.counts
-    c.verify_list_from.ensures.telling)
-    (rw c.limit_of-in-ListVerdict.ensures at c.in-Err-verify_list_from.ensures.fault) c.refusal-in-Err-verify_list_from.ensures)))

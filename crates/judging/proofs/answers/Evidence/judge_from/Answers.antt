@@ -1,48 +1,70 @@
-use Rattle.std.proofs.Common.{sym, ◌∙◌}
+use Rattle.std.proofs.Common.{ℕ, List, Option, sym, ◌∙◌}
+use Rattle.std.proofs.Math.Seq.{take-length}
 use Rattle.std.proofs.lemmas.Bool.{false≢true}
 use Rattle.agent_inputs.proofs.LoadingLemmas.{source_failed}
-use Rattle.judging.specs.Answering.{evidence_of}
+use Rattle.boot_verdict.specs.declared.checkpoint.Checkpoint.{Checkpoint}
+use Rattle.boot_verdict.specs.ListReplays.{AreTracked}
+use Rattle.growing_lists.specs.declared.session.Session.{Session}
+use Rattle.growing_lists.specs.Sessions.{HasTaken}
+use Rattle.known_files.specs.declared.unknown.UnknownEntries.{UnknownEntries}
+use Rattle.known_files.specs.Unknown.{IsLookedAfter}
+use Rattle.judging.specs.Answering.{BeginsAfter, HasWatched, IsStarted, evidence_of}
 use Rattle.judging.proofs.InputLaws.{prefix_found, not_found, whole_found}
 use Rattle.judging.proofs.answers.Evidence.judge_from.Goals as goal
 
-pub returns-in_ok-report-in-Ok-Some : goal.returns-in_ok-report-in-Ok-Some
-returns-in_ok-report-in-Ok-Some g c =
-    λ inputs log resume gives started room.
-    prefix_found gives log resume c.args.scope (evidence_of c.args.self.now) started _ c.in_ok-report-in-Ok-Some.field-0 c.in-Ok-Some.confirmed room
-    (sym c.seeks_prefix.ensures ∙ c.if-seeks_prefix.true)
-    (rw (c.in-Ok-Some.field-0-is, c.limit_of.ensures, c.goal.ensures) at c.in-Ok-Some.ensures.prefix)
-    (rw c.deref.ensures.value at c.in_ok-report-in-Ok-Some.ensures)
+-- A watch that begins where a session goes on has looked at what that has taken as at nothing.
+begun : {log other taken : List ℕ} {known : Option Checkpoint} {session : Session} {start : UnknownEntries} → IsStarted log known session
+    → BeginsAfter known start → (is : HasTaken other taken session) → AreTracked IsLookedAfter start is.checkpoint.entries start
+begun started begins is = begins is.checkpoint.entries (sym is.checkpoint.count ∙ started.count)
 
-pub returns-in_ok-report-in-Ok-None : goal.returns-in_ok-report-in-Ok-None
-returns-in_ok-report-in-Ok-None g c =
-    λ inputs log resume gives started room.
-    let none = rw (c.in-Ok-None.field-0-is, c.limit_of.ensures, c.goal.ensures) at c.in-Ok-None.ensures.none in
-    whole_found gives log resume c.args.scope (evidence_of c.args.self.now) started _ c.in_ok-report-in-Ok-None.field-0 room
-    (λ log taken is. (none log taken is).takes)
+pub returns-in_ok-report-in-Ok-Some-default : goal.returns-in_ok-report-in-Ok-Some-default
+returns-in_ok-report-in-Ok-Some-default g c =
+    λ inputs log resume gives started begins room.
+    let watched = rw (c.in-Ok-Some-default.field-0-0-is, c.limit_of.ensures, c.goal.ensures) at c.in-Ok-Some-default.ensures.watched in
+    prefix_found gives log resume c.args.scope (evidence_of c.args.self.now) started (HasWatched c.args.watch c.in-Ok-Some-default.watch) _
+    c.in_ok-report-in-Ok-Some-default.field-0 c.in-Ok-Some-default.confirmed room
+    (sym c.seeks_prefix.ensures ∙ c.if-seeks_prefix.true)
+    (λ log taken is. let w = watched c.args.watch log taken is (begun started begins is) in (w.prefix, (w.all, w.first, w.tracked)))
+    (rw c.deref.ensures.value at c.in_ok-report-in-Ok-Some-default.ensures)
+
+pub returns-in_ok-whole-in-Ok-None-default : goal.returns-in_ok-whole-in-Ok-None-default
+returns-in_ok-whole-in-Ok-None-default g c =
+    λ inputs log resume gives started begins room.
+    let none = rw (c.in-Ok-None-default.field-0-0-is, c.limit_of.ensures, c.goal.ensures) at c.in-Ok-None-default.ensures.none in
+    let watched = rw (c.in-Ok-None-default.field-0-0-is, c.limit_of.ensures) at c.in-Ok-None-default.ensures.watched in
+    whole_found gives log resume c.args.scope (evidence_of c.args.self.now) started (HasWatched c.args.watch c.in-Ok-None-default.watch) _
+    c.in_ok-whole-in-Ok-None-default.whole room
+    (λ log taken is.
+    let w = watched c.args.watch log taken is (begun started begins is) in
+    (w.takes, (w.takes.taken.checkpoint.entries, take-length w.takes.taken.checkpoint.entries, w.tracked)))
     (λ sought. none)
-    (rw c.deref-in-Ok-None.ensures.value at c.in_ok-report-in-Ok-None.ensures)
+    (rw c.deref-in-Ok-None-default.ensures.value at c.in_ok-whole-in-Ok-None-default.ensures)
+
+pub returns-in_ok-whole-in-Ok : goal.returns-in_ok-whole-in-Ok
+returns-in_ok-whole-in-Ok g c =
+    λ inputs log resume gives started begins room.
+    let watched = rw c.limit_of-else-seeks_prefix.ensures at c.in-Ok.ensures.watched in
+    whole_found gives log resume c.args.scope (evidence_of c.args.self.now) started (HasWatched c.args.watch c.in-Ok.watch) _
+    c.in_ok-whole-in-Ok.whole room
+    (λ log taken is.
+    let w = watched c.args.watch log taken is (begun started begins is) in
+    (w.takes, (w.takes.taken.checkpoint.entries, take-length w.takes.taken.checkpoint.entries, w.tracked)))
+    (λ sought.
+    absurd (false≢true (sym c.if-seeks_prefix.false ∙ c.seeks_prefix.ensures ∙ sought)))
+    (rw c.deref-in-Ok.ensures.value at c.in_ok-whole-in-Ok.ensures)
 
 pub returns-in-Err : goal.returns-in-Err
 returns-in-Err g c =
-    λ inputs log resume gives started.
+    λ inputs log resume gives started begins.
     not_found gives log resume c.args.scope (evidence_of c.args.self.now) started c.in-Err.fault _
     (source_failed c.confirm.result c.in-Err.fault _ _ c.in-Err.is c.confirm.ensures.counts c.confirm.ensures.telling)
     (rw c.limit_of.ensures at c.in-Err.ensures.fault)
     (λ sought. rw (c.limit_of.ensures, c.goal.ensures) at c.in-Err.ensures.unconfirmed)
     c.refusal.ensures
 
-pub returns-in_ok-report-in-Ok : goal.returns-in_ok-report-in-Ok
-returns-in_ok-report-in-Ok g c =
-    λ inputs log resume gives started room.
-    whole_found gives log resume c.args.scope (evidence_of c.args.self.now) started _ c.in_ok-report-in-Ok.field-0 room
-    (rw c.limit_of-else-seeks_prefix.ensures at c.in-Ok.ensures.taken)
-    (λ sought.
-    absurd (false≢true (sym c.if-seeks_prefix.false ∙ c.seeks_prefix.ensures ∙ sought)))
-    (rw c.deref-in-Ok.ensures.value at c.in_ok-report-in-Ok.ensures)
-
 pub returns-in-Err-more : goal.returns-in-Err-more
 returns-in-Err-more g c =
-    λ inputs log resume gives started.
+    λ inputs log resume gives started begins.
     not_found gives log resume c.args.scope (evidence_of c.args.self.now) started c.in-Err-more.fault _
     (source_failed c.more.result c.in-Err-more.fault _ _ c.in-Err-more.is c.more.ensures.counts c.more.ensures.telling)
     (rw c.limit_of-else-seeks_prefix.ensures at c.in-Err-more.ensures.fault)

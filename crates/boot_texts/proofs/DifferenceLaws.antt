@@ -1,0 +1,153 @@
+-- The lines of a register's events from a place on, one event after another; and those of all registers.
+use Rattle.std.proofs.Common.{◌≡◌, ℕ, ◌+◌, ◌<◌, ◌≤◌, Bool, true, false, cond, List, [], ◌∷◌, ◌++◌, length, take, drop, get_or, suc, sym, ap, ◌∙◌, append_assoc, append-nil, Option, Some, None, Result, Ok, Err, take-append-drop, arith}
+use Rattle.std.specs.Prelude.{flat_map, OnOk}
+use Rattle.std.proofs.Math.Seq.{drop-cons}
+use Rattle.std.proofs.lemmas.List.{drop-append-le, drop_all, length-append}
+use Rattle.std.proofs.lemmas.List.Concat.{flat_map-append}
+use Rattle.pcr_banks.specs.declared.alg.Alg.{Alg}
+use Rattle.boot_log.specs.Replaying.{is_extended_into}
+use Rattle.boot_log.specs.Spelling.{LogEvent}
+use Rattle.measured_data.specs.declared.place.Place.{Place}
+use Rattle.measured_data.specs.Confirming.{counts}
+use Rattle.boot_answers.specs.Differences.{IsFirstDifference}
+use Rattle.json_texts.specs.declared.event_form.EventForm.{EventForm}
+use Rattle.json_texts.specs.ItemLines.{numbered_lines}
+use Rattle.json_texts.proofs.SentLaws.{numbered_joined}
+use Rattle.boot_texts.specs.declared.difference_lines.Boot.{Boot}
+use Rattle.boot_texts.specs.declared.difference_lines.EventLine.{EventLine}
+use Rattle.boot_texts.specs.declared.differences.Difference.{Difference}
+use Rattle.boot_texts.specs.Differences.{AreOfRegisters, IsComparedIn, IsDifference, difference_lines, event_line, lines_from, numbered_events, register_lines}
+
+-- ---- the events of a register with their numbers
+
+abbrev Numbered : Type 0
+Numbered = ℕ × LogEvent
+
+kept : (b : Bool) (first : Numbered) (events before more : List Numbered) → events ≡ before ++ more
+    → cond b (first ∷ events) events ≡ cond b (first ∷ before) before ++ more
+kept true first events before more are = ap (λ (l : List Numbered). first ∷ l) are
+kept false first events before more are = are
+
+-- The event with this number, if the test holds.
+abbrev only : Bool → ℕ → LogEvent → List Numbered
+only b number event = cond b ((number, event) ∷ []) []
+
+same_number : (b : Bool) (event : LogEvent) (number other : ℕ) → number ≡ other
+    → only b number event ≡ only b other event
+same_number b event number other is = ap (λ (n : ℕ). only b n event) is
+
+-- One event more.
+numbered_more : (register number : ℕ) (read : List LogEvent) (event : LogEvent)
+    → numbered_events register number (read ++ event ∷ [])
+    ≡ numbered_events register number read ++ only (is_extended_into register event) (number + length read) event
+numbered_more register number [] event = same_number (is_extended_into register event) event number (number + 0) (omega arith)
+numbered_more register number (first ∷ read) event =
+    let more = only (is_extended_into register event) ((number + 1) + length read) event in
+    kept (is_extended_into register first) (number, first) (numbered_events register (number + 1) (read ++ event ∷ []))
+    (numbered_events register (number + 1) read) more (numbered_more register (number + 1) read event)
+    ∙ ap (λ (l : List Numbered). numbered_events register number (first ∷ read) ++ l)
+    (same_number (is_extended_into register event) event ((number + 1) + length read) (number + length (first ∷ read)) (omega arith))
+
+-- How many of these events are extended into the register.
+abbrev pub count_of : ℕ → List LogEvent → ℕ
+count_of register read = length (numbered_events register 1 read)
+
+module _ (boot : Boot) (line : EventLine) (place : ℕ) (read : List LogEvent) (event : LogEvent) where
+  abbrev all : List Numbered
+  all = numbered_events line.register 1 read
+
+  abbrev longer : List Numbered
+  longer = numbered_events line.register 1 (read ++ event ∷ [])
+
+  abbrev lines : List Numbered → List ℕ
+  lines = flat_map (λ (numbered : Numbered). event_line boot line numbered.0 numbered.1)
+
+  other_is : is_extended_into line.register event ≡ false → longer ≡ all
+  other_is other =
+      numbered_more line.register 1 read event
+      ∙ ap (λ (b : Bool). all ++ only b (1 + length read) event) other ∙ append-nil all
+
+  own_is : is_extended_into line.register event ≡ true → longer ≡ all ++ (1 + length read, event) ∷ []
+  own_is own =
+      numbered_more line.register 1 read event
+      ∙ ap (λ (b : Bool). all ++ only b (1 + length read) event) own
+
+  pub other_lines : is_extended_into line.register event ≡ false → lines_from boot line place (read ++ event ∷ []) ≡ lines_from boot line place read
+  other_lines other = ap (λ (l : List Numbered). lines (drop place l)) (other_is other)
+
+  pub other_count : is_extended_into line.register event ≡ false → count_of line.register (read ++ event ∷ []) ≡ count_of line.register read
+  other_count other = ap (λ (l : List Numbered). length l) (other_is other)
+
+  pub own_count : is_extended_into line.register event ≡ true → count_of line.register (read ++ event ∷ []) ≡ count_of line.register read + 1
+  own_count own = ap (λ (l : List Numbered). length l) (own_is own) ∙ length-append all ((1 + length read, event) ∷ [])
+
+  -- One before the place.
+  pub passed_lines : is_extended_into line.register event ≡ true → count_of line.register read < place
+      → lines_from boot line place (read ++ event ∷ []) ≡ lines_from boot line place read
+  passed_lines own before =
+      ap lines (drop_all place longer (omega (arith, own_count own, before)) ∙ sym (drop_all place all (omega (arith, before))))
+
+  -- One from the place on.
+  pub told_lines : (number : ℕ) → is_extended_into line.register event ≡ true → place ≤ count_of line.register read
+      → number ≡ length (read ++ event ∷ [])
+      → lines_from boot line place (read ++ event ∷ []) ≡ lines_from boot line place read ++ event_line boot line number event
+  told_lines number own within is =
+      let count : 1 + length read ≡ number = omega (arith, is, length-append read (event ∷ [])) in
+      ap (λ (l : List Numbered). lines (drop place l)) (own_is own)
+      ∙ ap lines (drop-append-le place all ((1 + length read, event) ∷ []) within)
+      ∙ flat_map-append (λ (numbered : Numbered). event_line boot line numbered.0 numbered.1) (drop place all) ((1 + length read, event) ∷ [])
+      ∙ ap (λ (l : List ℕ). lines_from boot line place read ++ l) (append-nil (event_line boot line (1 + length read) event)
+      ∙ ap (λ (n : ℕ). event_line boot line n event) count)
+
+-- ---- banks
+
+-- The algorithms before one, and those after it.
+pub parted : (algs : List Alg) (index : ℕ) (d : Alg) → index < length algs
+    → algs ≡ take index algs ++ get_or algs index d ∷ drop (suc index) algs
+parted algs index d within =
+    sym (take-append-drop index algs) ∙ ap (λ (l : List Alg). take index algs ++ l) (drop-cons algs index d within)
+
+-- How the boots are compared in a bank that answers.
+pub compared : (matched : List Place) (register : ℕ) (events others : List LogEvent) (alg : Alg) (found : Option ℕ)
+    → counts matched alg register ≡ true → IsFirstDifference alg register events others found
+    → IsComparedIn matched register events others alg found
+compared matched register events others alg None answers is = λ _. is
+compared matched register events others alg (Some place) answers is = record { answers = answers; apart = is }
+
+-- ---- registers
+
+module _ (matched : List Place) (events others : List LogEvent) where
+  pub one_register : (number : ℕ) (differences : List Difference) (difference : Difference) → AreOfRegisters matched events others number differences
+      → IsDifference matched (number + length differences) events others difference
+      → AreOfRegisters matched events others number (differences ++ difference ∷ [])
+  one_register number [] difference are is =
+      let same : number + length {A = Difference} [] ≡ number = omega arith in
+      ((rw same at is), tt)
+  one_register number (first ∷ differences) difference are is =
+      let same : number + length (first ∷ differences) ≡ (number + 1) + length differences = omega arith in
+      (are.0, one_register (number + 1) differences difference are.1 (rw same at is))
+
+abbrev lines_of : EventForm → List LogEvent → List LogEvent → ℕ → Difference → List ℕ
+lines_of form events others register difference = register_lines form register difference events others
+
+pub one_register_lines : (form : EventForm) (events others : List LogEvent) (differences : List Difference) (difference : Difference) (register : ℕ)
+    → length differences ≡ register
+    → difference_lines form events others (differences ++ difference ∷ [])
+    ≡ difference_lines form events others differences ++ register_lines form register difference events others
+one_register_lines form events others differences difference register count =
+    let line = lines_of form events others in
+    let before = numbered_lines line 0 differences in
+    let same : 0 + length differences ≡ register = omega (arith, count) in
+    numbered_joined line 0 differences (difference ∷ [])
+    ∙ ap (λ (n : ℕ). before ++ (line n difference ++ [])) same
+    ∙ ap (λ (l : List ℕ). before ++ l) (append-nil (line register difference))
+
+-- ---- text after text
+
+pub joined : (old mid new first second : List ℕ) → mid ≡ old ++ first → new ≡ mid ++ second → new ≡ old ++ (first ++ second)
+joined old mid new first second before after = after ∙ ap (λ (l : List ℕ). l ++ second) before ∙ append_assoc old first second
+
+pub after_ok : {A E : Type 0} (old mid new first second : List ℕ) (result : Result A E) → mid ≡ old ++ first → OnOk result (new ≡ mid ++ second)
+    → OnOk result (new ≡ old ++ (first ++ second))
+after_ok old mid new first second (Ok value) before after = joined old mid new first second before after
+after_ok old mid new first second (Err fault) before after = tt

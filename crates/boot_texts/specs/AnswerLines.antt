@@ -1,0 +1,143 @@
+-- The line of each answer, in both forms. The forms are this project's choice.
+use Rattle.std.specs.Prelude.{ℕ, if◌then◌else◌, List, [], ◌∷◌, ◌++◌, codes, decimal, flat_map, Option, Some, None, option_map}
+use Rattle.hex.specs.Hex.{encode_lower}
+use Rattle.json.specs.Json.{Json, string}
+use Rattle.pcr_banks.specs.declared.alg.Alg.{Alg}
+use Rattle.pcr_banks.specs.declared.sets.PerBank.{PerBank}
+use Rattle.pcr_banks.specs.Hashing.{all_algs, name_of}
+use Rattle.pcr_banks.specs.Sets.{digest_in}
+use Rattle.boot_log.specs.Spelling.{LogEvent}
+use Rattle.event_data.specs.EventForms.{Content}
+use Rattle.measured_data.specs.declared.place.Place.{Place}
+use Rattle.measured_data.specs.Confirming.{counts}
+use Rattle.boot_answers.specs.declared.secure_boot_state.SecureBoot.{SecureBoot}
+use Rattle.boot_answers.specs.declared.secure_boot_state.SecureBoot.TheVariants.{On, Off, Unknown}
+use Rattle.boot_answers.specs.Commands.{CommandSaid, grub, wide}
+use Rattle.boot_answers.specs.FirmwareVersion.{version_type}
+use Rattle.boot_answers.specs.Images.{image_register}
+use Rattle.json_texts.specs.declared.event_form.EventForm.{EventForm}
+use Rattle.json_texts.specs.declared.event_form.EventForm.TheVariants.{Json as AsJson, Explained}
+use Rattle.json_texts.specs.ContentJson.{command_word, content_json}
+use Rattle.json_texts.specs.ContentTexts.{wide_member}
+use Rattle.json_texts.specs.EventJson.{event_content_json}
+use Rattle.json_texts.specs.JsonValues.{Member, hex_json, line_of, number_json, object_of, optional, shown_member}
+use Rattle.json_texts.specs.SteeringTexts.{unsteered}
+
+-- An answer in one word.
+abbrev pub word_json : List ℕ → List ℕ → Json
+word_json name word = object_of ((name, string word) ∷ [])
+
+abbrev pub word_line : EventForm → List ℕ → List ℕ → List ℕ
+word_line AsJson name word = line_of (word_json name word)
+word_line Explained name word = name ++ (codes " " ++ (word ++ codes "\n"))
+
+-- JSON at the end of a line of text, in which no character steers what shows it.
+abbrev pub shown_json : Json → List ℕ
+shown_json value = unsteered (line_of value)
+
+-- ---- Secure Boot, and the firmware's version
+
+abbrev pub state_word : SecureBoot → List ℕ
+state_word On = codes "on"
+state_word Off = codes "off"
+state_word Unknown = codes "unknown"
+
+abbrev pub secure_boot_line : EventForm → SecureBoot → List ℕ
+secure_boot_line form state = word_line form (codes "secure_boot") (state_word state)
+
+-- A version that is known.
+abbrev pub version_json : Content → Json
+version_json content = object_of ((codes "firmware_version", content_json version_type content) ∷ [])
+
+abbrev pub known_version_line : EventForm → Content → List ℕ
+known_version_line AsJson content = line_of (version_json content)
+known_version_line Explained content = codes "firmware_version " ++ shown_json (content_json version_type content)
+
+abbrev pub version_line : EventForm → Option Content → List ℕ
+version_line form None = word_line form (codes "firmware_version") (codes "unknown")
+version_line form (Some content) = known_version_line form content
+
+-- ---- images
+
+-- The event's digest in the bank, if the bank answers for images.
+abbrev pub answered_digest : List Place → PerBank → Alg → Option (List ℕ)
+answered_digest matched digests alg = if counts matched alg image_register then digest_in digests alg else None
+
+-- The digests in the banks that answer, in the order of algorithms.
+abbrev pub answered_json : List Place → PerBank → Json
+answered_json matched digests =
+    object_of (flat_map (λ alg. optional (name_of alg) (option_map hex_json (answered_digest matched digests alg))) all_algs)
+
+abbrev pub digest_field : Alg → Option (List ℕ) → List ℕ
+digest_field alg None = []
+digest_field alg (Some bytes) = name_of alg ++ (codes " " ++ (encode_lower bytes ++ codes " "))
+
+abbrev pub answered_fields : List Place → PerBank → List ℕ
+answered_fields matched digests = flat_map (λ alg. digest_field alg (answered_digest matched digests alg)) all_algs
+
+-- The event with this number as an image: its digests, and what its data claims.
+abbrev pub image_json : List Place → ℕ → LogEvent → Json
+image_json matched number event = object_of (
+    (codes "image", number_json number)
+    ∷ (codes "digests", answered_json matched event.digests)
+    ∷ (codes "claimed", event_content_json event)
+    ∷ [])
+
+abbrev pub image_line : EventForm → List Place → ℕ → LogEvent → List ℕ
+image_line AsJson matched number event = line_of (image_json matched number event)
+image_line Explained matched number event =
+    codes "image " ++ (decimal number ++ (codes " " ++ (answered_fields matched event.digests
+    ++ (codes "claimed " ++ shown_json (event_content_json event)))))
+
+-- ---- commands
+
+-- The text; in hexadecimal where it is none.
+abbrev pub text_member : CommandSaid → Member
+text_member (grub command) = shown_member (codes "text") (codes "text_hex") command.text
+text_member (wide text) = wide_member (codes "text") (codes "text_hex") text
+
+-- The kind of a command of GRUB, which is claimed.
+abbrev pub kind_members : CommandSaid → List Member
+kind_members (grub command) = (codes "claimed", object_of ((codes "kind", string (command_word command.kind)) ∷ [])) ∷ []
+kind_members (wide text) = []
+
+-- The text alone, as an object.
+abbrev pub text_json : CommandSaid → Json
+text_json text = object_of (text_member text ∷ [])
+
+-- The text that the event with this number tells.
+abbrev pub command_json : ℕ → ℕ → CommandSaid → Json
+command_json register number text = object_of (
+    (codes "command", number_json number) ∷ (codes "register", number_json register) ∷ text_member text ∷ kind_members text)
+
+abbrev pub command_line : EventForm → ℕ → ℕ → CommandSaid → List ℕ
+command_line AsJson register number text = line_of (command_json register number text)
+command_line Explained register number text =
+    codes "command " ++ (decimal number ++ (codes " " ++ (decimal register ++ (codes " " ++ shown_json (text_json text)))))
+
+-- The event with this number tells no text, so none is told after it.
+abbrev pub untold_json : ℕ → ℕ → Json
+untold_json register number = object_of (
+    (codes "command", string (codes "unknown")) ∷ (codes "register", number_json register) ∷ (codes "event", number_json number) ∷ [])
+
+abbrev pub untold_line : EventForm → ℕ → ℕ → List ℕ
+untold_line AsJson register number = line_of (untold_json register number)
+untold_line Explained register number = codes "command unknown " ++ (decimal register ++ (codes " " ++ (decimal number ++ codes "\n")))
+
+-- No bank answers for the register.
+abbrev pub unanswered_json : ℕ → Json
+unanswered_json register = object_of ((codes "command", string (codes "unknown")) ∷ (codes "register", number_json register) ∷ [])
+
+abbrev pub unanswered_line : EventForm → ℕ → List ℕ
+unanswered_line AsJson register = line_of (unanswered_json register)
+unanswered_line Explained register = codes "command unknown " ++ (decimal register ++ codes "\n")
+
+-- ---- boot variables
+
+-- The event with this number as a boot variable: what its data says.
+abbrev pub variable_json : ℕ → LogEvent → Json
+variable_json number event = object_of ((codes "boot_variable", number_json number) ∷ (codes "content", event_content_json event) ∷ [])
+
+abbrev pub variable_line : EventForm → ℕ → LogEvent → List ℕ
+variable_line AsJson number event = line_of (variable_json number event)
+variable_line Explained number event = codes "boot_variable " ++ (decimal number ++ (codes " " ++ shown_json (event_content_json event)))

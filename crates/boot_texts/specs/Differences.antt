@@ -1,0 +1,182 @@
+-- How far a boot and an earlier one extended each register alike, and what extended it from there on, as lines. The members and words are this
+-- project's choice.
+use Rattle.std.specs.Prelude.{◌≡◌, ℕ, ◌+◌, ◌||◌, Bool, true, false, if◌then◌else◌, List, [], ◌∷◌, ◌++◌, codes, decimal, drop, flat_map, length, Option, None, Some, option_map}
+use Rattle.std.specs.List.{AllByRecursion}
+use Rattle.hex.specs.Hex.{encode_lower}
+use Rattle.json.specs.Json.{Json, string}
+use Rattle.pcr_banks.specs.declared.alg.Alg.{Alg}
+use Rattle.pcr_banks.specs.Hashing.{all_algs, name_of}
+use Rattle.pcr_banks.specs.Sets.{digest_in}
+use Rattle.boot_log.specs.Replaying.{is_extended_into}
+use Rattle.boot_log.specs.Spelling.{LogEvent}
+use Rattle.measured_data.specs.declared.place.Place.{Place}
+use Rattle.measured_data.specs.Confirming.{counts}
+use Rattle.boot_answers.specs.Differences.{IsFirstDifference}
+use Rattle.boot_answers.specs.Extending.{extended_events}
+use Rattle.json_texts.specs.declared.event_form.EventForm.{EventForm}
+use Rattle.json_texts.specs.declared.event_form.EventForm.TheVariants as forms
+use Rattle.json_texts.specs.EventJson.{event_content_json}
+use Rattle.json_texts.specs.ItemLines.{numbered_lines}
+use Rattle.json_texts.specs.JsonValues.{hex_json, line_of, number_json, object_of, optional}
+use Rattle.json_texts.specs.SteeringTexts.{unsteered}
+use Rattle.boot_texts.specs.Answering.{has_answer}
+use Rattle.boot_texts.specs.declared.difference_lines.Boot.{Boot}
+use Rattle.boot_texts.specs.declared.difference_lines.Boot.TheVariants as boots
+use Rattle.boot_texts.specs.declared.difference_lines.EventLine.{EventLine}
+use Rattle.boot_texts.specs.declared.differences.Difference.{Difference}
+use Rattle.boot_texts.specs.declared.differences.Difference.TheVariants.{Unanswered, Alike, Apart}
+
+-- ---- how two boots extended a register
+
+-- The bank answers for the register, and the boots differ in it after this many events.
+pub record IsApartIn (matched : List Place) (register : ℕ) (events others : List LogEvent) (alg : Alg) (place : ℕ) : Type 0 where
+  pub answers : counts matched alg register ≡ true
+  pub apart : IsFirstDifference alg register events others (Some place)
+
+-- The boots extended the register alike in the bank, if it answers.
+abbrev pub IsAlikeIn : List Place → ℕ → List LogEvent → List LogEvent → Alg → Type 0
+IsAlikeIn matched register events others alg = counts matched alg register ≡ true → IsFirstDifference alg register events others None
+
+-- In the bank they differ after this many events, or are alike, if it answers.
+abbrev pub IsComparedIn : List Place → ℕ → List LogEvent → List LogEvent → Alg → Option ℕ → Type 0
+IsComparedIn matched register events others alg None = IsAlikeIn matched register events others alg
+IsComparedIn matched register events others alg (Some place) = IsApartIn matched register events others alg place
+
+-- Of the banks that answer it is the first in which the boots differ.
+pub record IsFirstApart (matched : List Place) (register : ℕ) (events others : List LogEvent) (alg : Alg) (place : ℕ) : Type 0 where
+  pub before : List Alg
+  pub after : List Alg
+  pub parts : all_algs ≡ before ++ alg ∷ after
+  pub alike : AllByRecursion (IsAlikeIn matched register events others) before
+  pub apart : IsApartIn matched register events others alg place
+
+-- How the boots with these events, and the earlier one with the others, extended the register.
+abbrev pub IsDifference : List Place → ℕ → List LogEvent → List LogEvent → Difference → Type 0
+IsDifference matched register events others Unanswered = has_answer matched register ≡ false
+IsDifference matched register events others Alike = (has_answer matched register ≡ true) × ((alg : Alg) → IsAlikeIn matched register events others alg)
+IsDifference matched register events others (Apart alg place) = IsFirstApart matched register events others alg place
+
+-- ---- a line on a register
+
+-- `unknown` or `all`: how far the register was extended alike, in one word.
+abbrev pub alike_json : ℕ → List ℕ → Json
+alike_json register word = object_of ((codes "register", number_json register) ∷ (codes "alike", string word) ∷ [])
+
+abbrev pub alike_text : ℕ → List ℕ → List ℕ
+alike_text register word = codes "register " ++ (decimal register ++ (codes " alike " ++ (word ++ codes "\n")))
+
+abbrev pub alike_line : EventForm → ℕ → List ℕ → List ℕ
+alike_line forms.Json register word = line_of (alike_json register word)
+alike_line forms.Explained register word = alike_text register word
+
+-- After how many events the boots differ, in this bank.
+abbrev pub apart_json : ℕ → Alg → ℕ → Json
+apart_json register alg place =
+    object_of ((codes "register", number_json register) ∷ (codes "bank", string (name_of alg)) ∷ (codes "alike", number_json place) ∷ [])
+
+abbrev pub bank_text : ℕ → Alg → List ℕ
+bank_text register alg = codes "register " ++ (decimal register ++ (codes " " ++ (name_of alg ++ codes " alike ")))
+
+abbrev pub apart_text : ℕ → Alg → ℕ → List ℕ
+apart_text register alg place = bank_text register alg ++ (decimal place ++ codes "\n")
+
+abbrev pub apart_line : EventForm → ℕ → Alg → ℕ → List ℕ
+apart_line forms.Json register alg place = line_of (apart_json register alg place)
+apart_line forms.Explained register alg place = apart_text register alg place
+
+-- ---- a line on an event
+
+-- This boot, or the earlier one.
+abbrev pub boot_word : Boot → List ℕ
+boot_word boots.Now = codes "now"
+boot_word boots.Before = codes "before"
+
+-- The register, the event's number in the log of its boot, its digest in the bank where it has one, and what its data claims.
+abbrev pub event_json : Boot → EventLine → ℕ → LogEvent → Json
+event_json boot line number event = object_of (
+    (codes "register", number_json line.register) ∷ (boot_word boot, number_json number)
+    ∷ (optional (codes "digest") (option_map hex_json (digest_in event.digests line.alg)) ++ (codes "claimed", event_content_json event) ∷ []))
+
+-- The line up to the digest.
+abbrev pub event_head : Boot → ℕ → ℕ → List ℕ
+event_head boot register number =
+    codes "register " ++ (decimal register ++ (codes " " ++ (boot_word boot ++ (codes " " ++ decimal number))))
+
+abbrev pub digest_field : Option (List ℕ) → List ℕ
+digest_field None = []
+digest_field (Some digest) = codes " " ++ encode_lower digest
+
+-- No character of what the data claims steers what shows it.
+abbrev pub event_text : Boot → EventLine → ℕ → LogEvent → List ℕ
+event_text boot line number event =
+    event_head boot line.register number
+    ++ (digest_field (digest_in event.digests line.alg) ++ (codes " claimed " ++ unsteered (line_of (event_content_json event))))
+
+abbrev pub line_in : EventForm → Boot → EventLine → ℕ → LogEvent → List ℕ
+line_in forms.Json boot line number event = line_of (event_json boot line number event)
+line_in forms.Explained boot line number event = event_text boot line number event
+
+abbrev pub event_line : Boot → EventLine → ℕ → LogEvent → List ℕ
+event_line boot line number event = line_in line.form boot line number event
+
+-- ---- the lines on a register
+
+-- The events that are extended into the register, each with its number in the log, of which the first has this number.
+abbrev pub numbered_events : ℕ → ℕ → List LogEvent → List (ℕ × LogEvent)
+numbered_events register number [] = []
+numbered_events register number (event ∷ events) =
+    if is_extended_into register event then (number, event) ∷ numbered_events register (number + 1) events else numbered_events register (number + 1) events
+
+-- The lines of the register's events from this place on.
+abbrev pub lines_from : Boot → EventLine → ℕ → List LogEvent → List ℕ
+lines_from boot line place events =
+    flat_map (λ numbered. event_line boot line numbered.0 numbered.1) (drop place (numbered_events line.register 1 events))
+
+abbrev pub is_some_event : List LogEvent → Bool
+is_some_event [] = false
+is_some_event (event ∷ events) = true
+
+-- Whether an event is extended into the register.
+abbrev pub has_events : ℕ → List LogEvent → Bool
+has_events register events = is_some_event (extended_events register events)
+
+-- Whether one of the boots extended the register.
+abbrev pub either_extended : ℕ → List LogEvent → List LogEvent → Bool
+either_extended register events others = has_events register events || has_events register others
+
+-- The line, if one of them did.
+abbrev pub where_extended : ℕ → List LogEvent → List LogEvent → List ℕ → List ℕ
+where_extended register events others line = if either_extended register events others then line else []
+
+-- The line that the boots differ in the bank after so many events, and those of the events from there on, of this boot and of the earlier one.
+abbrev pub lines_of_both : EventLine → ℕ → List LogEvent → List LogEvent → List ℕ
+lines_of_both line place events others =
+    apart_line line.form line.register line.alg place ++ (lines_from boots.Now line place events ++ lines_from boots.Before line place others)
+
+-- The lines on a register.
+abbrev pub register_lines : EventForm → ℕ → Difference → List LogEvent → List LogEvent → List ℕ
+register_lines form register Unanswered events others = where_extended register events others (alike_line form register (codes "unknown"))
+register_lines form register Alike events others = where_extended register events others (alike_line form register (codes "all"))
+register_lines form register (Apart alg place) events others =
+    lines_of_both (record { form = form; register = register; alg = alg }) place events others
+
+-- ---- all registers
+
+-- These are the differences of as many registers, from this one on.
+abbrev pub AreOfRegisters : List Place → List LogEvent → List LogEvent → ℕ → List Difference → Type 0
+AreOfRegisters matched events others register [] = Unit {0}
+AreOfRegisters matched events others register (difference ∷ differences) =
+    IsDifference matched register events others difference × AreOfRegisters matched events others (register + 1) differences
+
+-- These are the differences of the registers 0 to 23, in order.
+pub record AreDifferences (matched : List Place) (events others : List LogEvent) (differences : List Difference) : Type 0 where
+  pub count : length differences ≡ 24
+  pub each : AreOfRegisters matched events others 0 differences
+
+abbrev pub difference_lines : EventForm → List LogEvent → List LogEvent → List Difference → List ℕ
+difference_lines form events others differences = numbered_lines (λ register difference. register_lines form register difference events others) 0 differences
+
+-- The text is the lines of the differences of all registers.
+abbrev pub AreDifferenceLines : EventForm → List Place → List LogEvent → List LogEvent → List ℕ → Type 0
+AreDifferenceLines form matched events others text =
+    (differences : List Difference) × AreDifferences matched events others differences × (text ≡ difference_lines form events others differences)

@@ -1,0 +1,8 @@
+pub mod Answering
+pub mod Told
+pub mod AnswerLines
+pub mod Telling
+pub mod Policies
+pub mod EachBank
+pub mod BootLines
+pub mod Differences

@@ -1,0 +1,120 @@
+-- What the events of a log tell, one after another.
+use Rattle.std.specs.Prelude.{◌≡◌, ◌⊎◌, ℕ, ◌+◌, ◌&&◌, ◌||◌, Bool, true, false, not, if◌then◌else◌, List, [], ◌∷◌, ◌++◌, Option, Some, None}
+use Rattle.std.specs.List.{list_all}
+use Rattle.std.specs.Option.{option_map_or}
+use Rattle.pcr_banks.specs.declared.alg.Alg.{Alg}
+use Rattle.pcr_banks.specs.Hashing.{all_algs}
+use Rattle.boot_log.specs.Replaying.{is_extended_into}
+use Rattle.boot_log.specs.Spelling.{LogEvent}
+use Rattle.event_data.specs.declared.value_forms.ValueForm.{ValueForm}
+use Rattle.event_data.specs.declared.value_forms.ValueForm.TheVariants as forms
+use Rattle.event_data.specs.Forms.{VariableData}
+use Rattle.event_data.specs.Reading.{variable_in}
+use Rattle.event_data.specs.Values.{value_form}
+use Rattle.measured_data.specs.declared.part.Part.TheVariants.{Value, Whole}
+use Rattle.measured_data.specs.declared.place.Place.{Place}
+use Rattle.measured_data.specs.Confirming.{counts}
+use Rattle.measured_data.specs.Measuring.{is_measured, settings_register}
+use Rattle.boot_answers.specs.Commands.{CommandSaid}
+use Rattle.boot_answers.specs.Images.{MayBeImage, image_register}
+use Rattle.boot_answers.specs.Passing.{MayBeSeparator}
+use Rattle.json_texts.specs.declared.event_form.EventForm.{EventForm}
+use Rattle.boot_texts.specs.declared.subject.Subject.{Subject}
+use Rattle.boot_texts.specs.declared.subject.Subject.TheVariants.{Images, Commands, Variables}
+use Rattle.boot_texts.specs.AnswerLines.{command_line, image_line, untold_line, variable_line}
+use Rattle.boot_texts.specs.Told.{told_text}
+
+-- Whether the events after one are looked at, and the text of the one, are these.
+abbrev pub Are : Bool → List ℕ → Bool × List ℕ → Type 0
+Are goes text answer = (goes ≡ answer.0) × (text ≡ answer.1)
+
+-- The text of these events one after another, the first with this number, up to one after which none is looked at. `Told` relates an event's
+-- number, the event, whether those after it are looked at, and its text.
+abbrev pub Tells : (ℕ → LogEvent → Bool → List ℕ → Type 0) → ℕ → List LogEvent → List ℕ → Type 0
+Tells Told number [] text = text ≡ []
+Tells Told number (event ∷ events) text =
+    Told number event false text
+    ⊎ ((first : List ℕ) × (rest : List ℕ) × Told number event true first × Tells Told (number + 1) events rest × (text ≡ first ++ rest))
+
+-- ---- images
+
+-- The bank answers for images, and by it the event may be one.
+pub record IsImageBy (matched : List Place) (event : LogEvent) (alg : Alg) : Type 0 where
+  pub answers : counts matched alg image_register ≡ true
+  pub image : MayBeImage alg event
+
+-- The event may be an image by some bank that answers.
+abbrev pub MayBeImageIn : List Place → LogEvent → Type 0
+MayBeImageIn matched event = (alg : Alg) × IsImageBy matched event alg
+
+-- Each event that may be an image is told.
+abbrev pub TellsImage : EventForm → List Place → ℕ → LogEvent → Bool → List ℕ → Type 0
+TellsImage form matched number event goes text =
+    (goes ≡ true)
+    × ((MayBeImageIn matched event × (text ≡ image_line form matched number event)) ⊎ ((MayBeImageIn matched event → ⊥) × (text ≡ [])))
+
+-- ---- commands
+
+-- Whether the events after one are looked at, and its line, where this is its text.
+abbrev pub command_answer : ℕ → EventForm → ℕ → Option CommandSaid → Bool × List ℕ
+command_answer register form number (Some text) = (true, command_line form register number text)
+command_answer register form number None = (false, untold_line form register number)
+
+-- The texts of the register's events are told, up to the first event that tells none.
+abbrev pub TellsCommand : ℕ → EventForm → List Place → ℕ → LogEvent → Bool → List ℕ → Type 0
+TellsCommand register form matched number event goes text =
+    Are goes text (if is_extended_into register event then command_answer register form number (told_text matched event) else (true, []))
+
+-- ---- boot variables
+
+-- The bank answers for settings, and by it the event may be a separator.
+pub record IsSeparatorBy (matched : List Place) (event : LogEvent) (alg : Alg) : Type 0 where
+  pub answers : counts matched alg settings_register ≡ true
+  pub separator : MayBeSeparator alg event
+
+-- The event may be a separator by some bank that answers.
+abbrev pub MayBeSeparatorIn : List Place → LogEvent → Type 0
+MayBeSeparatorIn matched event = (alg : Alg) × IsSeparatorBy matched event alg
+
+-- The forms of the values of BootOrder and of Boot####.
+abbrev pub is_boot_form : ValueForm → Bool
+is_boot_form forms.Order = true
+is_boot_form forms.LoadOption = true
+is_boot_form form = false
+
+-- Whether the variable is claimed to be BootOrder or a Boot####, of EFI_GLOBAL_VARIABLE.
+abbrev pub is_boot_variable : VariableData → Bool
+is_boot_variable variable = is_boot_form (value_form 0 variable)
+
+-- Whether the bank does not answer for settings, or in it the event's data is measured, or the variable's value.
+abbrev pub allows_variable : List Place → LogEvent → Alg → Bool
+allows_variable matched event alg = not (counts matched alg settings_register) || (is_measured alg event Whole || is_measured alg event Value)
+
+-- Whether the event's data is a boot variable, and is measured so in each bank that answers.
+abbrev pub is_told_variable : List Place → LogEvent → Bool
+is_told_variable matched event =
+    list_all (λ alg. allows_variable matched event alg) all_algs && option_map_or is_boot_variable (variable_in event.payload) false
+
+abbrev pub told_variable : EventForm → List Place → ℕ → LogEvent → List ℕ
+told_variable form matched number event = if is_told_variable matched event then variable_line form number event else []
+
+-- The boot variables of the register of settings are told, up to its first event that may be a separator.
+abbrev pub TellsSetting : EventForm → List Place → ℕ → LogEvent → Bool → List ℕ → Type 0
+TellsSetting form matched number event goes text =
+    (MayBeSeparatorIn matched event × Are goes text (false, []))
+    ⊎ ((MayBeSeparatorIn matched event → ⊥) × Are goes text (true, told_variable form matched number event))
+
+abbrev pub TellsIf : Bool → Type 0 → Bool → List ℕ → Type 0
+TellsIf true Told goes text = Told
+TellsIf false Told goes text = Are goes text (true, [])
+
+abbrev pub TellsVariable : EventForm → List Place → ℕ → LogEvent → Bool → List ℕ → Type 0
+TellsVariable form matched number event goes text =
+    TellsIf (is_extended_into settings_register event) (TellsSetting form matched number event goes text) goes text
+
+-- ---- all
+
+abbrev pub ToldOf : Subject → EventForm → List Place → ℕ → LogEvent → Bool → List ℕ → Type 0
+ToldOf Images form matched number event goes text = TellsImage form matched number event goes text
+ToldOf (Commands register) form matched number event goes text = TellsCommand register form matched number event goes text
+ToldOf Variables form matched number event goes text = TellsVariable form matched number event goes text

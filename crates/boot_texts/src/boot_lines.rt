@@ -1,0 +1,140 @@
+//! The lines of all answers.
+
+ghost use Rattle.std.specs.Prelude.{◌≡◌, ◌++◌, List, ℕ, OnOk};
+ghost use Rattle.boot_log.specs.declared.header.Row.{Row};
+ghost use Rattle.boot_log.specs.LogViews.{log_bytes};
+ghost use Rattle.boot_log.specs.Spelling.{IsLog, LogEvent};
+ghost use Rattle.boot_texts.specs.AnswerLines.{secure_boot_line, state_word};
+ghost use Rattle.boot_texts.specs.BootLines.{AreBootLines, AreCommandLines, AreImageLines, AreVariableLines};
+
+use crate::answering::has_answer;
+use crate::commands::append_unanswered;
+use crate::images::IMAGE_REGISTER;
+use crate::policies::{GRUB_REGISTER, STUB_REGISTER, append_policy};
+use crate::steps::append_each;
+use crate::subject::Subject;
+use crate::versions::append_version;
+use crate::words::append_word;
+use boot_answers::{SETTINGS_REGISTER, SecureBoot, firmware_version, secure_boot};
+use boot_log::LogView;
+use json_texts::{EventForm, Written};
+use measured_data::Place;
+use std::alloc::Global;
+
+/// Appends the lines of all answers on the boot that the log tells, by the registers in `matched`, those that match. A bank answers for a register
+/// that matches in it, if it is no bank of SHA-1 ([`boot_answers::is_answering`]). Each line is an object of JSON; or, for people
+/// ([`EventForm::Explained`]), words, some with JSON at the end, in which no character steers a terminal, as in [`json_texts::send_events`].
+///
+/// - `secure_boot on`, `off` or `unknown` ([`boot_answers::secure_boot`]);
+/// - `firmware_version`, and what the first event says, or `unknown` ([`boot_answers::firmware_version`]);
+/// - `image 14 sha256 <digest> claimed {..}`: each event that may be an image by some bank that answers for register 4
+///   ([`boot_answers::may_be_image`]), its digests in all banks that answer, and what its data claims; `image unknown` where none answers;
+/// - `command 21 8 {"text":".."}`: each event of register 8, and then of 12, with the text that is measured in each bank that answers
+///   ([`boot_answers::command_text`]), up to the first event without one: `command unknown 8 25`. `command unknown 8` where none answers.
+///   JSON has the kind of a command of GRUB under `claimed`;
+/// - `ima_policy` and what these texts ask ([`crate::ImaPolicy`]): `asked`, `possible`, `none` or `unknown`;
+/// - `boot_variable 9 {..}`: each event of register 1 that is a BootOrder or a Boot####, by its claimed name, up to the first that may be a
+///   separator by some bank that answers ([`boot_answers::boot_variable`]); `boot_variable unknown` where none answers.
+///
+/// Fails only if memory runs out; some lines may then be appended.
+pub fn append_boot(
+    alloc: Global,
+    log: &LogView<'_>,
+    matched: &[Place],
+    form: EventForm,
+    lines: &mut Vec<u8>,
+) -> Written
+    ensures { OnOk result ((table : List Row) (events : List LogEvent) → IsLog (log_bytes log.now) table events
+        → (text : List ℕ) × AreBootLines form matched.now events text × (lines.new.items ≡ lines.old.items ++ text)) }
+{
+    append_state(alloc, form, secure_boot(log, matched), lines)?;
+    append_version(alloc, form, &firmware_version(log, matched), lines)?;
+    append_images(alloc, form, log, matched, lines)?;
+    append_commands(alloc, form, log, matched, GRUB_REGISTER, lines)?;
+    append_commands(alloc, form, log, matched, STUB_REGISTER, lines)?;
+    append_policy(alloc, form, log, matched, lines)?;
+    append_variables(alloc, form, log, matched, lines)?;
+    Ok(())
+}
+
+fn state_word(state: SecureBoot) -> &'static str
+    ensures { result.now ≡ state_word state }
+{
+    match state {
+        SecureBoot::On => "on",
+        SecureBoot::Off => "off",
+        SecureBoot::Unknown => "unknown",
+    }
+}
+
+// Appends the line of whether Secure Boot was on.
+fn append_state(alloc: Global, form: EventForm, state: SecureBoot, lines: &mut Vec<u8>) -> Written
+    ensures { OnOk result (lines.new.items ≡ lines.old.items ++ secure_boot_line form state) }
+{
+    append_word(alloc, form, "secure_boot", state_word(state), lines)
+}
+
+// Appends the lines of images.
+fn append_images(
+    alloc: Global,
+    form: EventForm,
+    log: &LogView<'_>,
+    matched: &[Place],
+    lines: &mut Vec<u8>,
+) -> Written
+    ensures { OnOk result ((table : List Row) (events : List LogEvent) → IsLog (log_bytes log.now) table events
+        → (text : List ℕ) × AreImageLines form matched.now events text × (lines.new.items ≡ lines.old.items ++ text)) }
+{
+    if has_answer(matched, IMAGE_REGISTER) {
+        append_each(alloc, form, log, matched, Subject::Images, lines)?;
+    } else {
+        append_word(alloc, form, "image", "unknown", lines)?;
+    }
+    Ok(())
+}
+
+// Appends the lines of the texts that boot loaders measured into the register.
+fn append_commands(
+    alloc: Global,
+    form: EventForm,
+    log: &LogView<'_>,
+    matched: &[Place],
+    register: u32,
+    lines: &mut Vec<u8>,
+) -> Written
+    ensures { OnOk result ((table : List Row) (events : List LogEvent) → IsLog (log_bytes log.now) table events
+        → (text : List ℕ) × AreCommandLines register form matched.now events text × (lines.new.items ≡ lines.old.items ++ text)) }
+{
+    if has_answer(matched, register) {
+        append_each(
+            alloc,
+            form,
+            log,
+            matched,
+            Subject::Commands(register),
+            lines,
+        )?;
+    } else {
+        append_unanswered(alloc, form, register, lines)?;
+    }
+    Ok(())
+}
+
+// Appends the lines of boot variables.
+fn append_variables(
+    alloc: Global,
+    form: EventForm,
+    log: &LogView<'_>,
+    matched: &[Place],
+    lines: &mut Vec<u8>,
+) -> Written
+    ensures { OnOk result ((table : List Row) (events : List LogEvent) → IsLog (log_bytes log.now) table events
+        → (text : List ℕ) × AreVariableLines form matched.now events text × (lines.new.items ≡ lines.old.items ++ text)) }
+{
+    if has_answer(matched, SETTINGS_REGISTER) {
+        append_each(alloc, form, log, matched, Subject::Variables, lines)?;
+    } else {
+        append_word(alloc, form, "boot_variable", "unknown", lines)?;
+    }
+    Ok(())
+}

@@ -1,0 +1,188 @@
+//! Where a boot and an earlier one of the machine extended registers by other digests.
+
+ghost use Rattle.std.specs.Prelude.{◌≡◌, ℕ, List, ◌++◌, OnOk};
+ghost use Rattle.boot_log.specs.declared.header.Row.{Row};
+ghost use Rattle.boot_log.specs.LogViews.{log_bytes};
+ghost use Rattle.boot_log.specs.Spelling.{IsLog, LogEvent};
+ghost use Rattle.boot_texts.specs.Differences.{AreDifferenceLines, IsComparedIn, IsDifference, alike_line, either_extended, has_events, lines_of_both, register_lines, where_extended};
+
+use crate::answering::{answers, has_answer};
+use crate::difference_lines::{Boot, EventLine, append_alike, append_apart, append_events};
+use boot_answers::{RegisterEvents, first_difference};
+use boot_log::LogView;
+use json_texts::{EventForm, Written};
+use measured_data::Place;
+use pcr_banks::{Alg, REGISTERS};
+use std::alloc::Global;
+
+/// How two boots extended a register.
+#[derive(Clone, Copy)]
+pub(crate) enum Difference {
+    /// Unknown: no bank answers for it.
+    Unanswered,
+    /// Alike, in each bank that answers.
+    Alike,
+    /// They differ in this bank, after as many events alike as `place`; in the banks before it that answer they do not.
+    Apart { alg: Alg, place: usize },
+}
+
+// How the boots differ in this bank, if it answers for the register.
+fn place_in(
+    log: &LogView<'_>,
+    before: &LogView<'_>,
+    matched: &[Place],
+    alg: Alg,
+    register: u32,
+) -> Option<usize>
+    ensures { (table rows : List Row) (events others : List LogEvent) → IsLog (log_bytes log.now) table events
+        → IsLog (log_bytes before.now) rows others → IsComparedIn matched.now register events others alg result }
+{
+    if answers(matched, alg, register) {
+        first_difference(log, before, alg, register)
+    } else {
+        None
+    }
+}
+
+// How the boots extended the register.
+fn difference_of(
+    log: &LogView<'_>,
+    before: &LogView<'_>,
+    matched: &[Place],
+    register: u32,
+) -> Difference
+    ensures { (table rows : List Row) (events others : List LogEvent) → IsLog (log_bytes log.now) table events
+        → IsLog (log_bytes before.now) rows others → IsDifference matched.now register events others result }
+{
+    for alg in Alg::ALL {
+        if let Some(place) = place_in(log, before, matched, alg, register) {
+            return Difference::Apart { alg, place };
+        }
+    }
+    if has_answer(matched, register) {
+        Difference::Alike
+    } else {
+        Difference::Unanswered
+    }
+}
+
+// Whether an event of the log is extended into the register.
+fn has_events(log: &LogView<'_>, register: u32) -> bool
+    ensures { (table : List Row) (events : List LogEvent) → IsLog (log_bytes log.now) table events → result ≡ has_events register events }
+{
+    match RegisterEvents::new(log, register).next_event() {
+        Some(_) => true,
+        None => false,
+    }
+}
+
+// Whether one of the boots extended the register.
+fn either_extended(log: &LogView<'_>, before: &LogView<'_>, register: u32) -> bool
+    ensures { (table rows : List Row) (events others : List LogEvent) → IsLog (log_bytes log.now) table events
+        → IsLog (log_bytes before.now) rows others → result ≡ either_extended register events others }
+{
+    has_events(log, register) || has_events(before, register)
+}
+
+// Appends the line with this word, if one of the boots extended the register.
+fn append_if_extended(
+    alloc: Global,
+    log: &LogView<'_>,
+    before: &LogView<'_>,
+    register: u32,
+    word: &str,
+    form: EventForm,
+    lines: &mut Vec<u8>,
+) -> Written
+    ensures { (table rows : List Row) (events others : List LogEvent) → IsLog (log_bytes log.now) table events
+        → IsLog (log_bytes before.now) rows others
+        → OnOk result (lines.new.items ≡ lines.old.items ++ where_extended register events others (alike_line form register word.now)) }
+{
+    if either_extended(log, before, register) {
+        append_alike(alloc, register, word, form, lines)
+    } else {
+        Ok(())
+    }
+}
+
+// Appends the lines of a register whose boots differ in this bank after so many events.
+fn append_from(
+    alloc: Global,
+    log: &LogView<'_>,
+    before: &LogView<'_>,
+    line: EventLine,
+    place: usize,
+    lines: &mut Vec<u8>,
+) -> Written
+    ensures { (table rows : List Row) (events others : List LogEvent) → IsLog (log_bytes log.now) table events
+        → IsLog (log_bytes before.now) rows others
+        → OnOk result (lines.new.items ≡ lines.old.items ++ lines_of_both line place events others) }
+{
+    append_apart(alloc, line.register, line.alg, place, line.form, lines)?;
+    append_events(alloc, log, Boot::Now, line, place, lines)?;
+    append_events(alloc, before, Boot::Before, line, place, lines)
+}
+
+// Appends the lines of the register.
+fn append_register(
+    alloc: Global,
+    log: &LogView<'_>,
+    before: &LogView<'_>,
+    register: u32,
+    difference: Difference,
+    form: EventForm,
+    lines: &mut Vec<u8>,
+) -> Written
+    ensures { (table rows : List Row) (events others : List LogEvent) → IsLog (log_bytes log.now) table events
+        → IsLog (log_bytes before.now) rows others
+        → OnOk result (lines.new.items ≡ lines.old.items ++ register_lines form register difference events others) }
+{
+    match difference {
+        Difference::Unanswered => append_if_extended(
+            alloc, log, before, register, "unknown", form, lines,
+        ),
+        Difference::Alike => append_if_extended(alloc, log, before, register, "all", form, lines),
+        Difference::Apart { alg, place } => {
+            let line = EventLine {
+                form,
+                register,
+                alg,
+            };
+            append_from(alloc, log, before, line, place, lines)
+        }
+    }
+}
+
+/// Appends the lines that tell how a boot and an earlier one extended each register, by their logs. `matched` are the registers whose values
+/// match after the log of the boot; nothing confirms the log of the earlier one.
+///
+/// A register that neither boot extended has no line. Where no bank answers for it ([`boot_answers::is_answering`]), its line is
+/// `{"register":4,"alike":"unknown"}`; where the boots extended it alike in each bank that answers, `{"register":4,"alike":"all"}`. Otherwise it
+/// is `{"register":4,"bank":"sha256","alike":2}`: in this bank, the first that answers and in which they differ, they differ after two events.
+/// Then comes a line for each later event of this boot, with its number in the log, its digest in the bank, and what its data claims
+/// (`{"register":4,"now":14,"digest":"1f5e..","claimed":{"text":".."}}`), and one for each of the earlier boot, with `before` for `now`. An event
+/// without a digest in the bank has no member `digest`.
+///
+/// For people ([`EventForm::Explained`]) the lines are `register 4 alike unknown`, `register 4 alike all`, `register 4 sha256 alike 2`, and
+/// `register 4 now 14 1f5e.. claimed {"text":".."}`, without the digest where there is none. No character of what is claimed steers what shows
+/// it.
+///
+/// Fails only if memory runs out; some lines may then be appended.
+pub fn append_differences(
+    alloc: Global,
+    log: &LogView<'_>,
+    before: &LogView<'_>,
+    matched: &[Place],
+    form: EventForm,
+    lines: &mut Vec<u8>,
+) -> Written
+    ensures { OnOk result ((table rows : List Row) (events others : List LogEvent) → IsLog (log_bytes log.now) table events
+        → IsLog (log_bytes before.now) rows others
+        → (text : List ℕ) × AreDifferenceLines form matched.now events others text × (lines.new.items ≡ lines.old.items ++ text)) }
+{
+    for register in 0..REGISTERS {
+        let difference = difference_of(log, before, matched, register);
+        append_register(alloc, log, before, register, difference, form, lines)?;
+    }
+    Ok(())
+}

@@ -1,0 +1,27 @@
+//! The answers on a machine's boot as lines of text or JSON: what crate `boot_answers` tells of its log and the registers that match.
+//!
+//! An answer is given where each bank that answers for its register gives it (`boot_answers::is_answering`), and there is one; else it is
+//! `unknown`. What a line has under `claimed` nothing confirms.
+#![tactic(auto)]
+
+mod answering;
+mod asked;
+mod asking;
+mod boot_lines;
+mod commands;
+mod contents;
+mod difference_lines;
+mod differences;
+mod images;
+pub mod laws;
+mod policies;
+mod steps;
+mod subject;
+mod told;
+mod variables;
+mod versions;
+mod words;
+
+pub use boot_lines::append_boot;
+pub use differences::append_differences;
+pub use policies::ImaPolicy;

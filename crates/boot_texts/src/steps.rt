@@ -1,0 +1,104 @@
+//! What each event of a log tells, one after another.
+
+ghost use Rattle.std.specs.Prelude.{◌≡◌, List, ℕ, ◌++◌, IfOk, OnOk, Ok, true, false};
+ghost use Rattle.boot_log.specs.declared.header.Row.{Row};
+ghost use Rattle.boot_log.specs.LogViews.{log_bytes};
+ghost use Rattle.boot_log.specs.Replaying.{is_extended_into};
+ghost use Rattle.boot_log.specs.Spelling.{IsLog, LogEvent, log_event_of};
+ghost use Rattle.boot_texts.specs.Telling.{Tells, TellsCommand, ToldOf};
+
+use crate::commands::{append_command, append_untold};
+use crate::images::append_if_image;
+use crate::subject::Subject;
+use crate::told::told_text;
+use crate::variables::append_if_variable;
+use boot_log::{Event, LogView};
+use json_texts::{EventForm, Written};
+use measured_data::Place;
+use std::alloc::{AllocError, Global};
+
+/// The type of an event that is not extended.
+const EV_NO_ACTION: u32 = 3;
+
+/// Whether the event is extended into the register.
+pub(crate) fn is_extended_into(register: u32, event: &Event<'_>) -> bool
+    ensures { result ≡ is_extended_into register (log_event_of event.now) }
+{
+    event.kind != EV_NO_ACTION && event.register == register
+}
+
+/// Appends what the events of the log tell of the subject, up to the first after which nothing is told.
+pub(crate) fn append_each(
+    alloc: Global,
+    form: EventForm,
+    log: &LogView<'_>,
+    matched: &[Place],
+    subject: Subject,
+    lines: &mut Vec<u8>,
+) -> Written
+    ensures { OnOk result ((table : List Row) (events : List LogEvent) → IsLog (log_bytes log.now) table events
+        → (text : List ℕ) × Tells (ToldOf subject form matched.now) 1 events text × (lines.new.items ≡ lines.old.items ++ text)) }
+{
+    let mut events = log.events();
+    while let Some(event) = events.next_event() {
+        let number = events.count();
+        let goes_on = append_told(alloc, form, matched, subject, number, &event, lines)?;
+        if !goes_on {
+            return Ok(());
+        }
+    }
+    Ok(())
+}
+
+// Appends what the event with this number tells of the subject, and returns whether those after it are looked at.
+fn append_told(
+    alloc: Global,
+    form: EventForm,
+    matched: &[Place],
+    subject: Subject,
+    number: usize,
+    event: &Event<'_>,
+    lines: &mut Vec<u8>,
+) -> Result<bool, AllocError>
+    ensures { IfOk result (λ goes. (text : List ℕ) × ToldOf subject form matched.now number (log_event_of event.now) goes text
+        × (lines.new.items ≡ lines.old.items ++ text)) }
+{
+    match subject {
+        Subject::Images => {
+            append_if_image(alloc, form, matched, number, event, lines)?;
+            Ok(true)
+        }
+        Subject::Commands(register) => {
+            append_if_command(alloc, form, matched, register, number, event, lines)
+        }
+        Subject::Variables => append_if_variable(alloc, form, matched, number, event, lines),
+    }
+}
+
+// Appends the line of the event with this number, if it is extended into the register. Returns whether it tells a text, or is not.
+fn append_if_command(
+    alloc: Global,
+    form: EventForm,
+    matched: &[Place],
+    register: u32,
+    number: usize,
+    event: &Event<'_>,
+    lines: &mut Vec<u8>,
+) -> Result<bool, AllocError>
+    ensures { IfOk result (λ goes. (text : List ℕ) × TellsCommand register form matched.now number (log_event_of event.now) goes text
+        × (lines.new.items ≡ lines.old.items ++ text)) }
+{
+    if !is_extended_into(register, event) {
+        return Ok(true);
+    }
+    match told_text(event, matched) {
+        Some(text) => {
+            append_command(alloc, form, register, number, &text, lines)?;
+            Ok(true)
+        }
+        None => {
+            append_untold(alloc, form, register, number, lines)?;
+            Ok(false)
+        }
+    }
+}

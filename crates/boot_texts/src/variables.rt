@@ -1,0 +1,202 @@
+//! The lines of the variables that say what the firmware was to start.
+
+ghost use Rattle.std.specs.Prelude.{◌≡◌, ◌↔◌, ◌++◌, List, ℕ, false, IfOk, IsTrue, OnOk};
+ghost use Rattle.std.specs.List.{list_all};
+ghost use Rattle.std.specs.Option.{option_map_or};
+ghost use Rattle.pcr_banks.specs.Hashing.{all_algs};
+ghost use Rattle.boot_log.specs.Spelling.{log_event_of};
+ghost use Rattle.event_data.specs.Forms.{variable_of};
+ghost use Rattle.event_data.specs.Reading.{variable_in};
+ghost use Rattle.json_texts.specs.declared.event_form.EventForm.TheVariants.{Explained};
+ghost use Rattle.json_texts.specs.JsonValues.{AppendsLine};
+ghost use Rattle.json_texts.specs.parts.WrittenParts.{WritesValue};
+ghost use Rattle.boot_texts.specs.AnswerLines.{variable_json, variable_line};
+ghost use Rattle.boot_texts.specs.Telling.{IsSeparatorBy, MayBeSeparatorIn, TellsSetting, TellsVariable, allows_variable, is_boot_variable, is_told_variable, told_variable};
+
+use crate::answering::answers;
+use crate::steps::is_extended_into;
+use crate::words::append_number;
+use boot_answers::{SETTINGS_REGISTER, may_be_separator};
+use boot_log::Event;
+use event_data::{ValueForm, Variable, read_variable, value_form};
+use json::Writer;
+use json_texts::{
+    EventForm, Written, append_content, begin_line, end_line, write_content, write_number,
+};
+use measured_data::{Part, Place, is_measured};
+use pcr_banks::Alg;
+use std::alloc::{AllocError, Global};
+
+/// Appends the line of the event with this number, if it is a boot variable. Returns whether the events after it are looked at.
+pub(crate) fn append_if_variable(
+    alloc: Global,
+    form: EventForm,
+    matched: &[Place],
+    number: usize,
+    event: &Event<'_>,
+    lines: &mut Vec<u8>,
+) -> Result<bool, AllocError>
+    ensures { IfOk result (λ goes. (text : List ℕ) × TellsVariable form matched.now number (log_event_of event.now) goes text
+        × (lines.new.items ≡ lines.old.items ++ text)) }
+{
+    if is_extended_into(SETTINGS_REGISTER, event) {
+        append_setting(alloc, form, matched, number, event, lines)
+    } else {
+        Ok(true)
+    }
+}
+
+// Appends the line of the register's event with this number, if it is a boot variable. Returns whether it is no separator.
+fn append_setting(
+    alloc: Global,
+    form: EventForm,
+    matched: &[Place],
+    number: usize,
+    event: &Event<'_>,
+    lines: &mut Vec<u8>,
+) -> Result<bool, AllocError>
+    ensures { IfOk result (λ goes. (text : List ℕ) × TellsSetting form matched.now number (log_event_of event.now) goes text
+        × (lines.new.items ≡ lines.old.items ++ text)) }
+{
+    if may_be_separator_in(event, matched) {
+        return Ok(false);
+    }
+    append_if_told(alloc, form, matched, number, event, lines)?;
+    Ok(true)
+}
+
+// Whether the event may be a separator by some bank that answers.
+fn may_be_separator_in(event: &Event<'_>, matched: &[Place]) -> bool
+    ensures { IsTrue result ↔ MayBeSeparatorIn matched.now (log_event_of event.now) }
+{
+    for alg in Alg::ALL {
+        if is_separator_by(event, matched, alg) {
+            return true;
+        }
+    }
+    false
+}
+
+// Whether the bank answers, and the event may be a separator by it.
+fn is_separator_by(event: &Event<'_>, matched: &[Place], alg: Alg) -> bool
+    ensures { IsTrue result ↔ IsSeparatorBy matched.now (log_event_of event.now) alg }
+{
+    answers(matched, alg, SETTINGS_REGISTER) && may_be_separator(event, alg)
+}
+
+// Appends the line of the event with this number, if it is a boot variable.
+fn append_if_told(
+    alloc: Global,
+    form: EventForm,
+    matched: &[Place],
+    number: usize,
+    event: &Event<'_>,
+    lines: &mut Vec<u8>,
+) -> Written
+    ensures { OnOk result (lines.new.items ≡ lines.old.items ++ told_variable form matched.now number (log_event_of event.now)) }
+{
+    if is_told_variable(event, matched) {
+        append_variable(alloc, form, number, event, lines)
+    } else {
+        Ok(())
+    }
+}
+
+// Whether the event's data is a boot variable, and is measured so in each bank that answers.
+fn is_told_variable(event: &Event<'_>, matched: &[Place]) -> bool
+    ensures { result ≡ is_told_variable matched.now (log_event_of event.now) }
+{
+    all_allow(event, matched) && is_boot_data(event.payload)
+}
+
+// Whether no bank that answers tells anything against the event as a variable.
+fn all_allow(event: &Event<'_>, matched: &[Place]) -> bool
+    ensures { result ≡ list_all (λ alg. allows_variable matched.now (log_event_of event.now) alg) all_algs }
+{
+    Alg::ALL
+        .iter()
+        .all(|alg| allows_variable(event, matched, *alg))
+}
+
+// Whether the bank does not answer, or in it the event's data is measured, or the variable's value.
+fn allows_variable(event: &Event<'_>, matched: &[Place], alg: Alg) -> bool
+    ensures { result ≡ allows_variable matched.now (log_event_of event.now) alg }
+{
+    !answers(matched, alg, SETTINGS_REGISTER)
+        || is_measured(event, alg, Part::Whole)
+        || is_measured(event, alg, Part::Value)
+}
+
+// Whether the bytes are a boot variable.
+fn is_boot_data(bytes: &[u8]) -> bool
+    ensures { result ≡ option_map_or is_boot_variable (variable_in bytes.now) false }
+{
+    match read_variable(bytes) {
+        Some(variable) => is_boot_variable(&variable),
+        None => false,
+    }
+}
+
+// Whether the variable is claimed to be BootOrder or a Boot####.
+fn is_boot_variable(variable: &Variable<'_>) -> bool
+    ensures { result ≡ is_boot_variable (variable_of variable.now) }
+{
+    matches!(
+        value_form(0, variable),
+        ValueForm::Order | ValueForm::LoadOption
+    )
+}
+
+// Appends the line of a boot variable.
+fn append_variable(
+    alloc: Global,
+    form: EventForm,
+    number: usize,
+    event: &Event<'_>,
+    lines: &mut Vec<u8>,
+) -> Written
+    ensures { OnOk result (lines.new.items ≡ lines.old.items ++ variable_line form number (log_event_of event.now)) }
+{
+    match form {
+        EventForm::Json => append_variable_json(alloc, number, event, lines),
+        EventForm::Explained => append_variable_text(alloc, number, event, lines),
+    }
+}
+
+fn append_variable_json(
+    alloc: Global,
+    number: usize,
+    event: &Event<'_>,
+    line: &mut Vec<u8>,
+) -> Written
+    ensures { AppendsLine result line.old.items line.new.items (variable_json number (log_event_of event.now)) }
+{
+    let (mut writer, start) = begin_line(alloc, line);
+    let written = write_variable(alloc, number, event, &mut writer);
+    end_line(written, writer, start, line)
+}
+
+fn write_variable(alloc: Global, number: usize, event: &Event<'_>, writer: &mut Writer) -> Written
+    ensures { WritesValue result writer.old writer.new (variable_json number (log_event_of event.now)) }
+{
+    writer.begin_object()?;
+    write_number("boot_variable", number as u64, writer)?;
+    writer.key("content")?;
+    write_content(alloc, event.kind, event.payload, writer)?;
+    writer.end_object()?;
+    Ok(())
+}
+
+fn append_variable_text(
+    alloc: Global,
+    number: usize,
+    event: &Event<'_>,
+    lines: &mut Vec<u8>,
+) -> Written
+    ensures { OnOk result (lines.new.items ≡ lines.old.items ++ variable_line Explained number (log_event_of event.now)) }
+{
+    lines.extend_from_slice(b"boot_variable ")?;
+    append_number(number as u64, lines)?;
+    lines.extend_from_slice(b" ")?;
+    append_content(alloc, event.kind, event.payload, lines)
+}

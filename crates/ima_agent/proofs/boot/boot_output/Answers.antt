@@ -1,0 +1,36 @@
+use Rattle.std.proofs.Common.{Bor, List, ℕ, Option, Vec, Global, ap, subst, sym, ◌++◌, ◌∙◌}
+use Rattle.std.specs.Prelude.{option_map}
+use Rattle.std.proofs.lemmas.Result.{err_from_is_err_and}
+use Rattle.boot_log.specs.Spelling.{IsLog}
+use Rattle.measured_data.specs.declared.place.Place.{Place}
+use Rattle.ima_agent.proofs.BootLaws.{not_told}
+use Rattle.ima_agent.proofs.boot.boot_output.Goals as goal
+
+abbrev name_in : Option (Bor (List ℕ)) → Option (List ℕ)
+name_in name = option_map (λ (name : Bor (List ℕ)). name.now) name
+
+pub returns-in_err-matched-clause-fault : goal.returns-in_err-matched-clause-fault
+returns-in_err-matched-clause-fault g c =
+    let p = err_from_is_err_and c.from_residual.result c.from_residual.ensures.1 in
+    rw (p.1, p.2)
+    (not_told (g.F.Files.known c.args.files.now) c.told_in-told.result c.args.confirmed_by.now (name_in c.args.before) c.args.log.now
+    c.in_err-matched.field-0.0 c.in_err-matched.ensures.fault)
+
+pub returns-clause-shown : goal.returns-clause-shown
+returns-clause-shown g c =
+    let (table, events, is) = c.in_ok-view.ensures.sound in
+    let viewed = subst (λ (bytes : List ℕ). IsLog bytes table events) (sym c.in_ok-view.ensures.found) is in
+    let (answers, are, text) = c.in_ok-append_boot.ensures table events viewed in
+    let (compared, so, more) = c.in_ok-append_compared.ensures.lines table events viewed in
+    record {
+      table = table;
+      events = events;
+      log_is = is;
+      matched = option_map (λ (places : Vec Place Global). places.items) c.in_ok-matched.matched.places;
+      are_matched = c.in_ok-matched.ensures.matched;
+      answers = answers;
+      are_answers = rw (c.places_of-places.ensures, c.told_in-told.ensures) at are;
+      compared = compared;
+      are_compared = rw (c.places_of-places.ensures, c.told_in-told.ensures, c.in_ok-matched.ensures.inputs) at so;
+      text_is = more ∙ ap (λ (l : List ℕ). l ++ compared) (text ∙ ap (λ (l : List ℕ). l ++ answers) c.new-text.ensures.items);
+    }

@@ -1,0 +1,62 @@
+-- What is answered on a boot.
+use Rattle.std.specs.Prelude.{◌≡◌, ◌⊎◌, ℕ, List, [], ◌++◌, Option, None, Some}
+use Rattle.boot_log.specs.declared.header.Row.{Row}
+use Rattle.boot_log.specs.Spelling.{IsLog, LogEvent}
+use Rattle.measured_data.specs.declared.place.Place.{Place}
+use Rattle.json_texts.specs.declared.event_form.EventForm.{EventForm}
+use Rattle.json_texts.specs.declared.event_form.EventForm.TheVariants as told
+use Rattle.boot_texts.specs.BootLines.{AreBootLines}
+use Rattle.boot_texts.specs.Differences.{AreDifferenceLines}
+use Rattle.agent_plans.specs.declared.plan.ConfirmedBy.{ConfirmedBy}
+use Rattle.agent_plans.specs.declared.plan.Form.{Form}
+use Rattle.agent_plans.specs.declared.plan.Form.TheVariants as forms
+use Rattle.agent_inputs.specs.declared.fault.RunFault.{RunFault}
+use Rattle.agent_inputs.specs.Faults.{HasLogFault}
+use Rattle.agent_inputs.specs.Loading.{Inputs, IsInputFault, OfInput}
+use Rattle.ima_agent.specs.Matching.{AreMatched, AreNotMatched}
+use Rattle.ima_agent.specs.Showing.{IsNoLogFor}
+
+-- How answers are told in this form.
+abbrev pub told_in : Form → EventForm
+told_in forms.Json = told.Json
+told_in forms.Text = told.Explained
+
+-- The registers that match; none where none were compared.
+abbrev pub places_of : Option (List Place) → List Place
+places_of None = []
+places_of (Some places) = places
+
+-- The text tells how far the boot with these events, and the earlier one that left the log in the file of this name, extended each register
+-- alike; without a name it is empty.
+abbrev pub AreCompared : Inputs → EventForm → List Place → List LogEvent → Option (List ℕ) → List ℕ → Type 0
+AreCompared inputs form matched events None text = text ≡ []
+AreCompared inputs form matched events (Some name) text =
+    OfInput inputs (Some name) (λ earlier. (table : List Row) × (others : List LogEvent) × IsLog earlier table others
+    × AreDifferenceLines form matched events others text)
+
+-- The bytes are a log, and the text answers what was booted, by the registers that match; and compares this with the boot of the log in the
+-- file of this name, if there is one. The status is that of what they match by.
+pub record ShowsBoot (inputs : Inputs) (form : Form) (confirmed_by : ConfirmedBy) (before : Option (List ℕ)) (log text : List ℕ) (status : ℕ)
+    : Type 0 where
+  pub table : List Row
+  pub events : List LogEvent
+  pub log_is : IsLog log table events
+  pub matched : Option (List Place)
+  pub are_matched : AreMatched inputs confirmed_by log matched status
+  pub answers : List ℕ
+  pub are_answers : AreBootLines (told_in form) (places_of matched) events answers
+  pub compared : List ℕ
+  pub are_compared : AreCompared inputs (told_in form) (places_of matched) events before compared
+  pub text_is : text ≡ answers ++ compared
+
+-- Why there is no log of an earlier boot: the file is not loaded; or its bytes are no log.
+abbrev pub IsNoEarlierLog : Inputs → Option (List ℕ) → RunFault → Type 0
+IsNoEarlierLog inputs None fault = ⊥
+IsNoEarlierLog inputs (Some name) fault =
+    IsInputFault inputs (Some name) fault ⊎ OfInput inputs (Some name) (λ earlier. HasLogFault earlier fault)
+
+-- Why there is no answer: the registers that match are not known; or the bytes are no log; or there is no log of an earlier boot; or memory ran
+-- out.
+abbrev pub IsNoBootFor : Inputs → ConfirmedBy → Option (List ℕ) → List ℕ → RunFault → Type 0
+IsNoBootFor inputs confirmed_by before log fault =
+    AreNotMatched inputs confirmed_by log fault ⊎ (IsNoLogFor log fault ⊎ IsNoEarlierLog inputs before fault)

@@ -1,0 +1,116 @@
+//! The answers on a machine's boot, as the program shows them.
+
+ghost use Rattle.std.specs.Prelude.{◌≡◌, ◌⊎◌, ℕ, List, ◌++◌, option_map, IfErr, IfOk, OnErr, OnOk};
+ghost use Rattle.agent_plans.specs.declared.plan.Task.TheVariants as tasks;
+ghost use Rattle.agent_inputs.specs.declared.fault.RunFault.TheVariants.{Memory};
+ghost use Rattle.boot_log.specs.declared.header.Row.{Row};
+ghost use Rattle.boot_log.specs.LogViews.{log_bytes};
+ghost use Rattle.boot_log.specs.Spelling.{IsLog, LogEvent};
+ghost use Rattle.ima_agent.specs.Program.{IsFaultOf, IsOutputFor};
+ghost use Rattle.ima_agent.specs.ShowingBoot.{AreCompared, IsNoBootFor, IsNoEarlierLog, ShowsBoot, places_of, told_in};
+
+use crate::matches::matched_in;
+use crate::streams::Prepared;
+use agent_inputs::{AgentFiles, RunFault, load_input};
+use agent_plans::{ConfirmedBy, Form};
+use boot_log::LogView;
+use boot_texts::{append_boot, append_differences};
+use json_texts::EventForm;
+use measured_data::Place;
+use rendering::Output;
+use std::alloc::Global;
+
+/// The answers on the boot that left the log in the file of this name, and how far an earlier boot extended the registers alike, if a log of it
+/// is named. They are given by the registers that match, by what tells it; if nothing does none match, and what nothing confirms is unknown.
+///
+/// The log is loaded; then what tells which registers match, and read; then the log is looked through for its first fault; then that of the
+/// earlier boot is loaded and looked through.
+pub(crate) fn boot_for<F: AgentFiles>(
+    alloc: Global,
+    files: &mut F,
+    log: &String,
+    confirmed_by: &ConfirmedBy,
+    before: &Option<String>,
+    form: Form,
+) -> Prepared
+    ensures shown { IfOk result (λ output. IsOutputFor (F.known files.old) (tasks.Boot log.now confirmed_by.now before.now) form (F.saved files.old)
+        (F.saved files.new) output.text.items output.status) }
+    ensures kept { OnErr result (F.saved files.new ≡ F.saved files.old) }
+    ensures fault { IfErr result (IsFaultOf (F.known files.old) (tasks.Boot log.now confirmed_by.now before.now) form) }
+{
+    let bytes = load_input(alloc, files, Some(log))?;
+    boot_output(alloc, files, &bytes, confirmed_by, before.as_deref(), form)
+}
+
+// How answers are told in this form.
+fn told_in(form: Form) -> EventForm
+    ensures { result ≡ told_in form }
+{
+    match form {
+        Form::Json => EventForm::Json,
+        Form::Text => EventForm::Explained,
+    }
+}
+
+// The registers that match; none where none were compared.
+fn places_of(matched: &Option<Vec<Place>>) -> &[Place]
+    ensures { result.now ≡ places_of (option_map (λ places. places.items) matched.now) }
+{
+    match matched {
+        Some(places) => places,
+        None => &[],
+    }
+}
+
+// The answers on the boot that left the log in these bytes.
+fn boot_output<F: AgentFiles>(
+    alloc: Global,
+    files: &mut F,
+    log: &[u8],
+    confirmed_by: &ConfirmedBy,
+    before: Option<&str>,
+    form: Form,
+) -> Prepared
+    ensures shown { IfOk result (λ output. ShowsBoot (F.known files.old) form confirmed_by.now (option_map (λ name. name.now) before.entry) log.now
+        output.text.items output.status) }
+    ensures fault { IfErr result (IsNoBootFor (F.known files.old) confirmed_by.now (option_map (λ name. name.now) before.entry) log.now) }
+    ensures saved { F.saved files.new ≡ F.saved files.old }
+{
+    let told = told_in(form);
+    let matched = matched_in(alloc, files, log, told, confirmed_by)?;
+    let places = places_of(&matched.places);
+    let view = LogView::new(log)?;
+    let mut text = Vec::new(alloc);
+    append_boot(alloc, &view, places, told, &mut text)?;
+    append_compared(alloc, files, &view, places, told, before, &mut text)?;
+    Ok(Output {
+        text,
+        status: matched.status,
+    })
+}
+
+// Appends the lines of the comparison with the boot that left the log in the file of this name, if there is one.
+fn append_compared<F: AgentFiles>(
+    alloc: Global,
+    files: &mut F,
+    view: &LogView<'_>,
+    matched: &[Place],
+    told: EventForm,
+    before: Option<&str>,
+    lines: &mut Vec<u8>,
+) -> Result<(), RunFault>
+    ensures lines { OnOk result ((table : List Row) (events : List LogEvent) → IsLog (log_bytes view.now) table events
+        → (text : List ℕ) × AreCompared (F.known files.old) told matched.now events (option_map (λ name. name.now) before.entry) text
+        × (lines.new.items ≡ lines.old.items ++ text)) }
+    ensures fault { IfErr result (λ fault. IsNoEarlierLog (F.known files.old) (option_map (λ name. name.now) before.entry) fault
+        ⊎ (fault ≡ Memory)) }
+    ensures saved { F.saved files.new ≡ F.saved files.old }
+{
+    let Some(name) = before else {
+        return Ok(());
+    };
+    let bytes = load_input(alloc, files, Some(name))?;
+    let earlier = LogView::new(&bytes)?;
+    append_differences(alloc, view, &earlier, matched, told, lines)?;
+    Ok(())
+}

@@ -1,0 +1,87 @@
+//! The registers that match by a quote: those that it is of, and that the list does not extend.
+
+ghost use Rattle.std.specs.Prelude.{◌≡◌, ◌++◌, map, option_map, IfErr, IfOk, OnOk};
+ghost use Rattle.agent_plans.specs.declared.plan.ConfirmedBy.TheVariants as confirmed;
+ghost use Rattle.attestations.specs.Quoted.{bank_selection_of};
+ghost use Rattle.boot_verdict.specs.Verdicts.{IsSomeLog};
+ghost use Rattle.judging.specs.Answering.{IsNoAttestation};
+ghost use Rattle.judging.specs.Inputs.{BytesOf};
+ghost use Rattle.ima_agent.specs.Matching.{AreMatched, attested_with, is_of_log, places_by, places_in, quoted_places};
+
+use crate::matches::Matched;
+use crate::requests::attesting_by;
+use agent_inputs::{AgentFiles, RunFault};
+use agent_plans::Quoting;
+use attestations::Selected;
+use boot_verdict::LIST_REGISTER;
+use judging::{Answer, Answered, Input, Request, answer_request};
+use measured_data::Place;
+use pcr_banks::REGISTERS;
+use rendering::status_of_answer;
+use std::alloc::{AllocError, Global};
+
+/// The registers that match after the log in these bytes by a quote of it and of a list: if all is well with the answer to what is asked of
+/// the quote, those that the quote is of, but for the list's; else none. The status is that of the answer.
+pub(crate) fn quoted_in<F: AgentFiles>(
+    alloc: Global,
+    files: &mut F,
+    log: &[u8],
+    quoting: &Quoting,
+) -> Result<Matched, RunFault>
+    ensures matched { IfOk result (λ matched. AreMatched (F.known files.old) (confirmed.Quote quoting.now) log.now
+        (option_map (λ places. places.items) matched.places) matched.status) }
+    ensures known { IfOk result (λ _. IsSomeLog log.now) }
+    ensures fault { IfErr result (IsNoAttestation (F.known files.old) (attested_with (BytesOf log.now) quoting.now)) }
+    ensures inputs { F.known files.new ≡ F.known files.old }
+    ensures saved { F.saved files.new ≡ F.saved files.old }
+{
+    let asked = attesting_by(Input::Bytes(log), quoting);
+    let given = answer_request(alloc, files, Request::Attestation(asked))?;
+    Ok(Matched {
+        places: Some(places_by(alloc, &given)?),
+        status: status_of_answer(&given),
+    })
+}
+
+// The registers that match by an answer: none, unless all is well with it.
+fn places_by(alloc: Global, given: &Answered) -> Result<Vec<Place>, AllocError>
+    ensures { IfOk result (λ places. places.items ≡ places_by given.now.is_well given.now.answer) }
+{
+    match (given.is_well, &given.answer) {
+        (true, Answer::Attestation(report)) => quoted_places(alloc, &report.quoted.selections),
+        _ => Ok(Vec::new(alloc)),
+    }
+}
+
+// The registers that these selections are of, but for the list's.
+fn quoted_places(alloc: Global, selections: &[Selected]) -> Result<Vec<Place>, AllocError>
+    ensures { IfOk result (λ places. places.items ≡ quoted_places (map bank_selection_of selections.now)) }
+{
+    let mut places = Vec::new(alloc);
+    for selection in selections {
+        push_places(selection, &mut places)?;
+    }
+    Ok(places)
+}
+
+// Appends those of one bank.
+fn push_places(selection: &Selected, places: &mut Vec<Place>) -> Result<(), AllocError>
+    ensures { OnOk result (places.new.items ≡ places.old.items ++ places_in (bank_selection_of selection.now)) }
+{
+    for register in 0..REGISTERS {
+        if is_of_log(selection, register) {
+            places.push(Place {
+                alg: selection.alg,
+                register,
+            })?;
+        }
+    }
+    Ok(())
+}
+
+// Whether the quote is of the register's value, which the log alone gives it.
+fn is_of_log(selection: &Selected, register: u32) -> bool
+    ensures { result ≡ is_of_log selection.now.bits.items register }
+{
+    register != LIST_REGISTER && selection.selects(register)
+}

@@ -1,0 +1,32 @@
+use Rattle.std.proofs.Common.{inl, inr, refl, arith, ◌∙◌}
+use Rattle.std.proofs.lemmas.Result.{err_from_is_err_and}
+use Rattle.std.proofs.lemmas.List.{length-map}
+use Rattle.judging.specs.Requests.{place_of}
+use Rattle.judging.proofs.KnownLaws.{all_listed, listed_more, listed_none, not_listed, some_input}
+use Rattle.judging.proofs.known_texts.known_in.Goals as goal
+
+pub loop-index-init : goal.loop-index-init
+loop-index-init g c = record { known = refl; saved = refl; listed = listed_none _ _ c.new-listed.result c.new-listed.ensures }
+
+pub loop-index-preserved : goal.loop-index-preserved
+loop-index-preserved g c = record {
+  known = c.in_ok-add_text.ensures.known ∙ c.loop-index.invariant.known;
+  saved = c.in_ok-add_text.ensures.saved ∙ c.loop-index.invariant.saved;
+  listed = listed_more _ c.args.inputs.now c.loop-index.index _ (omega (arith, c.loop-index-test.true)) c.loop-index.listed c.add_text.new.listed
+      c.loop-index.invariant.listed (rw c.loop-index.invariant.known at c.in_ok-add_text.ensures.added);
+}
+
+pub returns-clause-found : goal.returns-clause-found
+returns-clause-found g c =
+    all_listed _ _ c.loop-index.index c.loop-index.listed c.of.result (some_input c.args.inputs.now c.if-is_empty.ensures) (omega (arith, length-map c.args.inputs.now place_of, c.loop-index-test.false))
+    c.loop-index.invariant.listed c.of.ensures
+
+pub returns-in_err-add_text-clause-fault : goal.returns-in_err-add_text-clause-fault
+returns-in_err-add_text-clause-fault g c =
+    let p = err_from_is_err_and c.from_residual.result c.from_residual.ensures.1 in
+    let why = rw c.loop-index.invariant.known at c.in_err-add_text.ensures.fault in
+    rw (p.1, p.2) (elim why [
+      | inl refused ↦ inl (not_listed _ c.args.inputs.now c.loop-index.index _ (omega (arith, c.loop-index-test.true)) c.loop-index.listed _
+          c.loop-index.invariant.listed refused)
+      | inr memory ↦ inr memory
+    ])
