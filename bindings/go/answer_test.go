@@ -25,7 +25,8 @@ const (
 	missingRow  = `{"bank":"sha1","register":4,"state":"missing"}`
 	strayEvent  = `{"event":1,"register":10}`
 	strayEntry  = `{"entry":2,"register":11}`
-	algorithms  = `{"algorithms":[{"id":18,"size":1},{"name":"sha1","id":4,"size":20}]}` + "\n"
+	algorithms  = `{"algorithms":[{"id":18,"size":1},{"name":"sha1","id":4,"size":20}],` +
+		`"specification":{"platform_class":0,"major":2,"minor":0,"errata":0,"uintn_size":2,"vendor":""}}` + "\n"
 	listFault   = `{"fault":{"kind":"list","number":1,"entry":2,"message":"refused: list fault 1 at entry 2"}}` + "\n"
 	logFault    = `{"fault":{"kind":"log","number":1,"event":2,"message":"refused: log fault 1 at event 2"}}` + "\n"
 	memoryFault = `{"fault":{"kind":"memory","message":"failed: memory"}}` + "\n"

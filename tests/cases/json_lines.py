@@ -20,7 +20,7 @@ sys.path.insert(0, str(Path(__file__).resolve().parents[1]))
 import harness  # noqa: E402
 import reference  # noqa: E402
 from harness import ROOT  # noqa: E402
-from reference.log import EV_NO_ACTION, STARTUP_LOCALITY, TYPE_NAMES, Event, Log, read_log  # noqa: E402
+from reference.log import EV_NO_ACTION, STARTUP_LOCALITY, TYPE_NAMES, Event, Log, Specification, read_log  # noqa: E402
 from reference.measurement_list import IMA, IMA_NG, IMA_SIG, VIOLATION, Entry, entry_of, list_spelling  # noqa: E402
 from reference.registers import ALGORITHMS, SHA1, SHA256  # noqa: E402
 
@@ -57,7 +57,8 @@ def log_of_all_banks():
     sizes = {0x12: 32, **{it.identifier: it.size for it in reversed(ALGORITHMS)}}
     digests = {identifier: bytes(range(size)) for identifier, size in sizes.items()}
     named = (Event(number % 24, kind, digests, bytes(range(256))) for number, kind in enumerate([*TYPE_NAMES, 0x13FF, 0xFFFFFFFF]))
-    return Log(sizes, [*named, Event(0, EV_NO_ACTION, {}, STARTUP_LOCALITY + b"\xff"), Event(0xFFFFFFFF, EV_NO_ACTION, {0x12: bytes(32)}, b"")])
+    unnamed = [Event(0, EV_NO_ACTION, {}, STARTUP_LOCALITY + b"\xff"), Event(0xFFFFFFFF, EV_NO_ACTION, {0x12: bytes(32)}, b"")]
+    return Log(sizes, [*named, *unnamed], Specification(2**32 - 1, 1, 2, 3, 255, bytes(range(255))))
 
 
 def hostile_entries():

@@ -8,7 +8,7 @@ from boots import message_of
 from reference.checkpoint import before_a_list
 from reference.event_data import COMMANDS, command_in, variable_in
 from reference.fields import number
-from reference.log import EV_NO_ACTION, TYPE_NAMES, Event, Log
+from reference.log import EV_NO_ACTION, TYPE_NAMES, Event, Log, Specification
 from reference.measurement_list import BOOT_AGGREGATE, IMA_NG, entry_of, list_spelling
 from reference.registers import ALGORITHMS, BY_IDENTIFIER, REGISTERS, SHA256
 from reference.variable_values import AUTHORITIES, EV_EFI_VARIABLE_AUTHORITY, FLAGS, GLOBAL, IMAGE_SECURITY, LISTS, SHIM
@@ -303,18 +303,26 @@ def random_boots(chance, events):
     """A log of at most so many events as a boot has them, and an earlier one, which has most of them."""
     algorithms = chance.sample(ALGORITHMS[1:], chance.choice((1, 1, 2))) + chance.sample(ALGORITHMS[:1], chance.choice((0, 1)))
     declared = {it.identifier: it.size for it in algorithms}
-    log = Log(declared, [boot_event(chance, declared) for _ in range(chance.randrange(events + 1))])
+    log = Log(declared, [boot_event(chance, declared) for _ in range(chance.randrange(events + 1))], random_specification(chance))
     earlier = [event for event in log.events if chance.random() < 0.95]
     if chance.random() < 0.5:
         earlier.insert(chance.randrange(len(earlier) + 1), boot_event(chance, declared))
     return log, log._replace(events=earlier)
 
 
+def random_specification(chance):
+    """What a header says beside its algorithms: mostly what firmware says, else anything."""
+    if chance.random() < 0.5:
+        return Specification(vendor=chance.randbytes(chance.choice((0, 0, 8))))
+    numbers = (chance.choice((0, 1, 2**32 - 1)), *(chance.randrange(256) for _ in range(4)))
+    return Specification(*numbers, chance.randbytes(chance.choice((0, 1, 255))))
+
+
 def random_log(chance, events, is_whole=False):
     """A log of so many events, with one bank or several."""
     algorithms = chance.sample(ALGORITHMS, chance.choice((1, 2, 4)))
     declared = {it.identifier: it.size for it in algorithms} | (dict([NAMELESS]) if chance.random() < 0.2 else {})
-    return Log(declared, [random_event(chance, declared, is_whole) for _ in range(events)])
+    return Log(declared, [random_event(chance, declared, is_whole) for _ in range(events)], random_specification(chance))
 
 
 def random_expected(chance, log, share=0.7):

@@ -48,7 +48,10 @@ ENTRY = (b'{"entry":0,"register":10,"template":"ima-sig","template_digest":"' + 
          b'"algorithm":"sha1","digest":"' + 40 * b"a" + b'","path":"/a","signature":""}\n')
 OTHER = (b'{"entry":1,"register":10,"template_hex":"ff0a","template_digest":"' + 40 * b"0" + b'","violation":true,"genuine":true,'
          b'"payload":"00"}\n')
-ALGORITHMS = b'{"algorithms":[{"id":18,"size":1},{"name":"sha1","id":4,"size":20}]}\n'
+ALGORITHMS = (
+    b'{"algorithms":[{"id":18,"size":1},{"name":"sha1","id":4,"size":20}],'
+    b'"specification":{"platform_class":0,"major":2,"minor":0,"errata":0,"uintn_size":2,"vendor":""}}\n'
+)
 EVENT = (b'{"event":1,"register":0,"type":"EV_SEPARATOR","type_number":4,"digests":{"sha1":"' + 40 * b"a" + b'"},"data":"00",'
          b'"measured":{"sha1":"data"},"content":{"unknown":true}}\n')
 FAULT = b'{"fault":{"kind":"list","number":1,"entry":2,"message":"refused: list fault 1 at entry 2"}}\n'

@@ -101,7 +101,7 @@ streams_so P Q old new (Err (streams.Run fault)) so sent =
 
 module _ (form : Form) (told : EventForm) (matched : Option (List Place)) (done : ℕ) (log : List ℕ) (old new : SinkState) where
   abbrev lines : List Row → List LogEvent → List ℕ
-  lines = log_lines told matched
+  lines = log_lines told matched log
 
   abbrev AreAll : List ℕ → Type 0
   AreAll = AreAllEvents lines log

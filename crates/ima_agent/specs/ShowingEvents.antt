@@ -41,14 +41,14 @@ IsReported forms.Json fault text status = IsReportedAsJson fault text status
 -- that is all.
 abbrev pub ShowsTold : Form → EventForm → Option (List Place) → ℕ → List ℕ → List ℕ → ℕ → Type 0
 ShowsTold form events matched done log shown status =
-    ShowsToFault done (AreAllEvents (log_lines events matched) log) (FailsAfterEvents (log_lines events matched) fault_of_log log) (IsReported form) shown
+    ShowsToFault done (AreAllEvents (log_lines events matched log) log) (FailsAfterEvents (log_lines events matched log) fault_of_log log) (IsReported form) shown
     status
 
 -- The text is the lines of a header and events that the bytes begin with, and then memory ran out.
 abbrev pub RunsOutAfterEvents : EventForm → Option (List Place) → List ℕ → List ℕ → RunFault → Type 0
 RunsOutAfterEvents events matched log text fault =
     (fault ≡ runs.Memory)
-    × ((table : List Row) × (given : List LogEvent) × (rest : List ℕ) × BeginsWith log table given rest × (text ≡ log_lines events matched table given))
+    × ((table : List Row) × (given : List LogEvent) × (rest : List ℕ) × BeginsWith log table given rest × (text ≡ log_lines events matched log table given))
 
 -- ---- a log whose bytes were loaded
 
@@ -85,14 +85,14 @@ ShowsPlainEventsIn form shown log text status =
 -- Why no more of the log in these bytes is shown than this text: it fails; or memory ran out, after some events or before the first line.
 abbrev pub StopsInLog : EventForm → Option (List Place) → List ℕ → List ℕ → RunFault → Type 0
 StopsInLog events matched log text fault =
-    FailsAfterEvents (log_lines events matched) fault_of_log log text fault
+    FailsAfterEvents (log_lines events matched log) fault_of_log log text fault
     ⊎ RunsOutAfterEvents events matched log text fault
     ⊎ ((fault ≡ runs.Memory) × (text ≡ []))
 
 -- The log in these bytes is shown with what its data says, as far as it goes; with this status, if that is all.
 abbrev pub ShowsEventsIn : Form → EventForm → Option (List Place) → ℕ → List ℕ → List ℕ → ℕ → Type 0
 ShowsEventsIn form events matched done log shown status =
-    ShowsToFault done (AreAllEvents (log_lines events matched) log) (StopsInLog events matched log) (IsReported form) shown status
+    ShowsToFault done (AreAllEvents (log_lines events matched log) log) (StopsInLog events matched log) (IsReported form) shown status
 
 -- It is, with what the registers confirm that match; or why it is not told.
 abbrev pub ShowsToldOf : Inputs → Form → EventForm → ConfirmedBy → List ℕ → List ℕ → ℕ → Type 0

@@ -1,6 +1,6 @@
 -- An event's line is one line, and has no member `fault`.
 use Rattle.std.proofs.Common.{◌≡◌, ℕ, arith, false, List, [], ◌∷◌, Option, Some, None, codes, refl}
-use Rattle.std.specs.Prelude.{flat_map, option_map}
+use Rattle.std.specs.Prelude.{IfSome, flat_map, option_map}
 use Rattle.std.specs.Str.{bytes_eq}
 use Rattle.hex.specs.Hex.{IsBytes}
 use Rattle.json.specs.Find.{get}
@@ -8,13 +8,14 @@ use Rattle.json.specs.Json.{string}
 use Rattle.pcr_banks.specs.declared.alg.Alg.{Alg}
 use Rattle.pcr_banks.specs.Hashing.{all_algs, name_of}
 use Rattle.boot_log.specs.EventTypes.{event_type_name}
-use Rattle.boot_log.specs.Spelling.{LogEvent}
+use Rattle.boot_log.specs.declared.header.Row.{Row}
+use Rattle.boot_log.specs.Spelling.{IsSpecification, LogEvent, SpecificationData}
 use Rattle.event_data.specs.ContentReading.{content_in}
 use Rattle.measured_data.specs.declared.place.Place.{Place}
 use Rattle.measured_data.specs.Confirming.{confirmed_part}
 use Rattle.measured_data.specs.Measuring.{measured_part}
 use Rattle.json_texts.specs.ContentJson.{content_json}
-use Rattle.json_texts.specs.EventJson.{confirmed_members, confirmed_word, content_members, event_json, head_members, part_name}
+use Rattle.json_texts.specs.EventJson.{confirmed_members, confirmed_word, content_members, event_json, head_members, header_json, part_name, specification_json}
 use Rattle.json_texts.specs.JsonValues.{IsCount, IsOneLine, members_of, optional}
 use Rattle.json_texts.proofs.ContentLaws.{content_plain}
 use Rattle.json_texts.proofs.CountLaws.{content_counted}
@@ -65,7 +66,28 @@ pub content_one_line : (kind : ℕ) (bytes : List ℕ) → IsBytes bytes → IsO
 content_one_line kind bytes fits =
     line_within 6 (content_json kind (content_in kind bytes)) (omega arith) (content_is_plain kind bytes fits)
 
+pub said_plain : (said : Option SpecificationData) → IfSome said IsSpecification
+    → ArePlain (optional (codes "specification") (option_map specification_json said)) 2
+said_plain None fit = tt
+said_plain (Some said) fit = (
+  (
+    (said.platform_class, omega (arith, fit.class_fits), refl),
+    (
+      (said.major, omega (arith, fit.major_fits), refl),
+      (
+        (said.minor, omega (arith, fit.minor_fits), refl),
+        ((said.errata, omega (arith, fit.errata_fits), refl), ((said.uintn_size, omega (arith, fit.uintn_fits), refl), (tt, tt))),
+      ),
+    ),
+  ),
+  tt,
+)
+
 -- ---- no fault
+
+pub header_lacks : (said : Option SpecificationData) (rows : List Row) → get (codes "fault") (header_json said rows) ≡ None
+header_lacks None rows = lacks (header_json None rows) refl (refl, tt)
+header_lacks (Some said) rows = lacks (header_json (Some said) rows) refl (refl, (refl, tt))
 
 other : {A : Type 0} (name : List ℕ) (text : A → List ℕ) (value : Option A) → bytes_eq name (codes "fault") ≡ false
     → AreOther (members_of (optional name (option_map (λ x. string (text x)) value)))

@@ -6,7 +6,7 @@ ghost use Rattle.std.specs.Str.{IsUtf8};
 ghost use Rattle.hex.specs.Hex.{IsBytes};
 ghost use Rattle.pcr_banks.specs.declared.banks.Banks.{Banks};
 ghost use Rattle.boot_log.specs.declared.header.Row.{Row as TableRow};
-ghost use Rattle.boot_log.specs.Spelling.{IsRow, LogEvent};
+ghost use Rattle.boot_log.specs.Spelling.{IsRow, IsSpecification, LogEvent, SpecificationData};
 ghost use Rattle.ima_list.specs.ListEntry.{IsEntry, ListEntry};
 ghost use Rattle.ima_list.specs.Digesting.{IsGenuine};
 ghost use Rattle.ima_list.specs.FieldKinds.{FileFields};
@@ -31,7 +31,7 @@ ghost use Rattle.json_texts.specs.declared.faults.FaultPlace.{FaultPlace};
 ghost use Rattle.json_texts.specs.JsonValues.{IsCount, IsOneLine, line_of, object_of};
 ghost use Rattle.json_texts.specs.ContentJson.{content_json};
 ghost use Rattle.json_texts.specs.EntryJson.{HasBytes, IsKnown, entry_json, is_genuine};
-ghost use Rattle.json_texts.specs.EventJson.{algorithms_json, event_json};
+ghost use Rattle.json_texts.specs.EventJson.{event_json, header_json};
 ghost use Rattle.json_texts.specs.FaultJson.{fault_json, fault_members, number_at};
 ghost use Rattle.json_texts.specs.AttestJson.{IsCountedClock, IsCountedWhole, attest_json};
 ghost use Rattle.json_texts.specs.KeyJson.{key_json};
@@ -48,7 +48,8 @@ pub fn each_value_is_one_line()
         → IsCount number → IsCount event.register → IsCount event.kind → IsBytes event.payload
         → IsOneLine (event_json matched number event) }
     ensures content { (kind : ℕ) (bytes : List ℕ) → IsBytes bytes → IsOneLine (content_json kind (content_in kind bytes)) }
-    ensures algorithms { (rows : List TableRow) → AllByRecursion IsRow rows → IsOneLine (algorithms_json rows) }
+    ensures header { (said : Option SpecificationData) (rows : List TableRow)
+        → IfSome said IsSpecification → AllByRecursion IsRow rows → IsOneLine (header_json said rows) }
     ensures registers { (now start : Banks) → IsOneLine (registers_json now start) }
     ensures expected { (range : RegisterRange) (expected : List Expected) → AllByRecursion (λ e. IsCount e.register) expected
         → IsOneLine (expected_json range expected) }
@@ -86,7 +87,7 @@ pub fn only_faults_have_a_fault()
     ensures entry { (number : ℕ) (entry : ListEntry) → get (codes "fault") (entry_json number entry) ≡ None }
     ensures event { (matched : Option (List Place)) (number : ℕ) (event : LogEvent)
         → get (codes "fault") (event_json matched number event) ≡ None }
-    ensures algorithms { (rows : List TableRow) → get (codes "fault") (algorithms_json rows) ≡ None }
+    ensures header { (said : Option SpecificationData) (rows : List TableRow) → get (codes "fault") (header_json said rows) ≡ None }
     ensures registers { (now start : Banks) → get (codes "fault") (registers_json now start) ≡ None }
     ensures expected { (range : RegisterRange) (expected : List Expected) → get (codes "fault") (expected_json range expected) ≡ None }
     ensures report { (required : Option (List BankRange)) (unknown : Option Unknown) (is_match : Bool) (verdict : Verdict)

@@ -41,7 +41,7 @@ pub use entries::append_entry;
 pub use entry_lines::{EntriesFault, send_entries};
 pub use event_form::EventForm;
 pub use event_lines::{EventsFault, send_events};
-pub use events::{append_algorithms, append_event};
+pub use events::{append_event, append_header};
 pub use explained::append_content;
 pub use faults::{FaultPlace, FaultText, append_fault};
 pub use keys::append_key;

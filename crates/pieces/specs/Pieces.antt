@@ -16,9 +16,10 @@ use Rattle.json_texts.specs.EntryJson.{entry_json}
 use Rattle.json_texts.specs.JsonValues as json
 use Rattle.json_texts.specs.ItemLines as shown
 use Rattle.boot_log.specs.declared.header.Row.{Row}
+use Rattle.boot_log.specs.Reading.{specification_in}
 use Rattle.boot_log.specs.Spelling as logs
 use Rattle.boot_log.specs.Spelling.{LogEvent}
-use Rattle.json_texts.specs.EventJson.{algorithms_json, event_json}
+use Rattle.json_texts.specs.EventJson.{header_json, event_json}
 use Rattle.json_texts.specs.declared.event_form.EventForm.TheVariants as events
 use Rattle.json_texts.specs.SentEvents as sent
 
@@ -149,33 +150,33 @@ IsEntryPiece form list room before piece = IsPiece (entries_of form list) room b
 -- ---- the algorithms and the events of a log
 
 -- The lines of a log, as JSON; no registers are compared.
-abbrev pub log_lines : List Row → List LogEvent → List ℕ
-log_lines table read = sent.log_lines events.Json None table read
+abbrev pub log_lines : List ℕ → List Row → List LogEvent → List ℕ
+log_lines log table read = sent.log_lines events.Json None log table read
 
 -- The log begins with a header and events whose lines are this text, up to the position; or nothing comes before it.
 abbrev pub AreEventsBefore : List ℕ → Position → List ℕ → Type 0
 AreEventsBefore log position text =
     ((position ≡ start) × (text ≡ []))
-    ⊎ ((0 < position.offset) × ((table : List Row) × AreItemsBefore (logs.BeginsWith log table) (log_lines table) log position text))
+    ⊎ ((0 < position.offset) × ((table : List Row) × AreItemsBefore (logs.BeginsWith log table) (log_lines log table) log position text))
 
--- The line is the first, that of the algorithms which the header declares; or the log begins with a header and events whose lines are this text,
+-- The line is the first, that of what the header declares; or the log begins with a header and events whose lines are this text,
 -- and after them comes another, which has this line.
 abbrev pub HasEventLine : List ℕ → List ℕ → List ℕ → Type 0
 HasEventLine log text line =
-    ((text ≡ []) × ((table : List Row) × (rest : List ℕ) × logs.BeginsWith log table [] rest × (line ≡ json.line_of (algorithms_json table))))
+    ((text ≡ []) × ((table : List Row) × (rest : List ℕ) × logs.BeginsWith log table [] rest × (line ≡ json.line_of (header_json (specification_in log) table))))
     ⊎ ((table : List Row)
-    × HasItemLine (logs.BeginsWith log table) (log_lines table) (λ number event. json.line_of (event_json None (number + 1) event)) text line)
+    × HasItemLine (logs.BeginsWith log table) (log_lines log table) (λ number event. json.line_of (event_json None (number + 1) event)) text line)
 
 -- The bytes are no log: the text is the lines of the header and of the events after it, and after these they have this fault.
 abbrev pub FailsAfterEvents : List ℕ → List ℕ → RunFault → Type 0
-FailsAfterEvents log text fault = shown.FailsAfterEvents log_lines fault_of_log log text fault
+FailsAfterEvents log text fault = shown.FailsAfterEvents (log_lines log) fault_of_log log text fault
 
 -- The lines of a log one after another.
 abbrev pub events_of : List ℕ → Series
 events_of log = record {
   AreBefore = AreEventsBefore log;
   HasLine = HasEventLine log;
-  AreAll = shown.AreAllEvents log_lines log;
+  AreAll = shown.AreAllEvents (log_lines log) log;
   FailsAfter = FailsAfterEvents log;
 }
 

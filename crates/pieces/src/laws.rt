@@ -44,7 +44,7 @@ pub fn entries_to_the_end_are_what_is_shown()
 pub fn events_to_the_end_are_what_is_shown()
     ensures all { (log : List ℕ) (pieces : List APiece) (position : APosition) (piece : APiece)
         → AreInTurn (events_of log) start pieces position → IsGiven (events_of log) position piece → piece.end ≡ Last
-        → AreAllEvents log_lines log (flat_map (λ piece. piece.text.items) pieces ++ piece.text.items) }
+        → AreAllEvents (log_lines log) log (flat_map (λ piece. piece.text.items) pieces ++ piece.text.items) }
     ensures fault { (log : List ℕ) (pieces : List APiece) (end : APosition) (fault : AFault) (line : List ℕ) (status : ℕ)
         → AreInTurn (events_of log) start pieces end
         → ((before : List ℕ) → AreEventsBefore log end before → FailsAfterEvents log before fault)

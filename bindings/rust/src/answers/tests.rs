@@ -34,7 +34,11 @@ const NOT_LOCATED: &str = concat!(
 );
 const LIST_REPORT: &str =
     concat!(r#"{"entries":3,"registers":[{"bank":"sha256","register":10,"state":"match"}],"verdict":"match"}"#, "\n");
-const ALGORITHMS: &str = concat!(r#"{"algorithms":[{"id":18,"size":1},{"name":"sha1","id":4,"size":20}]}"#, "\n");
+const ALGORITHMS: &str = concat!(
+    r#"{"algorithms":[{"id":18,"size":1},{"name":"sha1","id":4,"size":20}],"#,
+    r#""specification":{"platform_class":0,"major":2,"minor":0,"errata":0,"uintn_size":2,"vendor":""}}"#,
+    "\n"
+);
 const LIST_FAULT: &str =
     concat!(r#"{"fault":{"kind":"list","number":1,"entry":2,"message":"refused: list fault 1 at entry 2"}}"#, "\n");
 const LOG_FAULT: &str =

@@ -6,7 +6,7 @@ use Rattle.json_texts.specs.JsonValues.{IsCount}
 use Rattle.json_texts.specs.ReportJson.{IsCountedPosition, list_meets, meets, position_members, changed_register, value_within, stray_members, unconfirmed_members}
 use Rattle.json_texts.proofs.AttestLaws.{attest_line}
 use Rattle.json_texts.proofs.EntryLaws.{entry_line}
-use Rattle.json_texts.proofs.EventLaws.{content_one_line, event_one_line}
+use Rattle.json_texts.proofs.EventLaws.{content_one_line, event_one_line, said_plain}
 use Rattle.json_texts.proofs.KeyLaws.{key_line}
 use Rattle.json_texts.proofs.LineLaws.{members_joined, one_line}
 use Rattle.json_texts.proofs.ValueLaws.{algorithm_plain, change_plain, each_plain, mapped_plain, of_each_register, position_plain, report_plain, rows_plain, strays_plain, told_plain, unconfirmed_plain, verdict_plain, within_plain}
@@ -17,7 +17,8 @@ returns c = record {
   entry = entry_line;
   event = event_one_line;
   content = content_one_line;
-  algorithms = λ rows are. one_line _ (mapped_plain IsRow algorithm_json algorithm_plain rows are, tt);
+  header = λ said rows fit are.
+      one_line _ (mapped_plain IsRow algorithm_json algorithm_plain rows are, said_plain said fit);
   registers = λ now start.
       one_line _ (of_each_register (changed_register now start) (λ alg r. change_plain alg r (value_at start alg r) (value_at now alg r)), tt);
   expected = λ range expected fit.

@@ -1,5 +1,5 @@
 use Rattle.json_texts.proofs.AttestLaws.{attest_lacks}
-use Rattle.json_texts.proofs.EventLaws.{event_lacks}
+use Rattle.json_texts.proofs.EventLaws.{event_lacks, header_lacks}
 use Rattle.json_texts.proofs.FaultMemberLaws.{entry_lacks}
 use Rattle.json_texts.proofs.KeyLaws.{key_lacks}
 use Rattle.json_texts.proofs.laws.only_faults_have_a_fault.Goals as goal
@@ -12,6 +12,9 @@ returns-clause-attestation c = attest_lacks
 
 pub returns-clause-key : goal.returns-clause-key
 returns-clause-key c = key_lacks
+
+pub returns-clause-header : goal.returns-clause-header
+returns-clause-header c = header_lacks
 
 pub returns-clause-event : goal.returns-clause-event
 returns-clause-event c = event_lacks
