@@ -11,8 +11,8 @@ import sys
 from pathlib import Path
 
 ROOT = Path(__file__).resolve().parent.parent
-DOCS, SAMPLES = "share/doc/ima-agent", "share/ima-agent/samples"
-PAGES = ("guide.md", "investigate.md", "formats.md", "trust.md", "trust.svg")
+DOCS, FLEET_DOCS, SAMPLES = "share/doc/ima-agent", "share/doc/fleet-verify", "share/ima-agent/samples"
+PAGES = ("attest.md", "investigate.md", "library.md", "cli.md", "errors.txt", "json.md", "verdict.md", "formats.md", "event-data.md", "trust.md", "trust.svg")
 FLEET_PAGE, FLEET = "fleet.md", "share/ima-agent/python/fleet_verify-*.whl"
 
 LINK = re.compile(r"(!?)\[((?:[^][]|\[[^][]*\])*)\]\(([^()\s]+)\)")
@@ -28,19 +28,12 @@ RULES = (
     (re.compile(r"(?:(?<=\$PWD/)|(?<![\w/]))samples/"), f"{SAMPLES}/"),
     (re.compile(r"(?<![\w/])bindings/c/ima_verify\.h"), "include/ima_verify.h"),
     # of the page of the fleet
-    (re.compile(r"`fleet/verify\.py`, installed as `fleet-verify`,"), "`fleet-verify`"),
-    (re.compile(r"(?:/usr/bin/python3 )?(?<![\w/])fleet/verify\.py"), "fleet-verify"),
-    (re.compile(r" \(`bindings/python`\)"), ""),
-    (re.compile(r", which `dist/library FOLDER` makes"), ""),
-    (re.compile(r"the folder `fleet/`, or its wheel"), "the package `fleet_verify`"),
-    (re.compile(r"^(?:dist/library|export IMA_VERIFY_LIBRARY=/tmp/|export PYTHONPATH=\S*bindings).*\n", re.MULTILINE), ""),
-    (re.compile(r"(?<![\w/])fleet/systemd/"), "share/ima-agent/systemd/"),
-    (re.compile(r"`tests/fleet/test \[LIBRARY_DIR\]` tests all this\.\n\n"), ""),
-    (re.compile(r"`fleet/bench/measure\.py LIBRARY_DIR` prints(?:.|\n)*? client and scheduler\.\n\n"), ""),
+    (re.compile(r"\nIn this repository the command is `fleet/verify\.py`\."), ""),
+    (re.compile(r"`fleet/bench/measure\.py LIBRARY_DIR` prints(?:.|\n)*?(?:\n\n|\n\Z)"), ""),
 )
 
 # What only the repository has: its scripts, and its folders.
-SCRIPTS = re.compile(r"(?<![\w/])\./(?:ima-agent|try|check)\b")
+SCRIPTS = re.compile(r"(?<![\w/.])\./(?:ima-agent|try|check)\b")
 
 
 def anchors(text):
@@ -98,7 +91,7 @@ def put_pages(release):
 
 
 def check_pages(folder):
-    pages = sorted([*folder.glob("README.md"), *(folder / DOCS).glob("*.md")])
+    pages = sorted([*folder.glob("README.md"), *(folder / DOCS).glob("*.md"), *(folder / FLEET_DOCS).glob("*.md")])
     texts = {page.resolve(): page.read_text() for page in pages}
     lacking = sorted(path.name for path in ROOT.iterdir() if path.is_dir() and not (folder / path.name).exists() and path.name[0] != ".")
     folders = re.compile(rf"(?<![\w./-])(?:{'|'.join(lacking)})/")

@@ -1,5 +1,5 @@
 #!/usr/bin/env python3
-"""Makes docs/trust.svg, the picture of how a machine is attested: from its registers, log and list to a verdict.
+"""Makes docs/trust.svg, the picture of how a machine is attested: from its PCRs, log and list to a verdict.
 
 tools/picture.py > docs/trust.svg. The same script always makes the same bytes; tests/pages/quotes.py compares them with the file."""
 
@@ -29,14 +29,14 @@ class Box(NamedTuple):
 
 
 BOXES = (
-    Box(50, 70, 330, 150, "trusted", "TPM", ("extends registers: new = hash(old, digest)", "signs them and the nonce: a quote")),
+    Box(50, 70, 330, 150, "trusted", "TPM", ("extends PCRs: new = hash(old, digest)", "signs them and the nonce: a quote")),
     Box(50, 260, 330, 80, "trusted", "Firmware", ("measures what it starts, before it starts it,", "and logs each event")),
     Box(50, 370, 330, 80, "trusted", "Linux with IMA", ("measures the files that its policy names,", "and lists each entry")),
     Box(540, 70, 320, 60, "trusted", "Key and nonce", ("kept here; a new nonce for each answer",)),
     Box(540, 170, 320, 70, "tested", "ima-attest", ("openssl verifies that the key", "signed the quote")),
     Box(540, 290, 320, 160, "proved", "ima-agent attest", (
-        "a TPM made the quote, for the nonce;", "log and list are read exactly, or refused;", "they are apart, and each entry is genuine;",
-        "replayed, they give the quoted registers,", "each required one among them;", "the boot aggregate is good",
+        "a TPM made the quote, for the nonce;", "log and list are read exactly, or refused;", "neither extends the other's PCRs;",
+        "template digests are valid;", "replayed, they give the quoted PCRs,", "each required one among them;", "the boot aggregate is good",
     )),
     Box(540, 510, 150, 60, "result", "verdict match", ("status 0",)),
     Box(710, 510, 150, 60, "result", "no match", ("any other status",)),
@@ -52,8 +52,8 @@ ARROWS = (
     (((50, 410), (32, 410), (32, 180), (50, 180)), "extends", (78, 358)),
     (((640, 130), (640, 170)), "", (0, 0)),
     (((640, 240), (640, 290)), "signed quote", (694, 270)),
-    (((615, 450), (615, 510)), "all of it", (650, 485)),
-    (((760, 450), (760, 510)), "else", (784, 485)),
+    (((615, 450), (615, 510)), "all hold", (650, 485)),
+    (((760, 450), (760, 510)), "otherwise", (802, 485)),
     (((860, 205), (878, 205), (878, 540), (860, 540)), "", (0, 0)),
 )
 

@@ -14,8 +14,9 @@
  *     if (ima_verify_verdict(&evidence, IMA_VERIFY_TEXT, &output) == IMA_VERIFY_DONE) ..
  *
  * What a function gives is the text that the program `ima-agent` prints for the command of the same name, or with
- * IMA_VERIFY_JSON the lines that it prints with --json, except that inputs may also be longer than 64 MiB. The page
- * formats.md has the formats, and what each fault number means; ima-agent(1) has the faults, too.
+ * IMA_VERIFY_JSON the lines that it prints with --json, except that inputs may also be longer than 64 MiB. The pages
+ * formats.md, event-data.md and json.md have the formats, verdict.md what a verdict means, errors.txt what each fault
+ * number means; ima-agent(1) has the faults, too.
  *
  * A verdict speaks of the registers that are expected, and of no others: so say in `require` which registers it
  * must cover. With it a verdict is `match` only if no event of the log extends register 10 and each entry of the
@@ -126,7 +127,7 @@ enum ima_verify_fault_kind {
 struct ima_verify_fault {
     /* One of ima_verify_fault_kind. */
     uint32_t kind;
-    /* Its number among the faults of its kind, as in formats.md; 0 where they have none. */
+    /* Its number among the faults of its kind, as in errors.txt; 0 where they have none. */
     uint32_t number;
     /* Where it is, or IMA_VERIFY_NO_PLACE. */
     uint64_t place;

@@ -16,7 +16,7 @@ const (
 )
 
 // answer is what the library gives to a call: a result, a text, what it reports of an error, and a next checkpoint. The
-// methods read the text, and give an *UnexpectedError unless it is as docs/formats.md says.
+// methods read the text, and give an *UnexpectedError unless it is as docs/json.md says.
 type answer struct {
 	result     int32
 	told       told

@@ -12,7 +12,7 @@ import (
 // The size that a call reports if it reports none.
 const unset = math.MaxUint64
 
-// Lines of the forms that docs/formats.md shows.
+// Lines of the forms that docs/json.md shows.
 const (
 	report = `{"events":1,"locality":0,"entries":3,"boot_aggregate":"good",` +
 		`"registers":[{"bank":"sha256","register":10,"state":"match"}],"verdict":"match"}` + "\n"

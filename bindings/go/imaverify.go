@@ -310,7 +310,7 @@ const (
 
 // RefusedError is the error of an input that is refused. Kind, Number and Place are as the library reports them; Place is the
 // number of the event, the entry or the line, if HasPlace. Line is what `ima-agent` prints, such as "refused: replay fault 1 at
-// entry 5". docs/formats.md says what each number means.
+// entry 5". docs/errors.txt says what each number means.
 type RefusedError struct {
 	Line     string
 	Kind     Kind
@@ -374,7 +374,7 @@ type File struct {
 //
 // Measured has the part of the data whose hash is the digest, for each bank of which there is one; what is not measured is only what
 // the log claims, and so is the type. Content is what the data says, by the type: an object of JSON with one member, named by the form
-// ("text", "variable", "image", ..; docs/formats.md has them), which is "unknown" if the data has no form that the library knows.
+// ("text", "variable", "image", ..; docs/event-data.md has them), which is "unknown" if the data has no form that the library knows.
 type Event struct {
 	Number     uint64
 	Register   uint32

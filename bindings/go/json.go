@@ -30,7 +30,7 @@ var pemOfKey = regexp.MustCompile(`^-----BEGIN PUBLIC KEY-----\n([A-Za-z0-9+/=]{
 
 type object map[string]json.RawMessage
 
-// reader reads objects of JSON. It is wrong from the first thing on that is not as docs/formats.md says.
+// reader reads objects of JSON. It is wrong from the first thing on that is not as docs/json.md says.
 type reader struct {
 	wrong bool
 }

@@ -29,7 +29,7 @@ var (
 		"ek-rsa":  {Type: KeyTypeRSA, Bits: 2048, Scheme: SchemeNone},
 		"ek-p256": {Type: KeyTypeECC, Bits: 256, Scheme: SchemeNone},
 	}
-	// The errors of the samples' other uses, by the table of docs/formats.md.
+	// The errors of the samples' other uses, by the table of docs/errors.txt.
 	refusedAttestation = map[string]uint64{"ak-sha1": 20, "ek-rsa": 17, "ek-p256": 17, "storage": 17, "unrestricted": 15}
 	refusedEndorsement = map[string]uint64{"ak-rsassa": 21, "ak-p384": 21, "ak-sha1": 21, "unrestricted": 15}
 )

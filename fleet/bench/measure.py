@@ -6,8 +6,8 @@ fleet/bench/measure.py LIBRARY_DIR [SMALL] [LARGE] [ROUNDS]
 LIBRARY_DIR has libima_verify.so. There are SMALL machines (by default 6000) that are copies of samples/real-boot, with a list of
 99 entries, and LARGE machines (400) with a made list of 20,000 entries, links to one copy. A plain loop is a process that reads and
 verifies one machine after another by `ima_verify`, and records nothing. As what else the computer does changes, each round (there are 3) of
-a number of workers runs one loop, the fleet, and as many loops at once as there are workers; a row has the round's medians. `start, stop`
-is what the whole command takes but for the time in which it gives verdicts. Every machine must match."""
+a number of workers runs one loop, the fleet, the fleet by quotes (RSA of 2048 bits), and as many loops at once as there are workers; a row has
+the round's medians. `start, stop` is what the whole command takes but for the time in which it gives verdicts. Every machine must match."""
 
 import os
 import re
@@ -21,7 +21,8 @@ from pathlib import Path
 sys.dont_write_bytecode = True  # (beside the programs nothing is written)
 sys.path[:0] = [str(Path(__file__).resolve().parents[2] / "tests/fleet")]
 
-from cluster import REQUIRE, ROOT, Processes, environment_of, python_with_dask  # noqa: E402
+from cluster import REQUIRE, ROOT, UNQUOTED, Processes, environment_of, python_with_dask  # noqa: E402
+from quoted import give_quotes  # noqa: E402
 
 sys.path.append(str(ROOT / "tools/bench"))
 import inputs  # noqa: E402
@@ -32,7 +33,10 @@ FILES = ("firmware.log", "ima.list", "expected.txt")
 WORKERS = (1, 2, 3, 4)
 ENTRIES = 20_000
 SECONDS = 600
-HEAD = ("Machines", "Workers", "One loop", "Fleet", "So many loops", "Fleet / (workers × loop)", "Fleet / loops", "Start, stop", "Load")
+HEAD = (
+    "Machines", "Workers", "One loop", "Fleet", "By quotes", "So many loops", "Fleet / (workers × loop)", "Fleet / loops", "By quotes / fleet",
+    "Start, stop", "Load",
+)
 
 # Reads and verifies the machines of a table in this process alone, and prints the seconds that it took.
 LOOP = """
@@ -75,11 +79,27 @@ def make_table(folder, count, contents, is_linked):
     return table
 
 
-def rate_of_fleet(processes, table, workers):
-    """The verdicts a second of this number of workers, and what starting and stopping took."""
+def with_folders(table):
+    """A table of the same machines by their folders."""
+    folders = table.with_suffix(".folders.tsv")
+    lines = [line.split("\t")[:2] for line in table.read_text().splitlines()]
+    folders.write_text("".join(f"{name}\t{Path(log).parent}\n" for name, log in lines))
+    return folders
+
+
+def rate_by_quotes(processes, folders, workers):
+    """The verdicts a second of this number of workers by new quotes of the machines, which have their folders in this table."""
     verdicts = processes.folder / f"{time.monotonic_ns()}.db"
+    first = folders.read_text().split("\n")[0].split("\t")[1]
+    keys = give_quotes(processes, folders, verdicts, Path(first) / "expected.txt")
+    return rate_of_fleet(processes, folders, workers, verdicts, ("--keys", str(keys)))[0]
+
+
+def rate_of_fleet(processes, table, workers, verdicts=None, by=UNQUOTED):
+    """The verdicts a second of this number of workers, and what starting and stopping took."""
+    verdicts = verdicts or processes.folder / f"{time.monotonic_ns()}.db"
     start = time.perf_counter()
-    status, output, errors = processes.verify("--workers", workers, table, verdicts, seconds=SECONDS)
+    status, output, errors = processes.verify("--workers", workers, table, verdicts, by=by, seconds=SECONDS)
     seconds = time.perf_counter() - start
     if status != 0:
         raise SystemExit(f"status {status}: {output}{errors}")
@@ -97,17 +117,20 @@ def rate_of_loops(processes, table, count, loops):
 def measure(processes, name, count, contents, is_linked, rounds):
     """Prints the rows of these machines."""
     table = make_table(processes.folder / name, count, contents, is_linked)
+    folders = with_folders(table)
     for workers in WORKERS:
         found = []
         for _ in range(rounds):
             before = rate_of_loops(processes, table, count, 1)
             fleet, rest = rate_of_fleet(processes, table, workers)
             loop = (before + rate_of_loops(processes, table, count, 1)) / 2
+            quoted = rate_by_quotes(processes, folders, workers)
             loops = rate_of_loops(processes, table, count, workers)
-            found.append((loop, fleet, loops, fleet / workers / loop, fleet / loops, rest, os.getloadavg()[0]))
-        loop, fleet, loops, by_loop, by_loops, rest, load = map(statistics.median, zip(*found))
-        print(f"| {count:,} of {name} | {workers} | {loop:,.0f} | {fleet:,.0f} | {loops:,.0f} | {by_loop:.2f} | {by_loops:.2f} | {rest:.1f} s | "
-              f"{load:.1f} |", flush=True)
+            ratios = fleet / workers / loop, fleet / loops, quoted / fleet
+            found.append((loop, fleet, quoted, loops, *ratios, rest, os.getloadavg()[0]))
+        loop, fleet, quoted, loops, *ratios, rest, load = map(statistics.median, zip(*found))
+        rates = " | ".join([*(f"{rate:,.0f}" for rate in (loop, fleet, quoted, loops)), *(f"{ratio:.2f}" for ratio in ratios)])
+        print(f"| {count:,} of {name} | {workers} | {rates} | {rest:.1f} s | {load:.1f} |", flush=True)
 
 
 def main():

@@ -2,15 +2,22 @@
 
 import json
 import re
-from typing import List, NamedTuple, Sequence
+from typing import List, NamedTuple, Optional, Sequence
 
 from .machines import Machine
+from .reading import Fields
+from .verdict import REPORTED, TROUBLED, UNFIT, Asked
 from .verdicts import VERDICTS
-from .work import REPORTED, TROUBLED, UNFIT, Fields
+from .work import SLOW
 
 
-# How a report of `verify --known` ends.
-_LOOKED_UP = re.compile(r',"known_from":\d+,"unknown":\[((?:\d+(?:,\d+)*)?)\],"verdict":"(?:match|differ)"}$')
+# How a report ends: by known files, by a quote, by both or by neither; and with what such an end begins, of which the first is there that can be.
+_BEGINNINGS = (',"known_from":', ',"quote":', ',"verdict":')
+_END = re.compile(
+    r'(?:,"known_from":\d+,"unknown":\[(?P<unknown>(?:\d+(?:,\d+)*)?)\])?'
+    r'(?:,"quote":"(?P<quote>match|differ)","signature":"checked")?'
+    r',"verdict":"(?P<verdict>match|differ)"\}$'
+)
 
 
 class Answered(NamedTuple):
@@ -25,9 +32,9 @@ class BadAnswers(Exception):
     """What came is no answers on this batch; the text says why."""
 
 
-def read_answers(text: str, machines: Sequence[Machine], by_known: bool = False) -> Answered:
-    """What `verify_batch` answered on these machines, by known files, or by none, where an answer that is not to be taken is TROUBLED, and says
-    why. The numbers of unknown entries are those of the report."""
+def read_answers(text: str, machines: Sequence[Machine], asked: Asked) -> Answered:
+    """What `verify_batch` answered on these machines, where an answer that is not to be taken is TROUBLED, and says why. The numbers of unknown
+    entries are those of the report."""
     first, *reports = text.split("\n")
     told = json.loads(first)
     answers: List[Fields] = told["answers"]
@@ -40,27 +47,41 @@ def read_answers(text: str, machines: Sequence[Machine], by_known: bool = False)
         answer["report"] = report
     for answer, machine in zip(answers, machines):
         answer["worker"] = told["worker"]
-        fault = _fault_of(answer, machine, by_known)
+        fault = _fault_of(answer, machine, asked)
         if fault:
             answer.update(verdict=TROUBLED, cause=fault)
     return Answered(told["worker"], answers, told["seconds"])
 
 
-def _fault_of(answer: Fields, machine: Machine, by_known: bool) -> str:
+def _fault_of(answer: Fields, machine: Machine, asked: Asked) -> str:
     """Why an answer is not to be taken, or an empty text, and then the answer has how many entries are unknown, and the first."""
     verdict = answer["verdict"]
     if answer.pop("places") != list(machine.places):
         return "the worker's answer is on other files"
-    if verdict not in (*VERDICTS, UNFIT, TROUBLED):
-        return f"the worker's answer is no verdict: {verdict!r}"
-    # (a report ends with its verdict)
-    if verdict in REPORTED and not answer["report"].endswith(f',"verdict":"{verdict}"}}'):
+    if verdict in REPORTED:
+        return _fault_of_report(answer, asked)
+    return "" if verdict in (*VERDICTS, UNFIT, TROUBLED, SLOW) else f"the worker's answer is no verdict: {verdict!r}"
+
+
+def _end_of(report: str) -> "Optional[re.Match[str]]":
+    """The end of a report, if it is one. (To search for it by the pattern alone takes longer than all else that is done with an answer.)"""
+    start = next((start for start in map(report.rfind, _BEGINNINGS) if start >= 0), 0)
+    return _END.match(report, start)
+
+
+def _fault_of_report(answer: Fields, asked: Asked) -> str:
+    """Why a verdict with a report is not to be taken, or an empty text."""
+    verdict, end = answer["verdict"], _end_of(answer["report"])
+    if end is None or end["verdict"] != verdict:
         return "the worker's verdict is not that of its report"
-    looked_up = _LOOKED_UP.search(answer["report"]) if verdict in REPORTED else None
-    if verdict in REPORTED and (looked_up is not None) != by_known:
-        return "the worker's report is by known files" if looked_up else "the worker's report is not by the known files"
-    if looked_up is not None:
-        unknown = [int(number) for number in looked_up[1].split(",") if number]
+    if {end["quote"] is not None, "nonce" in answer} != {asked.is_quoted}:
+        return "the worker's report is not by a quote" if asked.is_quoted else "the worker's report is by a quote"
+    if verdict == "match" and end["quote"] == "differ":
+        return "the worker's verdict is a match by a quote that differs"
+    if (end["unknown"] is not None) != (asked.known is not None):
+        return "the worker's report is not by the known files" if asked.known is not None else "the worker's report is by known files"
+    if end["unknown"] is not None:
+        unknown = [int(number) for number in end["unknown"].split(",") if number]
         if verdict == "match" and unknown:
             return "the worker's verdict is a match with unknown entries"
         answer.update(unknown=len(unknown), first_unknown=next(iter(unknown), None))

@@ -14,6 +14,10 @@ class CannotGoOn(Exception):
     """The run cannot go on; the text says why."""
 
 
+class CannotVerify(CannotGoOn):
+    """A worker lacks something that the same command does not bring; the text says what."""
+
+
 class NotStarted(Exception):
     """What is required, or one of the tables, is refused; the text says why."""
 
@@ -22,6 +26,12 @@ def complain(text: str, status: int) -> int:
     shown = "".join(letter if letter.isprintable() else "?" for letter in text)
     print(f"fleet-verify: {shown}", file=sys.stderr, flush=True)
     return status
+
+
+def stop(cause: str, fault: BaseException) -> int:
+    """The status of a run that stopped for this cause, which it complains of."""
+    goes_on = not isinstance(fault, (CannotVerify, ImportError))
+    return complain(STOPPED.format(cause) if goes_on else f"stopped: {cause}", 3)
 
 
 def stop_at_once(*_: Any) -> None:

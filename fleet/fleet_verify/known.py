@@ -4,7 +4,7 @@ import hashlib
 import math
 from typing import NamedTuple, Sequence, Tuple
 
-from .work import MOST_BYTES, read_file
+from .reading import MOST_BYTES, read_file
 
 
 class BadKnown(Exception):

@@ -1,7 +1,8 @@
 """Reads the table of machines: a text in UTF-8, with one machine on each line.
 
-A line has two or four fields, with one tab between. The first is the machine's name; then comes the folder that has its
-`firmware.log`, `ima.list` and `expected.txt`, or the paths of its log, its list and its expected registers.
+A line has two or more fields, with one tab between. The first is the machine's name; then comes the folder that has its
+`firmware.log`, `ima.list`, `quote.msg` and `quote.sig`, or the paths of these four. Without quotes `expected.txt` takes the place of the
+last two.
 
 A name has 1 to 255 printable characters, and no space at its front or end. No two lines have the same name. A folder or a path is
 absolute on the workers' computers, or a URL as `s3://bucket/key`, and has no control characters. A line feed ends each line; the
@@ -11,12 +12,12 @@ import re
 from pathlib import Path
 from typing import Dict, List, NamedTuple, Tuple
 
-from .work import FILES, paths_of
+from .reading import FILES, QUOTED_FILES, paths_of
 
 MOST_CHARACTERS = 255
 
 # (fsspec chains its file systems with `::`)
-_PLACE = re.compile(r"(?:/|[a-z][a-z0-9+.-]*(?:::[a-z][a-z0-9+.-]*)*://(?!$))[^\x00-\x1f\x7f]*", re.IGNORECASE)
+_PLACE = re.compile(r"(?:/|[a-z][a-z0-9+.-]*(?:::[a-z][a-z0-9+.-]*)*://(?!$))[^\x00-\x1f\x7f-\x9f]*", re.IGNORECASE)
 
 
 class BadTable(Exception):
@@ -24,25 +25,26 @@ class BadTable(Exception):
 
 
 class Machine(NamedTuple):
-    """A machine's name, and its folder or its three paths."""
+    """A machine's name, its folder or its paths, and whether it has a quote and not expected registers."""
 
     name: str
     places: Tuple[str, ...]
+    is_quoted: bool = False
 
     @property
     def paths(self) -> Tuple[str, ...]:
-        """The paths of its log, its list and its expected registers."""
-        return tuple(paths_of(self.places))
+        """The paths of its log, its list, and its expected registers or the message and the signature of its quote."""
+        return tuple(paths_of(self.places, self.is_quoted))
 
 
-def read_machines(path: str) -> List[Machine]:
-    """The machines that the table names, in its order."""
+def read_machines(path: str, is_quoted: bool = False) -> List[Machine]:
+    """The machines that the table names, in its order, all with quotes or none."""
     machines: List[Machine] = []
     numbers: Dict[str, int] = {}
     with open(Path(path), "rb") as file:
         for number, line in enumerate(file, 1):
             try:
-                machine = _machine_of(line.decode().removesuffix("\n"))
+                machine = _machine_of(line.decode().removesuffix("\n"), is_quoted)
             except ValueError as fault:
                 raise BadTable(f"line {number}: {fault}") from None
             first = numbers.setdefault(machine.name, number)
@@ -54,13 +56,14 @@ def read_machines(path: str) -> List[Machine]:
     return machines
 
 
-def _machine_of(line: str) -> Machine:
+def _machine_of(line: str, is_quoted: bool) -> Machine:
     name, *places = line.split("\t")
+    paths = len(QUOTED_FILES if is_quoted else FILES)
     if not (1 <= len(name) <= MOST_CHARACTERS and name.isprintable() and name.strip() == name):
         raise ValueError(f"{name[:MOST_CHARACTERS]!r} is no name of a machine")
-    if len(places) not in (1, len(FILES)):
-        raise ValueError(f"{1 + len(places)} fields, and not 2 or 4, with a tab between")
+    if len(places) not in (1, paths):
+        raise ValueError(f"{1 + len(places)} fields, and not 2 or {1 + paths}, with a tab between")
     for place in places:
         if not _PLACE.fullmatch(place):
             raise ValueError(f"{place!r} is neither an absolute path nor a URL")
-    return Machine(name, tuple(places))
+    return Machine(name, tuple(places), is_quoted)

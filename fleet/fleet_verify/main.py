@@ -1,24 +1,55 @@
 """`fleet-verify`: its arguments, and its exit status whatever comes."""
 
 import sys
-from typing import Optional, Sequence
+from importlib import import_module
+from typing import TYPE_CHECKING, Optional, Sequence
 
-from .ending import STOPPED, CannotGoOn, NotStarted, complain, stop_simply
+from .ending import CannotGoOn, NotStarted, complain, stop, stop_simply
+
+if TYPE_CHECKING:
+    from .options import Options
+    from .summary import Summary
+
+# What is no run, by its first word: a module with a `main` of its own.
+COMMANDS = ("nonces", "page")
 
 
 def main(words: Optional[Sequence[str]] = None) -> int:
     """The exit status of a call with these words, or with those of the command line."""
     stop_simply()
+    words = sys.argv[1:] if words is None else words
+    if words and words[0] in COMMANDS:
+        status: int = import_module(f".{words[0]}", __package__).main(words[1:])
+        return status
     from .options import options_of
-    from .verifying import verify_fleet
-    from .work import cause_of
+    from .summary import Summary
 
-    options = options_of(sys.argv[1:] if words is None else words)
+    options, summary = options_of(words), Summary()
+    summary.end(run_status(options, summary))
+    return summary.status if options.metrics is None else noted(options.metrics, summary, options.table)
+
+
+def run_status(options: "Options", summary: "Summary") -> int:
+    """The exit status of a run, of which the summary has what it came to."""
+    from .reading import cause_of
+    from .verifying import verify_fleet
+
     try:
-        return verify_fleet(options)
+        return verify_fleet(options, summary)
     except NotStarted as fault:
         return complain(f"refused: {fault}", 2)
     except CannotGoOn as fault:
-        return complain(STOPPED.format(fault), 3)
+        return stop(str(fault), fault)
     except Exception as fault:  # of Dask, of the network, of SQLite, or none that was foreseen
-        return complain(STOPPED.format(cause_of(fault)), 3)
+        return stop(cause_of(fault), fault)
+
+
+def noted(path: str, summary: "Summary", table: str) -> int:
+    """The exit status of a run in this table, whose metrics are written to this file: no success if they are not."""
+    from .metrics import write_metrics
+
+    try:
+        write_metrics(path, summary, table)
+    except OSError as fault:
+        return complain(f"the metrics are not written: {fault}", summary.status or 3)
+    return summary.status

@@ -1,117 +1,160 @@
 """The table of verdicts: a file of SQLite, with one row for each machine that has a verdict. Polls also keep there each machine's
 checkpoint, and each change of a verdict."""
 
+import re
 import sqlite3
 from itertools import chain
-from typing import Any, Collection, Dict, List, Optional, Sequence, Tuple
+from typing import Any, Collection, Dict, List, NamedTuple, Optional, Sequence, Tuple
 
+from . import quotes
 from .machines import Machine
-from .work import Fields
+from .reading import PARTS, QUOTED_PARTS, Fields, now
+from .schema import APPLICATION, FORM, FOUND, GIVEN, NO_CLOCK, TABLES, VERDICTS
+from .verdict import Given
 
-VERDICTS = ("match", "differ", "refused", "unreadable", "failed")
+__all__ = ["APPLICATION", "FORM", "VERDICTS", "BadVerdicts", "Quoting", "Verdicts", "open_table"]
 
-# Marks a file as a table of verdicts, and says which form its tables have.
-_APPLICATION = 0x494D4156
-_FORM = 7
 _SECONDS = 60
+_PLACES = ("log", "list", "expected", "quote", "signature")
 
-_TABLES = f"""
-BEGIN IMMEDIATE;
-CREATE TABLE verdicts (
-    machine TEXT NOT NULL PRIMARY KEY,
-    verdict TEXT NOT NULL CHECK (verdict IN {VERDICTS}),
-    cause TEXT, -- the line of a refusal, or why there is no verdict
-    required TEXT NOT NULL, -- as `--require` named it
-    known_sha256 TEXT, -- of the texts of `--known`, one after another; NULL without
-    events INTEGER, locality INTEGER, entries INTEGER, boot_aggregate TEXT,
-    unknown INTEGER, first_unknown INTEGER, -- how many entries are of no known file, and the number of the first
-    log TEXT NOT NULL, list TEXT NOT NULL, expected TEXT NOT NULL, -- the paths
-    log_sha256 TEXT, list_sha256 TEXT, expected_sha256 TEXT, -- of the bytes that were read
-    list_from INTEGER, -- from which byte on the list was read: that of the checkpoint, or 0
-    interface_version INTEGER, worker TEXT, time TEXT NOT NULL,
-    poll INTEGER REFERENCES polls, -- which poll gave it; NULL if none did
-    report TEXT CHECK (report IS NULL OR json_valid(report)) -- as `ima-agent verify --json` prints it, if there is one
-);
-CREATE VIEW registers (machine, algorithm, register, state, value) AS
-    SELECT machine, json_extract(row.value, '$.bank'), json_extract(row.value, '$.register'), json_extract(row.value, '$.state'),
-        json_extract(row.value, '$.value') FROM verdicts, json_each(report, '$.registers') AS row;
-CREATE TABLE polls (number INTEGER PRIMARY KEY, time TEXT NOT NULL); -- when each poll began, by the client's clock
-CREATE TABLE ends (time TEXT NOT NULL, poll INTEGER REFERENCES polls); -- when a run, or which poll, had given its counts
-CREATE TABLE checkpoints (
-    machine TEXT NOT NULL PRIMARY KEY REFERENCES verdicts,
-    checkpoint BLOB NOT NULL,
-    known_sha256 TEXT -- by which known files its entries were judged, as in `verdicts`
-);
-CREATE TABLE changes (
-    number INTEGER PRIMARY KEY,
-    machine TEXT NOT NULL,
-    poll INTEGER NOT NULL REFERENCES polls,
-    verdict TEXT NOT NULL, -- which another one was before, or none
-    cause TEXT, time TEXT NOT NULL
-);
-PRAGMA application_id = {_APPLICATION};
-PRAGMA user_version = {_FORM};
-COMMIT;
-"""
+# How a table of verdicts, or of other programs, is told from a new file.
+_MARKS = ("PRAGMA application_id", "PRAGMA user_version", "SELECT count(*) FROM sqlite_master")
 
-_FIELDS = (
-    "verdict", "cause", "events", "locality", "entries", "boot_aggregate", "unknown", "first_unknown", "log_sha256", "list_sha256",
-    "expected_sha256", "list_from", "interface_version", "worker", "time", "report",
+# Of a quote's report: the clock, which is the first object of this name.
+_CLOCK = re.compile(r'"clock":(\{[^{}]*\})')
+
+
+def _assigned(columns: Sequence[str]) -> Tuple[str, str]:
+    """The columns, and the values that a row gives them, as rows of SQL. (Which boot was the last is kept where a verdict does not tell.)"""
+    values = (f"ifnull(?{number}, boot)" if column == "boot" else f"?{number}" for number, column in enumerate(columns, 1))
+    return f"({', '.join(columns)})", f"({', '.join(values)})"
+
+
+_FOUND, _FOUND_VALUES = _assigned(FOUND)
+_GIVEN, _GIVEN_VALUES = _assigned(GIVEN)
+_UPDATE_FOUND = (
+    f"UPDATE found SET {_FOUND} = {_FOUND_VALUES} WHERE machine = ?{len(FOUND) + 1} AND {_FOUND} IS NOT {_FOUND_VALUES}"
 )
-_ROW = f"({', '.join('?' * (7 + len(_FIELDS)))})"
-_INSERT = f"INSERT INTO verdicts (machine, required, known_sha256, log, list, expected, poll, {', '.join(_FIELDS)}) VALUES {_ROW}"
+_UPDATE_GIVEN = f"UPDATE given SET {_GIVEN} = {_GIVEN_VALUES} WHERE number = (SELECT number FROM found WHERE machine = ?{len(GIVEN) + 1})"
+_CHANGED_VERDICT = """
+INSERT INTO changes (machine, poll, kind, verdict, cause, time) SELECT :machine, :poll, 'verdict', :verdict, :cause, :time
+WHERE NOT EXISTS (SELECT 1 FROM found WHERE machine = :machine AND verdict = :verdict)
+"""
+_CHANGED_BOOT = """
+INSERT INTO changes (machine, poll, kind, verdict, cause, time) SELECT :machine, :poll, 'reboot', :verdict, :boot, :time
+WHERE EXISTS (SELECT 1 FROM found WHERE machine = :machine AND boot <> :boot)
+"""
+_OF_CHANGE = ("machine", "poll", "verdict", "cause", "time", "boot")
+_REACHED = """
+INSERT INTO checkpoints VALUES (?1, ?2, ?3) ON CONFLICT (machine) DO UPDATE
+SET (checkpoint, known_sha256) = (?2, ?3) WHERE (checkpoint, known_sha256) IS NOT (?2, ?3)
+"""
 # So many rows are added by one statement, which takes half the time of as many statements. (Each SQLite takes 999 values in one.)
-_ROWS = 40
-_INSERT_ROWS = _INSERT + f", {_ROW}" * (_ROWS - 1)
+_ROWS = 36
+
+# What is older than a time goes, but for what the rest refers to.
+_FORGET = (
+    "DELETE FROM changes WHERE poll IN (SELECT number FROM polls WHERE time < :oldest AND number < (SELECT max(number) FROM polls))",
+    "DELETE FROM ends WHERE time < :oldest AND rowid < (SELECT max(rowid) FROM ends)",
+    "DELETE FROM retired WHERE retired < :oldest",
+    """DELETE FROM polls WHERE time < :oldest AND number < (SELECT max(number) FROM polls) AND number NOT IN (
+        SELECT poll FROM given WHERE poll IS NOT NULL UNION SELECT poll FROM changes UNION SELECT poll FROM ends WHERE poll IS NOT NULL)""",
+)
 
 
 class BadVerdicts(Exception):
     """The file is no table of verdicts, or not one that this run may go on with."""
 
 
-class Verdicts:
-    """An open table of verdicts, all with the registers `required`, and by the known files with this digest, if there are some. Only the
-    process that has it open writes it, a transaction at a time. `poll` is the number of the poll that it is open for, once that has begun."""
+class Quoting(NamedTuple):
+    """The folder of the machines' keys, and how old in seconds a quote's nonce may be."""
 
-    def __init__(self, path: str, required: str, known_sha256: Optional[str] = None):
-        self.required, self.known_sha256 = required, known_sha256
+    keys: str
+    max_age: float
+
+
+def open_table(path: str) -> sqlite3.Connection:
+    """The table of verdicts in this file, which is made if it is not there."""
+    connection = sqlite3.connect(path, timeout=_SECONDS, check_same_thread=False)
+    application, form, tables = (connection.execute(query).fetchone()[0] for query in _MARKS)
+    is_new = (application, form, tables) == (0, 0, 0)
+    if not is_new and application != APPLICATION:
+        raise BadVerdicts("it is another file of SQLite")
+    if not is_new and form != FORM:
+        raise BadVerdicts("another version of this program made it: take another TABLE")
+    connection.execute("PRAGMA journal_mode = WAL")  # (else who reads the table holds up who writes it)
+    if is_new:
+        connection.executescript(f"BEGIN IMMEDIATE; {TABLES}; {quotes.TABLES}; COMMIT")
+    connection.execute("PRAGMA foreign_keys = ON")
+    return connection
+
+
+def _places(machine: Machine) -> Tuple[Optional[str], ...]:
+    """The paths of a machine, in the order of their columns."""
+    paths = dict(zip(QUOTED_PARTS if machine.is_quoted else PARTS, machine.paths))
+    return tuple(map(paths.get, _PLACES))
+
+
+def _boot(answer: Fields) -> Optional[str]:
+    """By what the boot that an answer's report is on is told from another: a TPM's counts, or else the log."""
+    if answer.get("report") is None:
+        return None
+    if answer.get("resets") is not None:
+        return f"resets {answer['resets']}, restarts {answer['restarts']}"
+    return f"log {answer['log_sha256']}"
+
+
+class Verdicts:
+    """An open table of verdicts, all with the registers `required`, by the known files with this digest and by quotes, if there are some. Only
+    the process that has it open writes it, a transaction at a time. `poll` is the number of the poll that it is open for, once that has begun."""
+
+    def __init__(self, path: str, required: str, known_sha256: Optional[str] = None, quoting: Optional[Quoting] = None):
+        self.required, self.known_sha256, self.quoting = required, known_sha256, quoting
         self.poll: Optional[int] = None
-        self.connection = sqlite3.connect(path, timeout=_SECONDS, check_same_thread=False)
-        application, form, tables = (
-            self.connection.execute(query).fetchone()[0]
-            for query in ("PRAGMA application_id", "PRAGMA user_version", "SELECT count(*) FROM sqlite_master")
-        )
-        is_new = (application, form, tables) == (0, 0, 0)
-        if not is_new and application != _APPLICATION:
-            raise BadVerdicts("it is another file of SQLite")
-        if not is_new and form != _FORM:
-            raise BadVerdicts("another version of this program made it: take another TABLE")
-        self.connection.execute("PRAGMA journal_mode = WAL")  # (else who reads the table holds up who writes it)
-        if is_new:
-            self.connection.executescript(_TABLES)
-        self.connection.execute("PRAGMA foreign_keys = ON")
+        self.connection = open_table(path)
 
     def close(self) -> None:
         """Ends the use of the table, which then is one file again if nobody else has it open."""
         self.connection.close()
 
-    def recorded(self, machines: Sequence[Machine], is_poll: bool) -> Dict[str, str]:
-        """The verdict of each machine that has one, by name. All rows must be of these machines, with the same paths, and given
-        with the same requirement, all by polls or none. Without polls verdicts stand, so all must be by the same known files, too."""
-        paths = {machine.name: machine.paths for machine in machines}
+    def gone(self, machines: Sequence[Machine]) -> List[str]:
+        """The names of the machines that have a verdict, and are not these, or have other paths."""
+        places = {machine.name: _places(machine) for machine in machines}
+        rows = self.connection.execute(f"SELECT machine, {', '.join(_PLACES)} FROM verdicts ORDER BY machine")
+        return [name for name, *recorded in rows if places.get(name) != tuple(recorded)]
+
+    def retire(self, names: Sequence[str], time: str) -> None:
+        """Puts away the rows of these machines, with this time, and drops their checkpoints: they have no verdict any longer."""
+        values = [{"machine": name, "time": time} for name in names]
+        with self.connection:
+            for statement in (
+                "INSERT INTO retired SELECT :time, * FROM verdicts WHERE machine = :machine",
+                "DELETE FROM checkpoints WHERE machine = :machine",
+                "DELETE FROM given WHERE number = (SELECT number FROM found WHERE machine = :machine)",
+                "DELETE FROM found WHERE machine = :machine",
+            ):
+                self.connection.executemany(statement, values)
+
+    def recorded(self, machines: Sequence[Machine], is_poll: bool, leaving: Collection[str] = ()) -> Dict[str, str]:
+        """The verdict of each machine that has one, by name, but for those that leave. All rows must be of these machines, with the same paths,
+        and given with the same requirement, all by polls or none. Without polls verdicts stand, so all must be by the same known files, too."""
+        places = {machine.name: _places(machine) for machine in machines}
         verdicts = {}
-        rows = self.connection.execute("SELECT machine, verdict, required, known_sha256, poll, log, list, expected FROM verdicts")
+        rows = self.connection.execute(f"SELECT machine, verdict, required, known_sha256, poll, {', '.join(_PLACES)} FROM verdicts")
         for name, verdict, required, known, poll, *recorded in rows:
+            if name in leaving:
+                continue
             if (poll is not None) != is_poll:
                 raise BadVerdicts(f"its verdicts were given {'without' if is_poll else 'with'} --poll: take another TABLE")
             if required != self.required:
                 raise BadVerdicts(f"its verdict of {name!r} was given with --require {required}: take another TABLE")
             if not is_poll and known != self.known_sha256:
                 raise BadVerdicts(f"its verdict of {name!r} was given with other files of --known, or without: take another TABLE")
-            if name not in paths:
-                raise BadVerdicts(f"it has a verdict of {name!r}, which the table of machines lacks")
-            if paths[name] != tuple(recorded):
-                raise BadVerdicts(f"its verdict of {name!r} is of other files: {', '.join(recorded)}")
+            if name not in places:
+                raise BadVerdicts(f"it has a verdict of {name!r}, which the table of machines lacks: --prune retires it")
+            if places[name] != tuple(recorded):
+                paths = ", ".join(path for path in recorded if path is not None)
+                raise BadVerdicts(f"its verdict of {name!r} is of other files: {paths}: --prune retires it")
             verdicts[name] = verdict
         return verdicts
 
@@ -129,51 +172,73 @@ class Verdicts:
         with self.connection:
             self.poll = self.connection.execute("INSERT INTO polls (time) VALUES (?)", (time,)).lastrowid
 
-    def checkpoint(self, machine: Machine) -> Optional[bytes]:
-        """The machine's checkpoint, whatever bytes that is, or None; also if its entries were judged by other known files."""
+    def given(self, machine: Machine, has_checkpoint: bool) -> Given:
+        """What the verifier has of a machine: for a poll its checkpoint, whatever bytes that is, or None, also if its entries were judged by
+        other known files; of quotes its key and nonces."""
+        checkpoint = self._checkpoint(machine) if has_checkpoint else None
+        if self.quoting is None:
+            return Given(checkpoint)
+        return Given(checkpoint, quotes.key_of(self.quoting.keys, machine.name), quotes.nonces_of(self.connection, machine.name))
+
+    def _checkpoint(self, machine: Machine) -> Optional[str]:
         query = "SELECT CAST(checkpoint AS BLOB) FROM checkpoints WHERE machine = ? AND known_sha256 IS ?"
         found = self.connection.execute(query, (machine.name, self.known_sha256)).fetchone()
-        return None if found is None else found[0]
+        return None if found is None else found[0].decode("latin-1")
 
     def record(self, answers: Sequence[Tuple[Machine, Fields]], again: Collection[str]) -> None:
-        """Records answers, each with its machine, in one transaction. What the machines of `again` had is replaced."""
+        """Records answers, each with its machine, in one transaction, and takes their nonces. What the machines of `again` had is replaced."""
         with self.connection:
             self.connection.execute("BEGIN IMMEDIATE")
             if self.poll != self.connection.execute("SELECT max(number) FROM polls").fetchone()[0]:
                 raise BadVerdicts("a later poll has begun")
+            if self.quoting is not None:
+                quotes.take(self.connection, answers, self.quoting.max_age, now())
+            rows = [self._row(machine, answer) for machine, answer in answers]
             if self.poll is not None:
-                self._record_changes(answers)
-            old = [(machine.name,) for machine, _ in answers if machine.name in again]
-            for table in ("checkpoints", "verdicts"):
-                self.connection.executemany(f"DELETE FROM {table} WHERE machine = ?", old)
-            self._record_verdicts(answers)
-            reached = [
-                (machine.name, answer["checkpoint"].encode(), self.known_sha256)
-                for machine, answer in answers if answer.get("checkpoint") is not None
-            ]
-            self.connection.executemany("INSERT INTO checkpoints VALUES (?, ?, ?)", reached)
+                for statement in (_CHANGED_VERDICT, _CHANGED_BOOT):
+                    self.connection.executemany(statement, [{field: row.get(field) for field in _OF_CHANGE} for row in rows])
+            self._update([row for row in rows if row["machine"] in again])
+            self._insert([row for row in rows if row["machine"] not in again])
+            reached = [(row["machine"], row["checkpoint"].encode(), self.known_sha256) for row in rows if row.get("checkpoint") is not None]
+            self.connection.executemany(_REACHED, reached)
 
-    def _record_changes(self, answers: Sequence[Tuple[Machine, Fields]]) -> None:
-        """Records which machines had another verdict, or none."""
-        self.connection.executemany(
-            "INSERT INTO changes (machine, poll, verdict, cause, time) SELECT :machine, :poll, :verdict, :cause, :time "
-            "WHERE NOT EXISTS (SELECT 1 FROM verdicts WHERE machine = :machine AND verdict = :verdict)",
-            [
-                {"machine": machine.name, "poll": self.poll, **{field: answer.get(field) for field in ("verdict", "cause", "time")}}
-                for machine, answer in answers
-            ],
-        )
+    def _row(self, machine: Machine, answer: Fields) -> Fields:
+        """The values of a machine's columns that are not NULL, by their names."""
+        parts = QUOTED_PARTS if machine.is_quoted else PARTS
+        row: Fields = {
+            **answer, **dict(zip(parts, machine.paths)), "machine": machine.name, "required": self.required,
+            "known_sha256": self.known_sha256, "poll": self.poll,
+            "boot": None if self.poll is None else _boot(answer),
+        }
+        clock = _CLOCK.search(row["report"]) if row.get("nonce") and row.get("report") else None
+        if clock is not None:
+            row["clock"], row["report"] = clock[1], row["report"].replace(clock[0], NO_CLOCK, 1)
+        return row
 
-    def _record_verdicts(self, answers: Sequence[Tuple[Machine, Fields]]) -> None:
-        """Adds a row for each machine."""
-        rows: List[Tuple[Any, ...]] = [
-            (machine.name, self.required, self.known_sha256, *machine.paths, self.poll, *map(answer.get, _FIELDS))
-            for machine, answer in answers
-        ]
+    def _update(self, rows: Sequence[Fields]) -> None:
+        """Replaces the rows of machines, but for what is as it was: of an unchanged one little is written."""
+        self.connection.executemany(_UPDATE_FOUND, [(*map(row.get, FOUND), row["machine"]) for row in rows])
+        count = self.connection.executemany(_UPDATE_GIVEN, [(*map(row.get, GIVEN), row["machine"]) for row in rows]).rowcount
+        if rows and count != len(rows):
+            raise BadVerdicts("rows of machines are gone")
+        left = [(row["machine"],) for row in rows if row.get("checkpoint") is None]
+        self.connection.executemany("DELETE FROM checkpoints WHERE machine = ?", left)
+
+    def _insert(self, rows: Sequence[Fields]) -> None:
+        """Adds a row for each machine, which has none."""
+        last = self.connection.execute("SELECT ifnull(max(number), 0) FROM found").fetchone()[0]
+        numbered = list(enumerate(rows, last + 1))
+        self._insert_into("found", ("machine", *FOUND), [(number, row["machine"], *map(row.get, FOUND)) for number, row in numbered])
+        self._insert_into("given", GIVEN, [(number, *map(row.get, GIVEN)) for number, row in numbered])
+
+    def _insert_into(self, table: str, columns: Sequence[str], rows: List[Tuple[Any, ...]]) -> None:
+        """Adds these rows, of a number and the values of these columns."""
+        values = f"({', '.join('?' * (1 + len(columns)))})"
+        statement = f"INSERT INTO {table} (number, {', '.join(columns)}) VALUES {values}"
         rest = len(rows) % _ROWS
         for start in range(rest, len(rows), _ROWS):
-            self.connection.execute(_INSERT_ROWS, list(chain.from_iterable(rows[start:start + _ROWS])))
-        self.connection.executemany(_INSERT, rows[:rest])
+            self.connection.execute(statement + f", {values}" * (_ROWS - 1), list(chain.from_iterable(rows[start:start + _ROWS])))
+        self.connection.executemany(statement, rows[:rest])
 
     def standing(self, again: Sequence[str]) -> Tuple[int, Optional[str]]:
         """How many verdicts are of none of these kinds, and when the first of them was given."""
@@ -190,10 +255,12 @@ class Verdicts:
                 f"({','.join(VERDICTS)}; none: all stand)"
             )
 
-    def end(self, time: str) -> None:
-        """Notes that a run has given its counts."""
+    def end(self, time: str, oldest: str) -> None:
+        """Notes that a run has given its counts, and forgets changes, polls and what was retired before this time."""
         with self.connection:
             self.connection.execute("INSERT INTO ends VALUES (?, ?)", (time, self.poll))
+            for statement in _FORGET:
+                self.connection.execute(statement, {"oldest": oldest})
 
     def counts(self) -> Dict[str, int]:
         """How many machines have each verdict, of this poll if it is one."""

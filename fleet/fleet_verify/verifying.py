@@ -1,26 +1,31 @@
 """What a call of `fleet-verify` does, from its options to its exit status."""
 
-import argparse
 import asyncio
+import os
 import signal
 import sqlite3
 import sys
-import time
-from contextlib import closing, contextmanager
+from contextlib import closing, contextmanager, suppress
+from datetime import datetime, timedelta
 from typing import Dict, Iterator, Optional, Sequence
 
-from .connection import Connection, connect
 from .ending import SIGNALLED, SIGNALS, CannotGoOn, NotStarted, complain, stop_simply
 from .known import BadKnown, Known, read_known
 from .ledger import Ledger
 from .machines import BadTable, Machine, read_machines
+from .metrics import require_writable
+from .options import Options
 from .progress import Progress
+from .quotes import MOST_AGE
+from .reading import now
 from .run import Run
-from .verdicts import VERDICTS, BadVerdicts, Verdicts
-from .work import cause_of, now, require_fit_worker, require_fitness
+from .summary import Summary, exit_status
+from .verdict import require_fitness
+from .verdicts import VERDICTS, BadVerdicts, Quoting, Verdicts
+from .workers import connect, require_fit
 
-LOOK_SECONDS = 0.05
-START_SECONDS = 1.0
+# How many machines that are retired are named.
+MOST_NAMED = 10
 
 
 def stop_at_signals() -> None:
@@ -38,26 +43,6 @@ def stop_at_signals() -> None:
         loop.add_signal_handler(number, stop)
 
 
-async def wait_for_workers(connection: Connection, options: argparse.Namespace) -> None:
-    """Waits until a worker is there, and a moment more until all are that this process has started."""
-    await connection.look()
-    if not connection.threads and connection.own is None:
-        print("waiting for a worker", file=sys.stderr, flush=True)
-    begun, first = time.monotonic(), None
-    while True:
-        if connection.threads:
-            first = first or time.monotonic()
-            if len(connection.threads) >= (options.workers or 1) or time.monotonic() - first > START_SECONDS:
-                return
-        elif time.monotonic() - begun > options.patience:
-            raise CannotGoOn(f"no worker came in {options.patience} seconds")
-        lost = connection.lost()
-        if lost is not None:
-            raise CannotGoOn(lost)
-        await asyncio.sleep(LOOK_SECONDS)
-        await connection.look()
-
-
 def unfit(fault: ValueError, known: Optional[Known]) -> NotStarted:
     """Why nothing is started, by what `require_fitness` says of what is required or of a line of known files."""
     if known is None or len(fault.args) != 2:
@@ -66,23 +51,8 @@ def unfit(fault: ValueError, known: Optional[Known]) -> NotStarted:
     return NotStarted(f"{known.place(line)}: known fault {number}")
 
 
-async def require_fit_workers(connection: Connection, options: argparse.Namespace, known: Optional[Known]) -> None:
-    """Waits for a worker, and makes sure that those that are there can verify, and take what is required and the known files."""
-    while True:
-        await wait_for_workers(connection, options)
-        faults = await connection.client.run(require_fit_worker, options.require, options.poll, connection.known, on_error="return")
-        await connection.look()
-        for worker, fault in faults.items():
-            if isinstance(fault, ValueError):
-                raise unfit(fault, known)
-            if fault is not None and (worker in connection.threads or not isinstance(fault, OSError)):  # of the worker, or of Dask
-                raise CannotGoOn(f"worker {worker} cannot verify: {cause_of(fault)}")
-        if any(fault is None for fault in faults.values()):
-            return
-
-
 async def run(
-    options: argparse.Namespace, known: Optional[Known], table: Verdicts, machines: Sequence[Machine], recorded: Dict[str, str]
+    options: Options, known: Optional[Known], table: Verdicts, machines: Sequence[Machine], recorded: Dict[str, str], summary: Summary
 ) -> None:
     """Verifies the machines that the table lacks, and those that are to be verified anew."""
     before = {name: verdict for name, verdict in recorded.items() if verdict in (options.again or ())}
@@ -90,23 +60,27 @@ async def run(
     if not missing:
         return
     stop_at_signals()
+    progress = Progress(len(machines), recorded.values(), VERDICTS, sys.stderr, options.progress)
     try:
-        text = None if known is None else known.text
-        async with connect(options.scheduler, options.workers) as connection, connection.keeping(text):
-            await require_fit_workers(connection, options, known)
+        async with connect(options, None if known is None else known.text) as workers:
+            try:
+                await require_fit(workers, options)
+            except ValueError as fault:
+                raise unfit(fault, known) from None
             if options.poll:
                 table.begin_poll(now())
-            progress = Progress(len(machines), recorded.values(), VERDICTS, sys.stderr, options.progress)
             ledger = Ledger(table, missing, before, options.poll and not options.whole, progress.count)
             try:
-                await Run(connection, ledger, progress, options).verify()
+                await Run(workers, ledger, progress, options).verify()
             finally:
-                progress.show(ledger.left, len(connection.threads), is_last=True)
+                progress.show(ledger.left, len(workers.threads), is_last=True)
     except asyncio.CancelledError:
         raise CannotGoOn(SIGNALLED) from None
+    finally:
+        summary.done = progress.done_now
 
 
-def judge(options: argparse.Namespace) -> Optional[Known]:
+def judge(options: Options) -> Optional[Known]:
     """The known files, if any are named. Refuses a wrong one, and a wrong `--require`. Where this computer lacks the library, the workers do, by
     theirs."""
     try:
@@ -114,7 +88,7 @@ def judge(options: argparse.Namespace) -> Optional[Known]:
     except BadKnown as fault:
         raise NotStarted(fault) from None
     try:
-        require_fitness(options.require, options.poll, None if known is None else known.text)
+        require_fitness(options.require, options.poll, None if known is None else known.text, not options.unquoted)
     except ImportError:
         pass
     except ValueError as fault:
@@ -124,43 +98,75 @@ def judge(options: argparse.Namespace) -> Optional[Known]:
 
 @contextmanager
 def refusing(path: str) -> Iterator[None]:
-    """Nothing is started with this table, if something is wrong with it."""
+    """Nothing is started with this file, if something is wrong with it."""
     try:
         yield
     except (OSError, sqlite3.Error, BadTable, BadVerdicts) as fault:
         raise NotStarted(f"{path}: {fault}") from None
 
 
-def recorded_in(table: Verdicts, machines: Sequence[Machine], options: argparse.Namespace) -> Dict[str, str]:
-    """By name the verdict of each machine that has one in the table, with which this run may go on."""
+def opened(options: Options, known: Optional[Known]) -> Verdicts:
+    """The table of verdicts, if the keys are where they are said to be."""
+    quoting = None
+    if options.keys is not None:
+        with refusing(options.keys):
+            os.scandir(options.keys).close()
+        quoting = Quoting(options.keys, options.max_age or MOST_AGE)
+    with refusing(options.table):
+        return Verdicts(options.table, options.require, None if known is None else known.sha256, quoting)
+
+
+def recorded_in(table: Verdicts, machines: Sequence[Machine], options: Options, summary: Summary) -> Dict[str, str]:
+    """By name the verdict of each machine that has one in the table, with which this run may go on. Retires those that are gone, if it may."""
     if options.poll:
         table.require_whole()
-    recorded = table.recorded(machines, options.poll)
+    gone = table.gone(machines) if options.prune else []
+    recorded = table.recorded(machines, options.poll, set(gone))
     if options.again is None:
         table.require_no_end()
+    if gone:
+        table.retire(gone, now())
+        summary.retired = len(gone)
+        names = ", ".join([*gone[:MOST_NAMED], *([".."] if len(gone) > MOST_NAMED else [])])
+        complain(f"{len(gone)} retired, as MACHINES lacks them or has other paths: {names}", 0)
     return recorded
 
 
-def verify_fleet(options: argparse.Namespace) -> int:
-    """Verifies what is to be verified, prints how many machines have each verdict, and gives the exit status."""
+def verify_fleet(options: Options, summary: Summary) -> int:
+    """Verifies what is to be verified, prints how many machines have each verdict, and gives the exit status. The summary has what is known of
+    the run, however it ends."""
+    if options.metrics is not None:
+        with refusing(options.metrics):
+            require_writable(options.metrics)
     known = judge(options)
     with refusing(options.machines):
-        machines = read_machines(options.machines)
-    with refusing(options.table):
-        table = Verdicts(options.table, options.require, None if known is None else known.sha256)
-    with closing(table):
+        machines = read_machines(options.machines, not options.unquoted)
+    summary.machines = len(machines)
+    with closing(opened(options, known)) as table:
         with refusing(options.table):
-            recorded = recorded_in(table, machines, options)
+            recorded = recorded_in(table, machines, options, summary)
         standing, since = table.standing(options.again or [])
         if standing:
             complain(f"verdicts that stand from earlier runs: {standing}, the oldest since {since}; --again gives new ones", 0)
         try:
-            asyncio.run(run(options, known, table, machines, recorded))
+            asyncio.run(run(options, known, table, machines, recorded, summary))
         finally:
             stop_simply()
-        counts = table.counts()
-        if sum(counts.values()) != len(machines):
-            raise CannotGoOn("another run records in this table")
-        print("".join(f"{kind} {counts[kind]}\n" for kind in VERDICTS), end="", flush=True)
-        table.end(now())  # (not before, so that the same command goes on until the counts are told)
-    return 0 if counts["match"] == len(machines) else 1
+            with suppress(sqlite3.Error):  # (what stops the run is told, and not that its counts are not known)
+                summary.count(table)
+        return print_counts(options, table, summary)
+
+
+def print_counts(options: Options, table: Verdicts, summary: Summary) -> int:
+    """Prints the counts of a run that gave all verdicts, and notes its end in the table; gives the exit status."""
+    summary.count(table)
+    if summary.without_verdict != 0:
+        raise CannotGoOn("another run records in this table")
+    if options.json:
+        summary.look(table)
+    summary.end(exit_status(summary.counts, sum(summary.counts.values())))
+    print(summary.json if options.json else "\n".join(f"{kind} {summary.counts[kind]}" for kind in VERDICTS), flush=True)
+    end = datetime.fromisoformat(summary.ended)
+    oldest = (end - timedelta(seconds=options.keep)).isoformat(timespec="milliseconds")
+    table.end(summary.ended, oldest)  # (not before, so that the same command goes on until the counts are told)
+    return summary.status

@@ -102,27 +102,28 @@ class Collected(CollectTests):
         self.check_failed("a quote without tpm2-tools", self.make(WITH_NONCE, PATH=lacking), "tpm2-tools are not there")
         shutil.rmtree(folder)
         self.check_failed("no registers", self.make(WITHOUT_NONCE, PATH=lacking), "neither the kernel nor tpm2_pcrread shows PCRs")
-        section = re.search(r"^## Without a quote\n(.*?)^## ", (ROOT / "docs/guide.md").read_text(), re.MULTILINE | re.DOTALL)[1]
-        block, banks, *_ = BLOCK.findall(section)
+        section = re.search(r"^## Without a quote\n(.*?)^## ", (ROOT / "docs/attest.md").read_text(), re.MULTILINE | re.DOTALL)[1]
+        block, *others = BLOCK.findall(section)
+        [banks] = [other for other in others if "tpm2_pcrread" in other]
         shutil.rmtree(self.home / "evidence", ignore_errors=True)
-        self.check_quiet("the guide: without a quote", self.on_machine(block))
-        self.check("the guide: evidence", sorted(path.name for path in self.home.joinpath("evidence").iterdir()), EVIDENCE)
-        self.check_quiet("the guide: another bank", self.on_machine(banks))
+        self.check_quiet("attest.md: without a quote", self.on_machine(block))
+        self.check("attest.md: evidence", sorted(path.name for path in self.home.joinpath("evidence").iterdir()), EVIDENCE)
+        self.check_quiet("attest.md: another bank", self.on_machine(banks))
         ended = self.call(["ima-agent", "expected", "--registers", "0-10", str(self.home / "pcrread.txt")])
-        self.check("the guide: its registers", [line.split()[:2] for line in ended.output.splitlines()], [["sha1", str(n)] for n in range(11)])
+        self.check("attest.md: its registers", [line.split()[:2] for line in ended.output.splitlines()], [["sha1", str(n)] for n in range(11)])
 
     def test_without_log(self):
-        """The guide's command for a machine without a firmware log."""
-        [block] = [block for block in BLOCK.findall((ROOT / "docs/guide.md").read_text()) if "pcr-sha256/10" in block]
+        """The command of attest.md for a machine without a firmware log."""
+        [block] = [block for block in BLOCK.findall((ROOT / "docs/attest.md").read_text()) if "pcr-sha256/10" in block]
         folder = self.sys / "class/tpm/tpm0/pcr-sha256"
         folder.mkdir(parents=True)
         self.addCleanup(shutil.rmtree, folder)
         [(_, _, value)] = [line.split() for line in (BOOT / "expected.txt").read_text().splitlines() if line.startswith("sha256 10 ")]
         folder.joinpath("10").write_text(f"{value}\n")
         ended = self.call(["bash", "-c", block.replace("/sys/", f"{self.sys}/")], folder=self.home)
-        self.check_quiet("the guide: PCR 10 and the list", ended)
+        self.check_quiet("attest.md: PCR 10 and the list", ended)
         ended = self.call(["ima-agent", "replay", "--require", "sha256:10", "ima.list", "expected.txt"], folder=self.home)
-        self.check("the guide: the verdict on them", (ended.status, ended.last), (0, "verdict match"))
+        self.check("attest.md: the verdict on them", (ended.status, ended.last), (0, "verdict match"))
 
     def tools_but(self, *extra):
         """A PATH with what ima-collect needs of coreutils, and these tools."""

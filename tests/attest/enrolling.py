@@ -27,7 +27,7 @@ AES_128_CFB = bytes.fromhex("000600800043")
 LIMITED = f'ulimit -f 1024 && exec timeout {SECONDS // 2} "$@"'
 USAGE = "\nusage: ima-enroll --keys"
 ROUNDS = 70_000  # by which a PKCS#12 derives a key from its password
-# Faults of a key, by docs/formats.md.
+# Faults of a key, by docs/errors.txt.
 CUT, TRAILING, WEAK_NAME, LEAVES_TPM, UNRESTRICTED, SHORT = 1, 10, 11, 12, 15, 16
 DOES_NOT_SIGN, DECRYPTS, NO_SIGNING_SCHEME, WEAK_HASH, SIGNS = 17, 18, 19, 20, 21
 

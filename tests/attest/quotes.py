@@ -100,11 +100,11 @@ class Samples(AttestTests):
     needed = ("openssl",)
 
     def test_sample(self):
-        """The quote, as README calls for it, with lists that are older and newer."""
+        """The sample's quote, with lists that are older and newer."""
         ended = self.attest()
         self.check_match("samples/quoted", ended)
-        guide = (ROOT / "docs/guide.md").read_text()
-        self.check("samples/quoted: the guide shows this report", textwrap.indent(ended.output, "    ") in guide)
+        page = (ROOT / "docs/attest.md").read_text()
+        self.check("samples/quoted: attest.md shows this report", textwrap.indent(ended.output, "    ") in page)
         self.check("samples/quoted: the report is that of the reference", (ended.status, ended.output), due(GOOD.quote.read_bytes()))
         self.check_match("a nonce in capitals", self.attest(nonce=NONCE.upper()))
         words, names = [f"{option}={value}" for option, value in GOOD.options()], [str(GOOD.log), str(GOOD.list)]
@@ -136,9 +136,9 @@ class Samples(AttestTests):
                 differs = "\nsha256 10 differ " in ended.output
                 self.check(f"{title} registers: what is said", (confirmed, differs), (True, title == "right" and listed == early))
         ended = self.attest(list="judged.list", expected=EXPECTED)
-        self.check_differ("the guide: which register differs", ended, "expected confirmed", "sha256 9 match")
+        self.check_differ("attest.md: which register differs", ended, "expected confirmed", "sha256 9 match")
         ended = self.call(["ima-agent", "locate", str(GOOD.log), "judged.list", str(EXPECTED)])
-        self.check("the guide: where it is reached", ("sha256 10 nowhere" in ended.output, ended.status), (True, 1))
+        self.check("attest.md: where it is reached", ("sha256 10 nowhere" in ended.output, ended.status), (True, 1))
         ended = self.attest(expected=self.put("registers.txt", b"sha256 10\n"))
         self.check("registers that are none", (ended.status, ended.output), (2, "refused: expected fault 1 at line 1\n"))
         self.check_refused("no such file of registers", self.attest(expected="none"), 3, "cannot read 'none'")

@@ -1,4 +1,4 @@
-"""Tests of machines with an emulated TPM. They run the blocks of docs/guide.md on quotes, as these are on the page."""
+"""Tests of machines with an emulated TPM. They run the blocks of docs/attest.md on quotes, as these are on the page."""
 
 import os
 import re
@@ -34,7 +34,7 @@ class MachineTests(AttestTests):
         cls.has(cls.entries)
         cls.use(cls.enter(emulated(list_spelling(cls.entries))))
         cls.vendor = Authority(cls.folder, "vendor")
-        section = re.search(r"^## With a quote\n(.*?)^## ", (ROOT / "docs/guide.md").read_text(), re.MULTILINE | re.DOTALL)[1]
+        section = re.search(r"^## With a quote\n(.*?)^## ", (ROOT / "docs/attest.md").read_text(), re.MULTILINE | re.DOTALL)[1]
         cls.key_block, cls.challenge_block, cls.answer_block, cls.keep_block, *blocks = BLOCK.findall(section)
         cls.nonce_block, cls.quote_block, cls.verdict_block = blocks
 
@@ -78,7 +78,7 @@ class MachineTests(AttestTests):
         self.must("a certificate", "tpm2_nvwrite", "0x1c00002", "-C", "p", "-i", "certificate")
 
     def enroll(self, title):
-        """The blocks of the guide by which the machine's key comes to the verifier."""
+        """The blocks of attest.md by which the machine's key comes to the verifier."""
         self.give_certificate()
         self.check_quiet(f"{title}: a key is made", self.on_machine(self.key_block))
         self.send("enroll")
@@ -139,20 +139,20 @@ class Machine(MachineTests):
     """A machine after the sample boot."""
 
     def test_flow(self):
-        """The blocks of the guide, in their order. All other tests go on from here."""
-        self.enroll("the guide")
+        """The blocks of attest.md, in their order. All other tests go on from here."""
+        self.enroll("attest.md")
         ended = self.on_verifier(self.nonce_block)
         nonce = Machine.nonce = ended.output.strip()
-        self.check("the guide: the nonce", (ended.status, bool(re.fullmatch("[0-9a-f]{40}", nonce))), (0, True))
-        self.check("the guide: another nonce each time", self.on_verifier(self.nonce_block).output.strip() != nonce)
-        self.check_match("the guide: the verdict", self.verdict_on_quote("the guide"))
-        self.check_refused("the guide: no nonce", self.verdict(nonce=""), 64, "--nonce is missing or empty")
-        self.check_refused("the guide: no such machine", self.verdict(name="other"), 3, "no regular file has this name")
+        self.check("attest.md: the nonce", (ended.status, bool(re.fullmatch("[0-9a-f]{40}", nonce))), (0, True))
+        self.check("attest.md: another nonce each time", self.on_verifier(self.nonce_block).output.strip() != nonce)
+        self.check_match("attest.md: the verdict", self.verdict_on_quote("attest.md"))
+        self.check_refused("attest.md: no nonce", self.verdict(nonce=""), 64, "--nonce is missing or empty")
+        self.check_refused("attest.md: no such machine", self.verdict(name="other"), 3, "no regular file has this name")
         stale = nonce.translate(str.maketrans("0123456789abcdef", "123456789abcdef0"))
-        self.check_fault("the guide: a stale nonce", self.verdict(nonce=stale), 11)
+        self.check_fault("attest.md: a stale nonce", self.verdict(nonce=stale), 11)
         ended = self.attest(self.sent, expected=self.verifier / "evidence/expected.txt")
-        self.check_match("the guide: with the registers that the kernel shows", ended)
-        self.check("the guide: these are the quoted ones", "\nexpected confirmed\n" in ended.output)
+        self.check_match("attest.md: with the registers that the kernel shows", ended)
+        self.check("attest.md: these are the quoted ones", "\nexpected confirmed\n" in ended.output)
 
     def test_missing_files(self):
         """Each input is empty, missing, a folder, or another one."""

@@ -14,7 +14,7 @@ REFERENCE = "By the reference."
 HEADER = re.compile(r"-- (.+?)( hex)? --")
 STATUS = re.compile(r"\[([1-9]\d*)\]")
 SAVING = "--save"
-FAULTS = re.compile(r"^```text faults\n(.*?)^```$", re.MULTILINE | re.DOTALL)
+FAULTS = re.compile(r"^([A-Z][a-z]+ faults \(.*?\n)(?=\n|\Z)", re.MULTILINE | re.DOTALL)
 PART = re.compile(
     r"#.*"
     r"|(?:\"(?P<text>[^\"]*)\""
@@ -141,16 +141,16 @@ def named(name, files, line):
 
 
 def fault_table(name, line):
-    """The table of faults of docs/formats.md that begins with this word."""
-    tables = {text.split()[0]: text for text in FAULTS.findall((ROOT / "docs/formats.md").read_text())}
+    """The table of faults of docs/errors.txt that begins with this word."""
+    tables = {text.split()[0]: text for text in FAULTS.findall((ROOT / "docs/errors.txt").read_text())}
     table = tables.get(name.removeprefix(TABLES))
     if table is None:
-        raise Malformed(line, f"docs/formats.md has no such table of faults: {name}")
+        raise Malformed(line, f"docs/errors.txt has no such table of faults: {name}")
     return table.encode()
 
 
 def sentences_of(name):
-    """The sentences of the table of faults of docs/formats.md that begins with this word, by the faults' numbers."""
+    """The sentences of the table of faults of docs/errors.txt that begins with this word, by the faults' numbers."""
     rows = re.findall(r"^ +(\d+)  (.*)$", fault_table(TABLES + name, 0).decode(), re.MULTILINE)
     return {int(number): sentence for number, sentence in rows}
 

@@ -3,7 +3,7 @@
 
 tests/cases/json_lines.py [PROGRAM [ENTRIES]]: by default the program that was built in this tree, and a long list of 12,000 entries.
 
-The members of each object must be in one table of docs/formats.md ('As JSON', 'What data says', 'Values of variables'), in its order.
+The members of each object must be in one table of docs/json.md, docs/event-data.md or docs/formats.md, in its order.
 
 Each line must be one value of ASCII or UTF-8 that json writes in the same way, without white space, and has no byte below 32. All lines must
 be what `tests/reference/` answers, and each must say what the same command's text says. The commands read the sample, lists of all templates
@@ -32,14 +32,13 @@ HOSTILE = [
     b"\xed\xa0\x80", b"\xc0\x80", b"\xf4\x90\x80\x80", b"\xff", b"a" * 255, b"",
 ]  # fmt: skip
 LONG = [b"a" * 4095, b"\n" * 4095, b"\x1b" * 4095, "\u2028".encode() * 1365, b"\xff" * 4095]
-SECTION = re.compile(r"^### (?:As JSON|What data says|Values of variables)$(.*?)(?=^### )", re.MULTILINE | re.DOTALL)
 TABLE = re.compile(r"^(\|.*\| Member.*|\| Member.*)\n\|[-|]*\n((?:\|.*\n)*)", re.MULTILINE)
 NO_MEMBERS = ("digests", "measured")  # the names there are those of algorithms
 
 
 def members_in_tables():
-    """The members of each table of the page, in its order."""
-    text = "".join(SECTION.findall((ROOT / "docs/formats.md").read_text()))
+    """The members of each table of the pages, in its order."""
+    text = "".join((ROOT / "docs" / page).read_text() for page in ("json.md", "event-data.md", "formats.md"))
     return [[name for cell in member_cells(head, rows) for name in re.findall(r"`(\w+)`", cell)] for head, rows in TABLE.findall(text)]
 
 

@@ -4,7 +4,7 @@
 tests/cases/limits.py [--library FILE] [PROGRAM]: by default the program that was built in this tree, and no library for C.
 
 The program must answer what `tests/reference/` answers: to the same inputs, to these without lines and names that are skipped, or of parts
-that come again and again, which the reference need not read. What the program must refuse goes by docs/formats.md ("The program's input").
+that come again and again, which the reference need not read. What the program must refuse goes by docs/cli.md ('Input').
 The library for C is asked too, wherever it has the function of a command. It takes longer inputs. Memory is ample: up to 2 GB are used.
 The script counts commands."""
 

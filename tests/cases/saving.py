@@ -3,7 +3,7 @@
 
 tests/cases/saving.py [PROGRAM]: by default the program that was built in this tree.
 
-What `verify --save` leaves, and `attest --save`, goes by docs/formats.md ('Going on from a checkpoint'). The checkpoint is that of tests/cases/shared.files, and only
+What `verify --save` leaves, and `attest --save`, goes by docs/cli.md ('Saving'). The checkpoint is that of tests/cases/shared.files, and only
 its user can read it. A FILE that is no regular file is refused. Nothing else in the folder is changed."""
 
 import os

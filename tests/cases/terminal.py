@@ -4,7 +4,7 @@
 tests/cases/terminal.py [PROGRAM]: by default the program that was built in this tree.
 
 Each command of the cases whose files have at most 4 MiB runs with a terminal as its standard error. Status and output must be what the
-case wants. After a fault the terminal must get its sentence, which is made here of the fault's line, by the tables of docs/formats.md.
+case wants. After a fault the terminal must get its sentence, which is made here of the fault's line, by the tables of docs/errors.txt.
 After a success it must get nothing, and after a refused command line some text of clap's: `USAGES` has some. Where the output goes to the
 same terminal, the sentence must come after the line. Further commands have names with bytes that a terminal acts upon, are out of memory,
 have an output that fails, or measure for more than a second. Each of these runs without a terminal too, and standard error must then get
@@ -63,7 +63,7 @@ INPUTS = {
     "replay": ["list", "expected"],
 }
 
-# The sentences of docs/formats.md's tables of faults, by number; those of expected registers from 4 on name no line.
+# The sentences of docs/errors.txt's tables of faults, by number; those of expected registers from 4 on name no line.
 LOG, LIST, REPLAY, EXPECTED, KNOWN, QUOTE, KEY, CHECKPOINT, BOOK = map(
     form.sentences_of, ("Log", "List", "Replay", "Expected", "Known", "Quote", "Key", "Checkpoint", "Book"))
 

@@ -1,4 +1,4 @@
-"""Has each shell complete after `ima-agent`, and compares what it offers with the table of the reference and docs/formats.md."""
+"""Has each shell complete after `ima-agent`, and compares what it offers with the table of the reference and docs/cli.md."""
 
 import re
 import subprocess
@@ -50,10 +50,10 @@ def zsh_specifications(share, folder, words):
 
 
 def choices_of(option):
-    """The words of formats.md that an option takes, where it takes some words alone."""
+    """The words of cli.md that an option takes, where it takes some words alone."""
     if option.read is FLAG or option.read is str:
         return None
-    words = re.findall(r"`([a-z][a-z0-9-]*)`", (ROOT / "docs/formats.md").read_text())
+    words = re.findall(r"`([a-z][a-z0-9-]*)`", (ROOT / "docs/cli.md").read_text())
     return sorted({word for word in words if option.read(word) is not None})
 
 
@@ -81,7 +81,7 @@ def wanted_lines(shell):
 
 def asked_of_program():
     """The options of the program itself, by the pages."""
-    rows = re.findall(r"^\| `--.*", (ROOT / "docs/formats.md").read_text(), re.MULTILINE)
+    rows = re.findall(r"^\| `--.*", (ROOT / "docs/cli.md").read_text(), re.MULTILINE)
     return ["-h", *(option for row in rows for option in ("--help", "--version") if f"`{option}`" in row.split("|")[1])]
 
 

@@ -4,29 +4,32 @@ import shlex
 
 from installed import FOLDER, run
 
-TOOLS, CALLS = FOLDER / "python-tools", FOLDER / "python-calls"
+TOOLS, CALLS = FOLDER / "tools", FOLDER / "calls"
+# What all packages need of a system, and what the fleet's does.
+BASE, FLEET = ("libc6", "python3"), ("python3-cryptography", "python3-jinja2")
 
 
 def begin(system):
-    """Begins a system that has nothing but what the packages need of it, by the table of this machine's. Returns whether that has it."""
-    table = system / "var/lib/dpkg"
+    """Begins a system that has nothing but what the packages need of it, by the table of this machine's. Returns what that lacks."""
+    table, lacking = system / "var/lib/dpkg", []
     for name in ("info", "updates"):
         (table / name).mkdir(parents=True)
     with open(table / "status", "wb") as status:
-        for package in ("libc6", "python3"):
+        for package in (*BASE, *FLEET):
             row, name = run("dpkg-query", "--status", package), run("dpkg-query", "--show", "--showformat", "${binary:Package}", package)
             if row.fault or name.fault:
-                return False
+                lacking.append(package)
+                continue
             status.write(row.output + b"\n")
             for ending in ("list", "md5sums"):
                 (table / "info" / f"{name.output.decode()}.{ending}").touch()
-    return True
+    return lacking
 
 
 def make_tools():
-    """Makes a py3compile and a py3clean that write down their calls."""
+    """Makes the tools that scripts of packages call, which write down their calls."""
     TOOLS.mkdir()
-    for name in ("py3compile", "py3clean"):
+    for name in ("py3compile", "py3clean", "systemd-sysusers", "deb-systemd-helper", "systemctl"):
         (TOOLS / name).write_text(f'#!/bin/sh\necho "${{0##*/}} $*" >>{shlex.quote(str(CALLS))}\n')
         (TOOLS / name).chmod(0o755)
 

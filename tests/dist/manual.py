@@ -1,11 +1,13 @@
 """Compares the manual pages of docs/man/ with what they describe.
 
 - ima-agent.1: commands, synopses, options with their values and defaults, statuses and tables of faults are those of the program's help.
-  The fault lines are those of docs/formats.md.
+  The fault lines are those of docs/cli.md.
 - ima_verify.3: functions with their types, and constants, are those of the header. It names no other function.
-- ima-attest.1, ima-enroll.1, ima-collect.1, fleet-verify.1: the options are those of the usage. The statuses of fleet-verify.1 are those of
-  docs/fleet.md."""
+- ima-attest.1, ima-enroll.1, ima-collect.1: the options are those of the usage.
+- fleet-verify.1, ima-report.1: options with their values and defaults are those of the help. The statuses of the first are those of
+  docs/fleet.md, of the second those of its help."""
 
+import os
 import re
 import subprocess
 
@@ -16,6 +18,9 @@ from header import constants_of, functions_of
 MACROS = re.compile(r"^\.(?:It|Li|Ql|Pa|Cm|Ar|Fl|Dv|Fn|Fa|Dq|Xr|Pq|Sx)\b")
 # The functions of the header that make inputs.
 HELPERS = {"ima_verify_text", "ima_verify_none"}
+# An option in the help of a command in Python, and its default.
+PYTHONS = re.compile(r"^  (?:-(?P<short>\w), )?--(?P<name>[a-z0-9-]+)(?: (?P<value>[A-Z_]+))?(?: {2,}(?P<help>\S.*))?$")
+DEFAULT = re.compile(r"\(default: ([\w-]+)")
 WORDS = re.compile(r"(?<!\S)(?:No|Ar|Cm|Li|Ql)(?!\S) ?")
 
 
@@ -111,18 +116,18 @@ def check_synopses(page, commands):
 
 
 def check_faults(page, commands):
-    """The tables of faults, each as all commands have it, and the lines of faults of docs/formats.md."""
+    """The tables of faults, each as all commands have it, and the lines of faults of docs/cli.md."""
     wanted = {title: rows for command in commands for title, rows in command.faults.items()}
     found = {title: dict(page.items(title)) for title in page.parts if title.endswith(" faults")}
     yield from differences(page.name, list(wanted), list(found))
     for title, rows in wanted.items():
         yield from differences(f"{page.name}: {title}", list(rows.items()), list(found.get(title, {}).items()))
-    section = (ROOT / "docs/formats.md").read_text().split("\n### Fault lines\n")[1].split("\n###")[0]
+    section = (ROOT / "docs/cli.md").read_text().split("\n## Errors\n")[1].split("\n###")[0]
     lines = re.findall(r"`(?:refused|failed): ([^`]*)`", "\n".join(re.findall(r"^\| `.*", section, re.MULTILINE)))
     said = plain(page.part("DIAGNOSTICS")).lower()
     yield from (f"{page.name}: lacks the line of a fault: {line}" for line in lines if line.lower() not in said)
     if len(lines) < 10:
-        yield "docs/formats.md: where are the lines of faults?"
+        yield "docs/cli.md: where are the lines of faults?"
 
 
 def check_program(program):
@@ -164,21 +169,45 @@ def check_usage(name, usage):
         yield f"{name}: there is no usage to compare it with"
 
 
-def check_statuses(name, page):
-    """A page's statuses are those of a table of docs/."""
-    wanted = re.findall(r"^\| ([0-9]+) \|", (ROOT / "docs" / page).read_text(), re.MULTILINE)
+def check_help(name, section, text):
+    """A page's options, in this section, are those of the help of a command in Python, with values and defaults."""
+    found = helps.joined(text.splitlines(), PYTHONS)
+    options = [helps.Option(option["name"], option["short"], option["value"], " ".join([option["help"] or "", *more]), None, ())
+               for option, more in found]
+    defaults = [DEFAULT.search(option.help) for option in options]
+    options = [option._replace(default=default[1].lower() if default else None) for option, default in zip(options, defaults)]
+    yield from check_options(f"{name}: {section}", options, Page(name).items(section))
+    if not options:
+        yield f"{name}: there is no help to compare {section} with"
+
+
+def check_statuses(name, text, pattern):
+    """A page's statuses are those that a text has by this pattern."""
+    wanted = re.findall(pattern, text, re.MULTILINE)
     yield from differences(f"{name}: statuses", wanted, [head for head, _ in Page(name).items("EXIT STATUS")])
+    if not wanted:
+        yield f"{name}: there are no statuses to compare it with"
 
 
 def said_by(*words):
-    return subprocess.run(words, stdin=subprocess.DEVNULL, stdout=subprocess.PIPE, stderr=subprocess.STDOUT).stdout.decode()
+    wide = {**os.environ, "COLUMNS": "1000"}
+    return subprocess.run(words, env=wide, stdin=subprocess.DEVNULL, stdout=subprocess.PIPE, stderr=subprocess.STDOUT).stdout.decode()
 
 
-def faults(program, fleet):
-    """Where the pages differ from this program, the header, the scripts of attest/, and the fleet's command, which the words in `fleet` call."""
+def fleet_faults(python):
+    """Where the pages differ from the fleet's commands, which the words in `python` run."""
+    fleet, report = "fleet-verify.1", "ima-report.1"
+    for section, words in (("DESCRIPTION", []), ("nonces", ["nonces"]), ("page", ["page"])):
+        yield from check_help(fleet, section, said_by(*python, ROOT / "fleet/verify.py", *words, "--help"))
+    yield from check_statuses(fleet, (ROOT / "docs/fleet.md").read_text(), r"^\| ([0-9]+) \|")
+    text = said_by(*python, ROOT / "fleet/report.py", "--help")
+    yield from check_help(report, "DESCRIPTION", text)
+    yield from check_statuses(report, text.partition("Exit status:")[2], r"\b([0-9]+) if ")
+
+
+def faults(program):
+    """Where the pages differ from this program, the header and the scripts of attest/."""
     yield from check_program(program)
     yield from check_library()
     for name, script in (("ima-attest.1", "verify"), ("ima-enroll.1", "enroll"), ("ima-collect.1", "collect")):
         yield from check_usage(name, said_by(ROOT / "attest" / script))
-    yield from check_usage("fleet-verify.1", said_by(*fleet, "--help"))
-    yield from check_statuses("fleet-verify.1", "fleet.md")

@@ -4,7 +4,7 @@
 tests/faults/words.py [ROOT]: the tree whose crates are read, or else the one that this file is in.
 
 A fault has one sentence, its `#[error("..")]`, by which it is displayed; the program tells it to a terminal. The faults with a number must
-have the sentences of the tables of docs/formats.md, which the help prints. All others, and the texts of `agent_inputs/src/fault.rt` and
+have the sentences of the tables of docs/errors.txt, which the help prints. All others, and the texts of `agent_inputs/src/fault.rt` and
 `ima_agent/src/explanations.rt` that put sentences together, must be those of words.txt, by crate and fault.
 
 A row of a table that begins with 'it' or 'its' says what is wrong at a place, which its sentence names first."""

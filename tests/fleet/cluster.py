@@ -9,12 +9,13 @@ import time
 from contextlib import contextmanager, suppress
 from dataclasses import dataclass, field
 from pathlib import Path
-from typing import Optional, Tuple
+from typing import Optional, Sequence, Tuple
 
 ROOT = Path(__file__).resolve().parents[2]
 SECONDS = 240  # (a limit for what is to come: the computer may have much else to do)
 REQUIRE = "sha256:0-10"  # of all runs that ask for nothing else
-SHARED = ("--progress", "1", "--deadline", str(SECONDS))  # (a machine may wait at a gate)
+UNQUOTED = ("--unquoted",)  # of all runs that say nothing of quotes
+SHARED = ("--progress", "1", "--deadline", str(2 * SECONDS))  # (a machine may wait at a gate)
 
 
 def python_with_dask():
@@ -35,12 +36,36 @@ def until(what, condition, client=None):
 
 
 def environment_of(library, folder):
-    """The environment of all processes: the binding, the library in this folder, and no settings of Dask from elsewhere."""
+    """The environment of all processes: the binding, the library in this folder, and no settings of Dask from elsewhere, but for keys by which
+    schedulers, workers and clients know each other."""
     return {
+        **tls_settings(folder),
         **os.environ, "PYTHONPATH": str(ROOT / "bindings/python"), "IMA_VERIFY_LIBRARY": str(library / "libima_verify.so"),
         "DASK_CONFIG": str(folder / "dask"), "PYTHONDONTWRITEBYTECODE": "1",
         "NOTED_CALLS": str(folder / "calls"), "GATE": str(folder / "gate"),
     }
+
+
+def tls_settings(folder):
+    """The settings of Dask for `tls://`, with a new key, whose certificate all take; none where there is no `openssl`."""
+    key, certificate = folder / "tls-key.pem", folder / "tls.pem"
+    words = ["openssl", "req", "-x509", "-newkey", "rsa:2048", "-nodes", "-days", "2", "-subj", "/CN=fleet", "-keyout", key, "-out", certificate]
+    if shutil.which("openssl") is None:
+        return {}
+    subprocess.run(words, check=True, capture_output=True)
+    parts = {"CERT": certificate, "KEY": key}
+    settings = {f"{who}__{part}": file for who in ("SCHEDULER", "WORKER", "CLIENT") for part, file in parts.items()}
+    return {f"DASK_DISTRIBUTED__COMM__TLS__{name}": str(file) for name, file in {"CA_FILE": certificate, **settings}.items()}
+
+
+def preloading(folder, module):
+    """The environment in which the workers of `--workers` load this module before all else, and no other process does."""
+    folder.mkdir(exist_ok=True)
+    (folder / "sitecustomize.py").write_text(
+        "import sys\nwith open('/proc/self/cmdline') as file:\n    is_worker = 'fleet_verify.worker' in file.read()\n"
+        f"if is_worker:\n    sys.path.append({str(module.parent)!r})\n    import {module.stem}\n    sys.path.pop()\n"
+    )
+    return {"PYTHONPATH": f"{folder}:{ROOT / 'bindings/python'}"}
 
 
 def children_of(process):
@@ -91,12 +116,14 @@ class Processes:
         yield
         gate.unlink()
 
-    def client(self, *words, said="clients", output=subprocess.PIPE, **given):
-        return self.start([ROOT / "fleet/verify.py", "--require", REQUIRE, *SHARED, *words], said, output, **given)
+    def client(self, *words, said="clients", output=subprocess.PIPE, by=UNQUOTED, **given):
+        return self.start([ROOT / "fleet/verify.py", "--require", REQUIRE, *SHARED, *by, *words], said, output, **given)
 
-    def verify(self, *words, require: Optional[str] = REQUIRE, seconds: float = SECONDS, **given: str) -> Tuple[int, str, str]:
+    def verify(
+        self, *words, require: Optional[str] = REQUIRE, by: Sequence[str] = UNQUOTED, seconds: float = SECONDS, **given: str
+    ) -> Tuple[int, str, str]:
         """The status of a run, and what it printed on both streams. It has no `--require` if that is None."""
-        words = [*words, *([] if require is None else [f"--require={require}"])]
+        words = [*by, *words, *([] if require is None else [f"--require={require}"])]
         ended = subprocess.run(
             [self.python, ROOT / "fleet/verify.py", *SHARED, *map(str, words)],
             env={**self.environment, **given}, cwd=self.folder, text=True, capture_output=True, timeout=seconds,
@@ -106,10 +133,11 @@ class Processes:
         return ended.returncode, ended.stdout, ended.stderr
 
     @contextmanager
-    def cluster(self, name, workers, *words, **given):
-        """A scheduler and workers. Gives the scheduler's address, and the processes, of which the scheduler's is the last."""
+    def cluster(self, name, workers, *words, protocol="tls", **given):
+        """A scheduler and workers, by TLS, unless the protocol is another. Gives the scheduler's address, and the processes, of which the
+        scheduler's is the last."""
         file = self.folder / f"{name}.json"
-        common = ["--host", "127.0.0.1", "--no-dashboard"]
+        common = ["--protocol", protocol, "--host", "127.0.0.1", "--no-dashboard"]
         scheduler = ["-m", "distributed.cli.dask_scheduler", *common, "--port", "0", "--scheduler-file", file]
         worker = ["-m", "distributed.cli.dask_worker", *common, "--scheduler-file", file, "--nthreads", "1"]
         worker += ["--local-directory", self.folder / name, *words]
@@ -117,7 +145,7 @@ class Processes:
         processes = [self.start(worker, **given) for _ in range(workers)] + [last]
         until("a scheduler", file.exists)
         until("its address", lambda: file.read_text().endswith("}"))
-        yield next(word for word in file.read_text().split('"') if word.startswith("tcp://")), processes
+        yield next(word for word in file.read_text().split('"') if word.startswith(f"{protocol}://")), processes
         for process in processes:
             process.terminate()
 

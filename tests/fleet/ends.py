@@ -3,11 +3,12 @@ library, and clients that signals stop. Whatever comes, a run says why it ends i
 
 import os
 import signal
+import socket
 import time
 from pathlib import Path
 
-from cluster import SECONDS, children_of, until
-from tables import counted, rows_of, times_of
+from cluster import REQUIRE, ROOT, SECONDS, UNQUOTED, children_of, preloading, until
+from tables import counted, query, rows_of, times_of
 
 NOTES = Path(__file__).with_name("noted_calls.py")
 
@@ -19,6 +20,34 @@ with open(os.environ["DEATHS"], "r+b") as file:
     if left:
         file.truncate(left - 1)
         os.kill(os.getpid(), signal.SIGKILL)
+"""
+# Preloaded by workers: each ends itself when few threads are left waiting.
+LEAVING = f"""
+import sys
+sys.path.append({str(NOTES.parent)!r})
+import noted_calls
+import fleet_verify.worker
+fleet_verify.worker.MOST_THREADS = 6
+"""
+# Preloaded by workers: each may have few threads.
+LIMITED = f"""
+import sys, threading
+sys.path.append({str(NOTES.parent)!r})
+import noted_calls
+start = threading.Thread.start
+def limited(self):
+    if threading.active_count() >= 8:
+        raise RuntimeError("can't start new thread")
+    start(self)
+threading.Thread.start = limited
+"""
+# A client that waits no longer for an answer than all that a machine may take.
+IMPATIENT = """
+import sys
+from fleet_verify import local
+from fleet_verify.main import main
+local.SPARE_SECONDS = 0
+sys.exit(main())
 """
 GATE, BATCH = 30, 2
 
@@ -36,7 +65,7 @@ class Ends:
         return ["--workers", 2, "--in-flight", 2 * BATCH, self.fleet.table, self.tools.folder / f"{name}.db"]
 
     def preload(self, module):
-        return {"DASK_DISTRIBUTED__WORKER__PRELOAD": f'["{module}"]'}
+        return preloading(self.tools.folder / f"with {module.stem}", module)
 
     def client(self, name, module=NOTES, **given):
         """A client, whose standard error goes to a file of this name."""
@@ -69,9 +98,13 @@ def test_ends(tools, fleet):
     test_signals(ends)
     test_early_signals(ends)
     test_own_worker_killed(ends)
+    test_own_client_killed(ends)
     test_deaths_at_start(ends)
     test_deadly_machines(ends)
+    test_left_threads(ends)
+    test_stopped_worker(ends)
     test_no_library(ends)
+    test_no_dask(ends)
 
 
 def test_signals(ends):
@@ -113,10 +146,9 @@ def test_own_worker_killed(ends):
     with ends.tools.gate(GATE):
         client = ends.client("own")
         until("the gate", lambda: len([number for number in ends.noted()[before:] if int(number) >= GATE]) == 2, client)
-        (nursery,) = children_of(client.pid)
-        workers = children_of(nursery)
+        workers = children_of(client.pid)
         os.kill(workers[0], signal.SIGKILL)
-        until("another worker", lambda: len(set(children_of(nursery)) - set(workers)) == 1, client)
+        until("another worker", lambda: len(set(children_of(client.pid)) - set(workers)) == 1, client)
     client.communicate(timeout=SECONDS)
     ends.check("an own worker killed: status", client.returncode, 1)
     ends.check_said("an own worker killed", "own", "done")
@@ -124,13 +156,60 @@ def test_own_worker_killed(ends):
     calls = ends.noted()[before:]
     more = len(calls) - len(set(calls))
     ends.check("an own worker killed: its batch was done again, and no other", more in range(1, BATCH + 1) or more, True)
-    until("the end of its workers", lambda: not any(Path(f"/proc/{each}").exists() for each in (nursery, *workers)))
+    until("the end of its workers", lambda: not any(map(is_running, workers)))
+
+
+def is_running(process):
+    return Path(f"/proc/{process}").exists()
+
+
+def test_own_client_killed(ends):
+    """A client is killed in the middle: its workers end, and nothing is left in its folder for temporary files."""
+    table, rest = ends.tools.folder / "killed.db", ends.tools.folder / "killed rest"
+    rest.mkdir()
+    with ends.tools.gate(GATE):
+        client = ends.client("killed", TMPDIR=str(rest))
+        until("a verdict", lambda: counted(table), client)
+        workers = children_of(client.pid)
+        ends.check("a client: it has its workers", len(workers), 2)
+        test_no_door(ends, (client.pid, *workers))
+        client.kill()
+        client.wait()
+        until("the end of its workers", lambda: not any(map(is_running, workers)))
+    recorded = times_of(table)
+    ends.check("a client killed: what is left in the folder for temporary files", list(rest.iterdir()), [])
+    ends.check_rest("a client killed", "killed", recorded)
+
+
+def test_no_door(ends, processes):
+    """None of these processes has a socket to which an address, a name or a file leads."""
+    with socket.create_server(("127.0.0.1", 0)) as server, socket.socket(socket.AF_UNIX) as named:
+        named.bind("\0fleet-verify-test")
+        found = [reachable_sockets() & sockets_of(os.getpid(), each.fileno()) for each in (server, named)]
+        ends.check("sockets that can be reached are found", all(found), True)
+    ends.check("no door", set.union(*map(sockets_of, processes)) & reachable_sockets(), set())
+
+
+def reachable_sockets():
+    """The inodes of all sockets to which an address, a name or a file leads."""
+    found = set()
+    for table in Path("/proc/net").glob("[tu][cd]p*"):
+        found.update(line.split()[9] for line in table.read_text().splitlines()[1:])
+    fields = [line.split() for line in Path("/proc/net/unix").read_text().splitlines()[1:]]
+    return found | {inode for *_, inode, _ in (each[:8] for each in fields if len(each) > 7)}
+
+
+def sockets_of(process, number="*"):
+    """The inodes of the sockets that a process has open, or of the one of this number."""
+    files = [os.readlink(file) for file in Path(f"/proc/{process}/fd").glob(str(number))]
+    return {name[8:-1] for name in files if name.startswith("socket:")}
 
 
 def test_deaths_at_start(ends):
     """Workers that die at their start are replaced; if all do, the run says so."""
     deaths = ends.tools.folder / "deaths"
-    for name, count, status, said in (("some die", 3, 1, "done"), ("all die", 1000, 3, "before they had started")):
+    all_died = "10 workers, one after another, ended before they had started"
+    for name, count, status, said in (("some die", 3, 1, "done"), ("all die", 1000, 3, all_died)):
         deaths.write_bytes(bytes(count))
         client = ends.client(name, module=ends.dying, DEATHS=str(deaths))
         client.communicate(timeout=SECONDS)
@@ -143,7 +222,7 @@ def test_deaths_at_start(ends):
 def test_deadly_machines(ends):
     """Each of many machines kills the one worker as soon as that has started: these fail, and the run goes on."""
     deadly = [f"machine {number}" for number in range(12)]
-    given = {"DEADLY": ",".join(name.split()[1] for name in deadly), "DASK_DISTRIBUTED__SCHEDULER__ALLOWED_FAILURES": "0"}
+    given = {"DEADLY": ",".join(name.split()[1] for name in deadly)}
     table = ends.tools.folder / "deadly machines.db"
     status, _, errors = ends.tools.verify("--workers", 1, ends.fleet.table, table, **ends.preload(NOTES), **given)
     ends.check("deadly machines: status", (status, errors if status == 3 else ""), (1, ""))
@@ -154,10 +233,56 @@ def test_deadly_machines(ends):
     ends.check("deadly machines: no other fails", len(rows), len(ends.fleet.rows) - len(reached))
 
 
+def test_left_threads(ends):
+    """A worker with many threads that wait for files, or without a thread any longer, starts anew, and no machine fails for it."""
+    machines = ends.tools.folder / "leaving.tsv"
+    lines, wanted = ends.fleet.table.read_text().splitlines(keepends=True)[:24], dict(list(ends.fleet.rows.items())[:24])
+    for number in range(0, 24, 2):
+        name = f"machine {number}"
+        lines[number] = f"{name}\tstuck://log\tstuck://list\tstuck://expected\n"
+        wanted[name] = ("unreadable", "TimeoutError: no answer in time", None, None, None, None, [])
+    machines.write_text("".join(lines))
+    for title, text in (("leaving", LEAVING), ("limited", LIMITED)):
+        module, table = (ends.tools.folder / f"{title}.{kind}" for kind in ("py", "db"))
+        module.write_text(text)
+        status, _, errors = ends.tools.verify("--workers", 1, "--deadline", 4, machines, table, **ends.preload(module))
+        ends.check(f"threads that are left, {title}: status and verdicts", (status, rows_of(table), errors if status == 3 else ""), (1, wanted, ""))
+        ((workers,),) = query(table, "SELECT count(DISTINCT worker) FROM verdicts")
+        ends.check(f"threads that are left, {title}: workers started anew", workers > 1, True)
+
+
+def test_stopped_worker(ends):
+    """A worker that does not go on is killed after a while, and its batch given to another."""
+    table, given = ends.tools.folder / "stopped.db", {"STOPPING": "10", "NOTED_CALLS": str(ends.tools.folder / "stopped.calls")}
+    given.update(ends.preload(NOTES))
+    given["PYTHONPATH"] += f":{ROOT / 'fleet'}"
+    words = [*UNQUOTED, "--require", REQUIRE, *ends.words("stopped"), "--deadline", 3]
+    client = ends.tools.start(["-c", IMPATIENT, *words], said="stopped", **given)
+    client.communicate(timeout=SECONDS)
+    ends.check("a worker is stopped: status", client.returncode, 1)
+    ends.check("a worker is stopped: each machine has its verdict", rows_of(table), ends.fleet.rows)
+    ends.check("a worker is stopped: it had a machine", (ends.tools.folder / "stopped.calls").read_text().split().count("10"), 2)
+
+
 def test_no_library(ends):
     """Workers without the library give no verdict."""
     table = ends.tools.folder / "none.db"
     given = {"IMA_VERIFY_LIBRARY": str(ends.tools.folder / "none.so")}
     status, _, errors = ends.tools.verify("--workers", 1, ends.fleet.table, table, **given)
-    ends.check("no library: status and cause", (status, "ImportError" in errors, "Traceback" in errors), (3, True, False))
+    found = (status, "ImportError" in errors, "the same command" in errors, "Traceback" in errors)
+    ends.check("no library: status and cause", found, (3, True, False, False))
     ends.check("no library: nothing is recorded", counted(table), 0)
+
+
+def test_no_dask(ends):
+    """Without Dask there are workers of this computer, and a run by a scheduler is refused."""
+    lacking, table = ends.tools.folder / "no dask", ends.tools.folder / "no dask.db"
+    for name in ("dask", "distributed"):
+        (lacking / name).mkdir(parents=True)
+        (lacking / name / "__init__.py").write_text("raise ImportError('it is not there')\n")
+    given = {"PYTHONPATH": f"{lacking}:{ends.tools.environment['PYTHONPATH']}"}
+    status, output, errors = ends.tools.verify("--scheduler", "tls://127.0.0.1:1", ends.fleet.table, table, **given)
+    found = (status, output, "--scheduler needs the package distributed: it is not there" in errors, "the same command" in errors)
+    ends.check("no Dask: a scheduler", found, (2, "", True, False))
+    status, _, _ = ends.tools.verify("--workers", 1, ends.fleet.table, table, **given)
+    ends.check("no Dask: workers", (status, rows_of(table)), (1, ends.fleet.rows))

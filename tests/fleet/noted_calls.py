@@ -2,8 +2,9 @@
 NOTED_CALLS, a line each.
 
 A machine is known by its number, that of the empty lines at the end of its expected registers. The machines DEADLY kill their
-worker, the machine LARGE gets no memory, and on the machine LYING the worker answers that it matches, whatever the report says. While
-there is a file GATE, the machines from the number that it has on wait. Of an object `stuck://` nothing ever comes."""
+worker, the machine STOPPING stops the first that verifies it, the machine LARGE gets no memory, and on the machine LYING the worker answers
+that it matches, whatever the report says. While there is a file GATE, the machines from the number that it has on wait. Of an object
+`stuck://` nothing ever comes."""
 
 import dataclasses
 import os
@@ -61,6 +62,8 @@ def note(number):
         time.sleep(SECONDS)
     if number in os.environ.get("DEADLY", "").split(","):
         os.kill(os.getpid(), signal.SIGKILL)
+    if number == os.environ.get("STOPPING") and Path(os.environ["NOTED_CALLS"]).read_text().split().count(number) == 1:
+        os.kill(os.getpid(), signal.SIGSTOP)
     if number == os.environ.get("LARGE"):
         raise MemoryError
 

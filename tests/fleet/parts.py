@@ -1,5 +1,6 @@
 """Tests of parts, for tests/fleet/test: batches, answers, the end of a run, causes, the units of systemd, the types and the wheel."""
 
+import re
 import shutil
 import subprocess
 import sys
@@ -10,15 +11,14 @@ from cluster import REQUIRE, ROOT, SECONDS
 # Prints how many machines of a batch are answered in so many seconds, for each, and their verdicts.
 BATCHES = """
 import json, sys
-import distributed
-from types import SimpleNamespace
-distributed.get_worker = lambda: SimpleNamespace(address="here")
-from fleet_verify.work import verify_batch
+from fleet_verify.verdict import Asked, Given
+from fleet_verify.work import verify_batch, written_place, written_request
 folder, require = sys.argv[1:]
 paths = [f"{folder}/{file}" for file in ("firmware.log", "ima.list", "expected.txt")]
+asked = Asked(require=require, is_poll=False, is_quoted=False, deadline=60)
 for seconds in (0, 1000):
-    request = {"machines": [(paths, None)] * 5, "require": require, "known": None, "is_poll": False, "seconds": seconds, "deadline": 60}
-    told, *reports = verify_batch(json.dumps(request)).split("\\n")
+    request = written_request(asked, False, seconds, [written_place(paths, Given())] * 5)
+    told, *reports = verify_batch(request, "here", None).split("\\n")
     print([answer["verdict"] for answer in json.loads(told)["answers"]], len(reports))
 """
 
@@ -29,9 +29,13 @@ ANSWERS = """
 import json
 from fleet_verify.answers import BadAnswers, read_answers
 from fleet_verify.machines import Machine
+from fleet_verify.verdict import Asked
 MACHINES = [Machine("a", ("/a",)), Machine("b", ("/b", "/c", "/d"))]
 MATCH, DIFFER = '{"registers":[],"verdict":"match"}', '{"registers":[],"verdict":"differ"}'
 KNOWN = '{{"registers":[],"known_from":0,"unknown":[{}],"verdict":"{}"}}'
+QUOTED = '{{"registers":[],"quote":"{}","signature":"{}","verdict":"{}"}}'
+def asked(is_quoted=False, known=None):
+    return Asked("sha256:0-10", False, is_quoted, 60, known)
 first = {"places": ["/a"], "verdict": "match"}
 second = {"places": ["/b", "/c", "/d"], "verdict": "match"}
 for others, reports in (
@@ -49,10 +53,13 @@ for others, reports in (
     ([second], [MATCH, MATCH, MATCH]),
     ([{**second, "verdict": "refused"}], [MATCH, MATCH]),
     ([second], [MATCH, KNOWN.format("", "match")]),
+    ([second], [MATCH, QUOTED.format("match", "checked", "match")]),
+    ([{**second, "nonce": "00"}], [MATCH, MATCH]),
+    ([{**second, "verdict": "slow"}], [MATCH]),
 ):
     text = "\\n".join([json.dumps({"worker": "here", "answers": [first, *others], "seconds": 1}), *reports])
     try:
-        print([(answer["verdict"], answer.get("cause")) for answer in read_answers(text, MACHINES).answers])
+        print([(answer["verdict"], answer.get("cause")) for answer in read_answers(text, MACHINES, asked()).answers])
     except BadAnswers as fault:
         print(fault)
 for verdict, report in (
@@ -60,8 +67,17 @@ for verdict, report in (
     ("match", MATCH), ("differ", DIFFER), ("match", KNOWN.format("17", "match")), ("match", KNOWN.format("x", "match")),
 ):
     text = "\\n".join([json.dumps({"worker": "here", "answers": [{**first, "verdict": verdict}], "seconds": 1}), report])
-    (answer,) = read_answers(text, MACHINES, True).answers
+    (answer,) = read_answers(text, MACHINES, asked(known="files")).answers
     print(answer["verdict"], answer.get("unknown"), answer.get("first_unknown"), answer.get("cause"))
+for verdict, report, given in (
+    ("match", QUOTED.format("match", "checked", "match"), {"nonce": "00"}), ("match", MATCH, {"nonce": "00"}),
+    ("match", QUOTED.format("match", "checked", "match"), {}), ("match", QUOTED.format("differ", "checked", "match"), {"nonce": "00"}),
+    ("match", QUOTED.format("match", "not checked", "match"), {"nonce": "00"}),
+    ("differ", QUOTED.format("match", "checked", "match"), {"nonce": "00"}),
+):
+    text = "\\n".join([json.dumps({"worker": "here", "answers": [{**first, "verdict": verdict, **given}], "seconds": 1}), report])
+    (answer,) = read_answers(text, MACHINES, asked(is_quoted=True)).answers
+    print(answer["verdict"], answer.get("cause"))
 """
 TAKEN = [("match", None)]
 FAULTS = [
@@ -73,9 +89,12 @@ ANSWERS_WANTED = [
     str(TAKEN * 2), str(TAKEN), *(str([*TAKEN, fault]) for fault in FAULTS),
     "worker here gave 3 answers on 2 machines", "worker here gave 1 reports on 2 machines", "worker here gave 3 reports on 2 machines",
     "worker here gave 2 reports on 1 machines", str([*TAKEN, ("troubled", "the worker's report is by known files")]),
+    *[str([*TAKEN, ("troubled", "the worker's report is by a quote")])] * 2, str([*TAKEN, ("slow", None)]),
     "match 0 None None", "differ 2 17 None", "differ 1 0 None", *2 * ["troubled None None the worker's report is not by the known files"],
     "troubled None None the worker's verdict is a match with unknown entries",
-    "troubled None None the worker's report is not by the known files",
+    "troubled None None the worker's verdict is not that of its report",
+    "match None", *["troubled the worker's report is not by a quote"] * 2, "troubled the worker's verdict is a match by a quote that differs",
+    *["troubled the worker's verdict is not that of its report"] * 2,
 ]
 
 # Stops runs of three machines, of which two are in flight: the first is answered at that moment, the second not, or a moment later. Prints
@@ -101,11 +120,11 @@ class Future:
         self.status = "finished"
         set_answer = lambda: self.answer.set_result(self.text)
         asyncio.get_running_loop().call_later(seconds, set_answer) if seconds else set_answer()
-class Client:
+class Workers:
     threads, known = {"here": 1}, None
     def __init__(self):
-        self.futures, self.client = [], self
-    def submit(self, function, request, **given):
+        self.futures = []
+    def submit(self, request, is_patient):
         self.futures.append(Future(MACHINES[len(self.futures)]))
         return self.futures[-1]
     def lost(self):
@@ -113,16 +132,16 @@ class Client:
     async def look(self):
         pass
 async def stop(table, seconds):
-    client, verdicts = Client(), Verdicts(table, "none")
-    options = SimpleNamespace(in_flight=2, poll=False, require="none", patience=600, deadline=60)
+    workers, verdicts = Workers(), Verdicts(table, "none")
+    options = SimpleNamespace(in_flight=2, poll=False, require="none", unquoted=True, max_age=None, patience=600, deadline=60)
     show = SimpleNamespace(show=lambda *_: None)
     ledger = Ledger(verdicts, MACHINES, {}, False, lambda *_: None)
-    running = asyncio.create_task(Run(client, ledger, show, options).verify())
-    while len(client.futures) < 2:
+    running = asyncio.create_task(Run(workers, ledger, show, options).verify())
+    while len(workers.futures) < 2:
         await asyncio.sleep(0.01)
-    client.futures[0].end(0)
+    workers.futures[0].end(0)
     if seconds:
-        client.futures[1].end(seconds)
+        workers.futures[1].end(seconds)
     running.cancel()
     await asyncio.wait([running])
     print(running.cancelled(), *(name for name, in verdicts.connection.execute("SELECT machine FROM verdicts ORDER BY 1")))
@@ -133,7 +152,7 @@ STOPPED_WANTED = ["True a", "True a b"]
 
 # Prints the causes that exceptions of drivers have.
 CAUSES = """
-from fleet_verify.work import cause_of
+from fleet_verify.reading import cause_of
 path = "s3://bucket/host-1/log"
 print(cause_of(FileNotFoundError(path), path))
 print(cause_of(FileNotFoundError("bucket/host-1/log"), path))
@@ -145,18 +164,19 @@ print(cause_of(RuntimeError("the key x does not exist"), "s3://bucket/x"))
 print(cause_of(RuntimeError("s3://bucket/x is gone"), "simplecache::s3://bucket/x"))
 print(cause_of(RuntimeError("no answer"), "file:///"))
 print(cause_of(RuntimeError("no answer"), "/"))
+print(cause_of(RuntimeError(chr(27) + "]0;x" + chr(7) + chr(10) + chr(0xdc80))))
 """
 CAUSES_WANTED = [
     "FileNotFoundError: ..", "FileNotFoundError: ..", "PermissionError: [Errno 13] Permission denied",
     "RuntimeError: no answer from ..?", "MemoryError", "OSError: [Errno 22] Bad request: ..", "RuntimeError: the key .. does not exist",
-    "RuntimeError: .. is gone", "RuntimeError: no answer", "RuntimeError: no answer",
+    "RuntimeError: .. is gone", "RuntimeError: no answer", "RuntimeError: no answer", "RuntimeError: ?]0;x???",
 ]
 
 # Prints the paths of machines in folders, and what is said of the last, which has no such file.
 FOLDERS = """
 import math
 from fleet_verify.machines import Machine
-from fleet_verify.work import read_inputs
+from fleet_verify.reading import read_inputs
 for folder in ("/", "/srv/boot/", "s3://bucket/", "s3://bucket/x", "file:///"):
     machine = Machine("machine", (folder,))
     print(machine.paths[0])
@@ -172,7 +192,7 @@ FOLDERS_WANTED = [
 FITNESS = """
 import os
 import ima_verify
-from fleet_verify.work import require_fitness, required
+from fleet_verify.verdict import require_fitness, required
 def judge(require):
     for is_poll in (False, True):
         try:
@@ -221,18 +241,59 @@ def test_version(tools):
     tools.check("--version", said, f"fleet-verify {(ROOT / 'VERSION').read_text().strip()}\n")
 
 
+# What the service may not do without a reason: its exposure, as systemd-analyze has it, times ten; and what that does not look at.
+MOST_EXPOSED = 5
+LIMITS = ("MemoryMax=4G", "OOMPolicy=continue", "PrivateNetwork=yes", "RestrictAddressFamilies=none", "ProtectHome=yes", "PrivateUsers=yes")
+
+
 def test_units(tools):
     """The units of systemd, with a program that is there; it says of what it does not know."""
     tools.needs("systemd-analyze")
     folder = tools.folder / "units"
     shutil.copytree(ROOT / "fleet/systemd", folder)
     service, timer = folder / "fleet-poll.service", folder / "fleet-poll.timer"
-    service.write_text(service.read_text().replace("ExecStart=fleet-verify ", "ExecStart=/bin/true "))
-    for title, is_right in (("its units", True), ("an unknown setting", False)):
+    text = re.sub(r"^(Exec\w+=)fleet-verify ", r"\1/bin/true ", service.read_text(), flags=re.MULTILINE)
+    tools.check("the service has its limits", [limit for limit in LIMITS if limit not in text.splitlines()], [])
+    exposed = ["systemd-analyze", "security", "--offline=true", "--no-pager", f"--threshold={MOST_EXPOSED}", service]
+    for title, edited, is_right in (
+        ("its units", text, True), ("an unknown setting", text.replace("PrivateNetwork=", "PrivateNetwork2="), False),
+    ):
+        service.write_text(edited)
         words = ["systemd-analyze", "verify", "--man=no", service, timer]
         done = subprocess.run(words, capture_output=True, text=True, timeout=SECONDS)
         tools.check(f"systemd-analyze verify: {title}", (done.returncode, "fleet-poll" in done.stdout + done.stderr), (0, not is_right))
-        service.write_text(service.read_text().replace("PrivateNetwork=", "PrivateNetwork2="))
+        done = subprocess.run(exposed, capture_output=True, text=True, timeout=SECONDS)
+        tools.check(f"systemd-analyze security: {title}", done.returncode == 0, is_right)
+
+
+def unit_words(setting, values):
+    """The words of this setting of the service, with the values of settings: `${X}` is a part of a word, `$X` words."""
+    [line] = re.findall(rf"^{setting}=fleet-verify (.*)$", (ROOT / "fleet/systemd/fleet-poll.service").read_text(), re.MULTILINE)
+    for word in line.split():
+        if word.startswith("$") and word[1:] in values:
+            yield from values[word[1:]].split()
+        else:
+            yield re.sub(r"\$\{(\w+)\}", lambda found: values[found[1]], word)
+
+
+def test_unit_commands(tools, fleet):
+    """What the service runs: a poll, and then nonces."""
+    folder = tools.folder / "service"
+    folder.mkdir()
+    machines = folder / "machines.tsv"
+    machines.write_text("".join(f"{name}\t{paths[0].parent}\n" for name, paths in fleet.files.items()))
+    settings = dict(re.findall(r"^(\w+)=(.*)$", (ROOT / "fleet/systemd/poll.conf").read_text(), re.MULTILINE))
+    given = {**settings, "STATE_DIRECTORY": str(folder), "RUNTIME_DIRECTORY": str(folder), "MACHINES": str(machines)}
+    lacking = [*unit_words("ExecStart", {**given, "OPTIONS": ""})]
+    tools.check("the service without its options is refused", tools.verify(*lacking, require=None, by=())[0], 2)
+    words = [*unit_words("ExecStart", {**given, "OPTIONS": "--unquoted", "MAX_AGE": "9999d"})]
+    status, output, _ = tools.verify(*words, require=None, by=())
+    tools.check("the service polls", (status, output.partition("\n")[0]), (0, f"match {len(fleet.rows)}"))
+    counts = re.findall(r'^ima_fleet_machines\{.*verdict="match"\} (.*)$', (folder / "fleet.prom").read_text(), re.MULTILINE)
+    tools.check("the service's metrics", [float(count) for count in counts], [len(fleet.rows)])
+    done = tools.start([ROOT / "fleet/verify.py", *unit_words("ExecStopPost", given)])
+    done.communicate(timeout=SECONDS)
+    tools.check("the service gives out nonces", (done.returncode, {path.name for path in (folder / "nonces").iterdir()}), (0, set(fleet.rows)))
 
 
 def test_types(tools):
@@ -258,8 +319,10 @@ def test_wheel(tools):
     with zipfile.ZipFile(wheel) as packed:
         names = set(packed.namelist())
         (entry,) = (packed.read(name).decode() for name in names if name.endswith("entry_points.txt"))
-    modules = {f"fleet_verify/{file.name}" for file in (ROOT / "fleet/fleet_verify").iterdir() if file.is_file()}
+    files = [file for file in (ROOT / "fleet/fleet_verify").rglob("*") if file.is_file() and file.suffix != ".pyc"]
+    modules = {str(file.relative_to(ROOT / "fleet")) for file in files}
     tools.check("the wheel has the package, and nothing of the tests", {name for name in names if ".dist-info/" not in name}, modules)
-    tools.check("the wheel has the command", "fleet-verify = fleet_verify.main:main" in entry, True)
+    commands = {"fleet-verify": "fleet_verify.main:main", "ima-report": "fleet_verify.report:main"}
+    tools.check("the wheel has the commands", dict(re.findall(r"^(\S+) = (\S+)$", entry, re.MULTILINE)), commands)
     done = subprocess.run([tools.python, "-m", "fleet_verify", "--help"], env={"PYTHONPATH": str(wheel)}, capture_output=True, text=True)
     tools.check("the command's help", (done.returncode, "--require REGISTERS" in done.stdout), (0, True))

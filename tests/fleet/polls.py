@@ -32,11 +32,12 @@ NOTHING = "nothing to compare: no register is expected"
 HIDDEN = '[{"event":25,"register":10}]'  # what is told of HIDING
 ROWS = "SELECT machine, verdict, cause, json_extract(report, '$.extends'), list_from, list_sha256 FROM verdicts"
 CHECKPOINTS = "SELECT machine, checkpoint FROM checkpoints"
+FIRST = "number = (SELECT number FROM found WHERE machine = 'machine 0')"
 
 # Reads a list in an object store that is a class of fsspec, from some bytes on, and prints the ranges that it is asked for.
 RANGES = """
 import fsspec, math
-from fleet_verify.work import read_input
+from fleet_verify.reading import read_input
 from fsspec.spec import AbstractBufferedFile, AbstractFileSystem
 DATA = bytes(range(251)) * 80_000
 class Object(AbstractBufferedFile):
@@ -207,6 +208,11 @@ class Growing:
         is_whole = self.kind.startswith("restarted") or self.kind in ("other version", "lost", "ahead")
         return self.row(start=0 if is_whole else before)
 
+    @property
+    def has_other_log(self):
+        """Whether its log at the third poll is not that of the second."""
+        return self.files(3)[0] != self.files(2)[0]
+
     def whole_row(self):
         """What must come of it after the third poll, if its list is there, and read from the beginning."""
         if self.kind.startswith("tampered"):
@@ -254,8 +260,13 @@ class Polls:
 
     def check_changes(self, title, verdicts, wanted):
         """The last poll noted these changes, and no others."""
-        text = "SELECT machine, verdict, cause FROM changes WHERE poll = (SELECT max(number) FROM polls)"
+        text = "SELECT machine, verdict, cause FROM changes WHERE kind = 'verdict' AND poll = (SELECT max(number) FROM polls)"
         self.check(f"{title}: changes", dict(keyed(query(verdicts, text))), dict(keyed(wanted)))
+
+    def check_reboots(self, title, verdicts, wanted):
+        """The last poll noted that these machines had another boot, and no others."""
+        text = "SELECT machine FROM changes WHERE kind = 'reboot' AND poll = (SELECT max(number) FROM polls) ORDER BY machine"
+        self.check(f"{title}: reboots", [name for name, in query(verdicts, text)], sorted(wanted))
 
 
 def keyed(rows):
@@ -322,6 +333,7 @@ def test_third_poll(polls, verdicts):
     rows = [machine.third_row() for machine in polls.machines]
     polls.check_poll("the third poll", verdicts, rows)
     polls.check_changes("the third poll", verdicts, [row[:3] for row in rows if row[1] != before[row[0]]])
+    polls.check_reboots("the third poll", verdicts, [machine.name for machine in polls.machines if machine.has_other_log])
     entries = {name: row[3] for name, row in rows_of(verdicts).items() if row[0] == "match"}
     wanted = {}
     for machine in polls.machines:
@@ -346,7 +358,7 @@ def test_killed_poll(polls, verdicts, undisturbed):
     done = query(verdicts, text)
     polls.check("a poll killed: each verdict has its own checkpoint", set(done) <= set(query(undisturbed, text)), True)
     polls.check("a poll killed: status of the next", polls.tools.verify(*polls.words(verdicts))[0], 1)
-    changes = "SELECT machine, verdict, cause FROM changes ORDER BY machine, number"
+    changes = "SELECT machine, kind, verdict, cause FROM changes ORDER BY machine, number"
     found, wanted = (
         (rows_of(table), dict(query(table, CHECKPOINTS)), query(table, changes)) for table in (verdicts, undisturbed)
     )
@@ -382,15 +394,15 @@ def test_stale(polls, verdicts):
     polls.check("the query of what is not well", (found, 0 < len(bad) < MACHINES), (bad, True))
     stale = {None, *names}
     for title, script, wanted in (
-        ("all is well", "UPDATE verdicts SET verdict = 'match'", set()),
-        ("a machine that the last poll lacks", "UPDATE verdicts SET poll = 1 WHERE machine = 'machine 0'", {*bad, "machine 0"}),
+        ("all is well", "UPDATE found SET verdict = 'match'", set()),
+        ("a machine that the last poll lacks", f"UPDATE given SET poll = 1 WHERE {FIRST}", {*bad, "machine 0"}),
         ("the last poll ended long ago", "UPDATE ends SET time = '2020-01-01T00:00:00.000+00:00'", stale),
         ("the last poll ended at no time", "UPDATE ends SET time = 'now and then'", stale),
         ("no poll ended", "DELETE FROM ends", stale),
         ("a poll that runs", "INSERT INTO polls (time) VALUES ('now')", bad),
-        ("a machine of a poll that runs", "UPDATE verdicts SET poll = poll + 1 WHERE machine = 'machine 0'", bad),
+        ("a machine of a poll that runs", f"UPDATE given SET poll = poll + 1 WHERE {FIRST}", bad),
         ("a run that is no poll ended", "UPDATE ends SET poll = NULL", stale),
-        ("a poll that recorded nothing ended", "DELETE FROM verdicts", {None}),
+        ("a poll that recorded nothing ended", "DELETE FROM found", {None}),
     ):
         table = shutil.copyfile(verdicts, polls.tools.folder / f"{title}.db")
         change(table, script)
@@ -433,11 +445,11 @@ def test_two_polls(polls, verdicts):
 
 def test_damaged_table(polls, verdicts):
     """A table that is damaged, or lacks a half, is refused: no verdict in it stands."""
-    half, cut = polls.tools.folder / "half.db", polls.tools.folder / "cut.db"
-    shutil.copyfile(verdicts, half)
-    change(half, "DELETE FROM verdicts WHERE machine = 'machine 0'")
+    half, other, cut = (polls.tools.folder / f"{name}.db" for name in ("half", "other half", "cut"))
+    change(shutil.copyfile(verdicts, half), f"DELETE FROM found WHERE {FIRST}")
+    change(shutil.copyfile(verdicts, other), f"DELETE FROM given WHERE {FIRST}")
     whole = verdicts.read_bytes()
     cut.write_bytes(whole[: len(whole) // 2])
-    for title, table in (("half of a machine's rows", half), ("half of a file", cut)):
+    for title, table in (("half of a machine's rows", half), ("the other half of them", other), ("half of a file", cut)):
         status, output, errors = polls.tools.verify(*polls.words(table))
         polls.check(f"refused: a table with {title}", (status, output, "refused: " in errors), (2, "", True))

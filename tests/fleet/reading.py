@@ -2,17 +2,18 @@
 files, and those of which nothing comes. An object store that is a class of fsspec has the objects."""
 
 import os
+import time
 
 from cluster import ROOT, SECONDS
 
 # The object store: what an object gives is told by its name.
 STORE = """
 import io, json, math, os, sys, threading, time
-import distributed, fsspec
-from types import SimpleNamespace
-from fleet_verify.work import MOST_BYTES, answer_on, read_input, read_inputs, verify_batch
+import fsspec
+from fleet_verify.reading import MOST_BYTES, read_input, read_inputs
+from fleet_verify.verdict import Asked, Given, answer_on
+from fleet_verify.work import verify_batch, written_place, written_request
 from fsspec.spec import AbstractFileSystem
-distributed.get_worker = lambda: SimpleNamespace(address="here")
 DATA = bytes(range(251)) * 8_000
 LET_GO = threading.Event()
 class Pieces(io.BytesIO):
@@ -34,6 +35,8 @@ class Store(AbstractFileSystem):
         kinds = {"pieces": Pieces, "long pieces": Pieces, "drops": Drops, "stuck": Stuck, "no memory": NoMemory}
         return kinds.get(path, io.BytesIO)(bytes(MOST_BYTES + 5) if "long" in path else DATA)
 fsspec.register_implementation("store", Store)
+def asked(deadline, is_poll=False):
+    return Asked(require="none", is_poll=is_poll, is_quoted=False, deadline=deadline)
 """
 
 # Prints whether inputs are read whole, and what is said of those that are not read.
@@ -44,31 +47,49 @@ print(read_inputs(["store://pieces", "store://long", "store://pieces"], math.inf
 with open("/proc/version", "rb") as file:
     print(read_input("/proc/version", math.inf) == file.read() != b"")
 for path in sys.argv[1:]:
-    print(answer_on([path] * 3, None, "none", False, 60)["cause"])
-told = answer_on(["store://no memory"] * 3, None, "none", False, 60)
+    print(answer_on([path] * 3, Given(), asked(60))["cause"])
+told = answer_on(["store://no memory"] * 3, Given(), asked(60))
 print(told["verdict"], told["cause"])
 """
 NO_FILE = "log: OSError: it is no regular file"
 WHOLE_WANTED = ["True True", "1 1", "refused: too long list", "True", *[NO_FILE] * 4, "troubled MemoryError"]
 
-# Prints the answers on machines of which nothing, or not enough, comes in time; then whether the threads that
-# they left keep this process from its end.
+# Prints the answers on machines of which nothing, or not enough, comes in time, in batches that are patient, and in those that are not, where
+# the deadline is near, and where it is far; then whether the threads that they left keep this process from its end.
 LATE = STORE + """
-print(answer_on(["store://pieces", "store://drops", "store://pieces"], None, "none", False, 1)["cause"])
-for is_poll in (False, True):
-    machines = [(["/none"] * 3, None), (["store://pieces", "store://stuck", "store://pieces"], None), (["/none"] * 3, None)]
-    request = {"machines": machines, "require": "none", "known": None, "is_poll": is_poll, "seconds": 1000, "deadline": 1}
-    told = json.loads(verify_batch(json.dumps(request)))
-    print([(answer["verdict"], answer["cause"], answer["places"]) for answer in told["answers"]], 1 < told["seconds"] < 20)
+print(answer_on(["store://pieces", "store://drops", "store://pieces"], Given(), asked(1))["cause"])
+slow = [["store://pieces", f"store://{name}", "store://pieces"] for name in ("drops", "stuck")]
+for is_poll, is_patient, deadline in ((False, True, 1), (True, True, 1), (False, False, 1), (False, False, 60)):
+    lines = [written_place(paths, Given()) for paths in (["/none"] * 3, *slow, ["/none"] * 3)]
+    told = json.loads(verify_batch(written_request(asked(deadline, is_poll), is_patient, 1000, lines), "here", None))
+    answers = [(answer["verdict"], answer["cause"], answer["places"][1][-5:]) for answer in told["answers"]]
+    print(answers, 1 < told["seconds"] < 20)
 threads = [thread.daemon for thread in threading.enumerate()]
 LET_GO.set()
 while threading.active_count() > 1:
     time.sleep(0.01)
 print(threads)
 """
-NONE = ("unreadable", "log: FileNotFoundError: [Errno 2] No such file or directory", ["/none"] * 3)
-STUCK = ("unreadable", "TimeoutError: no answer in time", ["store://pieces", "store://stuck", "store://pieces"])
-LATE_WANTED = ["list: TimeoutError: no answer in time", *[f"{[NONE, STUCK]} True"] * 2, "[False, True, True]"]
+NONE = ("unreadable", "log: FileNotFoundError: [Errno 2] No such file or directory", "/none")
+DROPS, STUCK = "list: TimeoutError: no answer in time", "TimeoutError: no answer in time"
+UNREADABLE = [NONE, ("unreadable", DROPS, "drops"), ("unreadable", STUCK, "stuck")]
+SLOW = [NONE, ("slow", STUCK, "drops")]
+LATE_WANTED = [DROPS, *[f"{UNREADABLE} True"] * 3, f"{SLOW} True", str([False, *[True] * 4])]
+
+# Prints which lists are young enough, by their paths: one that was changed now, one long ago, one in a future, one that is not there; and
+# objects, of which one has no time.
+AGES = STORE + """
+from datetime import datetime, timedelta, timezone
+class Aged(Store):
+    def modified(self, path):
+        times = {"new": datetime.now(timezone.utc), "old": datetime.now(timezone.utc) - timedelta(hours=2), "of no zone": datetime.now()}
+        return times[path]
+fsspec.register_implementation("aged", Aged)
+for path in (*sys.argv[1:], "aged://new", "aged://old", "aged://of no zone", "store://pieces"):
+    print(read_inputs(["/proc/version", path, "/none"], math.inf, 0, max_age=3600)[0]["cause"])
+"""
+READ, STALE = "expected: FileNotFoundError: [Errno 2] No such file or directory", "stale: list"
+AGES_WANTED = [READ, STALE, STALE, READ.replace("expected", "list"), READ, *[STALE] * 3]
 
 
 def test_reading(tools):
@@ -76,9 +97,14 @@ def test_reading(tools):
     modules = {"PYTHONPATH": f"{ROOT / 'bindings/python'}:{ROOT / 'fleet'}"}
     fifo = tools.folder / "fifo"
     os.mkfifo(fifo)
+    lists = [tools.folder / name for name in ("new list", "old list", "list of the future", "no list")]
+    for path, age in zip(lists[:-1], (0, 7200, -7200)):
+        path.write_bytes(b"")
+        os.utime(path, (time.time(), time.time() - age))
     for title, script, words, wanted in (
         ("files and objects are read until they end", WHOLE, (fifo, f"file://{fifo}", "/dev/zero", tools.folder), WHOLE_WANTED),
         ("a machine of which nothing comes in time", LATE, (), LATE_WANTED),
+        ("the age of lists", AGES, lists, AGES_WANTED),
     ):
         said = tools.start(["-c", script, *words], **modules).communicate(timeout=SECONDS)[0]
         tools.check(title, said.splitlines(), wanted)

@@ -1,10 +1,12 @@
 """Tests of what runs record, for tests/fleet/test: a table that is read, written by another hand, or that refuses to be written; what stops a run
-in place of a verdict; the paths of verdicts that stand; and that nothing is left beside the table."""
+in place of a verdict; the paths of verdicts that stand; that nothing is left beside the table; and which versions fit."""
 
+import re
 import shutil
 from pathlib import Path
 
 from cluster import ROOT, SECONDS, until
+from fleet_verify.versions import FIRST, TOO_LATE, misfits
 from tables import change, counted, query, record_beside, rows_of
 
 # Records a verdict while a reader is in the middle of a query, and prints what that and another see; then how many
@@ -34,6 +36,7 @@ ERRORS = """
 import asyncio, itertools, sys
 from types import SimpleNamespace
 from distributed import KilledWorker
+from fleet_verify.cluster import ClusterAnswer
 from fleet_verify.ledger import Ledger
 from fleet_verify.machines import Machine
 from fleet_verify.run import Run
@@ -50,12 +53,12 @@ class Future:
         return self.fault
     def done(self):
         return True
-class Client:
+class Workers:
     threads, known = {"here": 1}, None
     def __init__(self, *ended):
-        self.client, self.ended = self, itertools.cycle(ended)
-    def submit(self, function, request, **given):
-        return Future(*next(self.ended))
+        self.ended = itertools.cycle(ended)
+    def submit(self, request, is_patient):
+        return ClusterAnswer(Future(*next(self.ended)))
     def lost(self):
         return None
     async def look(self):
@@ -63,10 +66,10 @@ class Client:
 SECOND = '{"worker": "here", "answers": [{"places": ["/b"], "verdict": "refused", "time": "now"}], "seconds": 1}'
 async def run(table, *ended):
     verdicts = Verdicts(table, "none")
-    options = SimpleNamespace(in_flight=2, poll=False, require="none", patience=600, deadline=60)
+    options = SimpleNamespace(in_flight=2, poll=False, require="none", unquoted=True, max_age=None, patience=600, deadline=60)
     ledger = Ledger(verdicts, [Machine(name, (f"/{name}",)) for name in "ab"[:len(ended)]], {}, False, lambda *_: None)
     try:
-        await asyncio.wait_for(Run(Client(*ended), ledger, SimpleNamespace(show=lambda *_: None), options).verify(), 20)
+        await asyncio.wait_for(Run(Workers(*ended), ledger, SimpleNamespace(show=lambda *_: None), options).verify(), 20)
         print("done", end=" ")
     except Exception as fault:
         print(type(fault).__name__, end=" ")
@@ -86,7 +89,7 @@ ERRORS_WANTED = [
 # By these a table refuses to be written: by an error of SQLite that is none of its constraints, and by one that is.
 REFUSING = {
     "lacks a table": "DROP TABLE checkpoints",
-    "has a trigger": "CREATE TRIGGER refusing BEFORE INSERT ON verdicts BEGIN SELECT RAISE(ABORT, 'refused'); END",
+    "has a trigger": "CREATE TRIGGER refusing BEFORE UPDATE ON given BEGIN SELECT RAISE(ABORT, 'refused'); END",
 }
 
 
@@ -104,6 +107,7 @@ def test_records(tools, fleet):
         test_unended(tools, fleet, words)
         test_other_paths(tools, fleet)
     test_nothing_left(tools, fleet)
+    test_versions(tools, fleet)
 
 
 def test_unwritable(tools, fleet, words):
@@ -161,3 +165,37 @@ def test_nothing_left(tools, fleet):
         found, *_ = tools.verify("--workers", 1, *words, fleet.table, folder / "verdicts.db", **given, **library)
         left = sorted(path.name for path in (*folder.iterdir(), *(folder / "files").iterdir()))
         tools.check(f"{title}: status, and what is left", (found, left), (status, ["files", "verdicts.db"]))
+
+
+def told_by(distributed, python="3.11.2.final.0"):
+    """What a process of Dask tells of its versions."""
+    return {"host": {"python": python}, "packages": {"distributed": distributed}}
+
+
+def test_versions(tools, fleet):
+    """Versions that do not fit are named, those of this computer before anything starts."""
+    scheduler, workers = told_by("2022.12.1"), {"tls://a:1": told_by("2022.12.1+ds.1"), "tls://b:1": told_by("2022.12.1", "3.11.9.final.0")}
+    told = {"client": told_by("2022.12.1+ds.1"), "scheduler": scheduler, "workers": workers}
+    tools.check("versions of a cluster that fit", misfits(told), {})
+    here = "and this computer distributed 2022.12.1 by Python 3.11"
+    for title, name, other, wanted in (
+        ("another Dask", "tls://b:1", told_by("2023.1.0"), "it has distributed 2023.1.0 by Python 3.11"),
+        ("another Python", "tls://b:1", told_by("2022.12.1", "3.9.2.final.0"), "it has distributed 2022.12.1 by Python 3.9"),
+        ("no version", "tls://b:1", told_by(None), "it has distributed  by Python 3.11"),
+    ):
+        found = misfits({**told, "workers": {**workers, name: other}})
+        tools.check(f"versions of a worker: {title}", {name: str(fault) for name, fault in found.items()}, {name: f"{wanted}, {here}"})
+        tools.check(f"versions of a scheduler: {title}", list(misfits({**told, "scheduler": other})), ["(the scheduler)"])
+    bounds = re.search(r'"distributed>=([0-9.]+),<([0-9.]+)"', (ROOT / "fleet/pyproject.toml").read_text())
+    tools.check("the versions that the package asks for", bounds and bounds.groups(), (FIRST, TOO_LATE))
+    for installed, is_taken in (("2022.12.1+x", True), ("2022.12.0", False), ("2023.1.0", False), ("", False)):
+        folder = tools.folder / f"distributed {installed}"
+        information = folder / f"distributed-{installed or 0}.dist-info"
+        information.mkdir(parents=True)
+        (information / "METADATA").write_text(f"Metadata-Version: 2.1\nName: distributed\nVersion: {installed}\n")
+        status, _, errors = tools.verify(
+            "--scheduler", "tls://127.0.0.1:1", fleet.table, folder / "never.db", PYTHONPATH=f"{folder}:{ROOT / 'bindings/python'}",
+            DASK_DISTRIBUTED__COMM__TIMEOUTS__CONNECT="1s",
+        )
+        found = (status, f"its version is {installed}, " in errors)
+        tools.check(f"version {installed!r} of distributed: status", found, (3, False) if is_taken else (2, True))

@@ -23,8 +23,12 @@ def change(table, text, *values):
 
 def record_beside(table, name, verdict):
     """Records a verdict by another hand."""
-    text = "INSERT INTO verdicts (machine, verdict, required, log, list, expected, time) VALUES (?, ?, ?, '', '', '', 'now')"
-    change(table, text, name, verdict, REQUIRE)
+    with closing(sqlite3.connect(table, timeout=SECONDS)) as connection, connection:
+        connection.execute("BEGIN IMMEDIATE")
+        (number,) = connection.execute("SELECT ifnull(max(number), 0) + 1 FROM found").fetchone()
+        text = "INSERT INTO found (number, machine, verdict, required, log, list, expected) VALUES (?, ?, ?, ?, '', '', '')"
+        connection.execute(text, (number, name, verdict, REQUIRE))
+        connection.execute("INSERT INTO given (number, time) VALUES (?, 'now')", (number,))
 
 
 def rows_of(table):

@@ -1,6 +1,6 @@
 #!/usr/bin/env python3
-"""Requires that the pages quote proved callers, and the tables of faults in the program's help, to the letter, that their links lead to
-what is there, and that the picture is what its script makes.
+"""Requires that the pages quote proved callers, and docs/errors.txt the tables of faults in the program's help, to the letter, that links lead
+to what is there, and that the picture is what its script makes.
 
 tests/pages/quotes.py [ROOT]: the tree whose README.md and docs/*.md are read, by default the one that this file is in.
 
@@ -8,11 +8,13 @@ Each block that begins with ```rust must be in one file of crates/uses/src, as w
 contracts, doc comments or both left out. A contract is what is between the signature of a function and the line `{` of its body. Where it
 is left out, the `{` ends the signature's last line. A doc comment is a line that begins with `///`. There must be at least one block.
 
-Each block that begins with ```text faults must be one of the tables of crates/command_line/src/fault_tables.rt. Each of these must be
-quoted once.
+Each table of docs/errors.txt, which ends at an empty line, must be one of crates/command_line/src/fault_tables.rt. Each of these must be
+there once.
 
-Each link to a file of the tree must lead to one, and if it names a heading of a page, to that. The links of the README of tests/cases/ and
-of each folder of bindings/ are checked too. docs/trust.svg must be what tools/picture.py prints.
+Each link to a file of the tree must lead to one, and if it names a heading of a page, to that. The links of CONTRIBUTING.md and of the READMEs
+of dist/, samples/, tests/cases/ and each folder of bindings/ are checked too. docs/trust.svg must be what tools/picture.py prints.
+
+Where a file of tests/ names headings of a page, as docs/verdict.md, 'Checkpoints' does, the page must have them.
 
 For a block that is not found, the script prints the lines in which it differs from what is nearest to it."""
 
@@ -27,12 +29,14 @@ sys.path.insert(0, str(Path(__file__).resolve().parents[1]))
 import harness  # noqa: E402
 
 BLOCK = re.compile(r"^```rust\n(.*?)^```$", re.MULTILINE | re.DOTALL)
-FAULTS = re.compile(r"^```text faults\n(.*?)^```$", re.MULTILINE | re.DOTALL)
+FAULTS = re.compile(r"^([A-Z][a-z]+ faults \(.*?\n)(?=\n|\Z)", re.MULTILINE | re.DOTALL)
 TABLE = re.compile(r'"\\\n(.*?\n)" "\\n"', re.DOTALL)
 CONTRACT = re.compile(r"\n(?:    (?:requires|ensures|//) ?.*\n(?:        .*\n)*)+\{\n")
 DOC_COMMENT = re.compile(r"^ *///.*\n", re.MULTILINE)
 FENCED = re.compile(r"^```.*?^```$", re.MULTILINE | re.DOTALL)
 HEADING = re.compile(r"^#{1,6} (.*)$", re.MULTILINE)
+QUOTED = r"(?:'[A-Z][^']*'|\"[A-Z][^\"]*\")"
+CITATION = re.compile(rf"(docs/[\w-]+\.md)(?:,\s+|\s+\()({QUOTED}(?:,\s+{QUOTED})*)")
 LINK = re.compile(r"\]\((?!https?://)([^)#\s]*)(?:#([^)\s]*))?\)")
 
 
@@ -100,18 +104,19 @@ class Quotes(harness.TestCase):
 
     def test_tables(self):
         tables = TABLE.findall((self.root / "crates/command_line/src/fault_tables.rt").read_text())
-        quoted = list(self.blocks(FAULTS))
+        quoted = FAULTS.findall((self.root / "docs/errors.txt").read_text())
         for table in tables:
-            self.check(f"how often this is quoted: {table.splitlines()[0]}", sum(text == table for _, text in quoted), 1)
-        for place, text in quoted:
+            self.check(f"how often this is quoted: {table.splitlines()[0]}", quoted.count(table), 1)
+        for text in quoted:
             if text not in tables:
                 fault = difference(text.splitlines(), map(str.splitlines, tables))
-                self.check(f"{place}: the block is a table of the help", fault, None)
+                self.check(f"docs/errors.txt: it is a table of the help: {text.splitlines()[0]}", fault, None)
         self.assertTrue(tables, "no table of faults in crates/command_line/src/fault_tables.rt")
 
     def test_links(self):
         passed, faults = 0, []
-        for page in [*self.pages, self.root / "tests/cases/README.md", *sorted((self.root / "bindings").glob("*/README.md"))]:
+        others = [self.root / "CONTRIBUTING.md", *(self.root / name / "README.md" for name in ("dist", "samples", "tests/cases"))]
+        for page in [*self.pages, *others, *sorted((self.root / "bindings").glob("*/README.md"))]:
             for name, heading in LINK.findall(FENCED.sub("", page.read_text())):
                 target = page.parent / name if name else page
                 if target.exists() and (not heading or heading in headings(target)):
@@ -119,6 +124,19 @@ class Quotes(harness.TestCase):
                 else:
                     faults.append(f"{page.relative_to(self.root)}: no {name}{heading and '#' + heading}")
         self.check_all("links", passed, faults)
+
+    def cited(self):
+        """The headings that files of the tests name: the place, the page and the heading."""
+        files = [file for file in sorted((self.root / "tests").glob("**/*")) if file.suffix in (".case", ".files", ".md", ".py")]
+        for file, (page, titles) in ((file, found) for file in files for found in CITATION.findall(file.read_text())):
+            yield from ((file.relative_to(self.root), page, " ".join(title[1:-1].split())) for title in re.findall(QUOTED, titles))
+
+    def test_citations(self):
+        pages = {f"docs/{page.name}": set(HEADING.findall(FENCED.sub("", page.read_text()))) for page in (self.root / "docs").glob("*.md")}
+        cited = list(self.cited())
+        faults = [f"{place}: no {page}, '{title}'" for place, page, title in cited if title not in pages.get(page, ())]
+        self.check_all("headings that tests name", len(cited) - len(faults), faults)
+        self.assertTrue(cited, "no heading that tests name")
 
     def test_picture(self):
         made = subprocess.run([sys.executable, self.root / "tools/picture.py"], stdout=subprocess.PIPE, check=True).stdout

@@ -1,6 +1,6 @@
 #!/usr/bin/env python3
-"""Runs the guide's recipes with jq, as they are on the page, on lists and logs that try to evade them; and the examples of README and guide,
-which must print what is below them.
+"""Runs the recipes of attest.md, investigate.md and cli.md, as they are on the pages, on lists and logs that try to evade them; and the
+examples of these pages and README, which must print what is below them.
 
 tests/pages/recipes.py PROGRAM: the program that is installed as `ima-agent`. A recipe must show what is due as JSON, by `tests/reference/`. It
 must fail with an empty, a cut and a missing input, and with a program that dies after its last line. Each runs in a folder in which a machine
@@ -25,12 +25,13 @@ from reference.measurement_list import IMA, IMA_NG, IMA_SIG, VIOLATION, Entry, e
 from reference.registers import BY_NAME, SHA1  # noqa: E402
 
 [PROGRAM] = (Path(name).resolve() for name in sys.argv[1:])
+PAGES = "docs/attest.md", "docs/investigate.md", "docs/cli.md"
 BLOCK = re.compile(r"^```sh\n(.*?)^```$", re.MULTILINE | re.DOTALL)
 EXAMPLES = re.compile(r"(?:^    \$ .*\n(?:^    .*\n)*)", re.MULTILINE)
 EXAMPLE = re.compile(r"^\$ ((?:.*\\\n)*.*)\n((?:(?!\$ ).*\n)*)", re.MULTILINE)
 # What only the recipe's block has.
 JUDGE, TAKE, EVENTS = '--known "$known"', "--argjson confirmed", "diff before.events"
-AGGREGATE, PATHS = "--arg aggregate", 'select(has("payload"))'
+AGGREGATE = "--arg aggregate"
 JUDGED, MEASURED = "ima-agent verify --require sha256:0-10 firmware.log ima.list expected.txt", "--files-from names"
 
 SAMPLE = ROOT / "samples/real-boot"
@@ -52,7 +53,6 @@ def of_template(name, payload):
     return Entry(10, SHA1.hash(payload), name, payload)
 
 
-D_NG = with_length(b"sha256:\0" + UNKNOWN)
 UNKNOWN_PAYLOAD = measured(UNKNOWN).payload
 
 # Entries that say of a file that it is known, and others.
@@ -89,23 +89,6 @@ SHOWN = {
     "a template's name of two lines": of_template(SAYS_KNOWN + b'\n{"judged":2}\n', UNKNOWN_PAYLOAD),
     "a payload without fields": of_template(IMA_NG, b"/usr/bin/ls"),
     "an empty payload": of_template(IMA_NG, b""),
-}
-# Payloads of other templates, and what is shown of the path.
-PATHS_SHOWN = {
-    "ima-modsig, a path with a line feed": (D_NG + with_length(b"/a\n\x1b[2J\0") + with_length(b"\1"), {"path": "/a\n\x1b[2J"}),
-    "ima-ngv2": (with_length(b"verity:sha256:\0" + UNKNOWN) + with_length(b"/a\0"), {"path": "/a"}),
-    "a path that is not UTF-8": (D_NG + with_length(b"/\xff\0"), {"path_hex": "2fff"}),
-    "a path that is not ASCII": (D_NG + with_length(b"/\xc3\xa9\0"), {"path_hex": "2fc3a9"}),
-    "a path that a terminal obeys": (D_NG + with_length(b"/\x7f\x1b[2J\0"), {"path": "/\x7f\x1b[2J"}),
-    "an empty path": (D_NG + with_length(b"\0"), {"path": ""}),
-    "a path of 4,095 bytes": (D_NG + with_length(b"a" * 4095 + b"\0"), {"path": "a" * 4095}),
-    "a path without a NUL": (D_NG + with_length(b"/a"), {"path": None}),
-    "a path with two": (D_NG + with_length(b"/a\0\0"), {"path": None}),
-    "a path that is cut": (D_NG + with_length(b"/a\0")[:-1], {"path": None}),
-    "a path that ends after the payload": (D_NG + b"\x09\0\0\0/a\0", {"path": None}),
-    "a path after 4 GiB": (b"\xff\xff\xff\xff" + b"/a\0", {"path": None}),
-    "no path": (D_NG, {"path": None}),
-    "no payload": (b"", {"path": None}),
 }
 
 
@@ -152,12 +135,9 @@ def printed_by(commands, folder):
 
 
 def lay_out(folder):
-    """Makes a folder that is both a checkout of this tree, for README, and what the guide's reader has of the sample boot."""
-    for name in ("try", "ima-agent"):
-        folder.joinpath(name).symlink_to(PROGRAM)
+    """Makes a folder with the program, the samples, and what a reader of attest.md has of the sample boot."""
+    folder.joinpath("ima-agent").symlink_to(PROGRAM)
     folder.joinpath("samples").symlink_to(ROOT / "samples")
-    folder.joinpath("attest").mkdir()
-    shutil.copy(ROOT / "attest/verify", folder / "attest")
     for sample in SAMPLE.iterdir():
         shutil.copy(sample, folder)
 
@@ -169,7 +149,7 @@ class Recipes(harness.TestCase):
         self.needs("bash", "jq")
         top = self.folder()
         self.sent, self.kept, self.installed = top / "sent", top / "kept", top / "bin"
-        self.blocks = BLOCK.findall((ROOT / "docs/guide.md").read_text())
+        self.blocks = [block for page in PAGES for block in BLOCK.findall((ROOT / page).read_text())]
         for made in (self.sent, self.kept, self.installed):
             made.mkdir()
 
@@ -201,13 +181,6 @@ class Recipes(harness.TestCase):
         done = subprocess.run(["bash", "-c", block], cwd=self.sent, env={**os.environ, **own, **settings}, stdin=subprocess.DEVNULL,
                               capture_output=True, timeout=60)
         return done.returncode, done.stdout
-
-    def shown(self, mark, files):
-        """The values that the recipe shows, if each is a line of ASCII that no terminal obeys; or else its status and its output."""
-        status, output = self.ran(mark, files)
-        if status or any(byte != 10 and not 32 <= byte < 127 for byte in output):
-            return status, output
-        return [json.loads(line) for line in output.splitlines()]
 
     def fails(self, mark, files, agent="", **settings):
         """Whether the recipe fails, and with another status than those of answers (4: no entry, of jq)."""
@@ -281,7 +254,7 @@ class Recipes(harness.TestCase):
             self.check(what, is_refused and not (self.kept / "known.txt").read_bytes())
 
     def judged(self, log, entries):
-        """What the guide's verdict on a log and entries says of registers that are not theirs, where all registers have their values."""
+        """What the verdict of attest.md on a log and entries says of registers that are not theirs, where all registers have their values."""
         first = entry_of(IMA_NG, SHA256, log.registers().boot_aggregate(SHA256), b"boot_aggregate")
         entries = [first if entry is FIRST else entry for entry in entries]
         status, output = self.ran(JUDGED, of_verdict(log, entries))
@@ -382,32 +355,21 @@ class Recipes(harness.TestCase):
             self.check(what, self.fails(AGGREGATE, of_list(good) | data))
         self.check("a program that dies", self.fails(AGGREGATE, of_list(good) | log, DYING))
 
-    def test_paths(self):
-        """the paths of entries of other templates"""
-        for what, (payload, path) in PATHS_SHOWN.items():
-            entry = of_template(b"ima-modsig", payload)
-            wanted = {**{name: value for name, value in entry.as_json(1).items() if name != "payload"}, **path}
-            self.check(what, self.shown(PATHS, of_list(FIRST, entry)), [wanted])
-        violation = of_template(b"ima-modsig", PATHS_SHOWN["ima-ngv2"][0])._replace(template_digest=VIOLATION)
-        for what, entry in (("a violation", violation), ("a template's name that a terminal obeys", of_template("ima-\u009b".encode(), b""))):
-            wanted = {name: value for name, value in entry.as_json(1).items() if name != "payload"} | {"path": None}
-            self.check(what, self.shown(PATHS, of_list(FIRST, entry)), [wanted])
-        for what, files in (("an empty list", of_list()), ("no such entry", of_list(FIRST))):
-            self.check(what, self.ran(PATHS, files), (4, b""))
-        for what, files in damaged_lists():
-            self.check(what, self.fails(PATHS, files))
-        for what, agent in (("that dies", DYING), ("that dies before its first line", " > /dev/null" + DYING), ("with other JSON", FOREIGN)):
-            self.check(f"a program {what}", self.fails(PATHS, of_list(of_template(b"x", b"")), agent))
+    def test_quick_start(self):
+        """the commands of README's quick start"""
+        blocks = BLOCK.findall((ROOT / "README.md").read_text())
+        self.check("README has some", len(blocks) > 2)
+        for block in blocks:
+            self.check(f"attest.md has it, where tests run it: {block.strip()}", block in self.blocks)
 
     def test_examples(self):
         """an example of a page"""
-        self.needs("openssl")
-        for page in ("README.md", "docs/guide.md", "docs/investigate.md"):
+        for page in ("README.md", *PAGES):
             blocks = [re.sub("^    ", "", block, flags=re.MULTILINE) for block in EXAMPLES.findall((ROOT / page).read_text())]
             folder, found = self.folder(), EXAMPLE.findall("".join(blocks))
             lay_out(folder)
             printed = printed_by([command for command, _ in found], folder)
-            self.check(f"each of {page} is run", len(printed) == len(found) + 1 and len(found) > 5)
+            self.check(f"each of {page} is run", len(printed) == len(found) + 1 and len(found) > 4)
             for (command, lines), output in zip(found, printed):
                 is_right = not lines or re.fullmatch(pattern_of(lines), output)
                 self.check(command, None if is_right else f"printed {output!r}", None)

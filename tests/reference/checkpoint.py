@@ -1,4 +1,4 @@
-"""Where a verification stopped, and its text ('A checkpoint', 'Going on from a checkpoint')."""
+"""Where a verification stopped, and its text ('A checkpoint', 'Checkpoints')."""
 
 from __future__ import annotations
 

@@ -1,4 +1,4 @@
-"""The arguments of the program ('The command line')."""
+"""The arguments of the program ('Commands', 'Options')."""
 
 import re
 from typing import Callable, NamedTuple, Optional

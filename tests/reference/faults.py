@@ -1,4 +1,4 @@
-"""The faults of docs/formats.md with their numbers, and the lines that tell them ('Fault lines')."""
+"""The faults of docs/cli.md with their numbers, and the lines that tell them ('Errors')."""
 
 from enum import IntEnum
 

@@ -3,7 +3,7 @@
 import json
 import re
 
-# What a terminal obeys, what turns the direction of a text, and what separates lines ('Events explained').
+# What a terminal obeys, what turns the direction of a text, and what separates lines ('Events').
 STEERING = re.compile(r"[\x7f-\x9f\u061c\u200e\u200f\u2028-\u202e\u2066-\u2069]")
 
 

@@ -1,4 +1,4 @@
-"""What the program answers ('The command line', "The program's input", "The program's output")."""
+"""What the program answers (docs/cli.md)."""
 
 import os
 import re
@@ -100,7 +100,7 @@ class Inputs:
                 return b"", not_read(name)
 
     def save(self, name, data):
-        """Makes a file of these bytes, or leaves what has the name as it is ('Going on from a checkpoint'). It is not synced, which nothing here
+        """Makes a file of these bytes, or leaves what has the name as it is ('Saving'). It is not synced, which nothing here
         can tell."""
         try:
             beside, file = self.created_beside(name, self.mode_in_place_of(name))
@@ -345,7 +345,7 @@ def attest_command(inputs, values, log, listed, message, expected=None):
 
 
 def is_growing(values):
-    """Whether the list is one that grows ('Going on from a checkpoint')."""
+    """Whether the list is one that grows ('Checkpoints')."""
     return values["--prefix"] or values["--resume"] is not None or values["--save"] is not None
 
 
@@ -385,7 +385,7 @@ def further_names(inputs, values):
 
 
 def measured(log, algorithm, template, limit, files, workers):
-    """The entries of the boot aggregate and of files, each a name and a digest, and each entry once ('A measurement')."""
+    """The entries of the boot aggregate and of files, each a name and a digest, and each entry once ('A file tree')."""
     registers = log.registers()
     if template == IMA and algorithm is not SHA1:
         raise BookFault.WRONG_HASH.at_opening()

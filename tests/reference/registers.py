@@ -1,4 +1,4 @@
-"""Algorithms, and banks of registers ('Algorithms', 'Registers', 'The boot aggregate', 'Register lines')."""
+"""Algorithms, and banks of registers ('Algorithms', 'PCRs', 'The boot aggregate')."""
 
 import hashlib
 from typing import Callable, NamedTuple

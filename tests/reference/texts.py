@@ -52,7 +52,7 @@ def lines_of(text):
 
 
 def read_expected(text):
-    """The expected registers of a text ('Expected registers')."""
+    """The expected registers of a text ('Expected PCRs')."""
     states = States()
     for number, line in lines_of(text):
         match = EXPECTED.fullmatch(line)
@@ -110,7 +110,7 @@ def read_range(text):
 
 
 def read_requirement(text):
-    """The registers that a text requires, each by its algorithm and its number ('Required registers'), or None if the text is none, or names
+    """The registers that a text requires, each by its algorithm and its number ('Expected PCRs'), or None if the text is none, or names
     that of the list in no bank."""
     required = set()
     for part in text.split(","):

@@ -1,4 +1,4 @@
-"""The verdict on a log, a list and expected registers ('The verdict'), or on a list alone, and where each has its value ('Places')."""
+"""The verdict on a log, a list and expected registers (docs/verdict.md), or on a list alone, and where each has its value ('Where a value is made')."""
 
 from __future__ import annotations
 
@@ -133,7 +133,7 @@ def verdict(log, entries, expected, required=None):
 
 
 def missing_rows(expected, required):
-    """Each register that is required, but not expected ('Required registers')."""
+    """Each register that is required, but not expected ('Required PCRs')."""
     lacking = (required or set()) - {(row.algorithm, row.register) for row in expected}
     everywhere = ((algorithm, register) for algorithm in ALGORITHMS for register in range(REGISTERS))
     return [register for register in everywhere if register in lacking]

@@ -1,4 +1,4 @@
-"""Reads the library's answers. Whatever is not as docs/formats.md has it is a LibraryError."""
+"""Reads the library's answers. Whatever is not as docs/json.md has it is a LibraryError."""
 
 import json
 import re

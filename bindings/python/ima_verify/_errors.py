@@ -28,7 +28,7 @@ class Refused(Error):
 
     Attributes:
         kind: Which input, and for an entry of the list, whether its form or its digest is wrong.
-        number: The error's number among those of its kind; docs/formats.md says what each means.
+        number: The error's number among those of its kind; docs/errors.txt says what each means.
         place: The number of the event (LOG; the header is 0), the entry (LIST, REPLAY; from 0) or the line (EXPECTED, KNOWN; from 1), or None.
             Of several texts of known files lines count on from one to the next.
     """

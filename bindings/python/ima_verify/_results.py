@@ -404,8 +404,8 @@ class Event:
         data: Its data.
         measured: The part of its data whose hash is its digest, for each bank of which there is one. What is not measured is only what the
             log claims, and so is the type.
-        content: What its data says, by its type: one member, named by the form ("text", "variable", "image", ..; docs/formats.md has
-            them), which is "unknown" if the data has no form that the library knows.
+        content: What its data says, by its type: one member, named by the form ("text", "variable", "image", ..; docs/event-data.md
+            has them), which is "unknown" if the data has no form that the library knows.
     """
 
     number: int

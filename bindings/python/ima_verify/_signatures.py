@@ -2,7 +2,7 @@
 
 import base64
 import re
-from typing import Any, Iterator, Literal, Tuple, Union
+from typing import Any, Iterator, Literal, Optional, Tuple, Union
 
 from cryptography.exceptions import InvalidSignature as NotOfTheKey
 from cryptography.exceptions import UnsupportedAlgorithm
@@ -19,6 +19,17 @@ _HASHES = hashes.SHA256(), hashes.SHA384(), hashes.SHA512()
 _ANY_SALT = padding.PSS.AUTO
 _CURVES = ec.SECP256R1, ec.SECP384R1, ec.SECP521R1
 _LEAST_BITS, _LEAST_EXPONENT = 2048, 65537
+
+# What a key of RSA with the exponent 65537 has before and after its modulus (RFC 3279, 2.3.1), where each {} is a length of two bytes.
+_BEFORE_MODULUS = "3082{:04x}300d06092a864886f70d01010105000382{:04x}003082{:04x}0282{:04x}"
+_BEFORE_BYTES, _AFTER_MODULUS = 32, bytes.fromhex("0203010001")
+_LEAST_MODULUS_BYTES, _MOST_MODULUS_BYTES = 256, 4096
+# What a key of a curve has before the coordinates of its point, which is not compressed (RFC 5480, 2).
+_BEFORE_POINT = (
+    (ec.SECP256R1(), bytes.fromhex("3059301306072a8648ce3d020106082a8648ce3d03010703420004")),
+    (ec.SECP384R1(), bytes.fromhex("3076301006072a8648ce3d020106052b8104002203620004")),
+    (ec.SECP521R1(), bytes.fromhex("30819b301006072a8648ce3d020106052b810400230381860004")),
+)
 
 
 def verify(key: Union[BytesLike, str, PublicKey], signature: BytesLike, message: BytesLike) -> Literal[True]:
@@ -40,7 +51,11 @@ def _key_in(text: Union[BytesLike, str]) -> PublicKey:
         raise Misuse("the key is not the PEM of a public key alone (-----BEGIN PUBLIC KEY-----)")
     body = b"".join(found[1].split())
     try:
-        key = serialization.load_der_public_key(base64.b64decode(body, validate=True))
+        der = base64.b64decode(body, validate=True)
+        usual = _usual_key(der)
+        if usual is not None and base64.b64encode(der) == body:
+            return usual
+        key = serialization.load_der_public_key(der)
         anew = key.public_numbers().public_key() if isinstance(key, (rsa.RSAPublicKey, ec.EllipticCurvePublicKey)) else None
     except (ValueError, UnsupportedAlgorithm) as error:
         raise Misuse(f"the key cannot be read: {error}") from error
@@ -50,6 +65,29 @@ def _key_in(text: Union[BytesLike, str]) -> PublicKey:
     if base64.b64encode(written) != body:
         raise Misuse("the key is not encoded as a key of its kind is")
     return anew
+
+
+def _usual_key(der: bytes) -> Optional[PublicKey]:
+    """The key of which these bytes are the only encoding, if it is of RSA with the usual exponent, or of a curve: they are what would be written
+    of it. (To read and write a key OpenSSL 3 takes ten times as long as to verify a signature.)"""
+    modulus = int.from_bytes(der[_BEFORE_BYTES : -len(_AFTER_MODULUS)], "big")
+    if der == _rsa_written(modulus):
+        return rsa.RSAPublicNumbers(65537, modulus).public_key()
+    for curve, before in _BEFORE_POINT:
+        size = (curve.key_size + 7) // 8
+        if der.startswith(before) and len(der) == len(before) + 2 * size:
+            x, y = (int.from_bytes(der[at : at + size], "big") for at in (len(before), len(before) + size))
+            return ec.EllipticCurvePublicNumbers(x, y, curve).public_key()
+    return None
+
+
+def _rsa_written(modulus: int) -> Optional[bytes]:
+    """The encoding of a key of RSA with this modulus, and the usual exponent, if it has two bytes for each length."""
+    number = modulus.to_bytes(modulus.bit_length() // 8 + 1, "big")
+    size = len(number)
+    if not _LEAST_MODULUS_BYTES <= size <= _MOST_MODULUS_BYTES:
+        return None
+    return bytes.fromhex(_BEFORE_MODULUS.format(size + 33, size + 14, size + 9, size)) + number + _AFTER_MODULUS
 
 
 def _require_strong(key: PublicKey) -> None:

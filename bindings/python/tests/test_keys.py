@@ -28,7 +28,7 @@ ATTESTATION = {
     "ak-p521": (KeyType.ECC, 521, Scheme.ECDSA, Algorithm.SHA512),
 }
 ENDORSEMENT = {name: (kind, bits, Scheme.NONE, None) for name, kind, bits in (("ek-rsa", KeyType.RSA, 2048), ("ek-p256", KeyType.ECC, 256))}
-# The errors of the samples' other uses, by the table of docs/formats.md.
+# The errors of the samples' other uses, by the table of docs/errors.txt.
 REFUSED_AS_ATTESTATION = {"ak-sha1": 20, "ek-rsa": 17, "ek-p256": 17, "storage": 17, "unrestricted": 15}
 REFUSED_AS_ENDORSEMENT = {**dict.fromkeys((*ATTESTATION, "ak-sha1"), 21), "unrestricted": 15}
 # The errors of a key of RSA that lacks an attribute, or has one, by the bit (TPM 2.0 Library, part 2, TPMA_OBJECT).

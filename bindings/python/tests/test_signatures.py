@@ -268,6 +268,30 @@ class Signatures(unittest.TestCase):
                 self.check_not_taken(pem_with(sequence(algorithm_of(der), bits_of(bits))), reason)
             self.check_not_taken(pem_with(der + b"\0"), reason)
 
+    def test_usual_keys_are_those_that_openssl_reads_and_writes(self):
+        from ima_verify._signatures import _usual_key
+
+        chance, form = random.Random(67), (serialization.Encoding.DER, serialization.PublicFormat.SubjectPublicKeyInfo)
+        keys = [*self.rsa, *self.curves, *(rsa.generate_private_key(65537, bits) for bits in (2049, 2056))]
+        written = [der_in(pem_of(key)) for key in keys]
+        self.assertEqual([_usual_key(der).public_bytes(*form) for der in written], written)
+        unusual = rsa.RSAPublicNumbers(65539, self.rsa[0].private_numbers().public_numbers.n).public_key()
+        self.assertIsNone(_usual_key(unusual.public_bytes(*form)))
+        read = 0
+        for number in range(6000):
+            der = bytearray(written[number % len(written)])
+            for _ in range(chance.randrange(1, 3)):
+                der[chance.randrange(44 if chance.random() < 0.5 else len(der))] = chance.randrange(256)
+            try:
+                key = _usual_key(bytes(der))
+            except ValueError:  # (a point beside the curve, or a modulus that is even)
+                continue
+            if key is not None:
+                read += 1
+                self.assertEqual(serialization.load_der_public_key(bytes(der)).public_numbers(), key.public_numbers())
+                self.assertEqual(key.public_bytes(*form), der)
+        self.assertGreater(read, 600)
+
     def test_garbage_is_refused(self):
         chance = random.Random(66)
         keys = [der_in(KEY), *(der_in(pem_of(key)) for key in self.curves)]

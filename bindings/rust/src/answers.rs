@@ -1,4 +1,4 @@
-//! Reads the library's answers. What is not as `docs/formats.md` says is an `Unexpected`.
+//! Reads the library's answers. What is not as `docs/json.md` says is an `Unexpected`.
 
 use crate::library::{Told, DIFFERS, DONE, MORE, OUT_OF_MEMORY, REFUSED};
 use crate::{Algorithm, Attestation, BootAggregate, Clock, Content, Entry, Error, Event, File, Key, KeyType, Kind, ListVerdict};

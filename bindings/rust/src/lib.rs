@@ -509,8 +509,8 @@ pub struct Event {
     /// The part of the data whose hash is the digest, for each bank of which there is one. What is not measured is only what the log
     /// claims, and so is the type.
     pub measured: BTreeMap<Algorithm, Part>,
-    /// What the data says, by the type: one member, named by the form (`text`, `variable`, `image`, ..; docs/formats.md has them), which is
-    /// `unknown` if the data has no form that the library knows.
+    /// What the data says, by the type: one member, named by the form (`text`, `variable`, `image`, ..; docs/event-data.md has them), which
+    /// is `unknown` if the data has no form that the library knows.
     pub content: Map<String, Value>,
 }
 
@@ -609,7 +609,7 @@ pub enum Kind {
 #[derive(Debug, Clone, PartialEq, Eq, Hash)]
 #[non_exhaustive]
 pub enum Error {
-    /// An input is refused, or a requirement or a range. `docs/formats.md` says what each number means.
+    /// An input is refused, or a requirement or a range. `docs/errors.txt` says what each number means.
     #[non_exhaustive]
     Refused {
         /// What `ima-agent` prints, such as `refused: replay fault 1 at entry 5`.

@@ -1,4 +1,4 @@
-//! What a library may answer, and what not: lines of the forms that `docs/formats.md` shows, changes of them, and buffers.
+//! What a library may answer, and what not: lines of the forms that `docs/json.md` shows, changes of them, and buffers.
 
 use super::{Answer, Checkpoint};
 use crate::library::{ask, entries as list_entries, log_registers, zeros, Position, Told};

@@ -1,0 +1,136 @@
+"""`fleet-verify nonces`: gives out nonces for quotes, and keeps them in the table of verdicts."""
+
+import argparse
+import os
+import secrets
+import sqlite3
+import sys
+from contextlib import closing, suppress
+from datetime import datetime, timedelta
+from pathlib import Path
+from tempfile import mkstemp
+from typing import Dict, List, Sequence
+
+from .ending import NotStarted, complain
+from .machines import BadTable, Machine, read_machines
+from .options import Once, duration
+from .quotes import MOST_AGE
+from .reading import cause_of, now
+from .verdicts import BadVerdicts, open_table
+
+ABOUT = """Gives out a nonce for each machine of MACHINES, for its next quote.
+
+fleet-verify nonces [OPTION].. MACHINES TABLE
+
+MACHINES is the table of machines, and TABLE the table of verdicts, which is made if it is not there. It keeps the nonces, and when each
+was given out: a run with this TABLE takes a quote with one of them, and takes each once. A machine whose nonce is unused, and young
+enough, has no other. Without --folder each machine's name and its nonce go to standard output, with a tab between."""
+
+BYTES = 32
+
+# Those that are too old, or of a time to come, go; but not the last that a machine used, by which its quote is known as an old one.
+FORGET = """
+DELETE FROM nonces WHERE given_out NOT BETWEEN ? AND ?
+    AND (used IS NULL OR used < (SELECT max(last.used) FROM nonces AS last WHERE last.machine = nonces.machine))
+"""
+YOUNG = "SELECT machine, nonce FROM nonces WHERE used IS NULL AND given_out > ? ORDER BY given_out"
+
+
+def options_of(words: Sequence[str]) -> argparse.Namespace:
+    parser = argparse.ArgumentParser(
+        prog="fleet-verify nonces", description=ABOUT, formatter_class=argparse.RawDescriptionHelpFormatter, usage=argparse.SUPPRESS
+    )
+    parser.add_argument(
+        "--folder", metavar="FOLDER", action=Once, help="write each machine's nonce into a file of FOLDER that has the machine's name",
+    )
+    parser.add_argument(
+        "--max-age", metavar="AGE", action=Once, type=duration,
+        help="forget nonces that are older, as 3600, 90m, 1h or 2d, and give out another from half of this age on (default: 1h)",
+    )
+    parser.add_argument("machines", metavar="MACHINES", help="the table of machines")
+    parser.add_argument("table", metavar="TABLE", help="the table of verdicts")
+    return parser.parse_args(words)
+
+
+def earlier(time: str, seconds: float) -> str:
+    """The time that is so many seconds before this one."""
+    return (datetime.fromisoformat(time) - timedelta(seconds=seconds)).isoformat(timespec="milliseconds")
+
+
+def give_out(connection: sqlite3.Connection, machines: Sequence[Machine], most_age: float) -> Dict[str, str]:
+    """By name the latest nonce of each machine: one that it has, if it is unused and young enough, or a new one."""
+    with connection:
+        connection.execute("BEGIN IMMEDIATE")
+        time = now()
+        connection.execute(FORGET, (earlier(time, most_age), time))
+        kept = dict(connection.execute(YOUNG, (earlier(time, most_age / 2),)).fetchall())
+        given = {machine.name: kept[machine.name] if machine.name in kept else secrets.token_hex(BYTES) for machine in machines}
+        new = [(name, nonce, time) for name, nonce in given.items() if name not in kept]
+        connection.executemany("INSERT INTO nonces (machine, nonce, given_out) VALUES (?, ?, ?)", new)
+    return given
+
+
+def require_files(machines: Sequence[Machine]) -> None:
+    """Refuses machines whose names are no names of files."""
+    for machine in machines:
+        if "/" in machine.name or machine.name in (".", "..") or len(machine.name.encode()) > 255:
+            raise NotStarted(f"no file has the name {machine.name!r}")
+
+
+def write_files(folder: Path, given: Dict[str, str]) -> List[str]:
+    """Writes each nonce that its file does not have yet, and tells those that could not be written. A file is whole whenever it is read, and this
+    user alone may read it."""
+    folder.mkdir(mode=0o700, exist_ok=True)
+    faults = []
+    for name, nonce in given.items():
+        try:
+            write_file(folder / name, f"{nonce}\n")
+        except OSError as fault:
+            faults.append(f"{name}: {fault}")
+    return faults
+
+
+def write_file(path: Path, text: str) -> None:
+    if path.is_file() and path.read_text(errors="replace") == text:
+        return
+    file, new = mkstemp(dir=path.parent, prefix=".")
+    try:
+        with open(file, "w") as opened:
+            opened.write(text)
+        os.replace(new, path)
+    finally:
+        with suppress(FileNotFoundError):
+            os.unlink(new)
+
+
+def hand_out(words: Sequence[str]) -> int:
+    """Gives out nonces by these words."""
+    options = options_of(words)
+    try:
+        machines = read_machines(options.machines, is_quoted=True)
+    except (OSError, BadTable) as fault:
+        raise NotStarted(f"{options.machines}: {fault}") from None
+    if options.folder is not None:
+        require_files(machines)
+    try:
+        connection = open_table(options.table)
+    except (OSError, sqlite3.Error, BadVerdicts) as fault:
+        raise NotStarted(f"{options.table}: {fault}") from None
+    with closing(connection):
+        given = give_out(connection, machines, options.max_age or MOST_AGE)
+    if options.folder is None:
+        sys.stdout.write("".join(f"{name}\t{nonce}\n" for name, nonce in given.items()))
+        sys.stdout.flush()
+        return 0
+    faults = write_files(Path(options.folder), given)
+    return complain(f"stopped: {len(faults)} nonces could not be written: {faults[0]}", 3) if faults else 0
+
+
+def main(words: Sequence[str]) -> int:
+    """The exit status of a call with these words."""
+    try:
+        return hand_out(words)
+    except NotStarted as fault:
+        return complain(f"refused: {fault}", 2)
+    except Exception as fault:
+        return complain(f"stopped: {cause_of(fault)}", 3)

@@ -1,0 +1,126 @@
+"""Calls the program `ima-agent`, or `ima-attest` beside it, and takes its output as lines of JSON. What it says is not judged here, but nothing
+passes for a success that is not whole."""
+
+import json
+import os
+import signal
+import subprocess
+import tempfile
+import threading
+import time
+from contextlib import contextmanager, suppress
+from pathlib import Path
+from typing import IO, Any, Callable, Dict, Iterator, List, NamedTuple, Sequence
+
+from .rendering import text_of_bytes
+
+REFUSED, STOPPED = 2, 3
+_MOST_TOLD = 2000
+_MOST_BYTES = 16 * 1024 * 1024
+
+Line = Dict[str, Any]
+
+
+class Reply(NamedTuple):
+    """What a command gave: its status, the lines that were kept, how many there were, and why it failed, if it did."""
+
+    status: int
+    lines: List[Line]
+    total: int
+    fault: str
+
+    @property
+    def is_whole(self) -> bool:
+        return not self.fault
+
+
+class Output:
+    """Lines of output, of which so many are kept, and so many bytes; of the others as many if they are notable."""
+
+    def __init__(self, most: int = 1000, is_notable: Callable[[Line], bool] = lambda line: False):
+        self.lines: List[Line] = []
+        self.total, self.fault, self.is_notable = 0, "", is_notable
+        self.left = {False: (most, _MOST_BYTES), True: (most, _MOST_BYTES)}
+
+    def take(self, text: bytes) -> None:
+        line = _line(text)
+        if "fault" in line:
+            self.fault = str(line["fault"]["message"])
+            return
+        self.total += 1
+        if self._has_room(False, len(text)) or (self.is_notable(line) and self._has_room(True, len(text))):
+            self.lines.append(line)
+
+    def _has_room(self, is_notable: bool, size: int) -> bool:
+        count, room = self.left[is_notable]
+        if count < 1 or room < size:
+            self.left[is_notable] = (0, 0)
+            return False
+        self.left[is_notable] = (count - 1, room - size)
+        return True
+
+
+def ask(words: Sequence[str], folder: Path, seconds: float, output: Output, statuses: Sequence[int] = (0,)) -> Reply:
+    """The reply of a command that runs in this folder, for so many seconds at most.
+
+    Each of `statuses` says that all output was written: without a line, or with one that is no JSON or a fault, it is not believed."""
+    started = time.monotonic()
+    with tempfile.TemporaryFile() as told:
+        try:
+            with _running(words, folder, seconds, told) as process:
+                assert process.stdout is not None
+                for text in process.stdout:
+                    output.take(text)
+        except OSError as fault:
+            return Reply(STOPPED, [], 0, f"{Path(words[0]).name} cannot be started: {fault.strerror}")
+        told.seek(0)
+        said = text_of_bytes(told.read(_MOST_TOLD)).strip()
+    if process.returncode < 0 and time.monotonic() - started >= seconds:
+        return Reply(STOPPED, output.lines, output.total, f"the program did not end within {seconds} seconds")
+    return _outcome(process.returncode, statuses, output, said)
+
+
+@contextmanager
+def _running(words: Sequence[str], folder: Path, seconds: float, told: IO[bytes]) -> Iterator["subprocess.Popen[bytes]"]:
+    """A process, which is ended with all that it started after so many seconds, or where this is left early."""
+    process = subprocess.Popen(
+        words, cwd=folder, stdin=subprocess.DEVNULL, stdout=subprocess.PIPE, stderr=told, start_new_session=True
+    )
+
+    def end() -> None:
+        with suppress(ProcessLookupError):
+            os.killpg(process.pid, signal.SIGKILL)
+
+    watch = threading.Timer(seconds, end)
+    watch.start()
+    try:
+        yield process
+        process.wait()
+    finally:
+        watch.cancel()
+        if process.returncode is None:
+            end()
+        process.communicate()
+
+
+def _line(text: bytes) -> Line:
+    """A line of output; what is none is as a fault."""
+    try:
+        line = json.loads(text)
+    except ValueError:
+        line = None
+    if isinstance(line, dict) and text.endswith(b"\n"):
+        return line
+    return {"fault": {"message": text_of_bytes(text[:_MOST_TOLD]).strip()}}
+
+
+def _outcome(status: int, statuses: Sequence[int], output: Output, said: str) -> Reply:
+    """What comes of a command that ended with this status, and wrote this to standard error."""
+    if status < 0:
+        return Reply(STOPPED, output.lines, output.total, f"the program was ended by signal {-status}")
+    if status not in statuses:
+        return Reply(status or STOPPED, output.lines, output.total, output.fault or said or f"the program ended with status {status}")
+    if output.fault or not output.total:
+        fault = f"the program ended with status {status}, and wrote {output.fault or 'nothing'}"
+        return Reply(STOPPED, output.lines, output.total, fault)
+    return Reply(status, output.lines, output.total, "")

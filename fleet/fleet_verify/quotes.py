@@ -1,0 +1,86 @@
+"""What the verifier has for quotes: the machines' keys, and the nonces that it gave out, each for one verdict."""
+
+import math
+import sqlite3
+from datetime import datetime
+from pathlib import Path
+from typing import Optional, Sequence, Tuple
+
+from .machines import Machine
+from .reading import Fields, read_file
+from .verdict import REPORTED
+
+TABLES = """
+CREATE TABLE nonces (
+    machine TEXT NOT NULL,
+    nonce TEXT NOT NULL, -- hexadecimal digits
+    given_out TEXT NOT NULL, -- by the clock of the computer that has this table
+    used TEXT, -- when a verdict by it was recorded, or by one that was given out later
+    PRIMARY KEY (machine, nonce)
+) WITHOUT ROWID;
+"""
+
+# How many seconds after its nonce was given out a quote may come, unless the run says otherwise.
+MOST_AGE = 3600.0
+# How many of its nonces a machine is asked with: those that are unused first, of which few are young enough.
+MOST_NONCES = 8
+MOST_KEY_BYTES = 16 * 1024
+
+# Why an answer by a quote is not recorded as it came.
+TOO_OLD = "stale: the nonce of its quote is older than --max-age, or of a time to come"
+NO_LONGER = "stale: another verdict used the nonce of its quote, or it is given out no longer"
+
+_OF_VERDICT = (
+    "report", "checkpoint", "events", "locality", "entries", "boot_aggregate", "unknown", "first_unknown", "signer", "nonce", "resets", "restarts",
+)
+
+
+def key_of(folder: str, name: str) -> Optional[str]:
+    """The PEM of the machine of this name, if the folder of keys has it: NAME.pem, or, only where that is not there, NAME/NAME.pem, as
+    `ima-enroll` keeps it. No name leads out of the folder."""
+    if "/" in name or name in (".", ".."):
+        return None
+    for path in (Path(folder, f"{name}.pem"), Path(folder, name, f"{name}.pem")):
+        try:
+            text = read_file(str(path), math.inf, 0)
+        except (FileNotFoundError, NotADirectoryError):
+            continue
+        except OSError:
+            return None
+        return text.decode("latin-1") if text is not None and len(text) <= MOST_KEY_BYTES else None
+    return None
+
+
+def nonces_of(connection: sqlite3.Connection, name: str) -> Tuple[Tuple[str, bool], ...]:
+    """The nonces that were given out for a machine, each with whether it is used: the unused ones first, and the latest first."""
+    rows = connection.execute(
+        "SELECT nonce, used IS NOT NULL FROM nonces WHERE machine = ? ORDER BY used IS NOT NULL, given_out DESC LIMIT ?", (name, MOST_NONCES)
+    )
+    return tuple((nonce, bool(is_used)) for nonce, is_used in rows)
+
+
+def take(connection: sqlite3.Connection, answers: Sequence[Tuple[Machine, Fields]], most_age: float, time: str) -> None:
+    """Uses the nonces of these answers, at this time, in the transaction that records them. A verdict whose nonce is not to be used any longer
+    is none: its answer is changed."""
+    for machine, answer in answers:
+        if answer["verdict"] in REPORTED:
+            cause = _take_nonce(connection, machine.name, answer, most_age, time)
+            if cause is not None:
+                for field in _OF_VERDICT:
+                    answer.pop(field, None)
+                answer.update(verdict="unreadable", cause=cause)
+
+
+def _take_nonce(connection: sqlite3.Connection, name: str, answer: Fields, most_age: float, time: str) -> Optional[str]:
+    """Uses the nonce of an answer, and those of its machine that were given out before; or says why it is not to be used."""
+    unused = connection.execute(
+        "SELECT given_out FROM nonces WHERE machine = ? AND nonce = ? AND used IS NULL", (name, answer.get("nonce"))
+    ).fetchone()
+    if unused is None:
+        return NO_LONGER
+    age = (datetime.fromisoformat(time) - datetime.fromisoformat(unused[0])).total_seconds()
+    if not 0 <= age <= most_age:
+        return TOO_OLD
+    answer["quote_age"] = age
+    connection.execute("UPDATE nonces SET used = ? WHERE machine = ? AND given_out <= ? AND used IS NULL", (time, name, unused[0]))
+    return None

@@ -1,0 +1,110 @@
+"""Makes pages of HTML from the package's templates: whole ones, which load nothing and run nothing but their own script.
+
+Whatever a template prints is shown as text, whoever wrote it: markup is escaped, and each character without a glyph of its own, such as a
+control or one that turns the direction of a line, is spelled out. Templates print no text in attributes."""
+
+import base64
+import hashlib
+import re
+import sys
+from itertools import groupby
+from typing import Any, Optional
+
+from jinja2 import Environment, PackageLoader, StrictUndefined
+from markupsafe import Markup, escape
+
+# Python's mark of a byte that is not UTF-8, by `surrogateescape`.
+_BYTES = range(0xDC80, 0xDD00)
+
+_POLICY = "default-src 'none'; style-src {}; script-src {}; base-uri 'none'; form-action 'none'"
+
+
+def spelling(letter: str) -> str:
+    """How a character without a glyph is written, as in Python; a byte that is not UTF-8 as that byte."""
+    code = ord(letter)
+    if code in _BYTES:
+        return f"\\x{code - 0xDC00:02x}"
+    if code < 0x100:
+        return f"\\x{code:02x}"
+    return f"\\u{code:04x}" if code < 0x10000 else f"\\U{code:08x}"
+
+
+def shown(text: str) -> Markup:
+    """A text as markup that shows each of its characters, and is nothing but text."""
+    if text.isprintable():
+        return escape(text)
+    runs = [(is_printable, "".join(letters)) for is_printable, letters in groupby(text, str.isprintable)]
+    return Markup("").join(
+        escape(run) if is_printable else Markup(f'<span class="code">{"".join(map(spelling, run))}</span>') for is_printable, run in runs
+    )
+
+
+def plain(text: str) -> Markup:
+    """The same without elements, for a place that has none: a title, or a picture."""
+    return escape("".join(letter if letter.isprintable() else spelling(letter) for letter in text))
+
+
+def text_of_bytes(data: bytes) -> str:
+    """Bytes as text, of which those that are not UTF-8 are shown as bytes."""
+    return data.decode(errors="surrogateescape")
+
+
+def text_of_hex(digits: str) -> str:
+    return text_of_bytes(bytes.fromhex(digits))
+
+
+def time_span(seconds: float) -> str:
+    """A time for people."""
+    for unit, size in (("days", 86400), ("h", 3600), ("min", 60)):
+        if seconds >= 2 * size:
+            return f"{seconds / size:.0f} {unit}"
+    return f"{seconds:.0f} s"
+
+
+def moment(time: Optional[str]) -> Optional[str]:
+    """A time in UTC for people; as it is, if it is written in another form."""
+    found = re.fullmatch(r"(\d{4}-\d\d-\d\d)T(\d\d:\d\d:\d\d)(?:\.\d+)?\+00:00", time or "")
+    return time if found is None else f"{found[1]} {found[2]}"
+
+
+def _finalize(value: Any) -> Any:
+    """What a template prints in place of a value."""
+    if value is None:
+        return ""
+    return shown(value) if isinstance(value, str) and not isinstance(value, Markup) else value
+
+
+def _environment() -> Environment:
+    environment = Environment(
+        loader=PackageLoader(__package__), autoescape=True, undefined=StrictUndefined, finalize=_finalize, trim_blocks=True, lstrip_blocks=True
+    )
+    environment.filters.update(time_span=time_span, moment=moment, plain=plain, text_of_hex=text_of_hex)
+    return environment
+
+
+def _inline(environment: Environment, file: str) -> Markup:
+    """A file of the package, as a page has it: it is the only style, or the only script."""
+    assert environment.loader is not None
+    text, _, _ = environment.loader.get_source(environment, file)
+    if "</" in text:
+        raise ValueError(f"{file} would end its element")
+    return Markup(text)
+
+
+def _source(text: str) -> str:
+    """How the policy of a page names an inline style or script."""
+    return f"'sha256-{base64.b64encode(hashlib.sha256(text.encode()).digest()).decode()}'"
+
+
+def render(template: str, **values: Any) -> bytes:
+    """The page that a template makes of these values, which is whole or not made."""
+    environment = _environment()
+    style, script = _inline(environment, "page.css"), _inline(environment, "page.js")
+    policy = Markup(_POLICY.format(_source(style), _source(script)))
+    return environment.get_template(template).render(style=style, script=script, policy=policy, **values).encode()
+
+
+def write_page(page: bytes) -> None:
+    """Writes a page to standard output."""
+    sys.stdout.buffer.write(page)
+    sys.stdout.buffer.flush()

@@ -1,0 +1,74 @@
+"""The form of a table of verdicts: its tables and views, in SQLite."""
+
+VERDICTS = ("match", "differ", "refused", "unreadable", "failed")
+
+# These mark a file as a table of verdicts, and say which form its tables have.
+APPLICATION = 0x494D4156
+FORM = 8
+
+# What of a machine's row stays as it is while a poll finds the same, and what each verdict writes.
+FOUND = (
+    "verdict", "cause", "required", "known_sha256", "events", "locality", "entries", "boot_aggregate", "unknown", "first_unknown",
+    "log", "list", "expected", "quote", "signature", "log_sha256", "expected_sha256", "signer", "resets", "restarts", "interface_version",
+    "report", "boot",
+)
+GIVEN = (
+    "poll", "time", "worker", "list_from", "list_sha256", "quote_sha256", "signature_sha256", "nonce", "quote_age", "clock",
+)
+
+# In place of the clock of a quote, which is another in each report.
+NO_CLOCK = '"clock":{}'
+
+TABLES = f"""
+CREATE TABLE polls (number INTEGER PRIMARY KEY, time TEXT NOT NULL); -- when each poll began, by the client's clock
+CREATE TABLE ends (time TEXT NOT NULL, poll INTEGER REFERENCES polls); -- when a run, or which poll, had given its counts
+CREATE TABLE found (
+    number INTEGER PRIMARY KEY REFERENCES given DEFERRABLE INITIALLY DEFERRED,
+    machine TEXT NOT NULL UNIQUE,
+    verdict TEXT NOT NULL CHECK (verdict IN {VERDICTS}),
+    cause TEXT, -- the line of a refusal, or why there is no verdict
+    required TEXT NOT NULL, -- as `--require` named it
+    known_sha256 TEXT, -- of the texts of `--known`, one after another; NULL without
+    events INTEGER, locality INTEGER, entries INTEGER, boot_aggregate TEXT,
+    unknown INTEGER, first_unknown INTEGER, -- how many entries are of no known file, and the number of the first
+    log TEXT NOT NULL, list TEXT NOT NULL, expected TEXT, quote TEXT, signature TEXT, -- the paths
+    log_sha256 TEXT, expected_sha256 TEXT, -- of the bytes that were read
+    signer TEXT, resets INTEGER, restarts INTEGER, -- of a quote
+    interface_version INTEGER,
+    report TEXT CHECK (report IS NULL OR json_valid(report)), -- as the program prints it, but for a quote's clock
+    boot TEXT -- by what the machine's last boot that came to a report is told from another
+);
+CREATE TABLE given (
+    number INTEGER PRIMARY KEY REFERENCES found,
+    poll INTEGER REFERENCES polls, -- which poll gave the verdict; NULL if none did
+    time TEXT NOT NULL, worker TEXT,
+    list_from INTEGER, -- from which byte on the list was read: that of the checkpoint, or 0
+    list_sha256 TEXT, quote_sha256 TEXT, signature_sha256 TEXT, -- of the bytes that were read
+    nonce TEXT, quote_age REAL, clock TEXT -- of a quote; the age in seconds
+);
+CREATE VIEW verdicts AS SELECT
+    machine, verdict, cause, required, known_sha256, unknown, first_unknown, events, locality, entries, boot_aggregate,
+    CASE WHEN clock IS NULL THEN report ELSE replace(report, '{NO_CLOCK}', '"clock":' || clock) END AS report,
+    log, list, expected, quote, signature, log_sha256, list_sha256, expected_sha256, quote_sha256, signature_sha256, list_from,
+    signer, resets, restarts, nonce, quote_age, interface_version, worker, time, poll
+    FROM found JOIN given USING (number);
+CREATE VIEW registers (machine, algorithm, register, state, value) AS
+    SELECT machine, json_extract(row.value, '$.bank'), json_extract(row.value, '$.register'), json_extract(row.value, '$.state'),
+        json_extract(row.value, '$.value') FROM found, json_each(report, '$.registers') AS row;
+CREATE TABLE checkpoints (
+    machine TEXT NOT NULL PRIMARY KEY REFERENCES found(machine),
+    checkpoint BLOB NOT NULL,
+    known_sha256 TEXT -- by which known files its entries were judged, as in `found`
+);
+CREATE TABLE changes (
+    number INTEGER PRIMARY KEY,
+    machine TEXT NOT NULL,
+    poll INTEGER NOT NULL REFERENCES polls,
+    kind TEXT NOT NULL CHECK (kind IN ('verdict', 'reboot')), -- what is not as it was before
+    verdict TEXT NOT NULL,
+    cause TEXT, time TEXT NOT NULL
+);
+CREATE TABLE retired AS SELECT NULL AS retired, * FROM verdicts; -- the last rows of machines that left or moved, and since when
+PRAGMA application_id = {APPLICATION};
+PRAGMA user_version = {FORM};
+"""

@@ -1,0 +1,62 @@
+"use strict";
+// How old the page is, where it is a day or more.
+(() => {
+  const days = Math.floor((Date.now() - Date.parse(document.getElementById("made").dateTime)) / 86400000);
+  const age = document.getElementById("age");
+  age.hidden = days < 1;
+  age.textContent = `It is ${days} ${days === 1 ? "day" : "days"} old.`;
+})();
+
+// Search and filter: the rows that have each word that was typed, and the kind that was chosen. Without this script the page has all rows.
+(() => {
+  const form = document.getElementById("search");
+  if (form === null) return;
+  const [words, kind, told] = ["words", "kind", "told"].map((name) => form.elements.namedItem(name));
+  const groups = Array.from(document.querySelectorAll("[data-rows]"));
+  let rows = null;
+
+  const read = () => groups.flatMap((group) => Array.from(group.children, (row) => ({
+    row, group, kind: row.dataset.kind, text: row.textContent.toLowerCase(),
+  })));
+
+  const search = () => {
+    rows ??= read();
+    const wanted = words.value.toLowerCase().split(/\s+/).filter((word) => word !== "");
+    const found = new Map(groups.map((group) => [group, 0]));
+    for (const { row, group, kind: own, text } of rows) {
+      const isFound = (kind.value === "" || own === kind.value) && wanted.every((word) => text.includes(word));
+      row.hidden = !isFound;
+      if (isFound) found.set(group, found.get(group) + 1);
+    }
+    const isAsked = wanted.length > 0 || kind.value !== "";
+    let all = 0;
+    for (const [group, count] of found) {
+      all += count;
+      const folded = group.closest("details");
+      if (folded !== null && isAsked) folded.open = count > 0;
+    }
+    told.value = isAsked ? `${all} of ${rows.length} rows` : "";
+  };
+
+  // #search=WORDS&kind=KIND, so that what was found can be told to others.
+  const begin = () => {
+    const asked = new URLSearchParams(location.hash.slice(1));
+    words.value = asked.get("search") ?? "";
+    kind.value = asked.get("kind") ?? "";
+    if (kind.selectedIndex < 0) kind.value = "";
+    if (asked.has("search") || asked.has("kind")) search();
+  };
+
+  let waiting = 0;
+  form.addEventListener("input", () => {
+    clearTimeout(waiting);
+    waiting = setTimeout(search, 120);
+  });
+  form.addEventListener("submit", (event) => {
+    event.preventDefault();
+    search();
+  });
+  addEventListener("hashchange", begin);
+  form.hidden = false;
+  begin();
+})();

@@ -1,0 +1,157 @@
+"""Tests of pages in Chromium, for tests/fleet/test: nothing of a hostile name runs or is asked for, search and filter find what they should, and
+the page can be seen."""
+
+import hashlib
+import http.server
+import os
+import re
+import subprocess
+import tempfile
+import threading
+import zlib
+from concurrent.futures import ThreadPoolExecutor
+from contextlib import contextmanager
+from datetime import datetime, timedelta, timezone
+
+from cluster import SECONDS
+from page_tree import Reader, every, foreign, hostile_texts, lacks_jinja
+from pages import hostile_table, page_of
+from reports import hostile_boot, program_of, report_text
+
+CHROMIUM = (
+    "--headless=new", "--disable-gpu", "--hide-scrollbars", "--no-first-run", "--disable-background-networking", "--disable-component-update",
+    "--disable-sync", "--enable-logging=stderr", "--force-device-scale-factor=1",
+)
+
+
+def browse(tools, page, *words):
+    """What Chromium prints of a page, and what the page or its policy had it complain of. A word that begins with # belongs to the address."""
+    alone = ["--no-sandbox"] if os.geteuid() == 0 else []  # (as root it has no other way)
+    fragment = "".join(word for word in words if word.startswith("#"))
+    with tempfile.TemporaryDirectory() as profile:
+        words = [*alone, f"--user-data-dir={profile}", *(word for word in words if word != fragment), f"file://{page}{fragment}"]
+        ended = subprocess.run(
+            ["chromium", *CHROMIUM, *words],
+            stdin=subprocess.DEVNULL, capture_output=True, timeout=SECONDS,
+        )
+    return ended.stdout.decode(errors="replace"), [line for line in ended.stderr.decode(errors="replace").splitlines() if "CONSOLE" in line]
+
+
+def browse_all(tools, calls):
+    """What `browse` gives for each of these calls, several at once."""
+    with ThreadPoolExecutor(max_workers=3) as pool:
+        return list(pool.map(lambda call: browse(tools, *call), calls))
+
+
+@contextmanager
+def listening():
+    """The port of a server on this computer, and the paths that are asked of it."""
+    asked = []
+
+    class Handler(http.server.BaseHTTPRequestHandler):
+        def do_GET(self):
+            asked.append(self.path)
+            self.send_error(404)
+
+        def log_message(self, *_):
+            pass
+
+    with http.server.ThreadingHTTPServer(("127.0.0.1", 0), Handler) as server:
+        threading.Thread(target=server.serve_forever, daemon=True).start()
+        yield server.server_address[1], asked
+        server.shutdown()
+
+
+def test_browser(tools):
+    """In Chromium hostile names run nothing and ask for nothing, and search and filter find what they should."""
+    lacks_jinja(tools)
+    tools.needs("chromium")
+    if os.geteuid() != 0:  # (its sandbox may need what this user may not)
+        tools.lacks(*([] if "<html" in browse(tools, "/dev/null", "--dump-dom")[0] else ["Chromium that starts"]))
+    folder = tools.folder / "browser"
+    folder.mkdir()
+    program_of(tools)
+    with listening() as (port, asked):
+        fleet, boot = folder / "fleet.html", folder / "boot.html"
+        fleet.write_text(page_of(tools, hostile_table(folder, port))[1])
+        boot.write_text(report_text(tools, hostile_boot(folder / "boot", port))[1])
+        test_nothing_runs(tools, folder, (fleet, boot), port, asked)
+    test_search(tools, folder, fleet, boot)
+    test_pictures(tools, folder, fleet)
+
+
+def test_nothing_runs(tools, folder, pages, port, asked):
+    """Nothing of a hostile name runs, by the escaping alone and by the policy alone; without both it would."""
+    raw = "".join(text for text, _ in hostile_texts(port)[:4])
+    fleet, boot = (page.read_text() for page in pages)
+    cases = {"a fleet": fleet, "a fleet, without the policy": without_policy(fleet), "a boot": boot}
+    found = browse_all(tools, [(changed(folder, text), "--dump-dom") for text in cases.values()])
+    for title, (shown, complaints) in zip(cases, found):
+        told = (title_of(shown) != "ran", foreign(Reader(shown).top), complaints, asked)
+        tools.check(f"the page of {title}: nothing runs or is asked for", told, (True, [], [], []))
+    text = fleet.replace("<main>", f"<main>{raw}")
+    for title, each, wanted in (("by the policy alone nothing", text, []), ("without it all", without_policy(text), ["/image", "/style"])):
+        shown, complaints = browse(tools, changed(folder, each), "--dump-dom")
+        told = (title_of(shown) == "ran", bool(complaints), sorted(set(asked)))
+        tools.check(f"raw markup: {title} runs or is asked for", told, (bool(wanted), not wanted, wanted))
+
+
+def changed(folder, text):
+    """A file of this text."""
+    path = folder / f"changed {hashlib.sha256(text.encode()).hexdigest()[:8]}.html"
+    path.write_text(text)
+    return path
+
+
+def title_of(shown):
+    return next(Reader(shown).top.all("title")).text
+
+
+def without_policy(text):
+    found = re.sub(r'<meta http-equiv="Content-Security-Policy"[^>]*>', "", text)
+    assert found != text
+    return found
+
+
+def test_search(tools, folder, fleet, boot):
+    """Search and filter, as the fragment asks for them: each row that has all words, and no other. An old page says how old it is."""
+    old = changed(folder, re.sub(r'datetime="[^"]*"', f'datetime="{datetime.now(timezone.utc) - timedelta(days=3)}"', fleet.read_text()))
+    cases = (
+        (fleet, "#search=caf&kind=unreadable", ["caf"], ""),
+        (fleet, "#search=INVOICE%20txt", ["invoice"], ""),
+        (old, "#search=nothing-has-this", [], "It is 3 days old."),
+        (boot, "#search=u202e&kind=confirmed", ["invoice"], ""),
+    )
+    shown = browse_all(tools, [(page, "--dump-dom", fragment) for page, fragment, *_ in cases])
+    for (page, fragment, wanted, age), (text, _) in zip(cases, shown):
+        top = Reader(text).top
+        rows = [row for group in every(top) if "data-rows" in group.attributes for row in group.inner if not isinstance(row, str)]
+        seen = [row.text for row in rows if "hidden" not in row.attributes]
+        others = [row for row in seen if not any(part in row for part in wanted)]
+        told = (others, bool(seen), next(top.all("output")).text, "hidden" in next(top.all("form")).attributes)
+        tools.check(f"{page.name}{fragment}: the rows that are found", told, ([], bool(wanted), f"{len(seen)} of {len(rows)} rows", False))
+        said = [each.text for each in top.all("strong") if each.attributes.get("id") == "age" and "hidden" not in each.attributes]
+        tools.check(f"{page.name}: its age", said, [age] if age else [])
+
+
+def test_pictures(tools, folder, fleet):
+    """The page has a picture: light and dark, wide and narrow; and it can be printed."""
+    light, dark, paper = folder / "light.png", folder / "dark.png", folder / "page.pdf"
+    browse_all(tools, [
+        (fleet, f"--screenshot={light}", "--window-size=1200,900"), (fleet, f"--print-to-pdf={paper}"),
+        (fleet, f"--screenshot={dark}", "--window-size=400,800", "--blink-settings=preferredColorScheme=0"),
+    ])
+    grounds = [first_pixel(path.read_bytes()) for path in (light, dark)]
+    tools.check("pictures of the page: light and dark", grounds, [(0xFF, 0xFF, 0xFF), (0x14, 0x18, 0x1D)])
+    tools.check("pictures of the page: there is something on them", min(path.stat().st_size for path in (light, dark)) > 20_000, True)
+    tools.check("the page on paper", paper.read_bytes()[:5], b"%PDF-")
+
+
+def first_pixel(data):
+    """The colour of the upper left pixel of a PNG (RFC 2083), without alpha."""
+    at, pieces = 8, b""
+    while at < len(data):
+        size, kind = int.from_bytes(data[at:at + 4], "big"), data[at + 4:at + 8]
+        pieces += data[at + 8:at + 8 + size] if kind == b"IDAT" else b""
+        at += 12 + size
+    return tuple(zlib.decompress(pieces)[1:4])  # (in the first pixel of the first row no filter changes anything)

@@ -1,0 +1,295 @@
+"""Tests of the page of a table of verdicts, for tests/fleet/test: what it counts and lists, what it warns of, what it refuses, and that hostile names
+are shown as text."""
+
+import hashlib
+import json
+import re
+import sqlite3
+import subprocess
+import time
+from concurrent.futures import ThreadPoolExecutor
+from contextlib import closing
+
+from cluster import ROOT, SECONDS
+from fleet_verify.machines import Machine
+from fleet_verify.reading import now
+from fleet_verify.verdicts import Verdicts
+from page_tree import Reader, folded, foreign, hostile_texts, lacks_jinja, rows_below, state_of
+from tables import change
+
+TEMPLATES = ROOT / "fleet/fleet_verify/templates"
+OTHER = "a2bcf779880ae33077f9e7992851299f30cea5f6cffc6512de6cd10aa457a7f3"
+MOMENT_AGO = "UPDATE ends SET time = strftime('%Y-%m-%dT%H:%M:%f+00:00', 'now', '-5 seconds')"
+
+
+def registers_of(others=()):
+    """Rows of a report, of which these registers have another value."""
+    rows = [{"bank": "sha256", "register": number, "state": "differ" if number in others else "match"} for number in range(11)]
+    return [{**row, "value": OTHER} if row["state"] == "differ" else row for row in rows]
+
+
+def answer_of(verdict, number=0, cause=None, others=(), **given):
+    """What a worker answers on a machine."""
+    fields = {"worker": "here", "time": now(), "list_from": 0, "verdict": verdict, "cause": cause}
+    if verdict in ("match", "differ"):
+        report = {"registers": registers_of(others), "verdict": verdict, **given.pop("told", {})}
+        fields.update(boot_aggregate="good", report=json.dumps(report), log_sha256="a" * 64, list_sha256=f"{number:064x}")
+    return {**fields, **given}
+
+
+def make_table(path, polls, has_end=True, names=()):
+    """A table of verdicts of these polls, each a dictionary of answers by machine; of one run, if it is given alone."""
+    table, had = Verdicts(str(path), "sha256:0-10"), {}
+    try:
+        for answers in polls if isinstance(polls, list) else [polls]:
+            if isinstance(polls, list):
+                table.begin_poll(now())
+            table.record([(Machine(name, (f"/{number}",)), answer) for number, (name, answer) in enumerate(answers.items())], had)
+            had.update({name: answer["verdict"] for name, answer in answers.items()})
+            if has_end or answers is not polls[-1]:
+                table.end(now(), "2000")
+    finally:
+        table.close()
+    return path
+
+
+def page_of(tools, *words):
+    """The status of `fleet-verify page`, its output and what it told."""
+    ended = subprocess.run(
+        [tools.python, ROOT / "fleet/verify.py", "page", *map(str, words)], env=tools.environment, cwd=tools.folder, capture_output=True,
+        timeout=SECONDS,
+    )
+    return ended.returncode, ended.stdout.decode(), ended.stderr.decode()
+
+
+def shown_page(tools, *words):
+    status, text, errors = page_of(tools, *words)
+    tools.check(f"a page is written: {errors[-300:]}", status, 0)
+    return Reader(text).top
+
+
+def test_pages(tools):
+    """The page of a table: what it counts and lists, what it warns of, what it refuses."""
+    lacks_jinja(tools)
+    folder = tools.folder / "pages"
+    folder.mkdir()
+    test_listed(tools, folder)
+    test_states(tools, folder)
+    test_refused_pages(tools, folder)
+    test_many(tools, folder)
+    test_quoted_table(tools, folder)
+    test_hostile_table(tools, folder)
+    test_templates(tools)
+
+
+def listed_table(path):
+    """A table of two polls with machines of each verdict, one of which started anew, and one that is retired."""
+    strays = [{"event": 25, "register": 10}]
+    first = {
+        "good": answer_of("match", 1), "late": answer_of("match", 2), "ten": answer_of("match", 3),
+        "two": answer_of("differ", 4, others=(0, 10)), "moved": answer_of("differ", 5, boot_aggregate="wrong", told={"extends": strays}),
+        "strange": answer_of("differ", 6, unknown=3, first_unknown=93), "cut": answer_of("refused", cause="refused: log fault 1 at event 24"),
+        "cut too": answer_of("refused", cause="refused: log fault 1 at event 3"),
+        "left": answer_of("differ", 9, others=(10,)), "anew": answer_of("match", 10, resets=1, restarts=0),
+        "gone": answer_of("unreadable", cause="list: FileNotFoundError: [Errno 2] No such file or directory"),
+    }
+    second = {
+        **first, "anew": answer_of("match", 10, resets=2, restarts=0), "late": answer_of("differ", 2, others=(10,)),
+        "ten": answer_of("differ", 3, others=(10,)),
+    }
+    table = Verdicts(str(make_table(path, [first, second])), "sha256:0-10")
+    table.retire(["left"], "2026-11-29T10:00:00.000+00:00")
+    table.close()
+    return path
+
+
+def test_listed(tools, folder):
+    """Counts, machines that do not match with their reasons and registers, and machines by name."""
+    table = listed_table(folder / "listed.db")
+    page = shown_page(tools, "--title", "a title", table)
+    text, is_good = state_of(page)
+    told = [each in text for each in ("2 of 10 machines match", "poll 2, ended at", "sha256:0-10")]
+    tools.check("a page: its head", (told, is_good), ([True] * 3, False))
+    counts = [each.text.split() for each in next(page.all("ul")).all("li")]
+    tools.check("a page: counts", counts, [
+        ["2", "match"], ["5", "differ"], ["2", "refused"], ["1", "unreadable"], ["0", "failed"], ["1", "retired"],
+    ])
+    rows = {row[0]: row[1:] for row in rows_below(page, "Machines that do not match")}
+    tools.check("a page: who does not match", list(rows), ["late", "moved", "strange", "ten", "two", "cut", "cut too", "gone"])
+    tools.check("a page: registers with their values", rows["two"][1], f"sha256 0 differ {OTHER}sha256 10 differ {OTHER}")
+    tools.check("a page: what extends", rows["moved"][1], "boot aggregate wrongan event extends PCR 10: event 25")
+    tools.check("a page: unknown entries", rows["strange"][1], "unknown entries: 3, the first is entry 93")
+    tools.check("a page: a cause", rows["cut"][:2], ["refused", "refused: log fault 1 at event 24"])
+    names = [[each.text for each in group.all("li")] for group in page.all("ul") if group.attributes.get("class") == "names"]
+    tools.check("a page: who matches, and who is retired", names, [["anew", "good"], ["left 2026-11-29 10:00:00"]])
+    tools.check("a page: nothing foreign", foreign(page), [])
+    test_shared(tools, page)
+    test_changes(tools, table, page)
+
+
+def test_shared(tools, page):
+    """What several machines have in common is said once."""
+    reasons = rows_below(page, "Reasons")
+    tools.check("a page: reasons, the same of several machines once", reasons[0], ["2", "differ", "sha256 10 differ", "late, ten"])
+    wanted = ["2", "refused", "refused: log fault 1 at event", "cut, cut too"]
+    tools.check("a page: faults at different places are one reason", wanted in reasons, True)
+    wanted = ["3", f"sha256 10 differ {OTHER}", "late, ten, two"]
+    tools.check("a page: a value that several have", rows_below(page, "PCRs that do not match")[0], wanted)
+
+
+def test_changes(tools, table, page):
+    """The plot of changes, and its numbers, also when old changes are gone."""
+    rows = rows_below(page, "Changes over time")
+    tools.check("a page: changes by poll, without first verdicts", [row[:1] + row[2:] for row in rows], [
+        ["poll 1", "0", "0", "0", "0", "0", "0"], ["poll 2", "0", "2", "0", "0", "0", "1"],
+    ])
+    heights = [each.attributes["height"] for each in page.all("rect") if each.attributes["class"] == "differ"]
+    tools.check("a page: the plot has them", heights, ["72.0"])
+    change(table, "DELETE FROM changes WHERE poll = 1")
+    rows = rows_below(shown_page(tools, table), "Changes over time")
+    tools.check("a page: changes that are left when older ones are gone", rows[1][2:], ["0", "2", "0", "0", "0", "1"])
+
+
+def test_states(tools, folder):
+    """Only a table of which the last run has ended lately, and every verdict is a match of it, has the colour of a match."""
+    match = {"a": answer_of("match", 1), "b": answer_of("match", 2)}
+    differ = {**match, "b": answer_of("differ", 2, others=(4,))}
+    old, to_come = "2026-01-01T00:00:00.000+00:00", "2999-01-01T00:00:00.000+00:00"
+    earlier = "Older than poll 2, the last that ended: 1 verdicts"
+    calls, wanted = [], []
+    for title, polls, edit, words, told, is_wanted in (
+        ("all match", match, None, (), "All 2 machines match", True),
+        ("all match by polls", [match, match], None, (), "All 2 machines match", True),
+        ("matches without a quote", match, None, (), "Matches without a quote: 2", True),
+        ("one differs", differ, None, (), "1 of 2 machines match", False),
+        ("no verdict", {}, None, (), "No machine has a verdict", False),
+        ("a poll that has not ended", [match, match], "DELETE FROM ends WHERE poll = 2", (), "Poll 2 has not ended", False),
+        ("no end", match, "DELETE FROM ends", (), "No run has ended", False),
+        ("an old end", match, f"UPDATE ends SET time = '{old}'", (), "did not end within", False),
+        ("an end of a moment ago", match, MOMENT_AGO, ("--max-age", "1s"), "did not end within 1 s", False),
+        ("an end of a moment ago, which may be older", match, MOMENT_AGO, ("--max-age", "1m"), "All 2 machines match", True),
+        ("an end to come", match, f"UPDATE ends SET time = '{to_come}'", (), "did not end within", False),
+        ("a verdict of an earlier poll", [match, match], "UPDATE given SET poll = 1 WHERE rowid = 1", (), earlier, False),
+        ("verdicts after the end", match, f"UPDATE given SET time = '{to_come}'", (), "after the last run ended", False),
+    ):
+        table = make_table(folder / f"{title}.db", polls)
+        if edit:
+            change(table, edit)
+        wanted.append((title, told, is_wanted))
+        calls.append((*words, table))
+    with ThreadPoolExecutor(max_workers=4) as pool:
+        pages = list(pool.map(lambda call: page_of(tools, *call), calls))
+    for (title, told, is_wanted), (status, page, _) in zip(wanted, pages):
+        text, is_good = state_of(Reader(page).top)
+        tools.check(f"a page: {title}", (status, told in text, is_good), (0, True, is_wanted))
+
+
+def test_refused_pages(tools, folder):
+    """What is no table of verdicts is refused, without a page; and nothing is written to one that is."""
+    table, other, damaged = make_table(folder / "whole.db", {"a": answer_of("match")}), folder / "other.db", folder / "damaged.db"
+    change(other, "CREATE TABLE verdicts (machine)")
+    (folder / "text.db").write_text("machine\tmatch\n")
+    make_table(damaged, [{"a": answer_of("match")}])
+    change(damaged, "UPDATE changes SET verdict = 'fine'")
+    with closing(sqlite3.connect(make_table(folder / "form.db", {"a": answer_of("match")}))) as connection:
+        connection.execute("PRAGMA user_version = 1")
+    for title, path, told in (
+        ("no file", folder / "none.db", "unable to open"), ("a folder", folder, f"refused: {folder}: "),
+        ("another file", other, "no table of verdicts"), ("a text", folder / "text.db", "file is not a database"),
+        ("a verdict that is none", damaged, "it is damaged"), ("another version", folder / "form.db", "another version"),
+    ):
+        status, output, errors = page_of(tools, path)
+        tools.check(f"no page: {title}", (status, output, told in errors, "Traceback" in errors), (2, "", True, False))
+    tools.check("no page: no file was made", (folder / "none.db").exists(), False)
+    before = hashlib.sha256(table.read_bytes()).hexdigest()
+    with closing(sqlite3.connect(table)) as writer:
+        writer.execute("BEGIN IMMEDIATE")
+        writer.execute("UPDATE found SET verdict = 'differ'")
+        text, is_good = state_of(shown_page(tools, table))
+        tools.check("a page while a run writes: what was recorded before", ("All 1 machines match" in text, is_good), (True, True))
+        writer.rollback()
+    tools.check("a page leaves the table as it was", hashlib.sha256(table.read_bytes()).hexdigest(), before)
+
+
+def test_many(tools, folder):
+    """Of 20,000 machines that do not match, some are listed with their reasons, and all by name; of those that match, all by name."""
+    count, listed = 20000, 500
+    answers = {
+        f"host {number}": answer_of("differ", number, others=(10,)) if number % 2 else answer_of("match", number) for number in range(count)
+    }
+    table, started = make_table(folder / "many.db", answers), time.monotonic()
+    status, text, _ = page_of(tools, "--most", listed, table)
+    seconds = time.monotonic() - started
+    names = re.findall(r"(?:<th scope=.row. class=.name.>|<li data-kind=.\w+.>)<bdi class=.text.>(host \d+)</bdi>", text)
+    tools.check("20,000 machines: each is there once", (status, sorted(names)), (0, sorted(answers)))
+    tools.check("20,000 machines: the page says what it lists", f"Of 10000 machines {listed} are listed" in text, True)
+    tools.check("20,000 machines: the page is short, and soon there", (len(text) < 3_000_000, seconds < 20), (True, True))
+
+
+def test_quoted_table(tools, folder):
+    """Ages of quotes, the oldest first, and keys that signed for two machines."""
+    quote = {"quote_sha256": "b" * 64, "signature_sha256": "c" * 64, "resets": 3, "restarts": 1}
+    answers = {
+        name: answer_of("match", number, signer=signer, quote_age=age, nonce=f"{number:040x}", **quote)
+        for number, (name, signer, age) in enumerate((("a", "d" * 64, 4.0), ("b", "e" * 64, 3000.0), ("c", "e" * 64, 90.5)))
+    }
+    page = shown_page(tools, make_table(folder / "quoted.db", answers))
+    rows = rows_below(page, "Quotes")
+    tools.check("quotes: the oldest first", [row[:4] for row in rows], [["b", "50 min", "3", "1"], ["c", "90 s", "3", "1"], ["a", "4 s", "3", "1"]])
+    told = [each.text for each in page.all("div") if each.text.startswith("One key signed for 2 machines: b, c")]
+    tools.check("quotes: one key of two machines is told", len(told), 1)
+    alike = make_table(folder / "alike.db", {"a": answer_of("match", 7), "b": answer_of("match", 7), "c": answer_of("match", 8)})
+    rows = rows_below(shown_page(tools, alike), "Machines with the same list")
+    tools.check("machines with the same list are told", rows, [["2", "a, b", f"{7:064x}"]])
+
+
+def hostile_table(folder, port):
+    """A table whose machines and causes have hostile names, and one name that is not UTF-8."""
+    answers = {text: answer_of("refused", cause=f"cause {text}") for text, _ in hostile_texts(port)}
+    table = make_table(folder / "hostile.db", [{**answers, "bytes": answer_of("unreadable", cause="x")}])
+    change(table, "UPDATE found SET machine = CAST(x'636166e93c623e' AS TEXT) WHERE machine = 'bytes'")
+    return table
+
+
+def test_hostile_table(tools, folder):
+    """Hostile names are text: each is shown, and none is markup."""
+    status, text, _ = page_of(tools, hostile_table(folder, 9))
+    page = Reader(text).top
+    rows = {row[0]: row[2] for row in rows_below(page, "Machines that do not match")}
+    for number, (_, shown) in enumerate(hostile_texts(9)):
+        tools.check(f"hostile name {number} is shown, and its cause", rows.get(folded(shown)), folded(f"cause {shown}"))
+    tools.check("a name that is not UTF-8 is shown by its bytes", [name for name in rows if name.startswith("caf")], ["caf\\xe9<b>"])
+    tools.check("hostile names: nothing foreign", (status, foreign(page)), (0, []))
+    tools.check("hostile names: no character without a glyph is left", sorted({letter for letter in text if not letter.isprintable()}), ["\n"])
+
+
+def test_templates(tools):
+    """No template prints a text in an attribute, nor lets anything pass unescaped; and all colours can be read on their grounds."""
+    allowed = {
+        "policy", "made", "verdict", "each.verdict", "each.kind", "state", "place.left", "place.width", "piece.top", "piece.height", "plot.width",
+        "plot.height", "plot.left", "plot.bottom - 1", "top", "top + 4", "plot.left - 8", "plot.height - 8", "class", "classes[piece.kind]",
+    }
+    for file in sorted(TEMPLATES.glob("*.html")):
+        text = file.read_text()
+        values = re.findall(r'[a-z]="[^"]*?\{\{ (.*?) \}\}', text)
+        others = {value for value in values if value not in allowed and not re.fullmatch(r"'\w+' if [^|]* else '\w+'", value)}
+        tools.check(f"{file.name}: attributes have no text", others, set())
+        tools.check(f"{file.name}: nothing passes unescaped", re.findall(r"\|\s*safe|autoescape|Markup", text), [])
+    palettes = re.findall(r":root \{(.*?)\}", (TEMPLATES / "page.css").read_text(), re.DOTALL)[:2]
+    for title, palette in zip(("light", "dark"), palettes):
+        colours = dict(re.findall(r"--(\w+): (#\w{6})", palette))
+        grounds = [colours.pop(name) for name in ("ground", "raised")]
+        del colours["line"]
+        ratios = {name: min(contrast(colour, ground) for ground in grounds) for name, colour in colours.items()}
+        tools.check(f"the {title} colours can be read", {name: ratio for name, ratio in ratios.items() if ratio < 4.5}, {})
+
+
+def contrast(one, other):
+    """The contrast of two colours (WCAG 2.1, 'contrast ratio')."""
+    def luminance(colour):
+        parts = [int(colour[at:at + 2], 16) / 255 for at in (1, 3, 5)]
+        linear = [part / 12.92 if part <= 0.03928 else ((part + 0.055) / 1.055) ** 2.4 for part in parts]
+        return 0.2126 * linear[0] + 0.7152 * linear[1] + 0.0722 * linear[2]
+
+    lower, higher = sorted((luminance(one), luminance(other)))
+    return (higher + 0.05) / (lower + 0.05)

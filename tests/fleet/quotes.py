@@ -1,0 +1,625 @@
+"""Tests of quotes, for tests/fleet/test: machines that have emulated TPMs, with keys of their own, answer nonces.
+
+What must come of each is known from what was done to it: its list grew, it started anew, another machine's TPM answered for it."""
+
+import hashlib
+import os
+import re
+import shutil
+import sqlite3
+import subprocess
+import sys
+import time
+from collections import Counter
+from concurrent.futures import ThreadPoolExecutor
+from contextlib import closing, suppress
+from dataclasses import dataclass, field
+from pathlib import Path
+
+from cluster import REQUIRE, ROOT, SECONDS, until
+from quoted import CLOCK, HEAD, SELECTED, sized
+from tables import change, query
+from tpms import LOW, NEEDED, Tpm
+
+sys.path.append(str(ROOT / "tools/bench"))
+import inputs  # noqa: E402
+from reference.measurement_list import list_spelling  # noqa: E402
+from reference.registers import SHA256  # noqa: E402
+
+MACHINES = 20
+MOST_ENTRIES = 60
+KEYS = ("rsa2048:rsassa-sha256:null", "rsa2048:rsassa-sha256:null", "ecc256:ecdsa-sha256:null", "rsa2048:rsapss-sha256:null")
+AT_ONCE = 6
+EVIDENCE = ("firmware.log", "ima.list", "quote.msg", "quote.sig")
+PLACES = ("{0}", "\t".join(f"{{0}}/{file}" for file in EVIDENCE), "\t".join(f"file://{{0}}/{file}" for file in EVIDENCE))
+VERDICTS = ("match", "differ", "refused", "unreadable", "failed")
+MOST_BYTES = 64 * 1024 * 1024
+OLD = "stale: the nonce of its quote is older than --max-age, or of a time to come"
+USED = "stale: an earlier verdict used the nonce of its quote"
+NO_NONCE = "no nonce: none was given out for this machine, or each is used or too old"
+OTHER_NONCE, LESS_QUOTED = "refused: quote fault 11", "refused: quote fault 12"
+BAD_SIGNATURE = "bad signature: it is not by this machine's key and on this quote"
+NO_PEM = "bad key: the key is not the PEM of a public key alone (-----BEGIN PUBLIC KEY-----)"
+WEAK = "bad key: an RSA key has 2048 bits or more and an odd exponent from 65537"
+ABSENT = "no quote: {}: FileNotFoundError: [Errno 2] No such file or directory"
+
+# What happens before the second poll. All other machines' lists grow, but for those of an even number.
+STARTED_ANEW, SUSPENDED = (4, 9, 14), (7,)
+
+
+@dataclass
+class Quoted:
+    """A machine by its number: its TPM, what was measured since it started, and the folder of its evidence."""
+
+    number: int
+    tpm: Tpm
+    folder: Path
+    boots: int = 0
+    count: int = 0
+    log: object = None
+    entries: list = field(default_factory=list)
+
+    @property
+    def name(self):
+        return f"machine {self.number}"
+
+    @property
+    def measurements(self):
+        """The made files that it measures in this boot, each a path and a digest."""
+        first = 1000 * self.number + 100 * self.boots
+        return list(inputs.made_measurements(first + MOST_ENTRIES))[first:]
+
+    def line(self):
+        """Its line in the table of machines, of each form in turn: a folder, four paths, four URLs."""
+        return f"{self.name}\t{PLACES[self.number % len(PLACES)].format(self.folder)}\n"
+
+    @property
+    def list(self):
+        return list_spelling(self.entries[: self.count])
+
+    def boot(self):
+        """Starts anew, with a log and a list of its own."""
+        self.boots += 1
+        log = inputs.made_log([SHA256], 12 + self.number % 5)
+        self.log = log._replace(events=log.events[1:])  # (that states another locality than swtpm starts in)
+        self.entries, self.count = inputs.made_entries(self.log, self.measurements), 0
+        self.tpm.boot(self.log)
+        self.grow(10 + self.number % 7)
+
+    def grow(self, more):
+        self.tpm.measure(self.entries[self.count : self.count + more])
+        self.count += more
+
+    def answer(self, nonce, *selection):
+        """Gives evidence: its log and its list, and a quote with this nonce."""
+        self.folder.mkdir(exist_ok=True)
+        for file in EVIDENCE:
+            with suppress(FileNotFoundError):
+                (self.folder / file).unlink()
+        (self.folder / "firmware.log").write_bytes(self.log.spelling())
+        (self.folder / "ima.list").write_bytes(self.list)
+        self.tpm.quote(nonce, self.folder, *selection)
+
+    def counted(self):
+        """How often its TPM was reset and restarted, as tpm2_print reads its quote."""
+        printed = self.tpm.tool("tpm2_print", "-t", "TPMS_ATTEST", self.folder / "quote.msg")
+        return tuple(int(re.search(rf"{name}: (\d+)", printed)[1]) for name in ("resetCount", "restartCount"))
+
+    def signer(self):
+        """The SHA-256 of its key as openssl writes it."""
+        written = subprocess.run(["openssl", "pkey", "-pubin", "-in", self.tpm.key, "-outform", "DER"], check=True, capture_output=True)
+        return hashlib.sha256(written.stdout).hexdigest()
+
+
+@dataclass
+class Quotes:
+    """The tests of quotes of these machines: the verifier's folder, with keys and nonces."""
+
+    tools: object
+    folder: Path
+    machines: list
+
+    @property
+    def check(self):
+        return self.tools.check
+
+    @property
+    def table(self):
+        return self.folder / "machines.tsv"
+
+    @property
+    def keys(self):
+        return self.folder / "keys"
+
+    def call(self, *words, seconds=SECONDS):
+        """The status of a call of fleet-verify, and what it printed on both streams."""
+        words = [self.tools.python, ROOT / "fleet/verify.py", *words]
+        ended = subprocess.run([str(word) for word in words], env=self.tools.environment, text=True, capture_output=True, timeout=seconds)
+        return ended.returncode, ended.stdout, ended.stderr
+
+    def run_words(self, verdicts, *words, by=("--workers", 2)):
+        return *by, "--require", REQUIRE, "--keys", self.keys, *words, self.table, verdicts
+
+    def give_out(self, verdicts):
+        """The nonces that are given out now, by the machines' names."""
+        status, output, errors = self.call("nonces", self.table, verdicts)
+        self.check("nonces are given out", (status, errors), (0, ""))
+        return dict(line.split("\t") for line in output.splitlines())
+
+    def each(self, do, machines=None):
+        """Does something with each machine, some at once."""
+        with ThreadPoolExecutor(AT_ONCE) as pool:
+            return list(pool.map(do, self.machines if machines is None else machines))
+
+    def answer(self, given):
+        """Each machine answers its nonce."""
+        self.each(lambda machine: machine.answer(given[machine.name]))
+
+    def check_run(self, title, words, wanted):
+        """A run gives these verdicts and causes by name, and tells how many of each; the status is theirs."""
+        status, output, errors = self.call(*words)
+        found = {name: tuple(row) for name, *row in query(words[-1], "SELECT machine, verdict, cause FROM verdicts")}
+        self.check(f"{title}: verdicts", found, wanted)
+        counts = Counter(verdict for verdict, _ in wanted.values())
+        due = 0 if counts["match"] == len(wanted) else 1 if counts["differ"] + counts["refused"] else 4
+        lines = "".join(f"{kind} {counts[kind]}\n" for kind in VERDICTS)
+        self.check(f"{title}: status and counts", (status, output, errors if status in (2, 3) else ""), (due, lines, ""))
+
+    def all(self, verdict="match", cause=None):
+        return {machine.name: (verdict, cause) for machine in self.machines}
+
+
+def test_quotes(tools):
+    """Machines with quotes, from poll to poll; and what comes of quotes that prove nothing."""
+    test_taking(tools)
+    test_keys(tools)
+    tools.needs(*NEEDED)
+    folder = tools.folder / "quotes"
+    folder.mkdir()
+    machines = [
+        Quoted(number, Tpm(folder / f"tpm {number}", KEYS[number % len(KEYS)]), folder / str(number)) for number in range(MACHINES)
+    ]
+    quotes = Quotes(tools, folder, machines)
+    try:
+        quotes.each(start)
+        quotes.keys.mkdir()
+        for machine in machines:
+            shutil.copy(machine.tpm.key, quotes.keys / f"{machine.name}.pem")
+        quotes.table.write_text("".join(machine.line() for machine in machines))
+        verdicts = folder / "verdicts.db"
+        test_nonces(quotes, verdicts)
+        test_growing(quotes, verdicts)
+        test_bad_quotes(quotes, verdicts)
+        test_stopped_poll(quotes, verdicts)
+        test_killed(quotes)
+        test_refused(quotes, verdicts)
+    finally:
+        for machine in machines:
+            machine.tpm.stop()
+
+
+def start(machine):
+    machine.tpm.start("--clear")
+    machine.tpm.make_key()
+    machine.boot()
+
+
+def test_taking(tools):
+    """A nonce is used by the verdict that is recorded with it, and only then; and with it those that were given out before."""
+    from fleet_verify.machines import Machine
+    from fleet_verify.quotes import nonces_of, take
+    from fleet_verify.verdicts import open_table
+
+    def time_of(minute):
+        return f"2026-01-01T00:{minute:02}:00.000+00:00"
+
+    def taken(nonce, minute, name="a", verdict="match"):
+        answer = {"verdict": verdict, "nonce": nonce, "report": "{}", "checkpoint": "x", "time": "now"}
+        take(connection, [(Machine(name, ("/",), True), answer)], 1800, time_of(minute))
+        return answer["verdict"], answer.get("cause", "")[:9], answer.get("quote_age"), sorted(answer)
+
+    plain = ["checkpoint", "nonce", "quote_age", "report", "time", "verdict"]
+    stale = ("unreadable", "stale: th", None, ["cause", "time", "verdict"])
+    gone = ("unreadable", "stale: an", None, ["cause", "time", "verdict"])
+    with closing(open_table(str(tools.folder / "taking.db"))) as connection:
+        rows = [("a", "11", time_of(0)), ("a", "22", time_of(5)), ("a", "33", time_of(10)), ("b", "44", time_of(5)), ("b", "55", time_of(50))]
+        connection.executemany("INSERT INTO nonces (machine, nonce, given_out) VALUES (?, ?, ?)", rows)
+        connection.commit()
+        tools.check("a nonce is used", taken("22", 20), ("match", "", 900.0, plain))
+        connection.rollback()
+        tools.check("a verdict that is not recorded uses none", {is_used for _, is_used in nonces_of(connection, "a")}, {False})
+        for title, found, wanted in (
+            ("a nonce is used by a verdict that differs", taken("22", 20, verdict="differ"), ("differ", "", 900.0, plain)),
+            ("a nonce is used twice", taken("22", 20), gone),
+            ("a nonce that was given out before", taken("11", 20), gone),
+            ("a nonce of another machine", taken("44", 20), gone),
+            ("a nonce that nobody gave out", taken("66", 20), gone),
+            ("no nonce", taken(None, 20), gone),
+            ("a nonce that was given out later", taken("33", 20), ("match", "", 600.0, plain)),
+            ("a nonce that is too old", taken("44", 36, "b"), stale),
+            ("a nonce of a time to come", taken("55", 20, "b"), stale),
+        ):
+            tools.check(f"taking: {title}", found, wanted)
+        tools.check("taking: what is used", (nonces_of(connection, "a"), nonces_of(connection, "b")), (
+            (("33", True), ("22", True), ("11", True)), (("55", False), ("44", False))))
+
+
+def test_keys(tools):
+    """Where a machine's key is found, and where it is not."""
+    from fleet_verify.quotes import key_of
+
+    folder = tools.folder / "found keys"
+    for name in ("a", "b", "c", "d", "e"):
+        (folder / name).mkdir(parents=True)
+        (folder / name / f"{name}.pem").write_text(f"{name} in a folder")
+    (folder / "a.pem").write_text("a")
+    os.mkfifo(folder / "c.pem")
+    (folder / "d.pem").symlink_to("d.pem")
+    (folder / "e.pem").write_bytes(bytes(16 * 1024 + 1))
+    (tools.folder / "out.pem").write_text("out")
+    wanted = {"a": "a", "b": "b in a folder", "c": None, "d": None, "e": None, "f": None, "../out": None, "..": None, ".": None, "x" * 255: None}
+    tools.check("keys that are found: none in place of one that cannot be read", {name: key_of(str(folder), name) for name in wanted}, wanted)
+
+
+def test_nonces(quotes, verdicts):
+    """Each machine has a nonce, which stays as long as it is unused and young, and comes into a file that this user alone may read."""
+    given, folder = quotes.give_out(verdicts), quotes.folder / "given"
+    is_good = all(re.fullmatch(r"[0-9a-f]{64}", nonce) for nonce in given.values())
+    names = [machine.name for machine in quotes.machines]
+    quotes.check("nonces: each machine has its own", (list(given), len(set(given.values())), is_good), (names, MACHINES, True))
+    words = ("nonces", "--folder", folder, quotes.table, verdicts)
+    quotes.check("nonces: into files", quotes.call(*words), (0, "", ""))
+    check_files(quotes, folder, given)
+    again = "UPDATE nonces SET given_out = ? WHERE machine = ?"
+    change(verdicts, again, ago(1900), "machine 0")
+    change(verdicts, again, ago(3700), "machine 1")
+    change(verdicts, again, ago(-60), "machine 2")
+    later = quotes.give_out(verdicts)
+    quotes.check("nonces: into files again", quotes.call(*words), (0, "", ""))
+    check_files(quotes, folder, later)
+    (folder / "machine 0").unlink()
+    (folder / "machine 0").mkdir()
+    (folder / "machine 1").unlink()
+    status, _, errors = quotes.call(*words)
+    told = "1 nonces could not be written: machine 0: [Errno 21] Is a directory" in errors
+    quotes.check("nonces: a file that cannot be written", (status, told), (3, True))
+    (folder / "machine 0").rmdir()
+    (folder / "machine 0").write_text("")
+    quotes.check("nonces: into files once more", quotes.call(*words), (0, "", ""))
+    check_files(quotes, folder, later)
+    changed = {name for name in given if later[name] != given[name]}
+    quotes.check("nonces: another, where one is older than half an hour, or of a time to come", changed, {"machine 0", "machine 1", "machine 2"})
+    kept = {name for (name,) in query(verdicts, "SELECT machine FROM nonces GROUP BY machine HAVING count(*) > 1")}
+    quotes.check("nonces: one that is too old, or of a time to come, is forgotten", kept, {"machine 0"})
+    odd = quotes.folder / "odd.tsv"
+    odd.write_text("../a\t/a\n")
+    status, _, errors = quotes.call("nonces", "--folder", folder, odd, quotes.folder / "odd.db")
+    quotes.check("nonces: a name that is none of a file", (status, "no file has the name '../a'" in errors), (2, True))
+    quotes.check("nonces: another file as TABLE", quotes.call("nonces", quotes.table, quotes.table)[0], 2)
+
+
+def check_files(quotes, folder, given):
+    files = {path.name: (path.read_text(), path.stat().st_mode & 0o777) for path in folder.iterdir()}
+    wanted = {name: (f"{nonce}\n", 0o600) for name, nonce in given.items()}
+    quotes.check("nonces: a file of each machine, with the nonce that it has", files, wanted)
+
+
+def ago(seconds):
+    """A time so many seconds ago, as the table writes it."""
+    return time.strftime("%Y-%m-%dT%H:%M:%S.000+00:00", time.gmtime(time.time() - seconds))
+
+
+def test_growing(quotes, verdicts):
+    """Two polls, of which the second reads on where the first stopped, unless the machine started anew."""
+    given, began = quotes.give_out(verdicts), time.time() - 60
+    quotes.answer(given)
+    quotes.check_run("quotes: the first poll", quotes.run_words(verdicts, "--poll"), quotes.all())
+    check_columns(quotes, verdicts, given, time.time() - began)
+    sizes = {machine.name: len(machine.list) for machine in quotes.machines}
+    used = shutil.copy(verdicts, quotes.folder / "used.db")
+    quotes.check_run("quotes: the poll again, without new quotes", quotes.run_words(used, "--poll"), quotes.all("unreadable", USED))
+    quotes.each(move_on)
+    quotes.answer(quotes.give_out(verdicts))
+    quotes.check_run("quotes: the second poll", quotes.run_words(verdicts, "--poll"), quotes.all())
+    others = (*STARTED_ANEW, *SUSPENDED)
+    starts = {name: 0 if int(name.split()[1]) in others else size for name, size in sizes.items()}
+    quotes.check("quotes: from where the second poll read the lists", dict(query(verdicts, "SELECT machine, list_from FROM verdicts")), starts)
+    told = query(verdicts, "SELECT machine, verdict, cause FROM changes WHERE kind = 'reboot' ORDER BY machine")
+    wanted = []
+    for number in others:
+        resets, restarts = quotes.machines[number].counted()
+        wanted.append((f"machine {number}", "match", f"resets {resets}, restarts {restarts}"))
+    quotes.check("quotes: which machines started anew, as changes", told, sorted(wanted))
+    changes = query(verdicts, "SELECT count(*) FROM changes WHERE kind = 'verdict' AND poll = (SELECT max(number) FROM polls)")
+    quotes.check("quotes: no verdict is another for that", changes, [(0,)])
+
+
+def move_on(machine):
+    """What happens to a machine between two polls."""
+    if machine.number in STARTED_ANEW:
+        machine.boot()
+    elif machine.number in SUSPENDED:
+        machine.tpm.suspend()
+    if machine.number % 2:
+        machine.grow(3)
+
+
+def check_columns(quotes, verdicts, given, seconds):
+    """What the table has of quotes is what other tools say of them."""
+    rows = query(verdicts, "SELECT machine, signer, resets, restarts, nonce FROM verdicts ORDER BY machine")
+    wanted = quotes.each(lambda machine: (machine.name, machine.signer(), *machine.counted(), given[machine.name]))
+    quotes.check("quotes: signer, resets, restarts, nonce", rows, sorted(wanted))
+    ages = [age for (age,) in query(verdicts, "SELECT quote_age FROM verdicts")]
+    quotes.check("quotes: their ages", [age for age in ages if not 0 <= age <= seconds], [])
+    hashes = query(verdicts, "SELECT machine, log_sha256, list_sha256, quote_sha256, signature_sha256 FROM verdicts ORDER BY machine")
+    files = [(machine.name, *(hashlib.sha256((machine.folder / file).read_bytes()).hexdigest() for file in EVIDENCE))
+             for machine in quotes.machines]
+    quotes.check("quotes: hashes of what was read", hashes, sorted(files))
+    unused = query(verdicts, "SELECT count(*) FROM nonces WHERE used IS NULL")
+    quotes.check("quotes: their nonces are used", unused, [(0,)])
+
+
+def turned(data):
+    return data[:-1] + bytes([data[-1] ^ 1])
+
+
+@dataclass
+class Case:
+    """A machine that has answered its nonce, before something is done to it, and the verifier's table."""
+
+    quotes: Quotes
+    machine: Quoted
+    given: dict
+    verdicts: Path
+
+    @property
+    def folder(self):
+        return self.machine.folder
+
+    @property
+    def nonce(self):
+        return self.given[self.machine.name]
+
+    @property
+    def key(self):
+        """Its key, as the verifier has it."""
+        return self.quotes.keys / f"{self.machine.name}.pem"
+
+    def quote(self, nonce, *selection):
+        """Its TPM makes another quote."""
+        self.machine.tpm.quote(nonce, self.folder, *selection)
+
+    def quote_as_another(self):
+        """The first machine's TPM makes its quote."""
+        self.quotes.machines[0].tpm.quote(self.nonce, self.folder)
+
+    def quote_for(self, number):
+        """It answers the nonce of another machine."""
+        self.quote(self.given[f"machine {number}"])
+
+    def change(self, file, changed):
+        path = self.folder / file
+        path.write_bytes(changed(path.read_bytes()))
+
+    def remove(self, file):
+        (self.folder / file).unlink()
+
+    def change_nonce(self, assigned, value):
+        """Changes its unused nonce in the table."""
+        change(self.verdicts, f"UPDATE nonces SET {assigned} = ? WHERE machine = ? AND used IS NULL", value, self.machine.name)
+
+    def forget_nonces(self):
+        change(self.verdicts, "DELETE FROM nonces WHERE machine = ?", self.machine.name)
+
+    def replay(self):
+        """It gives the quote of the poll before."""
+        for file in EVIDENCE[2:]:
+            shutil.copy(self.quotes.folder / "before" / str(self.machine.number) / file, self.folder)
+
+    def grow(self):
+        """Its list goes on after the quote."""
+        self.machine.grow(1)
+        (self.folder / "ima.list").write_bytes(self.machine.list)
+
+    def tamper(self):
+        """The entry that it measures is another in its list."""
+        self.machine.grow(1)
+        (self.folder / "ima.list").write_bytes(turned(self.machine.list))
+        self.quote(self.nonce)
+
+    def hide(self):
+        """It measures an entry, which its list lacks from then on."""
+        self.machine.tpm.measure(self.machine.entries[-1:])
+        self.quote(self.nonce)
+
+    def have_two(self):
+        """It has another nonce meanwhile, and answers the earlier one, which is still good."""
+        change(self.verdicts, "INSERT INTO nonces (machine, nonce, given_out) VALUES (?, ?, ?)", self.machine.name, "ab" * 32, ago(0))
+
+    def make_fifo(self):
+        self.remove("quote.msg")
+        os.mkfifo(self.folder / "quote.msg")
+
+    def enroll(self):
+        """Its key is where `ima-enroll` keeps it."""
+        (self.quotes.keys / self.machine.name).mkdir()
+        self.key.rename(self.quotes.keys / self.machine.name / self.key.name)
+
+    def empty_nonce(self):
+        self.change_nonce("nonce", "")
+        self.quote("")
+
+    def sign(self, message, bits=2048):
+        """A key of openssl, which signs anything, is its key, and signs this message."""
+        secret = self.quotes.folder / "secret.key"
+        message_file, signature = (self.folder / name for name in EVIDENCE[2:])
+        message_file.write_bytes(message)
+        for words in (
+            ["genrsa", "-out", secret, bits], ["rsa", "-in", secret, "-pubout", "-out", self.key],
+            ["dgst", "-sha256", "-sign", secret, "-out", signature, message_file],
+        ):
+            subprocess.run(["openssl", *map(str, words)], check=True, capture_output=True)
+
+    def sign_changed(self, changed, bits=2048):
+        self.sign(changed((self.folder / "quote.msg").read_bytes()), bits)
+
+    def sign_other_registers(self):
+        nonce = sized(bytes.fromhex(self.nonce))
+        self.sign(HEAD + sized(b"") + nonce + CLOCK + bytes(8) + SELECTED + sized(bytes(32)))
+
+
+# What is done to machines, by their numbers, and what must come of it: quotes that prove nothing of their machine, or nothing of late.
+BAD_QUOTES = {
+    1: (Case.quote_as_another, "refused", BAD_SIGNATURE),
+    2: (lambda case: case.quote_for(0), "refused", OTHER_NONCE),
+    3: (Case.replay, "unreadable", USED),
+    4: (lambda case: case.change_nonce("given_out", ago(3700)), "unreadable", OLD),
+    5: (lambda case: case.change_nonce("given_out", ago(-600)), "unreadable", OLD),
+    6: (lambda case: case.change("quote.msg", turned), "refused", BAD_SIGNATURE),
+    7: (lambda case: case.change("quote.sig", turned), "refused", BAD_SIGNATURE),
+    8: (lambda case: case.change("quote.msg", lambda data: data[:-1]), "refused", BAD_SIGNATURE),
+    9: (lambda case: case.change("quote.sig", lambda data: data[:-1]), "refused", BAD_SIGNATURE),
+    10: (lambda case: case.remove("quote.msg"), "refused", ABSENT.format("quote")),
+    11: (lambda case: case.remove("quote.sig"), "refused", ABSENT.format("signature")),
+    12: (lambda case: case.key.unlink(), "refused", "no key: the verifier has none of this machine"),
+    13: (lambda case: case.key.write_text("key"), "refused", NO_PEM),
+    14: (Case.forget_nonces, "refused", NO_NONCE),
+    15: (lambda case: case.quote(""), "refused", OTHER_NONCE),
+    16: (lambda case: case.quote(case.nonce, f"sha256:{LOW[:-3]}"), "refused", LESS_QUOTED),
+    17: (Case.grow, "differ", None),
+    18: (Case.tamper, "refused", "refused: replay fault 1 at entry 14"),  # (before it has 10 + 18 % 7)
+    19: (Case.hide, "differ", None),
+}
+
+# Quotes of odd forms, and nonces of others.
+ODD_QUOTES = {
+    1: (lambda case: case.quote_for(2), "refused", OTHER_NONCE),
+    2: (lambda case: case.quote_for(1), "refused", OTHER_NONCE),
+    3: (lambda case: case.change("quote.sig", lambda data: bytes.fromhex("0014000b0100") + data), "refused", BAD_SIGNATURE),
+    4: (lambda case: case.change("quote.msg", lambda _: b""), "refused", BAD_SIGNATURE),
+    5: (lambda case: case.change("quote.sig", lambda _: b""), "refused", BAD_SIGNATURE),
+    6: (Case.make_fifo, "unreadable", "quote: OSError: it is no regular file"),
+    7: (lambda case: os.truncate(case.folder / "quote.sig", MOST_BYTES + 1), "refused", "refused: too long signature"),
+    8: (lambda case: case.quote(case.nonce, f"sha1:{LOW}"), "refused", LESS_QUOTED),
+    9: (lambda case: case.sign_changed(lambda data: data[:-1]), "refused", "refused: quote fault 1"),
+    10: (lambda case: case.sign_changed(lambda data: bytes(1) + data[1:]), "refused", "refused: quote fault 2"),
+    11: (lambda case: case.sign_changed(lambda data: data, 1024), "refused", WEAK),
+    12: (Case.have_two, "match", None),
+    13: (Case.empty_nonce, "failed", "Misuse: a nonce has 16 bytes or more, and not 0"),
+    14: (Case.enroll, "match", None),
+    15: (lambda case: case.quote("cd" * 32), "refused", OTHER_NONCE),
+    16: (Case.sign_other_registers, "differ", None),
+}
+
+
+def check_cases(quotes, title, verdicts, cases):
+    """What comes of machines after something was done to each, by number, of which the others match."""
+    given = quotes.give_out(verdicts)
+    quotes.answer(given)
+    wanted = quotes.all()
+    for number, (do, *row) in cases.items():
+        do(Case(quotes, quotes.machines[number], given, verdicts))
+        wanted[f"machine {number}"] = tuple(row)
+    quotes.check_run(title, quotes.run_words(verdicts, "--poll"), wanted)
+    with_nonce = query(verdicts, "SELECT machine, nonce FROM verdicts WHERE nonce IS NOT NULL")
+    used = query(verdicts, "SELECT machine, nonce FROM nonces WHERE used IS NOT NULL")
+    with_report = {name for name, row in wanted.items() if row[0] in ("match", "differ")}
+    quotes.check(f"{title}: who has a nonce", {name for name, _ in with_nonce}, with_report)
+    quotes.check(f"{title}: these nonces are used", set(with_nonce) <= set(used), True)
+    for machine in quotes.machines:
+        shutil.copy(machine.tpm.key, quotes.keys / f"{machine.name}.pem")
+
+
+def test_bad_quotes(quotes, verdicts):
+    """What comes of quotes that are no good, one by one."""
+    for machine in quotes.machines:
+        shutil.copytree(machine.folder, quotes.folder / "before" / str(machine.number))
+    check_cases(quotes, "bad quotes", verdicts, BAD_QUOTES)
+    quotes.machines[19].boot()
+    check_cases(quotes, "odd quotes", verdicts, ODD_QUOTES)
+    change(verdicts, "DELETE FROM nonces WHERE nonce = ''")
+
+
+def test_stopped_poll(quotes, verdicts):
+    """A poll stops in the middle: what it recorded has used its nonces, so the next poll takes these quotes for old ones, and the others as they
+    are. With new quotes all is well."""
+    quotes.answer(quotes.give_out(verdicts))
+    change(verdicts, "CREATE TRIGGER stop BEFORE UPDATE ON nonces WHEN new.machine = 'machine 15' BEGIN SELECT RAISE(ABORT, 'stop'); END")
+    status = quotes.call(*quotes.run_words(verdicts, "--poll", "--in-flight", 4))[0]
+    change(verdicts, "DROP TRIGGER stop")
+    recorded = {name for (name,) in query(verdicts, "SELECT machine FROM verdicts WHERE poll = (SELECT max(number) FROM polls)")}
+    quotes.check("quotes: a poll stops in the middle", (status, 0 < len(recorded) < MACHINES), (3, True))
+    used = {name for (name,) in query(verdicts, "SELECT machine FROM nonces GROUP BY machine HAVING count(*) = count(used)")}
+    quotes.check("quotes: what it recorded has used its nonces", used, recorded)
+    wanted = {**quotes.all(), **dict.fromkeys(recorded, ("unreadable", USED))}
+    quotes.check_run("quotes: the poll after it, without new quotes", quotes.run_words(verdicts, "--poll"), wanted)
+    quotes.answer(quotes.give_out(verdicts))
+    quotes.check_run("quotes: the poll after it, with new quotes", quotes.run_words(verdicts, "--poll"), quotes.all())
+
+
+def test_killed(quotes):
+    """A run that is no poll is killed before it records: it has used no nonce. The next, by a cluster, takes them, once."""
+    verdicts = quotes.folder / "killed.db"
+    quotes.answer(quotes.give_out(verdicts))
+    with closing(sqlite3.connect(verdicts)) as holder:
+        holder.execute("BEGIN IMMEDIATE")  # (nothing can be recorded)
+        kill_in_the_middle(quotes, quotes.run_words(verdicts, "--progress", 1))
+        holder.rollback()
+    used = "SELECT count(*) FROM nonces WHERE used IS NOT NULL"
+    quotes.check("quotes: a run was killed before it recorded", (query(verdicts, used), query(verdicts, "SELECT * FROM verdicts")), ([(0,)], []))
+    change(verdicts, "UPDATE nonces SET given_out = ? WHERE machine = 'machine 3'", ago(100))
+    known = "--known", known_files(quotes, unknown=quotes.machines[6])
+    wanted = {**quotes.all(), "machine 6": ("differ", None)}
+    with quotes.tools.cluster("quotes", 2) as (address, _):
+        words = quotes.run_words(verdicts, "--max-age", "90s", *known, by=("--scheduler", address))
+        quotes.check_run("quotes: the run after it, by a cluster", words, {**wanted, "machine 3": ("unreadable", OLD)})
+    unknown = query(verdicts, "SELECT machine, unknown, first_unknown FROM verdicts WHERE unknown > 0")
+    quotes.check("quotes: which entry is not known", unknown, [("machine 6", 1, 1)])
+    quotes.check("quotes: each nonce of a verdict is used", query(verdicts, used), [(MACHINES - 1,)])
+    quotes.check_run("quotes: one that was too old for that run", quotes.run_words(verdicts, "--again", "unreadable", *known), wanted)
+    words = quotes.run_words(verdicts, "--again", "match,differ", *known)
+    quotes.check_run("quotes: all anew, without new quotes", words, quotes.all("unreadable", USED))
+    other = quotes.folder / "other.db"
+    quotes.give_out(other)
+    wanted = quotes.all("refused", OTHER_NONCE)
+    quotes.check_run("quotes: with another table, which gave out other nonces", quotes.run_words(other), wanted)
+
+
+def known_files(quotes, unknown):
+    """A file of the digests of all that the machines measured, but for the first entry of one machine after its boot aggregate."""
+    measured = [measurement for machine in quotes.machines for measurement in machine.measurements[machine is unknown :]]
+    known = quotes.folder / "SHA256SUMS"
+    known.write_text("".join(f"{digest.hex()}  {path.decode()}\n" for path, digest in measured))
+    return known
+
+
+def kill_in_the_middle(quotes, words):
+    """Kills a run by these words after it has begun, and after its machines are answered, if they are soon."""
+    said = quotes.folder / "killed"
+    words = [quotes.tools.python, ROOT / "fleet/verify.py", *words]
+    with open(said, "w") as errors:
+        client = subprocess.Popen([str(word) for word in words], env=quotes.tools.environment, stdout=subprocess.DEVNULL, stderr=errors)
+    until("a line of progress", lambda: f"0 of {MACHINES} done" in said.read_text(), client)
+    client.kill()
+    client.wait()
+
+
+def test_refused(quotes, verdicts):
+    """Runs that are not begun."""
+    plain = ("--workers", 1, "--require", REQUIRE)
+    for title, words in (
+        ("neither keys nor --unquoted", (*plain, quotes.table, verdicts)),
+        ("keys and --unquoted", (*plain, "--keys", quotes.keys, "--unquoted", quotes.table, verdicts)),
+        ("registers that are too few", ("--workers", 1, "--require", "sha256:0-7,sha256:10", "--keys", quotes.keys, quotes.table, verdicts)),
+        ("no registers", ("--workers", 1, "--require", "none", "--keys", quotes.keys, quotes.table, verdicts)),
+        ("registers of sha1 alone", ("--workers", 1, "--require", "sha1:0-10", "--keys", quotes.keys, quotes.table, verdicts)),
+        ("a table of verdicts by quotes, without", (*plain, "--unquoted", "--poll", quotes.table, verdicts)),
+        ("no folder of keys", (*plain, "--keys", quotes.folder / "none", quotes.table, verdicts)),
+    ):
+        status, output, errors = quotes.call(*words)
+        quotes.check(f"quotes: refused: {title}", (status, output, errors != ""), (2, "", True))
+    unquoted = quotes.folder / "unquoted.tsv"
+    unquoted.write_text("a\t/log\t/list\t/expected\n")
+    status, output, errors = quotes.call(*plain, "--keys", quotes.keys, unquoted, quotes.folder / "unquoted.db")
+    wanted = "line 1: 4 fields, and not 2 or 5, with a tab between"
+    quotes.check("quotes: refused: a machine with expected registers", (status, output, wanted in errors), (2, "", True))
