@@ -8,7 +8,6 @@ OPTION = re.compile(r"^ {2,6}(?:-(?P<short>\w), )?--(?P<name>[a-z0-9-]+)(?: <(?P
 ARGUMENT = re.compile(r"^  (?P<shown>[<[][A-Z]+[>\]](?:\.\.\.)?)  ")
 COMMAND = re.compile(r"^  (?P<name>[a-z]+)  +(?P<about>\S.*)$")
 ROW = re.compile(r"^ {1,2}(?P<number>[0-9]+)  (?P<text>\S.*)$")
-TABLE = re.compile(r"^(?P<name>[A-Z][a-z]+ faults) \((?P<line>[^;)]*).*\):$")
 NOTE = re.compile(r"\s*\[(default|possible values): ([^]]*)\]")
 
 
@@ -28,13 +27,12 @@ class Option(NamedTuple):
 
 
 class Command(NamedTuple):
-    """A command, or the program itself: its arguments, and the numbers of its faults and statuses, with what they mean."""
+    """A command, or the program itself: what it does, its arguments, and its statuses with what they mean."""
 
     name: str
     about: str
     options: List[Option]
     arguments: List[str]
-    faults: Dict[str, Dict[str, str]]
     statuses: Dict[str, str]
 
 
@@ -73,19 +71,16 @@ def rows_of(lines):
 
 def read_help(name, text):
     """What the help of a command says of it, and the commands that it names."""
-    command, commands = Command(name, text.split("\n", 1)[0], [], [], {}, {}), []
+    command, commands = Command(name, text.split("\n", 1)[0], [], [], {}), []
     for first, lines in sections(text):
-        table = TABLE.match(first)
         if first == "Options:":
             command.options.extend(option_of(found, more) for found, more in joined(lines, OPTION))
         elif first == "Arguments:":
             command.arguments.extend(found["shown"] for found, _ in joined(lines, ARGUMENT))
-        elif first == "Commands:":
+        elif first.startswith("Commands that "):
             commands.extend(found["name"] for found, _ in joined(lines, COMMAND))
         elif first == "Exit status:":
             command.statuses.update(rows_of(lines))
-        elif table:
-            command.faults[table["name"]] = rows_of(lines)
     return command, commands
 
 

@@ -12,7 +12,8 @@ from pathlib import Path
 
 ROOT = Path(__file__).resolve().parent.parent
 DOCS, FLEET_DOCS, SAMPLES = "share/doc/ima-agent", "share/doc/fleet-verify", "share/ima-agent/samples"
-PAGES = ("attest.md", "investigate.md", "library.md", "cli.md", "errors.txt", "json.md", "verdict.md", "formats.md", "event-data.md", "trust.md", "trust.svg")
+PAGES = ("attest.md", "investigate.md", "library.md", "cli.md", "reports.txt", "errors.txt", "json.md", "json.txt", "verdict.md", "formats.md", "layouts.txt", "examples.txt",
+         "standards.txt", "event-data.md", "trust.md", "trust.svg")
 FLEET_PAGE, FLEET = "fleet.md", "share/ima-agent/python/fleet_verify-*.whl"
 
 LINK = re.compile(r"(!?)\[((?:[^][]|\[[^][]*\])*)\]\(([^()\s]+)\)")
@@ -22,14 +23,10 @@ BRACKETED = re.compile(rf" \((?:in |by )?{LINK.pattern}\)")
 RULES = (
     (re.compile(r"(?<![\w/])\./ima-agent\b"), "ima-agent"),
     (re.compile(r" \(here they are `collect`, `enroll` and `verify` of \[`attest/`\]\(\.\./attest\)\)"), ""),
-    (re.compile(r"`ima_agent_program` there \(\[README\]\(\.\./README\.md\) says from where\), and call it in place of `ima-agent`"),
-     "`ima-agent` there"),
-    (re.compile(r", as the\s+definitions in `crates/\*/specs/` do(?: \(\[definitions\.md\]\(definitions\.md\)\))?"), ""),
     (re.compile(r"(?:(?<=\$PWD/)|(?<![\w/]))samples/"), f"{SAMPLES}/"),
     (re.compile(r"(?<![\w/])bindings/c/ima_verify\.h"), "include/ima_verify.h"),
     # of the page of the fleet
     (re.compile(r"\nIn this repository the command is `fleet/verify\.py`\."), ""),
-    (re.compile(r"`fleet/bench/measure\.py LIBRARY_DIR` prints(?:.|\n)*?(?:\n\n|\n\Z)"), ""),
 )
 
 # What only the repository has: its scripts, and its folders.

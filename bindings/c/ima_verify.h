@@ -453,9 +453,9 @@ ima_verify_attest(const struct ima_verify_quoted *quoted, enum ima_verify_form f
     return ima_verify_attest_more(quoted, start, false, form, &next, output);
 }
 
-/* The expected registers that a text which tpm2_pcrread or tpm2_checkquote printed states, of those in the range
- * that `registers` spells, as `0-10` or `4`, or of all without bytes; at least one, else the text is refused. A
- * wrong range is refused before the text. Nothing says who wrote the text, nor whether a quote holds:
+/* The expected registers that a text which tpm2_pcrread or tpm2_checkquote printed states, of those that the
+ * selection `registers` has, as `sha256:0-10` or `0-7,10`, or of all without bytes; at least one, else the text is
+ * refused. A wrong selection is refused before the text. Nothing says who wrote the text, nor whether a quote holds:
  * tpm2_checkquote prints the same of one that it refuses. */
 IMA_VERIFY_USE_RESULT static inline enum ima_verify_result
 ima_verify_expected(struct ima_verify_bytes printed, struct ima_verify_bytes registers, enum ima_verify_form form,
@@ -530,23 +530,25 @@ ima_verify_key(struct ima_verify_bytes area, enum ima_verify_purpose purpose, en
 /* Where lines of entries or events go on: {0, 0} at first, and then what the last call set. Any other is not
  * looked into: what comes then says nothing of the bytes. */
 struct ima_verify_position {
-    /* How many bytes come before it, and how many entries or events. */
+    /* How many bytes come before it, and how many entries or events. After the last line of entries as JSON `offset`
+     * is one more than the list has bytes. */
     size_t offset;
     size_t number;
 };
 
 /* The entries of a list from this position on, as many whole lines as there is room for: as text in the kernel's
  * form, in which paths stand as they are and may have line feeds and control bytes, or as JSON, in which `genuine`
- * is a member. The position is set to where the next call goes on. IMA_VERIFY_MORE if there are more bytes, and
- * IMA_VERIFY_DONE at the end. The line of a fault comes by a call of its own, after the lines before it, with
+ * is a member, and in which the last line, `{"entries":N}`, says how many entries there are: without it the list was
+ * not read to its end. The position is set to where the next call goes on. IMA_VERIFY_MORE if there are more lines,
+ * and IMA_VERIFY_DONE at the end. The line of a fault comes by a call of its own, after the lines before it, with
  * IMA_VERIFY_REFUSED. With IMA_VERIFY_TOO_SHORT `size` is that of one line. */
 IMA_VERIFY_USE_RESULT static inline enum ima_verify_result
 ima_verify_entries(struct ima_verify_bytes list, struct ima_verify_position *position, enum ima_verify_form form,
                    struct ima_verify_output *output) {
     uint8_t none;
     struct ima_verify_told told;
-    if (!ima_verify_is_given(list) || !position || position->offset > list.size
-        || !ima_verify_is_output(form, output))
+    if (!ima_verify_is_given(list) || !position || !ima_verify_is_output(form, output)
+        || position->offset > list.size + (form == IMA_VERIFY_JSON))
         return IMA_VERIFY_MISUSED;
     return ima_verify_tell(output,
                            ima_verify_raw_entries(ima_verify_data(list), list.size, &position->offset,

@@ -14,18 +14,10 @@ const unset = math.MaxUint64
 
 // Lines of the forms that docs/json.md shows.
 const (
-	report = `{"events":1,"locality":0,"entries":3,"boot_aggregate":"good",` +
-		`"registers":[{"bank":"sha256","register":10,"state":"match"}],"verdict":"match"}` + "\n"
-	placesLine = `{"registers":[{"bank":"sha256","register":8,"place":"reset"},{"bank":"sha256","register":4,"place":"event","number":18},` +
-		`{"bank":"sha256","register":10,"place":"entry","number":98}],"located":true}` + "\n"
-	notLocated = `{"registers":[{"bank":"sha256","register":8,"place":"reset"},{"bank":"sha256","register":23,"place":"nowhere"},` +
-		`{"bank":"sha1","register":10,"place":"absent"}],"located":false}` + "\n"
-	listReport  = `{"entries":3,"registers":[{"bank":"sha256","register":10,"state":"match"}],"verdict":"match"}` + "\n"
-	matchingRow = `{"bank":"sha256","register":10,"state":"match"}`
-	missingRow  = `{"bank":"sha1","register":4,"state":"missing"}`
-	strayEvent  = `{"event":1,"register":10}`
-	strayEntry  = `{"entry":2,"register":11}`
-	algorithms  = `{"algorithms":[{"id":18,"size":1},{"name":"sha1","id":4,"size":20}],` +
+	missingRow = `{"bank":"sha1","register":4,"state":"missing"}`
+	strayEvent = `{"event":1,"register":10}`
+	strayEntry = `{"entry":2,"register":11}`
+	algorithms = `{"algorithms":[{"id":18,"size":1},{"name":"sha1","id":4,"size":20}],` +
 		`"specification":{"platform_class":0,"major":2,"minor":0,"errata":0,"uintn_size":2,"vendor":""}}` + "\n"
 	listFault   = `{"fault":{"kind":"list","number":1,"entry":2,"message":"refused: list fault 1 at entry 2"}}` + "\n"
 	logFault    = `{"fault":{"kind":"log","number":1,"event":2,"message":"refused: log fault 1 at event 2"}}` + "\n"
@@ -34,6 +26,14 @@ const (
 )
 
 var (
+	wanted      = `"expected":"` + strings.Repeat("e", 64) + `",`
+	matchingRow = `{"bank":"sha256","register":10,` + wanted + `"state":"match"}`
+	report      = `{"events":1,"locality":0,"entries":3,"boot_aggregate":"good","registers":[` + matchingRow + `],"verdict":"match"}` + "\n"
+	listReport  = `{"entries":3,"registers":[` + matchingRow + `],"verdict":"match"}` + "\n"
+	placesLine  = `{"registers":[{"bank":"sha256","register":8,` + wanted + `"place":"reset"},{"bank":"sha256","register":4,` + wanted +
+		`"place":"event","number":18},{"bank":"sha256","register":10,` + wanted + `"place":"entry","number":98}],"located":true}` + "\n"
+	notLocated = `{"registers":[{"bank":"sha256","register":8,` + wanted + `"place":"reset"},{"bank":"sha256","register":23,` + wanted +
+		`"place":"nowhere"},{"bank":"sha1","register":10,"expected":"` + strings.Repeat("e", 40) + `","place":"absent"}],"located":false}` + "\n"
 	differingState = `"state":"differ","value":"` + strings.Repeat("0", 64) + `"`
 	differing      = strings.NewReplacer(`"state":"match"`, differingState, `"verdict":"match"`, `"verdict":"differ"`).Replace(report)
 	lacking        = strings.Replace(report, `}],"verdict":"match"`, `},`+missingRow+`],"verdict":"differ"`, 1)
@@ -167,8 +167,16 @@ func eventsIn(answers ...answer) ([]Event, error) {
 	return drainedEvents(eventsOf(linesOf(false, scripted(answers))))
 }
 
-// What is read from one answer of entries.
+// Lines of entries, and the line of how many they are.
+func counted(text string) string {
+	return text + fmt.Sprintf(`{"entries":%d}`, strings.Count(text, "\n")) + "\n"
+}
+
+// What is read from one answer of entries, the last of which is followed by their number.
 func readEntries(status int32, text string) error {
+	if status == done {
+		text = counted(text)
+	}
 	_, err := entriesOf(of(status, text))
 	return err
 }
@@ -242,8 +250,9 @@ func TestWrongReportsAreNoVerdicts(t *testing.T) {
 		{`"events":1`, `"events":null`}, {`"events":1`, `"events":"1"`}, {`"events":1`, `"events":18446744073709551616`}, {`"events":1,`, ``},
 		{`"locality":0`, `"locality":256`}, {`"entries":3,`, ``}, {`"good"`, `"fine"`}, {`"good"`, `"wrong"`},
 		{`"good"`, `{}`}, {`"boot_aggregate":"good",`, ``}, {`"sha256"`, `"md5"`}, {`"bank":"sha256",`, ``}, {`:10,`, `:24,`}, {`:10,`, `:-1,`},
-		{`"register":10,`, ``}, {match, `"state":"differ"`}, {match, strings.Replace(differingState, "00", "", 1)},
-		{match, `"state":"absent"`}, {match, `"state":"missing"`},
+		{`"register":10,`, ``}, {wanted, ``}, {wanted, strings.Replace(wanted, "ee", "", 1)}, {wanted, strings.Replace(wanted, "e\"", "E\"", 1)},
+		{wanted, `"expected":null,`}, {match, `"state":"differ"`}, {match, strings.Replace(differingState, "00", "", 1)},
+		{match, `"state":"absent"`}, {match, `"state":"missing"`}, {wanted + match, `"state":"missing"`},
 		{match, `"state":"Match"`}, {`,` + match, ``}, {`"verdict":"match"`, `"verdict":"differ"`}, {`,"verdict":"match"`, ``},
 		{`"verdict":"match"`, `"verdict":true`}, {`"registers":[`, `"registers":[1,`}, {`"registers":[`, `"registers":[null,`},
 		{`"registers"`, `"rows"`}, {`[` + matchingRow + `]`, `null`}, {"}\n", "}"}, {"}\n", "}\n\n"}, {"}\n", "\n"}, {"}\n", "}}\n"},
@@ -256,7 +265,7 @@ func TestWrongReportsAreNoVerdicts(t *testing.T) {
 		checkUnexpected(t, readVerdict(done, report[:size]), report[:size])
 	}
 	zeros := strings.Repeat("0", 64)
-	for _, value := range []string{zeros[1:] + "A", zeros[2:], zeros + "00", "", zeros[1:] + "g", zeros[1:]} {
+	for _, value := range []string{strings.Repeat("e", 64), zeros[1:] + "A", zeros[2:], zeros + "00", "", zeros[1:] + "g", zeros[1:]} {
 		text := strings.Replace(differing, zeros, value, 1)
 		checkUnexpected(t, readVerdict(differs, text), text)
 	}
@@ -265,6 +274,7 @@ func TestWrongReportsAreNoVerdicts(t *testing.T) {
 func TestWrongReportsWithMissingRegistersAreNoVerdicts(t *testing.T) {
 	checkChanges(t, readVerdict, differs, lacking, [][2]string{
 		{`"verdict":"differ"`, `"verdict":"match"`}, {`"register":4`, `"register":24`},
+		{`"state":"missing"`, `"expected":"` + strings.Repeat("e", 40) + `","state":"missing"`},
 	})
 	matching := strings.Replace(lacking, `"differ"`, `"match"`, 1)
 	for _, text := range []string{lacking, matching} {
@@ -276,7 +286,7 @@ func TestRightReportsOnAListAloneAreRead(t *testing.T) {
 	verdict, err := of(done, listReport).listVerdict(false)
 	equal(t, []interface{}{verdict.Matches, verdict.Entries, verdict.Compared(), err}, []interface{}{true, uint64(3), 1, nil})
 	for _, change := range [][2]string{
-		{`"entries":3`, `"entries":0`}, {`"state":"match"`, differingState}, {`"state":"match"`, `"state":"missing"`},
+		{`"entries":3`, `"entries":0`}, {`"state":"match"`, differingState}, {wanted + `"state":"match"`, `"state":"missing"`},
 		{`}]`, `},` + missingRow + `]`},
 	} {
 		matching := strings.Replace(listReport, change[0], change[1], 1)
@@ -418,7 +428,7 @@ func TestEntryThatContradictsItselfIsNone(t *testing.T) {
 		{`"violation":true`, `"violation":false`},
 	})
 	checkChanges(t, readEntries, done, entryLine, [][2]string{{`"violation":false`, `"violation":true`}, {strings.Repeat("1", 40), zeros}})
-	found, err := entriesOf(of(done, strings.Replace(entryLine, `"genuine":true`, `"genuine":false`, 1)))
+	found, err := entriesOf(of(done, counted(strings.Replace(entryLine, `"genuine":true`, `"genuine":false`, 1))))
 	equal(t, []interface{}{found[0].Genuine, found[0].Violation, err}, []interface{}{false, false, nil})
 }
 
@@ -428,12 +438,33 @@ func TestEntriesAreRead(t *testing.T) {
 		{0, 10, "ima-sig", []byte(strings.Repeat("\x11", 20)), false, true, &File{AlgorithmSHA1, digest, "/a", []byte{}}, nil, nil},
 		{1, 10, "\xff\n", make([]byte, 20), true, true, nil, []byte{0}, nil},
 	}
-	for _, pieces := range [][]answer{{of(done, entryLine+otherLine)}, {of(moreLines, entryLine), of(done, otherLine)}} {
+	all := counted(entryLine + otherLine)
+	for _, pieces := range [][]answer{{of(done, all)}, {of(moreLines, entryLine), of(done, all[len(entryLine):])},
+		{of(moreLines, entryLine+otherLine), of(done, `{"entries":2}`+"\n")}} {
 		found, err := entriesOf(pieces...)
 		equal(t, []interface{}{found, err}, []interface{}{wanted, nil})
 	}
-	found, err := drained(&EntryScanner{lines: linesOf(true, scripted([]answer{of(done, "")}))})
+	found, err := entriesOf(of(done, counted("")))
 	equal(t, []interface{}{len(found), err}, []interface{}{0, nil})
+}
+
+func TestEntriesWithoutTheirNumberAreCut(t *testing.T) {
+	for _, last := range []string{"", `{"entries":1}`, `{"entries":3}`, `{"entries":"2"}`, `{"entries":null}`, `{"count":2}`, `{}`,
+		`{"entries":2,"fault":null}`, `{"entries":2}` + "\n" + `{"entries":2}`, `{"entries":2}` + "\n"} {
+		if last != "" {
+			last += "\n"
+		}
+		for _, pieces := range [][]answer{{of(done, entryLine+otherLine+last)}, {of(moreLines, entryLine), of(done, otherLine+last)}} {
+			_, err := entriesOf(pieces...)
+			checkUnexpected(t, err, last)
+		}
+	}
+	for _, text := range []string{"", `{"entries":2}` + "\n" + entryLine + otherLine, entryLine + `{"entries":1}` + "\n" + otherLine} {
+		_, err := entriesOf(of(done, text))
+		checkUnexpected(t, err, text)
+		_, err = entriesOf(of(moreLines, text), of(refused, listFault))
+		checkUnexpected(t, err, text)
+	}
 }
 
 func TestEventsAreRead(t *testing.T) {
@@ -486,7 +517,7 @@ func TestBufferGrowsForOneLongLine(t *testing.T) {
 		return strings.Replace(text, "/a", "/"+strings.Repeat("a", size), 1)
 	}
 	var rooms []int
-	texts := []string{line(0, 1), line(1, 3*room), line(2, 1)}
+	texts := []string{line(0, 1), line(1, 3*room), line(2, 1) + `{"entries":3}` + "\n"}
 	s := &EntryScanner{lines: linesOf(false, func(out []byte) (int32, told) {
 		rooms = append(rooms, len(out))
 		text := texts[0]
@@ -506,7 +537,7 @@ func TestBufferGrowsForOneLongLine(t *testing.T) {
 
 func TestWrongAnswersAreNoEntries(t *testing.T) {
 	for _, wrong := range []answer{
-		of(done, ""), of(done, entryLine[:len(entryLine)-1]), of(done, "\n"), of(done, listFault), of(done, "{}\n"),
+		of(done, entryLine[:len(entryLine)-1]), of(done, "\n"), of(done, listFault), of(done, "{}\n"),
 		of(done, "\n"+entryLine), of(differs, entryLine), of(refused, entryLine), of(refused, ""),
 		of(refused, listFault[:len(listFault)-1]), of(refused, listFault+"\n"), of(refused, memoryFault),
 		of(refused, entryLine+"{}\n"), of(refused, entryLine+listFault), of(done, entryLine+entryLine), of(done, otherLine),
@@ -517,7 +548,7 @@ func TestWrongAnswersAreNoEntries(t *testing.T) {
 		checkUnexpected(t, readEntries(wrong.result, string(wrong.text)), string(wrong.text))
 	}
 	for _, wrong := range []answer{of(done, entryLine), of(moreLines, entryLine), of(moreLines, "")} {
-		_, err := drained(&EntryScanner{lines: linesOf(true, scripted([]answer{wrong}))})
+		_, err := allOf(linesOf(true, scripted([]answer{wrong})))
 		checkUnexpected(t, err, string(wrong.text))
 	}
 	for _, wrong := range []answer{of(done, entryLine), of(done, ""), of(differs, otherLine), of(refused, otherLine)} {
@@ -670,11 +701,10 @@ func TestNoMemoryIsItsError(t *testing.T) {
 }
 
 func TestTextThatIsCutIsNone(t *testing.T) {
-	text := entryLine + otherLine
+	text := counted(entryLine + otherLine)
 	for size := 0; size < len(text); size++ {
-		if size != len(entryLine) { // (two calls may have the two lines)
-			checkUnexpected(t, readEntries(done, text[:size]), text[:size])
-		}
+		_, err := entriesOf(of(done, text[:size]))
+		checkUnexpected(t, err, text[:size])
 	}
 	for size := 0; size < len(listFault); size++ {
 		checkUnexpected(t, readEntries(refused, listFault[:size]), listFault[:size])

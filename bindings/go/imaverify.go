@@ -12,7 +12,7 @@
 // Attest compares a log and a list with a quote in place of expected PCRs, and VerifyQuote verifies the quote's signature, by the key
 // that ReadKey reads.
 //
-// If an input, a requirement or a range is refused, the error is a *RefusedError. If memory runs out, it is ErrOutOfMemory. If the
+// If an input or a selection is refused, the error is a *RefusedError. If memory runs out, it is ErrOutOfMemory. If the
 // library's answer is not as its header describes, it is an *UnexpectedError. With any error the result is the zero value, whose
 // Matches and Located are false.
 //
@@ -56,12 +56,13 @@ const (
 )
 
 // Row is an expected PCR, compared, or a required one that is missing. Value is what the PCR has instead, if the state is
-// StateDiffer; otherwise it is nil.
+// StateDiffer; otherwise it is nil. Expected is the expected value, and nil if the state is StateMissing.
 type Row struct {
 	Algorithm Algorithm
 	Register  int
 	State     State
 	Value     []byte
+	Expected  []byte
 }
 
 // Stray is an event of the log that extends PCR 10, or an entry of the list that extends another. Event is the number of the event,
@@ -224,11 +225,13 @@ func (p Place) isReached() bool {
 	return p.Kind == PlaceReset || p.Kind == PlaceEvent || p.Kind == PlaceEntry
 }
 
-// PlaceRow says where an expected PCR first has its value, or that a required one is missing.
+// PlaceRow says where an expected PCR first has its value, or that a required one is missing. Expected is the expected value, and nil if
+// the place is PlaceMissing.
 type PlaceRow struct {
 	Algorithm Algorithm
 	Register  int
 	Place     Place
+	Expected  []byte
 }
 
 // Places says where each expected PCR first has its value. Located says that each value was reached, that there is one, and that
@@ -286,7 +289,7 @@ type Key struct {
 type Kind string
 
 const (
-	// The requirement, or the range of PCRs, is not of its form, or does not suit a quote or known files; or a nonce is too short. It has
+	// The selection of PCRs, required or asked for, is not of its form, or does not suit a quote or known files; or a nonce is too short. It has
 	// no number.
 	KindArgument Kind = "argument"
 
@@ -458,8 +461,9 @@ func Replay(list, expected []byte, require string, options ...Option) (ListVerdi
 }
 
 // ExpectedFrom gives the lines of expected PCRs, as Verify takes them, that a text which tpm2_pcrread or tpm2_checkquote printed
-// states: of the PCRs in a range, such as "0-10" or "4", or of all, if that is empty. A text with none of them is refused. Nothing
-// says who wrote the text, nor whether a quote holds: take the values of a quote that was checked, or of a trusted machine.
+// states: of the PCRs that a selection has, such as "sha256:0-10" or "0-7,10", or of all, if that is empty. A text with none of them
+// is refused. Nothing says who wrote the text, nor whether a quote holds: take the values of a quote that was checked, or of a trusted
+// machine.
 func ExpectedFrom(printed []byte, registers string) ([]byte, error) {
 	return askFor(answer.lines, func(out []byte) (int32, told) { return callExpected(printed, []byte(registers), out) })
 }

@@ -49,6 +49,11 @@ func registersIn(t *testing.T, text []byte) []Register {
 	return registers
 }
 
+// The value that the sample expects of the register of bank sha256 with this number.
+func expectedOf(t *testing.T, number int) []byte {
+	return registersIn(t, bootTPM)[number].Value
+}
+
 func equal(t *testing.T, found, wanted interface{}) {
 	t.Helper()
 	if !reflect.DeepEqual(found, wanted) {
@@ -78,8 +83,8 @@ func TestVerdictOnTheSampleIsAMatch(t *testing.T) {
 	wanted := Verdict{Events: 24, Entries: 99, BootAggregate: BootAggregateGood, Matches: true}
 	var rows []string
 	for k := 0; k < 24; k++ {
-		wanted.Rows = append(wanted.Rows, Row{AlgorithmSHA256, k, StateMatch, nil})
-		rows = append(rows, fmt.Sprintf(`{"bank":"sha256","register":%d,"state":"match"}`, k))
+		wanted.Rows = append(wanted.Rows, Row{AlgorithmSHA256, k, StateMatch, nil, expectedOf(t, k)})
+		rows = append(rows, fmt.Sprintf(`{"bank":"sha256","register":%d,"expected":"%x","state":"match"}`, k, expectedOf(t, k)))
 	}
 	wanted.JSON = `{"events":24,"locality":0,"entries":99,"boot_aggregate":"good","registers":[` + strings.Join(rows, ",") + `],"verdict":"match"}`
 	equal(t, verify(t, bootLog, bootList, bootTPM, NothingRequired), wanted)
@@ -105,7 +110,7 @@ func TestListThatWentOnDiffersInRegister10(t *testing.T) {
 		if k == 10 {
 			equal(t, fmt.Sprintf("%s %d %s %x", row.Algorithm, row.Register, row.State, row.Value), "sha256 10 differ "+afterLonger)
 		} else {
-			equal(t, row, Row{AlgorithmSHA256, k, StateMatch, nil})
+			equal(t, row, Row{AlgorithmSHA256, k, StateMatch, nil, expectedOf(t, k)})
 		}
 	}
 }
@@ -114,9 +119,9 @@ func TestListThatWentOnIsLocatedBeforeItsEnd(t *testing.T) {
 	places := locate(t, bootLog, longer, bootTPM, NothingRequired)
 	equal(t, places.Located, true)
 	equal(t, len(places.Rows), 24)
-	equal(t, places.Rows[10], PlaceRow{AlgorithmSHA256, 10, Place{PlaceEntry, 98}})
+	equal(t, places.Rows[10], PlaceRow{AlgorithmSHA256, 10, Place{PlaceEntry, 98}, expectedOf(t, 10)})
 	for _, k := range []int{8, 11, 12, 13, 14, 15, 16, 17, 18, 19, 20, 21, 22, 23} {
-		equal(t, places.Rows[k], PlaceRow{AlgorithmSHA256, k, Place{Kind: PlaceReset}})
+		equal(t, places.Rows[k], PlaceRow{AlgorithmSHA256, k, Place{Kind: PlaceReset}, expectedOf(t, k)})
 	}
 	for _, register := range registersIn(t, sample("registers.txt")) {
 		equal(t, places.Rows[register.Register].Place.Kind, PlaceEvent)
@@ -127,9 +132,10 @@ func TestExpectedRegistersMayBeAbsentOrReachedNowhere(t *testing.T) {
 	text := []byte("sha1 10 " + strings.Repeat("0", 40) + "\nsha256 10 " + strings.Repeat("1", 64))
 	verdict, places := verify(t, bootLog, longer, text, NothingRequired), locate(t, bootLog, longer, text, NothingRequired)
 	equal(t, verdict.Matches || places.Located, false)
-	equal(t, verdict.Rows[0], Row{AlgorithmSHA1, 10, StateAbsent, nil})
+	equal(t, verdict.Rows[0], Row{AlgorithmSHA1, 10, StateAbsent, nil, make([]byte, 20)})
 	equal(t, fmt.Sprintf("%s %x", verdict.Rows[1].State, verdict.Rows[1].Value), "differ "+afterLonger)
-	equal(t, places.Rows, []PlaceRow{{AlgorithmSHA1, 10, Place{Kind: PlaceAbsent}}, {AlgorithmSHA256, 10, Place{Kind: PlaceNowhere}}})
+	equal(t, places.Rows, []PlaceRow{{AlgorithmSHA1, 10, Place{Kind: PlaceAbsent}, make([]byte, 20)},
+		{AlgorithmSHA256, 10, Place{Kind: PlaceNowhere}, bytes.Repeat([]byte{0x11}, 32)}})
 }
 
 func TestAllRequiredRegistersAreExpected(t *testing.T) {
@@ -149,20 +155,20 @@ func TestRequiredRegisterThatIsNotExpectedIsMissing(t *testing.T) {
 	verdict := verify(t, bootLog, bootList, text, "sha256:0-23,sha1:10")
 	equal(t, []interface{}{verdict.Matches, verdict.Compared()}, []interface{}{false, 23})
 	equal(t, verdict.Rows[:23], verify(t, bootLog, bootList, text, NothingRequired).Rows)
-	equal(t, verdict.Rows[23:], []Row{{AlgorithmSHA1, 10, StateMissing, nil}, {AlgorithmSHA256, 23, StateMissing, nil}})
+	equal(t, verdict.Rows[23:], []Row{{AlgorithmSHA1, 10, StateMissing, nil, nil}, {AlgorithmSHA256, 23, StateMissing, nil, nil}})
 	places := locate(t, bootLog, bootList, text, "sha256:0-23,sha1:10")
 	equal(t, places.Located, false)
 	equal(t, places.Rows[:23], locate(t, bootLog, bootList, text, NothingRequired).Rows)
-	equal(t, places.Rows[23:], []PlaceRow{{AlgorithmSHA1, 10, Place{Kind: PlaceMissing}}, {AlgorithmSHA256, 23, Place{Kind: PlaceMissing}}})
+	equal(t, places.Rows[23:], []PlaceRow{{AlgorithmSHA1, 10, Place{Kind: PlaceMissing}, nil}, {AlgorithmSHA256, 23, Place{Kind: PlaceMissing}, nil}})
 }
 
 func TestNothingExpectedNeverMatches(t *testing.T) {
 	for _, empty := range [][]byte{nil, {}, []byte("\n")} {
 		verdict := verify(t, bootLog, bootList, empty, "sha256:10")
 		equal(t, []interface{}{verdict.Matches, verdict.Compared()}, []interface{}{false, 0})
-		equal(t, verdict.Rows, []Row{{AlgorithmSHA256, 10, StateMissing, nil}})
+		equal(t, verdict.Rows, []Row{{AlgorithmSHA256, 10, StateMissing, nil, nil}})
 		places := locate(t, bootLog, bootList, empty, "sha256:10")
-		equal(t, []interface{}{places.Located, places.Rows}, []interface{}{false, []PlaceRow{{AlgorithmSHA256, 10, Place{Kind: PlaceMissing}}}})
+		equal(t, []interface{}{places.Located, places.Rows}, []interface{}{false, []PlaceRow{{AlgorithmSHA256, 10, Place{Kind: PlaceMissing}, nil}}})
 	}
 }
 
@@ -183,9 +189,10 @@ func tenthOf(expected []byte) []byte {
 }
 
 func TestRegisterOfTheListAloneMatches(t *testing.T) {
-	rows := []Row{{AlgorithmSHA256, 10, StateMatch, nil}}
-	equal(t, replay(t, bootList, tenth, "sha256:10"),
-		ListVerdict{99, rows, true, `{"entries":99,"registers":[{"bank":"sha256","register":10,"state":"match"}],"verdict":"match"}`, nil, false, nil})
+	rows := []Row{{AlgorithmSHA256, 10, StateMatch, nil, expectedOf(t, 10)}}
+	line := fmt.Sprintf(`{"entries":99,"registers":[{"bank":"sha256","register":10,"expected":"%x","state":"match"}],"verdict":"match"}`,
+		expectedOf(t, 10))
+	equal(t, replay(t, bootList, tenth, "sha256:10"), ListVerdict{99, rows, true, line, nil, false, nil})
 	verdict := replay(t, longer, tenth, "sha256:10")
 	equal(t, []interface{}{verdict.Matches, verdict.Entries, fmt.Sprintf("%x", verdict.Rows[0].Value)},
 		[]interface{}{false, uint64(100), afterLonger})
@@ -282,7 +289,7 @@ func TestRegistersThatAreExpectedHaveRows(t *testing.T) {
 func TestRegistersOfTheFirmwareDifferAfterTheListAlone(t *testing.T) {
 	verdict := replay(t, bootList, bootTPM, "sha256:0-23")
 	equal(t, []interface{}{verdict.Matches, verdict.Compared()}, []interface{}{false, 24})
-	equal(t, verdict.Rows[0], Row{AlgorithmSHA256, 0, StateDiffer, make([]byte, 32)})
+	equal(t, verdict.Rows[0], Row{AlgorithmSHA256, 0, StateDiffer, make([]byte, 32), expectedOf(t, 0)})
 	differing := map[int]bool{}
 	for _, register := range registersIn(t, sample("registers.txt")) {
 		differing[register.Register] = true
@@ -295,17 +302,17 @@ func TestRegistersOfTheFirmwareDifferAfterTheListAlone(t *testing.T) {
 func TestListAloneNeverMatchesWithoutItsRegistersOrEntries(t *testing.T) {
 	verdict := replay(t, bootList, tenth, "sha1:10,sha256:10")
 	equal(t, []interface{}{verdict.Matches, verdict.Compared()}, []interface{}{false, 1})
-	equal(t, verdict.Rows, []Row{{AlgorithmSHA256, 10, StateMatch, nil}, {AlgorithmSHA1, 10, StateMissing, nil}})
+	equal(t, verdict.Rows, []Row{{AlgorithmSHA256, 10, StateMatch, nil, expectedOf(t, 10)}, {AlgorithmSHA1, 10, StateMissing, nil, nil}})
 	verdict = replay(t, bootList, nil, "sha1:10")
-	equal(t, []interface{}{verdict.Matches, verdict.Rows}, []interface{}{false, []Row{{AlgorithmSHA1, 10, StateMissing, nil}}})
+	equal(t, []interface{}{verdict.Matches, verdict.Rows}, []interface{}{false, []Row{{AlgorithmSHA1, 10, StateMissing, nil, nil}}})
 	verdict = replay(t, nil, []byte("sha256 10 "+strings.Repeat("0", 64)), "sha256:10")
 	equal(t, []interface{}{verdict.Matches, verdict.Entries, verdict.Rows},
-		[]interface{}{false, uint64(0), []Row{{AlgorithmSHA256, 10, StateMatch, nil}}})
+		[]interface{}{false, uint64(0), []Row{{AlgorithmSHA256, 10, StateMatch, nil, make([]byte, 32)}}})
 }
 
 func TestListAloneMayRequireNothing(t *testing.T) {
 	verdict := replay(t, bootList, tenth, NothingRequired)
-	equal(t, []interface{}{verdict.Matches, verdict.Rows}, []interface{}{true, []Row{{AlgorithmSHA256, 10, StateMatch, nil}}})
+	equal(t, []interface{}{verdict.Matches, verdict.Rows}, []interface{}{true, []Row{{AlgorithmSHA256, 10, StateMatch, nil, expectedOf(t, 10)}}})
 	equal(t, replay(t, longer, tenth, NothingRequired).Matches, false)
 	verdict = replay(t, bootList, nil, NothingRequired)
 	equal(t, []interface{}{verdict.Matches, verdict.Entries, verdict.Rows}, []interface{}{false, uint64(99), []Row(nil)})
@@ -334,7 +341,7 @@ func TestWrongRequirementOrRangeIsRefused(t *testing.T) {
 		checkArgument(t, err)
 		equal(t, alone, ListVerdict{})
 	}
-	for _, registers := range []string{"24", "10-0", "0-", "-", " ", "sha256:0"} {
+	for _, registers := range []string{"24", "10-0", "0-", "-", " ", "sha256:24", "0,", "sha256"} {
 		_, err := ExpectedFrom(sample("tpm2_pcrread.txt"), registers)
 		checkArgument(t, err)
 	}
@@ -373,7 +380,7 @@ func TestVersionIsThatOfTheHeader(t *testing.T) {
 	equal(t, Version() >= headerVersion, true)
 }
 
-// The requirement, or the range, is refused.
+// The selection is refused.
 func checkArgument(t *testing.T, err error) {
 	t.Helper()
 	var found *RefusedError

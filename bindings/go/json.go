@@ -114,6 +114,8 @@ func (r *reader) row(o object) Row {
 	if row.State == StateDiffer {
 		row.Value = r.digest(o, "value", row.Algorithm)
 	}
+	row.Expected = r.expected(o, row.Algorithm, row.State == StateMissing)
+	r.require(row.State != StateDiffer || !bytes.Equal(row.Value, row.Expected))
 	return row
 }
 
@@ -220,7 +222,23 @@ func (r *reader) placeRow(o object) PlaceRow {
 	if row.Place.Kind == PlaceEvent || row.Place.Kind == PlaceEntry {
 		row.Place.Number = r.number(o, "number", math.MaxUint64)
 	}
+	row.Expected = r.expected(o, row.Algorithm, row.Place.Kind == PlaceMissing)
 	return row
+}
+
+// expected reads the expected value of a row, which only one that is missing lacks.
+func (r *reader) expected(o object, algorithm Algorithm, isMissing bool) []byte {
+	if isMissing {
+		r.require(!has(o, "expected"))
+		return nil
+	}
+	return r.digest(o, "expected", algorithm)
+}
+
+// entryCount reads the line after the last of so many entries.
+func (r *reader) entryCount(o object, entries uint64) uint64 {
+	r.require(r.number(o, "entries", math.MaxUint64) == entries)
+	return entries
 }
 
 func (r *reader) entry(o object, number uint64) Entry {

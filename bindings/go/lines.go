@@ -42,22 +42,32 @@ func (l *lines) isPiece(given answer) bool {
 	return (given.result == done || given.result == moreLines) && bytes.HasSuffix(given.text, []byte("\n"))
 }
 
-// nextOf reads the next line, and says whether there is one.
-func nextOf[T any](l *lines, read func(r *reader, o object, number uint64) T) (T, bool) {
-	var none T
+// line gives the next line, which is empty after the last one, and after an error.
+func (l *lines) line() []byte {
 	if len(l.rest) == 0 {
 		l.rest = l.piece()
 	}
-	if len(l.rest) == 0 {
+	return l.rest[:bytes.IndexByte(l.rest, '\n')+1]
+}
+
+// isLast says whether no line comes after this one, which is the next.
+func (l *lines) isLast(line []byte) bool {
+	return l.result == done && len(line) > 0 && len(line) == len(l.rest)
+}
+
+// nextOf reads the next line, and says whether there is one.
+func nextOf[T any](l *lines, read func(r *reader, o object, number uint64) T) (T, bool) {
+	var none T
+	line := l.line()
+	if len(line) == 0 {
 		return none, false
 	}
-	end := bytes.IndexByte(l.rest, '\n') + 1
-	item, err := readLine(l.result, l.rest[:end], func(r *reader, o object) T { return read(r, o, l.number) })
+	item, err := readLine(l.result, line, func(r *reader, o object) T { return read(r, o, l.number) })
 	if err != nil {
 		l.rest, l.err = nil, err
 		return none, false
 	}
-	l.rest, l.number = l.rest[end:], l.number+1
+	l.rest, l.number = l.rest[len(line):], l.number+1
 	return item, true
 }
 
@@ -69,6 +79,13 @@ type EntryScanner struct {
 
 // Next reads the next entry, which Entry then gives. It is false after the last entry, and at an error, which Err then gives.
 func (s *EntryScanner) Next() bool {
+	if line := s.lines.line(); s.lines.isLast(line) {
+		s.entry = Entry{}
+		// (the last line says how many entries there are, or the list was cut)
+		_, s.lines.err = readLine(s.lines.result, line, func(r *reader, o object) uint64 { return r.entryCount(o, s.lines.number) })
+		s.lines.rest = nil
+		return false
+	}
 	var isNext bool
 	s.entry, isNext = nextOf(s.lines, (*reader).entry)
 	return isNext
@@ -121,7 +138,7 @@ func (s *EventScanner) Err() error {
 // For a damaged list Next gives the entries before the error. A loop that ends early does not come to the error.
 func Entries(list []byte) *EntryScanner {
 	at := new(position)
-	return &EntryScanner{lines: linesOf(len(list) == 0, func(out []byte) (int32, told) { return callEntries(list, at, true, out) })}
+	return &EntryScanner{lines: linesOf(false, func(out []byte) (int32, told) { return callEntries(list, at, true, out) })}
 }
 
 // Events goes through the events of a firmware event log after its header. The log must not change before the last call of

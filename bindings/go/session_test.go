@@ -276,7 +276,7 @@ func TestRequiredRegistersOfASession(t *testing.T) {
 	for _, options := range [][]Option{nil, {Prefix()}} {
 		s := session(t, bootLog, text, "sha256:0-23,sha1:10", options...)
 		verdict := more(t, s, bootList)
-		missing := []Row{{AlgorithmSHA1, 10, StateMissing, nil}, {AlgorithmSHA256, 23, StateMissing, nil}}
+		missing := []Row{{AlgorithmSHA1, 10, StateMissing, nil, nil}, {AlgorithmSHA256, 23, StateMissing, nil, nil}}
 		equal(t, []interface{}{verdict.Matches, verdict.Compared(), verdict.Rows[23:], verdict.Confirmed}, []interface{}{false, 23, missing, uint64(0)})
 	}
 	for _, wrong := range []string{"", "sha256", "sha256:10,sha256:24", "sha256:10-0,sha256:10", "sha256:0-10,", " ", "None", "none ", "\xff",
@@ -305,7 +305,7 @@ func TestRequirementOfAResumedSessionHolds(t *testing.T) {
 			s := session(t, bootLog, eleven, "sha256:0-11", options...)
 			for k := 0; k < 2; k++ {
 				verdict := more(t, s, bootList[ends[cut]:])
-				equal(t, []interface{}{verdict.Matches, verdict.Rows[11:]}, []interface{}{false, []Row{{AlgorithmSHA256, 11, StateMissing, nil}}})
+				equal(t, []interface{}{verdict.Matches, verdict.Rows[11:]}, []interface{}{false, []Row{{AlgorithmSHA256, 11, StateMissing, nil, nil}}})
 			}
 		}
 		for _, require := range []string{"sha256:0-10", NothingRequired, "none"} {
@@ -590,7 +590,7 @@ func TestFrontThatCannotBeIsNone(t *testing.T) {
 		{`"confirmed":3`, `"confirmed":3.5`}, {`"confirmed":3`, `"confirmed":"3"`}, {`"confirmed":3`, `"confirmed":true`},
 		{`"confirmed":3`, `"confirmed":null`}, {`"confirmed":3`, `"confirmed":4`}, {`"confirmed":3`, `"confirmed":2`}, {`"confirmed":3,`, ``},
 		{`"confirmed":3,`, replayMember}, {`"entries":5`, `"entries":2`}, {`"verdict":"match"`, `"verdict":"differ"`}, {`"good"`, `"wrong"`},
-		{`"state":"match"`, `"state":"missing"`},
+		{wanted + `"state":"match"`, `"state":"missing"`},
 	})
 	checkUnexpected(t, read(differs, front), front)
 	checkUnexpected(t, read(done, report), report) // (a whole list that matches has a front, too)
@@ -616,7 +616,7 @@ func TestFrontWithAStrayIsNoMatch(t *testing.T) {
 			v, err := session(t, nil, nil, NothingRequired, Prefix()).given(300, differs, "", text)
 			equal(t, []interface{}{v.Matches, v.Confirmed, v.Unconfirmed != nil, err}, []interface{}{false, uint64(3), strings.Contains(text, "replay"), nil})
 			checkChanges(t, read, differs, text, [][2]string{{`"extends":[` + strays + `],`, ``}, {`"verdict":"differ"`, `"verdict":"match"`},
-				{`"good"`, `"wrong"`}, {`"state":"match"`, `"state":"missing"`}})
+				{`"good"`, `"wrong"`}, {wanted + `"state":"match"`, `"state":"missing"`}})
 			checkUnexpected(t, read(done, text), text)
 			checkUnexpected(t, sessionError(t, differs, stateText, text, true), text) // (only a match has a state)
 			checkUnexpected(t, sessionError(t, differs, "", text, false), text)

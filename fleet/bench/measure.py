@@ -3,11 +3,14 @@
 
 fleet/bench/measure.py LIBRARY_DIR [SMALL] [LARGE] [ROUNDS]
 
-LIBRARY_DIR has libima_verify.so. There are SMALL machines (by default 6000) that are copies of samples/real-boot, with a list of
-99 entries, and LARGE machines (400) with a made list of 20,000 entries, links to one copy. A plain loop is a process that reads and
-verifies one machine after another by `ima_verify`, and records nothing. As what else the computer does changes, each round (there are 3) of
-a number of workers runs one loop, the fleet, the fleet by quotes (RSA of 2048 bits), and as many loops at once as there are workers; a row has
-the round's medians. `start, stop` is what the whole command takes but for the time in which it gives verdicts. Every machine must match."""
+LIBRARY_DIR has libima_verify.so. There are SMALL machines (by default 12000; with few, the end of a run weighs too much) that are copies of
+samples/real-boot, with a list of 99 entries, and LARGE machines (400) with a made list of 20,000 entries, links to one copy. A plain loop is a
+process that reads and verifies one machine after another by `ima_verify`, and records nothing. As what else the computer does changes, each round
+(there are 3) of a number of workers runs one loop, the fleet, the fleet by quotes (RSA of 2048 bits), and as many loops at once as there are
+workers; a row has the round's medians. `start, stop` is what the whole command takes but for the time in which it gives verdicts: before, its
+workers are not there yet, as a loop's clock starts once its library is loaded. Every machine must match.
+
+The status is 1 if the fleet has less than 0.7 of so many workers times a loop, or by quotes less than 0.6 of that without."""
 
 import os
 import re
@@ -33,6 +36,8 @@ FILES = ("firmware.log", "ima.list", "expected.txt")
 WORKERS = (1, 2, 3, 4)
 ENTRIES = 20_000
 SECONDS = 600
+# How much of so many workers times a loop the fleet must have, and by quotes of that.
+LEAST, LEAST_BY_QUOTES = 0.7, 0.6
 HEAD = (
     "Machines", "Workers", "One loop", "Fleet", "By quotes", "So many loops", "Fleet / (workers × loop)", "Fleet / loops", "By quotes / fleet",
     "Start, stop", "Load",
@@ -115,7 +120,7 @@ def rate_of_loops(processes, table, count, loops):
 
 
 def measure(processes, name, count, contents, is_linked, rounds):
-    """Prints the rows of these machines."""
+    """Prints the rows of these machines, and gives for each whether the fleet is as fast as it must be."""
     table = make_table(processes.folder / name, count, contents, is_linked)
     folders = with_folders(table)
     for workers in WORKERS:
@@ -131,20 +136,22 @@ def measure(processes, name, count, contents, is_linked, rounds):
         loop, fleet, quoted, loops, *ratios, rest, load = map(statistics.median, zip(*found))
         rates = " | ".join([*(f"{rate:,.0f}" for rate in (loop, fleet, quoted, loops)), *(f"{ratio:.2f}" for ratio in ratios)])
         print(f"| {count:,} of {name} | {workers} | {rates} | {rest:.1f} s | {load:.1f} |", flush=True)
+        yield ratios[0] >= LEAST and ratios[2] >= LEAST_BY_QUOTES
 
 
 def main():
     library = Path(sys.argv[1]).resolve()
-    small, large, rounds = (int(word) for word in (*sys.argv[2:5], *("6000", "400", "3")[len(sys.argv) - 2 :]))
+    small, large, rounds = (int(word) for word in (*sys.argv[2:5], *("12000", "400", "3")[len(sys.argv) - 2 :]))
     with tempfile.TemporaryDirectory() as name:
         processes = Processes(python_with_dask(), Path(name), environment_of(library, Path(name)))
         print(f"{os.cpu_count()} processors\n\n| {' | '.join(HEAD)} |\n|---{'|---:' * (len(HEAD) - 1)}|")
         try:
-            measure(processes, "99 entries", small, sample_files(), is_linked=False, rounds=rounds)
-            measure(processes, f"{ENTRIES} entries", large, large_files(), is_linked=True, rounds=rounds)
+            fast = [*measure(processes, "99 entries", small, sample_files(), is_linked=False, rounds=rounds)]
+            fast += measure(processes, f"{ENTRIES} entries", large, large_files(), is_linked=True, rounds=rounds)
+            return 0 if all(fast) else 1
         finally:
             processes.end()
 
 
 if __name__ == "__main__":
-    main()
+    sys.exit(main())

@@ -4,7 +4,7 @@ import hashlib
 import math
 from dataclasses import dataclass, field
 from pathlib import Path
-from typing import Dict, FrozenSet, List, NamedTuple, Optional, Sequence, Tuple
+from typing import Dict, FrozenSet, List, NamedTuple, Optional, Sequence
 
 from .program import REFUSED, STOPPED, Line, Output, Reply, ask
 from .reading import FILES, QUOTED_FILES, cause_of, read_file
@@ -72,7 +72,6 @@ class Boot:
     has_other_quote: bool
     replies: Dict[str, Reply] = field(default_factory=dict)
     is_confirming: bool = False
-    expected: Dict[Tuple[str, int], str] = field(default_factory=dict)
 
     @property
     def report(self) -> Line:
@@ -134,7 +133,7 @@ class Boot:
         places = {(row["bank"], row["register"]): _place(row) for line in lines for row in line["registers"]}
         names = [(row["bank"], row["register"]) for row in self.report.get("registers", [])]
         return [
-            Reached(*name, row["state"], self.expected.get(name, ""), row.get("value", ""), places.get(name, ""))
+            Reached(*name, row["state"], row.get("expected", ""), row.get("value", ""), places.get(name, ""))
             for name, row in zip(names, self.report.get("registers", []))
         ]
 
@@ -205,22 +204,14 @@ def _confirm(boot: Boot, criteria: Criteria, work: Path) -> None:
     confirming = _confirming(boot, criteria)
     boot.is_confirming = bool(confirming)
     if not criteria.is_quoted or boot.report.get("expected") == "confirmed":
-        boot.expected = _expected(work) if boot.report else {}
         asking("locate", *criteria.requirement, "--", LOG, LIST, EXPECTED, output=Output(), statuses=(0, 1))
     before = [] if criteria.before is None else [f"--before={BEFORE}"]
     asking("boot", *confirming, *before, "--", LOG, output=Output(criteria.most))
     asking("events", *confirming, "--", LOG, output=Output(criteria.most + 1))
     unknown = frozenset(boot.unknown)
-    asking("show", "--", LIST, output=Output(criteria.most, lambda line: _is_notable(line, unknown)))
+    asking("show", "--", LIST, output=Output(criteria.most, lambda line: _is_notable(line, unknown), is_counted=True))
 
 
 def _is_notable(entry: Line, unknown: FrozenSet[int]) -> bool:
     """Whether an entry is shown although many came before it."""
     return entry.get("entry") in unknown or bool(entry.get("violation")) or not entry.get("genuine")
-
-
-def _expected(work: Path) -> Dict[Tuple[str, int], str]:
-    """The values of the text of expected registers, which the program took: only to be shown."""
-    lines = [line.removesuffix("\r") for line in (work / EXPECTED).read_bytes().decode("ascii").split("\n")]
-    rows = [line.split(" ") for line in lines if line]
-    return {(bank, int(number)): value.lower() for bank, number, value in rows}

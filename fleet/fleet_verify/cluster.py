@@ -11,7 +11,7 @@ from typing import Any, AsyncIterator, Dict, Generator, Optional
 from .ending import NotStarted
 from .verdict import Asked, require_fitness
 from .versions import misfits, require_version
-from .work import TRIES, verify_batch
+from .work import TRIES, has_many_left, verify_batch
 from .workers import Killed
 
 # What Dask is told in this process. Its clocks go off seldom.
@@ -43,13 +43,17 @@ def require_fit_worker(told: Dict[str, Any]) -> None:
 
 
 def verify_on_worker(request: str, known: Optional[str], is_patient: bool) -> str:
-    """What `verify_batch` answers, by a worker that keeps known files by this name. A patient request leaves its place to another."""
+    """What `verify_batch` answers, by a worker that keeps known files by this name. A patient request leaves its place to another. A worker with
+    many threads that are left has its nanny, if there is one, start it anew."""
     from distributed import get_worker, secede
 
-    worker, text = get_worker().address, kept_text(known)
+    worker, text = get_worker(), kept_text(known)
     if is_patient:
         secede()
-    return verify_batch(request, worker, text)
+    told = verify_batch(request, worker.address, text)
+    if worker.nanny and has_many_left():
+        worker.loop.add_callback(worker.close_gracefully, restart=True)
+    return told
 
 
 class ClusterAnswer:

@@ -14,7 +14,6 @@ from typing import Dict, List, Sequence
 from .ending import NotStarted, complain
 from .machines import BadTable, Machine, read_machines
 from .options import Once, duration
-from .quotes import MOST_AGE
 from .reading import cause_of, now
 from .verdicts import BadVerdicts, open_table
 
@@ -22,18 +21,20 @@ ABOUT = """Gives out a nonce for each machine of MACHINES, for its next quote.
 
 fleet-verify nonces [OPTION].. MACHINES TABLE
 
-MACHINES is the table of machines, and TABLE the table of verdicts, which is made if it is not there. It keeps the nonces, and when each
-was given out: a run with this TABLE takes a quote with one of them, and takes each once. A machine whose nonce is unused, and young
+MACHINES is the table of machines, and TABLE the table of verdicts, which is made if it is not there. It keeps the nonces, and until when
+each is valid: a run with this TABLE takes a quote with one of them, and takes each once. A machine whose nonce is unused, and young
 enough, has no other. Without --folder each machine's name and its nonce go to standard output, with a tab between."""
 
 BYTES = 32
+# How many seconds after its nonce was given out a quote may come, unless --max-age says otherwise.
+MAX_AGE = 3600.0
 
 # Those that are too old, or of a time to come, go; but not the last that a machine used, by which its quote is known as an old one.
 FORGET = """
-DELETE FROM nonces WHERE given_out NOT BETWEEN ? AND ?
+DELETE FROM nonces WHERE (julianday(:time) - julianday(given_out)) * 86400 NOT BETWEEN 0 AND max_age
     AND (used IS NULL OR used < (SELECT max(last.used) FROM nonces AS last WHERE last.machine = nonces.machine))
 """
-YOUNG = "SELECT machine, nonce FROM nonces WHERE used IS NULL AND given_out > ? ORDER BY given_out"
+YOUNG = "SELECT machine, nonce FROM nonces WHERE used IS NULL AND max_age = :age AND given_out > :half_ago ORDER BY given_out"
 
 
 def options_of(words: Sequence[str]) -> argparse.Namespace:
@@ -45,7 +46,7 @@ def options_of(words: Sequence[str]) -> argparse.Namespace:
     )
     parser.add_argument(
         "--max-age", metavar="AGE", action=Once, type=duration,
-        help="forget nonces that are older, as 3600, 90m, 1h or 2d, and give out another from half of this age on (default: 1h)",
+        help="how long each nonce is valid, as 3600, 90m, 1h or 2d; from half of this age on another is given out (default: 1h)",
     )
     parser.add_argument("machines", metavar="MACHINES", help="the table of machines")
     parser.add_argument("table", metavar="TABLE", help="the table of verdicts")
@@ -57,16 +58,16 @@ def earlier(time: str, seconds: float) -> str:
     return (datetime.fromisoformat(time) - timedelta(seconds=seconds)).isoformat(timespec="milliseconds")
 
 
-def give_out(connection: sqlite3.Connection, machines: Sequence[Machine], most_age: float) -> Dict[str, str]:
-    """By name the latest nonce of each machine: one that it has, if it is unused and young enough, or a new one."""
+def give_out(connection: sqlite3.Connection, machines: Sequence[Machine], max_age: float) -> Dict[str, str]:
+    """By name the latest nonce of each machine: one that it has, if it is unused, as long valid and young enough, or a new one."""
     with connection:
         connection.execute("BEGIN IMMEDIATE")
         time = now()
-        connection.execute(FORGET, (earlier(time, most_age), time))
-        kept = dict(connection.execute(YOUNG, (earlier(time, most_age / 2),)).fetchall())
+        connection.execute(FORGET, {"time": time})
+        kept = dict(connection.execute(YOUNG, {"age": max_age, "half_ago": earlier(time, max_age / 2)}).fetchall())
         given = {machine.name: kept[machine.name] if machine.name in kept else secrets.token_hex(BYTES) for machine in machines}
-        new = [(name, nonce, time) for name, nonce in given.items() if name not in kept]
-        connection.executemany("INSERT INTO nonces (machine, nonce, given_out) VALUES (?, ?, ?)", new)
+        new = [(name, nonce, time, max_age) for name, nonce in given.items() if name not in kept]
+        connection.executemany("INSERT INTO nonces (machine, nonce, given_out, max_age) VALUES (?, ?, ?, ?)", new)
     return given
 
 
@@ -117,7 +118,7 @@ def hand_out(words: Sequence[str]) -> int:
     except (OSError, sqlite3.Error, BadVerdicts) as fault:
         raise NotStarted(f"{options.table}: {fault}") from None
     with closing(connection):
-        given = give_out(connection, machines, options.max_age or MOST_AGE)
+        given = give_out(connection, machines, options.max_age or MAX_AGE)
     if options.folder is None:
         sys.stdout.write("".join(f"{name}\t{nonce}\n" for name, nonce in given.items()))
         sys.stdout.flush()

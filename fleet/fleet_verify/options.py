@@ -11,8 +11,8 @@ from .verdicts import VERDICTS
 
 ABOUT = """Verifies the boot logs, measurement lists and quotes of many machines on many computers.
 
-fleet-verify --workers N --require REGISTERS --keys FOLDER [OPTION].. MACHINES TABLE
-fleet-verify --scheduler ADDRESS --require REGISTERS --keys FOLDER [OPTION].. MACHINES TABLE
+fleet-verify --workers N --require SELECTION --keys FOLDER [OPTION].. MACHINES TABLE
+fleet-verify --scheduler ADDRESS --require SELECTION --keys FOLDER [OPTION].. MACHINES TABLE
 fleet-verify nonces MACHINES TABLE
 fleet-verify page TABLE
 
@@ -23,7 +23,7 @@ scheduler of Dask. They read the files themselves, and need the Python package `
 Each machine is judged by a quote of its TPM, on a nonce of `fleet-verify nonces`, with the key that FOLDER has as NAME.pem; with
 --unquoted by expected registers. `page` writes a page to look at.
 
-REGISTERS is what must be quoted or expected, register 10 among them, as sha256:0-10; or `none`, with --unquoted.
+SELECTION is which registers must be quoted or expected, register 10 among them, as sha256:0-10 or sha256:all; or `none`, with --unquoted.
 
 With --known each entry of a list must be of a file whose digest a FILE has, as sha256sum prints it. FILE is read here, once.
 
@@ -107,8 +107,8 @@ def duration(text: str) -> int:
 def add_inputs(parser: argparse.ArgumentParser) -> None:
     """Adds what the machines are judged by."""
     parser.add_argument(
-        "--require", metavar="REGISTERS", action=Once,
-        help="what must be quoted or expected of each machine, register 10 among it, as sha256:0-10 or sha256:0-7,sha1:10; or, with "
+        "--require", metavar="SELECTION", action=Once,
+        help="what must be quoted or expected of each machine, register 10 among it, as sha256:0-10 or sha256:0-14+sha1:10; or, with "
         f"--unquoted, {NONE}",
     )
     parser.add_argument("--keys", metavar="FOLDER", action=Once, help="the folder with NAME.pem, the public key of each machine's TPM")
@@ -118,8 +118,8 @@ def add_inputs(parser: argparse.ArgumentParser) -> None:
     )
     parser.add_argument(
         "--max-age", metavar="AGE", action=Once, type=duration,
-        help="how old a quote's nonce may be (default: 1h), or with --unquoted the last change of a list (default: any age), in seconds or as "
-        "90m, 1h, 2d: what is older is unreadable",
+        help="how old a quote's nonce may be (by default, and at most, what `nonces` said), or with --unquoted the last change of a list "
+        "(default: any age), in seconds or as 90m, 1h, 2d: what is older is unreadable",
     )
     parser.add_argument(
         "--known", metavar="FILE", action="append",

@@ -25,7 +25,7 @@ SELECT machine, verdict, cause, boot_aggregate, unknown, first_unknown, time, po
 FROM verdicts WHERE verdict <> 'match' ORDER BY machine
 """
 _REGISTERS = """
-SELECT machine, algorithm, register, state, value FROM registers
+SELECT machine, algorithm, register, state, expected, value FROM registers
 WHERE state <> 'match' AND machine IN (SELECT machine FROM verdicts WHERE verdict = 'differ') ORDER BY machine, algorithm, register
 """
 _UNQUOTED = "SELECT count(*) FROM verdicts WHERE verdict = 'match' AND signer IS NULL"
@@ -54,6 +54,7 @@ class Register(NamedTuple):
     bank: str
     number: int
     state: str
+    expected: Optional[str]
     value: Optional[str]
 
 

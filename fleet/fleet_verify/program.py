@@ -10,7 +10,7 @@ import threading
 import time
 from contextlib import contextmanager, suppress
 from pathlib import Path
-from typing import IO, Any, Callable, Dict, Iterator, List, NamedTuple, Sequence
+from typing import IO, Any, Callable, Dict, Iterator, List, NamedTuple, Optional, Sequence
 
 from .rendering import text_of_bytes
 
@@ -35,11 +35,14 @@ class Reply(NamedTuple):
 
 
 class Output:
-    """Lines of output, of which so many are kept, and so many bytes; of the others as many if they are notable."""
+    """Lines of output, of which so many are kept, and so many bytes; of the others as many if they are notable. If they are counted, the last line
+    is how many entries there are, and none of them."""
 
-    def __init__(self, most: int = 1000, is_notable: Callable[[Line], bool] = lambda line: False):
+    def __init__(self, most: int = 1000, is_notable: Callable[[Line], bool] = lambda line: False, is_counted: bool = False):
         self.lines: List[Line] = []
         self.total, self.fault, self.is_notable = 0, "", is_notable
+        self.is_counted = is_counted
+        self.count: Optional[int] = None
         self.left = {False: (most, _MOST_BYTES), True: (most, _MOST_BYTES)}
 
     def take(self, text: bytes) -> None:
@@ -47,9 +50,22 @@ class Output:
         if "fault" in line:
             self.fault = str(line["fault"]["message"])
             return
+        if self.count is not None:
+            self.fault = "a line after the one that counts the entries"
+            return
+        if self.is_counted and line.keys() == {"entries"} and type(line["entries"]) is int:  # (True equals 1)
+            self.count = line["entries"]
+            return
         self.total += 1
         if self._has_room(False, len(text)) or (self.is_notable(line) and self._has_room(True, len(text))):
             self.lines.append(line)
+
+    @property
+    def lack(self) -> str:
+        """Why this is not all output, as what was written, or an empty text."""
+        if self.fault or not self.is_counted:
+            return self.fault or ("" if self.total else "nothing")
+        return "" if self.count == self.total else f"{self.total} entries, and no line that counts them"
 
     def _has_room(self, is_notable: bool, size: int) -> bool:
         count, room = self.left[is_notable]
@@ -120,7 +136,7 @@ def _outcome(status: int, statuses: Sequence[int], output: Output, said: str) ->
         return Reply(STOPPED, output.lines, output.total, f"the program was ended by signal {-status}")
     if status not in statuses:
         return Reply(status or STOPPED, output.lines, output.total, output.fault or said or f"the program ended with status {status}")
-    if output.fault or not output.total:
-        fault = f"the program ended with status {status}, and wrote {output.fault or 'nothing'}"
+    if output.lack:
+        fault = f"the program ended with status {status}, and wrote {output.lack}"
         return Reply(STOPPED, output.lines, output.total, fault)
     return Reply(status, output.lines, output.total, "")

@@ -28,6 +28,10 @@ class Progress:
         self.started = self.shown = time.monotonic()
         self.done_now = 0
 
+    def begin(self) -> None:
+        """Counts the time from now on: the workers are there."""
+        self.started = time.monotonic()
+
     def count(self, verdict: str, before: Optional[str] = None) -> None:
         """Counts a verdict, in place of the one that the machine had before, if any."""
         self.counts[verdict] += 1

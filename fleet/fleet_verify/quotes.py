@@ -3,7 +3,6 @@
 import math
 import sqlite3
 from datetime import datetime
-from pathlib import Path
 from typing import Optional, Sequence, Tuple
 
 from .machines import Machine
@@ -15,13 +14,12 @@ CREATE TABLE nonces (
     machine TEXT NOT NULL,
     nonce TEXT NOT NULL, -- hexadecimal digits
     given_out TEXT NOT NULL, -- by the clock of the computer that has this table
+    max_age REAL NOT NULL, -- how many seconds after that a verdict may use it
     used TEXT, -- when a verdict by it was recorded, or by one that was given out later
     PRIMARY KEY (machine, nonce)
 ) WITHOUT ROWID;
 """
 
-# How many seconds after its nonce was given out a quote may come, unless the run says otherwise.
-MOST_AGE = 3600.0
 # How many of its nonces a machine is asked with: those that are unused first, of which few are young enough.
 MOST_NONCES = 8
 MOST_KEY_BYTES = 16 * 1024
@@ -40,9 +38,9 @@ def key_of(folder: str, name: str) -> Optional[str]:
     `ima-enroll` keeps it. No name leads out of the folder."""
     if "/" in name or name in (".", ".."):
         return None
-    for path in (Path(folder, f"{name}.pem"), Path(folder, name, f"{name}.pem")):
+    for path in (f"{folder}/{name}.pem", f"{folder}/{name}/{name}.pem"):
         try:
-            text = read_file(str(path), math.inf, 0)
+            text = read_file(path, math.inf, 0)
         except (FileNotFoundError, NotADirectoryError):
             continue
         except OSError:
@@ -60,8 +58,8 @@ def nonces_of(connection: sqlite3.Connection, name: str) -> Tuple[Tuple[str, boo
 
 
 def take(connection: sqlite3.Connection, answers: Sequence[Tuple[Machine, Fields]], most_age: float, time: str) -> None:
-    """Uses the nonces of these answers, at this time, in the transaction that records them. A verdict whose nonce is not to be used any longer
-    is none: its answer is changed."""
+    """Uses the nonces of these answers, at this time, in the transaction that records them. A verdict whose nonce is not to be used any longer,
+    by this age or its own, is none: its answer is changed."""
     for machine, answer in answers:
         if answer["verdict"] in REPORTED:
             cause = _take_nonce(connection, machine.name, answer, most_age, time)
@@ -74,13 +72,14 @@ def take(connection: sqlite3.Connection, answers: Sequence[Tuple[Machine, Fields
 def _take_nonce(connection: sqlite3.Connection, name: str, answer: Fields, most_age: float, time: str) -> Optional[str]:
     """Uses the nonce of an answer, and those of its machine that were given out before; or says why it is not to be used."""
     unused = connection.execute(
-        "SELECT given_out FROM nonces WHERE machine = ? AND nonce = ? AND used IS NULL", (name, answer.get("nonce"))
+        "SELECT given_out, max_age FROM nonces WHERE machine = ? AND nonce = ? AND used IS NULL", (name, answer.get("nonce"))
     ).fetchone()
     if unused is None:
         return NO_LONGER
-    age = (datetime.fromisoformat(time) - datetime.fromisoformat(unused[0])).total_seconds()
-    if not 0 <= age <= most_age:
+    given_out, own_age = unused
+    age = (datetime.fromisoformat(time) - datetime.fromisoformat(given_out)).total_seconds()
+    if not 0 <= age <= min(most_age, own_age):
         return TOO_OLD
     answer["quote_age"] = age
-    connection.execute("UPDATE nonces SET used = ? WHERE machine = ? AND given_out <= ? AND used IS NULL", (time, name, unused[0]))
+    connection.execute("UPDATE nonces SET used = ? WHERE machine = ? AND given_out <= ? AND used IS NULL", (time, name, given_out))
     return None

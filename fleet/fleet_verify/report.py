@@ -113,7 +113,7 @@ def options_of(words: Sequence[str]) -> argparse.Namespace:
         prog="ima-report", description=ABOUT, formatter_class=argparse.RawDescriptionHelpFormatter, usage="ima-report [OPTION].. FOLDER"
     )
     add = parser.add_argument
-    add("--require", metavar="REGISTERS", action=Once, help=f"what must be quoted or expected (default: sha256:0-10); {NONE} if it may be anything")
+    add("--require", metavar="SELECTION", action=Once, help=f"what must be quoted or expected (default: sha256:0-10); {NONE} if it may be anything")
     add("--known", metavar="FILE", action="append", default=[], help="what sha256sum printed of known files; may be given several times")
     add("--prefix", action="store_true", help="judge the shortest prefix of the list that the registers confirm")
     add("--before", metavar="OLD_LOG", action=Once, help="the log of an earlier boot: what differs is shown")

@@ -4,7 +4,7 @@ VERDICTS = ("match", "differ", "refused", "unreadable", "failed")
 
 # These mark a file as a table of verdicts, and say which form its tables have.
 APPLICATION = 0x494D4156
-FORM = 8
+FORM = 9
 
 # What of a machine's row stays as it is while a poll finds the same, and what each verdict writes.
 FOUND = (
@@ -20,8 +20,12 @@ GIVEN = (
 NO_CLOCK = '"clock":{}'
 
 TABLES = f"""
-CREATE TABLE polls (number INTEGER PRIMARY KEY, time TEXT NOT NULL); -- when each poll began, by the client's clock
-CREATE TABLE ends (time TEXT NOT NULL, poll INTEGER REFERENCES polls); -- when a run, or which poll, had given its counts
+CREATE TABLE polls ( -- when each poll began, by the clock of the computer that has this table
+    number INTEGER PRIMARY KEY, time TEXT NOT NULL
+);
+CREATE TABLE ends ( -- when a run, or which poll, had given its counts
+    time TEXT NOT NULL, poll INTEGER REFERENCES polls
+);
 CREATE TABLE found (
     number INTEGER PRIMARY KEY REFERENCES given DEFERRABLE INITIALLY DEFERRED,
     machine TEXT NOT NULL UNIQUE,
@@ -29,44 +33,56 @@ CREATE TABLE found (
     cause TEXT, -- the line of a refusal, or why there is no verdict
     required TEXT NOT NULL, -- as `--require` named it
     known_sha256 TEXT, -- of the texts of `--known`, one after another; NULL without
-    events INTEGER, locality INTEGER, entries INTEGER, boot_aggregate TEXT,
+    events INTEGER, locality INTEGER, entries INTEGER, boot_aggregate TEXT, -- what the report says
     unknown INTEGER, first_unknown INTEGER, -- how many entries are of no known file, and the number of the first
     log TEXT NOT NULL, list TEXT NOT NULL, expected TEXT, quote TEXT, signature TEXT, -- the paths
     log_sha256 TEXT, expected_sha256 TEXT, -- of the bytes that were read
-    signer TEXT, resets INTEGER, restarts INTEGER, -- of a quote
-    interface_version INTEGER,
+    signer TEXT, -- SHA-256 of the key of a quote (SubjectPublicKeyInfo)
+    resets INTEGER, restarts INTEGER, -- of the TPM, by its quote
+    interface_version INTEGER, -- of the library
     report TEXT CHECK (report IS NULL OR json_valid(report)), -- as the program prints it, but for a quote's clock
     boot TEXT -- by what the machine's last boot that came to a report is told from another
 );
 CREATE TABLE given (
     number INTEGER PRIMARY KEY REFERENCES found,
     poll INTEGER REFERENCES polls, -- which poll gave the verdict; NULL if none did
-    time TEXT NOT NULL, worker TEXT,
+    time TEXT NOT NULL, worker TEXT, -- when the verdict was given, and by whom
     list_from INTEGER, -- from which byte on the list was read: that of the checkpoint, or 0
     list_sha256 TEXT, quote_sha256 TEXT, signature_sha256 TEXT, -- of the bytes that were read
-    nonce TEXT, quote_age REAL, clock TEXT -- of a quote; the age in seconds
+    nonce TEXT, quote_age REAL, -- of a quote: its nonce, and how old that was in seconds
+    clock TEXT -- of a quote, as the report has it
 );
-CREATE VIEW verdicts AS SELECT
+CREATE VIEW verdicts AS SELECT -- a row for each machine; its columns are those of `found` and `given`
     machine, verdict, cause, required, known_sha256, unknown, first_unknown, events, locality, entries, boot_aggregate,
     CASE WHEN clock IS NULL THEN report ELSE replace(report, '{NO_CLOCK}', '"clock":' || clock) END AS report,
     log, list, expected, quote, signature, log_sha256, list_sha256, expected_sha256, quote_sha256, signature_sha256, list_from,
     signer, resets, restarts, nonce, quote_age, interface_version, worker, time, poll
     FROM found JOIN given USING (number);
-CREATE VIEW registers (machine, algorithm, register, state, value) AS
-    SELECT machine, json_extract(row.value, '$.bank'), json_extract(row.value, '$.register'), json_extract(row.value, '$.state'),
-        json_extract(row.value, '$.value') FROM found, json_each(report, '$.registers') AS row;
+CREATE VIEW registers (machine, algorithm, register, expected, state, value) AS SELECT
+    -- the states are match, differ, absent and missing; the value is what log and list make instead of the expected one
+    machine, json_extract(row.value, '$.bank'), json_extract(row.value, '$.register'), json_extract(row.value, '$.expected'),
+    json_extract(row.value, '$.state'), json_extract(row.value, '$.value') FROM found, json_each(report, '$.registers') AS row;
+CREATE VIEW reasons AS SELECT -- (the numbers of entries and events do not tell causes apart)
+    verdict, CASE WHEN cause LIKE '% fault % at %' THEN rtrim(cause, '0123456789') ELSE cause END AS why, count(*) AS machines
+    FROM found GROUP BY verdict, why;
+CREATE VIEW differences AS SELECT -- of machines that differ: the registers that do not match, and which event or entry extends one that it may not
+    machine, boot_aggregate, json_extract(report, '$.extends') AS extends, algorithm, register, expected_value AS expected, state, value
+    FROM found LEFT JOIN (
+        SELECT machine, algorithm, register, expected AS expected_value, state, value FROM registers WHERE state <> 'match'
+    ) USING (machine) WHERE verdict = 'differ';
 CREATE TABLE checkpoints (
     machine TEXT NOT NULL PRIMARY KEY REFERENCES found(machine),
     checkpoint BLOB NOT NULL,
     known_sha256 TEXT -- by which known files its entries were judged, as in `found`
 );
-CREATE TABLE changes (
+CREATE TABLE changes ( -- by polls
     number INTEGER PRIMARY KEY,
     machine TEXT NOT NULL,
     poll INTEGER NOT NULL REFERENCES polls,
     kind TEXT NOT NULL CHECK (kind IN ('verdict', 'reboot')), -- what is not as it was before
     verdict TEXT NOT NULL,
-    cause TEXT, time TEXT NOT NULL
+    cause TEXT, -- of the verdict, or by what the boot is told from another
+    time TEXT NOT NULL
 );
 CREATE TABLE retired AS SELECT NULL AS retired, * FROM verdicts; -- the last rows of machines that left or moved, and since when
 PRAGMA application_id = {APPLICATION};

@@ -7,16 +7,12 @@ from time import monotonic
 from typing import Any, Dict, List, Mapping, Optional
 
 from .reading import now
-from .verdicts import VERDICTS, Verdicts
+from .verdicts import Verdicts
 
 # How many machines that do not match are named.
 MOST_NAMED = 100
 
-# (the numbers of entries and events do not tell causes apart)
-_REASONS = """
-SELECT verdict, CASE WHEN cause LIKE '% fault % at %' THEN rtrim(cause, '0123456789') ELSE cause END AS why, count(*)
-FROM verdicts GROUP BY verdict, why ORDER BY count(*) DESC, verdict, why
-"""
+_REASONS = "SELECT verdict, why, machines FROM reasons ORDER BY machines DESC, verdict, why"
 _NAMED = """
 SELECT machine, verdict, cause, boot_aggregate, unknown, first_unknown, report FROM verdicts WHERE verdict <> 'match'
 ORDER BY verdict <> 'differ', verdict <> 'refused', verdict <> 'failed', machine LIMIT ?

@@ -104,7 +104,7 @@ def require_fitness(require: str, is_poll: bool, known: Optional[bytes] = None, 
     try:
         ima_verify.report(b"", b"", b"", require=required(require), **known_texts(known))
     except ima_verify.Misuse:
-        raise ValueError(f"--require {require!r} is neither BANK:A-B[,BANK:C-D..] with register 10, as sha256:0-10, nor {NONE}") from None
+        raise ValueError(f"--require {require!r} is no selection with register 10, as sha256:0-10 or sha256:0-7,10, nor {NONE}") from None
     except ima_verify.Refused as fault:
         if fault.kind is Kind.KNOWN:
             raise ValueError(fault.number, fault.place) from None
@@ -127,8 +127,8 @@ def require_quotes(require: str) -> None:
         ima_verify.attest(b"", b"", b"", nonce=bytes(32), require=require, signature_checked=False)
     except ima_verify.Misuse:
         raise ValueError(
-            f"--require {require!r} is not BANK:A-B[,BANK:C-D..] with each register from 0 to 10 in a bank other than sha1, as sha256:0-10: a "
-            "quote has to select these (--unquoted takes others)"
+            f"--require {require!r} is no selection with each register from 0 to 10 in a bank other than sha1, as sha256:0-10: a quote has to "
+            "select these (--unquoted takes others)"
         ) from None
     except ima_verify.Refused:
         pass  # (no quote is empty)

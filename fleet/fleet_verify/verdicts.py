@@ -4,7 +4,7 @@ checkpoint, and each change of a verdict."""
 import re
 import sqlite3
 from itertools import chain
-from typing import Any, Collection, Dict, List, NamedTuple, Optional, Sequence, Tuple
+from typing import Any, Collection, Dict, List, NamedTuple, Optional, Sequence, Set, Tuple
 
 from . import quotes
 from .machines import Machine
@@ -49,6 +49,14 @@ _REACHED = """
 INSERT INTO checkpoints VALUES (?1, ?2, ?3) ON CONFLICT (machine) DO UPDATE
 SET (checkpoint, known_sha256) = (?2, ?3) WHERE (checkpoint, known_sha256) IS NOT (?2, ?3)
 """
+# The verdicts by quotes of the last poll, if that never ended, of machines without a nonce for another.
+_TAKEN_OVER = """
+SELECT found.number, machine FROM found JOIN given USING (number) JOIN nonces USING (machine, nonce)
+WHERE poll = (SELECT max(number) FROM polls) AND NOT EXISTS (SELECT 1 FROM ends WHERE ends.poll = given.poll) AND known_sha256 IS :known
+    AND (list_from = 0 OR NOT :is_whole)
+    AND (julianday(:time) - julianday(given_out)) * 86400 BETWEEN 0 AND min(max_age, :age)
+    AND NOT EXISTS (SELECT 1 FROM nonces AS other WHERE other.machine = found.machine AND other.used IS NULL)
+"""
 # So many rows are added by one statement, which takes half the time of as many statements. (Each SQLite takes 999 values in one.)
 _ROWS = 36
 
@@ -67,7 +75,7 @@ class BadVerdicts(Exception):
 
 
 class Quoting(NamedTuple):
-    """The folder of the machines' keys, and how old in seconds a quote's nonce may be."""
+    """The folder of the machines' keys, and how old in seconds a quote's nonce may be, if that is less than its own age."""
 
     keys: str
     max_age: float
@@ -167,10 +175,17 @@ class Verdicts:
         if orphan is not None:
             raise BadVerdicts(f"it is damaged: a row of {orphan[0]} lacks that of {orphan[2]}")
 
-    def begin_poll(self, time: str) -> None:
-        """Begins a poll: an earlier one that still runs records no more."""
+    def begin_poll(self, time: str, is_whole: bool = False) -> Set[str]:
+        """Begins a poll: an earlier one that still runs records no more. Gives the names of the machines whose verdicts it takes over from the
+        poll before, as that never ended: verdicts by quotes, if their nonces are valid still, and are the last that were given out. So no machine
+        could have another until it answers a new nonce. (Of `is_whole` such a verdict is one on the whole list.)"""
         with self.connection:
+            self.connection.execute("BEGIN IMMEDIATE")
+            values = {"time": time, "known": self.known_sha256, "is_whole": is_whole, "age": self.quoting and self.quoting.max_age}
+            taken = self.connection.execute(_TAKEN_OVER, values).fetchall()
             self.poll = self.connection.execute("INSERT INTO polls (time) VALUES (?)", (time,)).lastrowid
+            self.connection.executemany("UPDATE given SET poll = ? WHERE number = ?", [(self.poll, number) for number, _ in taken])
+        return {name for _, name in taken}
 
     def given(self, machine: Machine, has_checkpoint: bool) -> Given:
         """What the verifier has of a machine: for a poll its checkpoint, whatever bytes that is, or None, also if its entries were judged by

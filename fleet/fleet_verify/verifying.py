@@ -1,6 +1,7 @@
 """What a call of `fleet-verify` does, from its options to its exit status."""
 
 import asyncio
+import math
 import os
 import signal
 import sqlite3
@@ -16,7 +17,6 @@ from .machines import BadTable, Machine, read_machines
 from .metrics import require_writable
 from .options import Options
 from .progress import Progress
-from .quotes import MOST_AGE
 from .reading import now
 from .run import Run
 from .summary import Summary, exit_status
@@ -67,8 +67,10 @@ async def run(
                 await require_fit(workers, options)
             except ValueError as fault:
                 raise unfit(fault, known) from None
+            progress.begin()
             if options.poll:
-                table.begin_poll(now())
+                taken = table.begin_poll(now(), options.whole)
+                missing = [machine for machine in missing if machine.name not in taken]
             ledger = Ledger(table, missing, before, options.poll and not options.whole, progress.count)
             try:
                 await Run(workers, ledger, progress, options).verify()
@@ -111,7 +113,7 @@ def opened(options: Options, known: Optional[Known]) -> Verdicts:
     if options.keys is not None:
         with refusing(options.keys):
             os.scandir(options.keys).close()
-        quoting = Quoting(options.keys, options.max_age or MOST_AGE)
+        quoting = Quoting(options.keys, options.max_age or math.inf)
     with refusing(options.table):
         return Verdicts(options.table, options.require, None if known is None else known.sha256, quoting)
 

@@ -5,8 +5,7 @@ import json
 import threading
 import time
 from dataclasses import dataclass
-from queue import Empty, SimpleQueue
-from typing import Any, Callable, Iterable, Iterator, List, Optional, Sequence, Tuple
+from typing import Any, Callable, Iterable, List, Optional, Sequence, Tuple
 
 from .reading import LATE, Fields, now, paths_of
 from .verdict import REPORTED, UNFIT, Asked, Given, answer_on
@@ -23,6 +22,9 @@ TRIES = 3
 # What comes of a machine that is slow.
 SLOW = "slow"
 
+# The name of a thread that is left waiting for a file, and how many of these a process may have before it starts anew.
+LEFT, MOST_LEFT = "left", 200
+
 # A machine's folder or paths, and what the verifier has of it.
 Place = Tuple[Sequence[str], Given]
 
@@ -31,12 +33,19 @@ class NoThread(Exception):
     """No thread can be started: too many wait for files."""
 
 
-def start_thread(target: Callable[..., None], *words: Any) -> None:
+def start_thread(target: Callable[..., None], *words: Any) -> threading.Thread:
     """Starts a thread which does not keep the process from its end."""
+    thread = threading.Thread(target=target, args=words, daemon=True)
     try:
-        threading.Thread(target=target, args=words, daemon=True).start()
+        thread.start()
     except RuntimeError as fault:
         raise NoThread(str(fault)) from None
+    return thread
+
+
+def has_many_left() -> bool:
+    """Whether so many threads of this process are left waiting for files that it is to start anew."""
+    return sum(thread.name == LEFT for thread in threading.enumerate()) >= MOST_LEFT
 
 
 @dataclass(frozen=True)
@@ -83,17 +92,46 @@ def read_request(request: str) -> Batch:
     return Batch(Asked(**asked), is_patient, seconds, [(places, Given(*given)) for places, given in map(json.loads, machines)])
 
 
-def answer_machines(batch: Batch, known: Optional[bytes], came: "SimpleQueue[Optional[Fields]]") -> None:
-    """Puts the answers on the first machines of a batch into this queue, each when it is there: on one at least, and on no other after the
-    batch's time. Then comes None."""
-    start = time.monotonic()
-    asked = dataclasses.replace(batch.asked, deadline=batch.machine_seconds)
-    for places, given in batch.machines:
-        answer = answer_on(paths_of(places, asked.is_quoted), given, asked, known)
-        came.put({**answer, "places": places, "time": now()})
-        if answer["verdict"] == UNFIT or time.monotonic() - start > batch.seconds:
-            break
-    came.put(None)
+class Answering:
+    """A thread that answers on the first machines of a batch: on one at least, and begins none after the batch's time.
+
+    It is looked at when all are answered, or one may be late, and not for each machine: two threads that take turns cost a quarter of a verdict
+    on a short list."""
+
+    def __init__(self, batch: Batch, known: Optional[bytes]):
+        self.batch, self.known = batch, known
+        self.answers: List[Fields] = []
+        self._begun: List[float] = []  # (when each machine was)
+        self._has_ended = threading.Event()
+        self._thread = start_thread(self._answer)
+
+    def _answer(self) -> None:
+        asked = dataclasses.replace(self.batch.asked, deadline=self.batch.machine_seconds)
+        for places, given in self.batch.machines:
+            self._begun.append(time.monotonic())
+            answer = answer_on(paths_of(places, asked.is_quoted), given, asked, self.known)
+            answer.update(places=places, time=now())
+            self.answers.append(answer)
+            if answer["verdict"] == UNFIT or time.monotonic() - self._begun[0] > self.batch.seconds:
+                break
+        self._has_ended.set()
+
+    def wait(self) -> List[Fields]:
+        """The answers. A machine on which none comes in time is the last: no thread can be stopped, so this one is left, and what it answers
+        later is dropped."""
+        while not self._has_ended.is_set():
+            answers = list(self.answers)
+            begun = self._begun[len(answers)] if len(answers) < len(self._begun) else time.monotonic()
+            left = begun + self.batch.most_seconds - time.monotonic()
+            if left <= 0:
+                self._thread.name = LEFT
+                return [*answers, self._late(len(answers))]
+            self._has_ended.wait(left)
+        return self.answers
+
+    def _late(self, number: int) -> Fields:
+        places, _ = self.batch.machines[number]
+        return {"verdict": "unreadable", "cause": f"TimeoutError: {LATE}", "places": places, "time": now()}
 
 
 def is_late(answer: Fields) -> bool:
@@ -101,23 +139,13 @@ def is_late(answer: Fields) -> bool:
     return answer["verdict"] == "unreadable" and str(answer["cause"]).endswith(f"TimeoutError: {LATE}")
 
 
-def answers_in_time(batch: Batch, known: Optional[bytes]) -> Iterator[Fields]:
-    """The answers on the first machines of a batch, by a thread of their own. A machine on which none comes in time is the last: no thread can
-    be stopped, so this one is left, and what it answers later is dropped."""
-    came: "SimpleQueue[Optional[Fields]]" = SimpleQueue()
-    start_thread(answer_machines, batch, known, came)
-    for places, _ in batch.machines:
-        try:
-            answer = came.get(timeout=batch.most_seconds)
-        except Empty:
-            verdict = SLOW if batch.has_more_time else "unreadable"
-            yield {"verdict": verdict, "cause": f"TimeoutError: {LATE}", "places": places, "time": now()}
-            return
-        if answer is None:
-            return
+def answers_in_time(batch: Batch, known: Optional[bytes]) -> List[Fields]:
+    """The answers on the first machines of a batch. One that is late is slow, if there is more time for it."""
+    answers = Answering(batch, known).wait()
+    for answer in answers:
         if batch.has_more_time and is_late(answer):
             answer["verdict"] = SLOW
-        yield answer
+    return answers
 
 
 def verify_batch(request: str, worker: str, known: Optional[bytes]) -> str:
@@ -125,12 +153,8 @@ def verify_batch(request: str, worker: str, known: Optional[bytes]) -> str:
     gives.
 
     The first line is JSON, where `seconds` is what they took. Each other line is a report, in the order of the answers that have one."""
-    answers: List[Fields] = []
-    reports: List[Any] = []
     start = time.monotonic()
-    for answer in answers_in_time(read_request(request), known):
-        if answer["verdict"] in REPORTED:
-            reports.append(answer.pop("report"))
-        answers.append(answer)
+    answers = answers_in_time(read_request(request), known)
+    reports = [answer.pop("report") for answer in answers if answer["verdict"] in REPORTED]
     told = {"worker": worker, "answers": answers, "seconds": time.monotonic() - start}
     return "\n".join([json.dumps(told), *reports])

@@ -8,19 +8,23 @@ import os
 import signal
 import struct
 import threading
+from contextlib import suppress
+from fcntl import fcntl
 from queue import SimpleQueue
 from typing import BinaryIO, Iterator, NamedTuple, Optional
 
 from .verdict import Asked, require_fitness
-from .work import NoThread, start_thread, verify_batch
+from .work import NoThread, has_many_left, start_thread, verify_batch
+
+# How many bytes of answers may be on their way, for Linux: with fewer a worker and the run wait for each other more often. (Python 3.9 has no
+# name for the command.)
+F_SETPIPE_SZ, PIPE = 1031, 1024 * 1024
 
 # The head of a message: the number of a request, and how many bytes follow.
 HEAD = struct.Struct("!QQ")
 # The numbers of what is no request: how a worker begins; and that it ends itself, to be rid of threads that are left. Then come those of
 # requests, of which the odd ones are patient.
 BEGINNING, LEAVING, FIRST = 0, 1, 2
-# So many threads may be left waiting for files.
-MOST_THREADS = 200
 
 
 class Message(NamedTuple):
@@ -59,7 +63,7 @@ class Answers:
         try:
             told = verify_batch(request.text.decode(), f"process {os.getpid()}", self.known)
             self.write(request.number, told.encode())
-            if threading.active_count() >= MOST_THREADS:
+            if has_many_left():
                 self.leave(b"")
         except NoThread as fault:
             self.leave(str(fault).encode())
@@ -112,6 +116,8 @@ def main() -> None:
     signal.signal(signal.SIGINT, signal.SIG_IGN)
     signal.signal(signal.SIGTERM, signal.SIG_IGN)
     requests, answers = os.fdopen(os.dup(0), "rb"), os.fdopen(os.dup(1), "wb")
+    with suppress(OSError):
+        fcntl(answers, F_SETPIPE_SZ, PIPE)
     nothing = os.open(os.devnull, os.O_RDWR)
     os.dup2(nothing, 0)
     os.dup2(nothing, 1)

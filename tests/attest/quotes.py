@@ -114,6 +114,12 @@ class Samples(AttestTests):
         self.check_fault("registers are required that were not quoted", self.attest(require="sha256:0-11,sha1:10", sha1=True), 12)
         longer = self.put("longer.list", LIST + LIST[-LAST_ENTRY:])
         self.check_differ("a list that went on after the quote", self.attest(list=longer))
+        command, *words = replace(GOOD, list=longer).words()
+        said = ("PCR 10 has this value after entry 98 of 100: the list grew, or the value is old; read it again, or add --prefix, which leaves out "
+                "the entries after it\n")
+        ended = self.call([command, "--explain", *words])
+        self.check("the verdict is the last line, and what to do next is said beside it", (ended.output.splitlines()[-1], ended.errors),
+                   ("verdict differ", said))
         ended = self.attest(list=longer, prefix=True)
         self.check_match("a list that went on after the quote, by its front", ended)
         self.check("how much of it is confirmed", "\nconfirmed 99 of 100 entries\n" in ended.output)

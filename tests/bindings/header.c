@@ -254,6 +254,8 @@ static void check_wrong_calls(const struct given *sample) {
                       "known files that nothing is judged by");
     given.position = (struct ima_verify_position){given.evidence.list.size + 1, 0};
     check_misused(ask(entries, &given, IMA_VERIFY_TEXT, ROOM), "entries", "a position behind the list");
+    given.position.offset += 1;
+    check_misused(ask(entries, &given, IMA_VERIFY_JSON, ROOM), "entries", "a position behind the list's number of entries");
     given.position.offset = given.evidence.log.size + 1;
     check_misused(ask(events, &given, IMA_VERIFY_TEXT, ROOM), "events", "a position behind the log");
 }
@@ -775,7 +777,8 @@ static void check_pieces(const struct given *sample) {
         const struct function *function = &functions[i / 2];
         enum ima_verify_form form = i % 2 ? IMA_VERIFY_JSON : IMA_VERIFY_TEXT;
         struct given given = *sample;
-        size_t size = 0, end = (function->inputs == OF_LOG ? given.evidence.log : given.evidence.list).size;
+        /* (as JSON the position after the number of entries is one further than the list) */
+        size_t size = 0, end = function->inputs == OF_LOG ? given.evidence.log.size : given.evidence.list.size + (size_t)(i % 2);
         ask(function, sample, form, ROOM);
         size_t whole_size = out.size;
         memcpy(whole, text, whole_size);

@@ -16,8 +16,7 @@ FILES = "firmware.log", "ima.list", "expected.txt"
 # What `sha256sum` may print of a path, after which no line starts.
 MARKS = b" ", b"\t", b"\r", b"\v", b"\f", b"\x1c", b"\xc2\x85", b"\xe2\x80\xa8", b"\xff "
 
-# What the programs of the pages print about the sample, if the digests of these files are not known: the files by their entries, and
-# each register by the event (by `ima-agent locate` and `events`, and by the reference).
+# What the programs of the pages print about the sample, if the digests of these files are not known: the files by their entries.
 UNKNOWN = (b"/init", b"/mnt/odd/bad\xff\xfebytes", b"/mnt/odd/new")  # (the last goes on after a line feed)
 PAGE = r"""differ 99
 1 /init
@@ -26,19 +25,10 @@ PAGE = r"""differ 99
 93 /mnt/viol/tomtou
 94 /mnt/viol/open_writers.log
 97 /mnt/viol/tomtou
-PCR 0 has its value after event 14, EV_SEPARATOR
-PCR 1 has its value after event 15, EV_SEPARATOR
-PCR 2 has its value after event 16, EV_SEPARATOR
-PCR 3 has its value after event 17, EV_SEPARATOR
-PCR 4 has its value after event 18, EV_SEPARATOR
-PCR 5 has its value after event 24, EV_EFI_ACTION
-PCR 6 has its value after event 20, EV_SEPARATOR
-PCR 7 has its value after event 9, EV_SEPARATOR
-PCR 9 has its value after event 22, EV_EVENT_TAG
 """
 
 
-# The first example of Go's page is a function, which this calls with the files that the other pages' programs read.
+# The first two examples of Go's page are functions, which this calls with the files that the other pages' programs read.
 GO_CALL = """package main
 
 import (
@@ -49,23 +39,31 @@ import (
 	"imaverify"
 )
 
-func main() {
+func main() {{
 	var files [][]byte
-	for _, name := range []string{"firmware.log", "ima.list", "quote.msg", "quote.sig", "AK.pem", "nonce"} {
+	for _, name := range []string{{{names}}} {{
 		data, err := os.ReadFile(name)
-		if err != nil {
+		if err != nil {{
 			log.Fatal(err)
-		}
+		}}
 		files = append(files, data)
-	}
-	verdict, err := attested(files[0], files[1], files[2], files[3], files[4], files[5])
+	}}
+{call}
+}}
+
+"""
+GO_QUOTE = """	verdict, err := attested(files[0], files[1], files[2], files[3], files[4], files[5])
 	if err != nil {
 		log.Fatal(err)
 	}
-	fmt.Println(map[bool]string{true: "match", false: "differ"}[verdict.Matches], verdict.Entries)
-}
+	fmt.Println(map[bool]string{true: "match", false: "differ"}[verdict.Matches], verdict.Entries)"""
+GO_PAGE = """	if err := unknownFiles(files[0], files[1], files[2], files[3]); err != nil {
+		log.Fatal(err)
+	}"""
 
-"""
+
+def go_call(call, *names):
+    return GO_CALL.format(call=call, names=", ".join(f'"{name}"' for name in names))
 
 
 def examples_of(language):
@@ -75,14 +73,16 @@ def examples_of(language):
 
 
 def page_of(language):
-    """The second example of a language's page, a program, and after it the third, the function of a list that grows."""
+    """The second example of a language's page, of known files, as a program, and after it the third, the function of a list that grows."""
     _, program, function = examples_of(language)
-    return f"{program}\n{function}"
+    begun = go_call(GO_PAGE, *FILES, "known.txt") if language == "go" else ""
+    return f"{begun}{program}\n{function}"
 
 
 def quote_page_of(language):
     """The first example of a language's page, of a quote, as a program."""
-    return (GO_CALL if language == "go" else "") + examples_of(language)[0]
+    begun = go_call(GO_QUOTE, *FILES[:2], "quote.msg", "quote.sig", "AK.pem", "nonce") if language == "go" else ""
+    return begun + examples_of(language)[0]
 
 
 def quote_inputs(folder):

@@ -202,7 +202,8 @@ class Library:
             if not text.endswith(b"\n") or offset.value <= before[0]:
                 raise Unlike(f"a piece of {len(text)} bytes at {before}, and then {offset.value}")
             lines.append(text)
-        if status == DONE and offset.value != len(data):
+        has_count = call.function == "entries" and call.is_json  # (a line behind the bytes of the list)
+        if status == DONE and offset.value != len(data) + has_count:
             raise Unlike(f"the last position is {offset.value} of {len(data)}")
         if status == REFUSED and call.function == "entries" and told.place != number.value:
             raise Unlike(f"a fault at {told.place} after {number.value} entries")

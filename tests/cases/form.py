@@ -9,7 +9,6 @@ from typing import Optional
 ROOT = Path(__file__).resolve().parents[2]
 FOLDER = ROOT / "tests/cases"
 SAMPLES = "samples/"
-TABLES = "faults/"
 REFERENCE = "By the reference."
 HEADER = re.compile(r"-- (.+?)( hex)? --")
 STATUS = re.compile(r"\[([1-9]\d*)\]")
@@ -130,29 +129,18 @@ class Case:
 
 
 def named(name, files, line):
-    """The bytes of a file of the case, of the shared ones, or of the samples, or of a table of faults."""
+    """The bytes of a file of the case, of the shared ones, or of the samples."""
     if name in files:
         return files[name]
-    if name.startswith(TABLES):
-        return fault_table(name, line)
     if name.startswith(SAMPLES) and (ROOT / name).is_file():
         return (ROOT / name).read_bytes()
     raise Malformed(line, f"no file above has this name, nor a shared one or a sample: {name}")
 
 
-def fault_table(name, line):
-    """The table of faults of docs/errors.txt that begins with this word."""
-    tables = {text.split()[0]: text for text in FAULTS.findall((ROOT / "docs/errors.txt").read_text())}
-    table = tables.get(name.removeprefix(TABLES))
-    if table is None:
-        raise Malformed(line, f"docs/errors.txt has no such table of faults: {name}")
-    return table.encode()
-
-
 def sentences_of(name):
     """The sentences of the table of faults of docs/errors.txt that begins with this word, by the faults' numbers."""
-    rows = re.findall(r"^ +(\d+)  (.*)$", fault_table(TABLES + name, 0).decode(), re.MULTILINE)
-    return {int(number): sentence for number, sentence in rows}
+    tables = {text.split()[0]: text for text in FAULTS.findall((ROOT / "docs/errors.txt").read_text())}
+    return {int(number): sentence for number, sentence in re.findall(r"^ +(\d+)  (.*)$", tables[name], re.MULTILINE)}
 
 
 def slice_of(data, start, end, line):

@@ -3,7 +3,8 @@
 
 tests/cases/json_lines.py [PROGRAM [ENTRIES]]: by default the program that was built in this tree, and a long list of 12,000 entries.
 
-The members of each object must be in one table of docs/json.md, docs/event-data.md or docs/formats.md, in its order.
+The members of each object must be those of one object of docs/json.txt, one table of docs/event-data.md, or one layout of docs/layouts.txt, in that
+order.
 
 Each line must be one value of ASCII or UTF-8 that json writes in the same way, without white space, and has no byte below 32. All lines must
 be what `tests/reference/` answers, and each must say what the same command's text says. The commands read the sample, lists of all templates
@@ -33,13 +34,27 @@ HOSTILE = [
 ]  # fmt: skip
 LONG = [b"a" * 4095, b"\n" * 4095, b"\x1b" * 4095, "\u2028".encode() * 1365, b"\xff" * 4095]
 TABLE = re.compile(r"^(\|.*\| Member.*|\| Member.*)\n\|[-|]*\n((?:\|.*\n)*)", re.MULTILINE)
+LISTED = re.compile(r"( *)(\w+(?:, \w+)*)  ")
 NO_MEMBERS = ("digests", "measured")  # the names there are those of algorithms
 
 
 def members_in_tables():
-    """The members of each table of the pages, in its order."""
-    text = "".join((ROOT / "docs" / page).read_text() for page in ("json.md", "event-data.md", "formats.md"))
-    return [[name for cell in member_cells(head, rows) for name in re.findall(r"`(\w+)`", cell)] for head, rows in TABLE.findall(text)]
+    """The members of each table of event data, in its order."""
+    tables = TABLE.findall((ROOT / "docs/event-data.md").read_text())
+    return [[name for cell in member_cells(head, rows) for name in re.findall(r"`(\w+)`", cell)] for head, rows in tables]
+
+
+def members_in_layouts():
+    """The words in the column of members of each layout, in its order. Members are among them."""
+    sections = (section.splitlines() for section in (ROOT / "docs/layouts.txt").read_text().split("\n\n"))
+    head, *lines = next(lines for lines in sections if lines[0].endswith(" member"))
+    layouts = []
+    for line in lines:
+        if line.startswith(" "):
+            layouts[-1] += re.findall(r"\w+", line[head.index("member") :])
+        else:
+            layouts.append([])
+    return layouts
 
 
 def member_cells(head, rows):
@@ -48,7 +63,29 @@ def member_cells(head, rows):
     return [row.split("|")[place] for row in rows.splitlines()]
 
 
-ORDERS = members_in_tables()
+def members_listed():
+    """The members of each object of docs/json.txt, in its order."""
+    for section in (ROOT / "docs/json.txt").read_text().split("\n\n"):
+        heading, *lines = section.splitlines()
+        objects = members_by_object(filter(None, map(LISTED.match, lines)))
+        if heading.endswith("the others of its line"):
+            groups = [[names, *objects.get((names,), [])] for names in objects[()]]
+        else:
+            groups = objects.values()
+        yield from (", ".join(names).split(", ") for names in groups)
+
+
+def members_by_object(matches):
+    """Which names are indented below which: an object is named by those that it is in."""
+    objects, above = {}, []
+    for match in matches:
+        del above[len(match[1]) // 2 - 1 :]
+        objects.setdefault(tuple(above), []).append(match[2])
+        above.append(match[2])
+    return objects
+
+
+ORDERS = [*members_in_tables(), *members_in_layouts(), *members_listed()]
 
 
 def log_of_all_banks():
@@ -241,7 +278,7 @@ def is_told(words, values, text):
     if words[0] in ("registers", "expected") or words[0] == "replay" and "registers" in values[0] and "verdict" not in values[0]:
         return [f"{row['bank']} {row['register']} {row['value']}" for row in values[0]["registers"]] == rows
     if words[0] == "verify" or "verdict" in values[0]:
-        told = [" ".join(str(word) for word in row.values()) for row in values[0]["registers"]]
+        told = [" ".join(str(word) for name, word in row.items() if name != "expected") for row in values[0]["registers"]]
         told += [f"{word} {number} extends {register}" for (word, number), (_, register) in (row.items() for row in values[0].get("extends", []))]
         told += known_rows(values[0])
         return rows[-1] == f"verdict {values[0]['verdict']}" and told == rows[-1 - len(told) : -1]
@@ -251,7 +288,7 @@ def is_told(words, values, text):
         return len(rows) == len(values) and all(is_answer(value, row) for value, row in zip(values, rows))
     if words[0] == "events":
         return len(rows) == len(values) and all(row.split()[0] == str(value["event"]) for row, value in zip(rows[1:], values[1:]))
-    return True
+    return words[0] != "show" or values[-1] == {"entries": len(values) - 1}
 
 
 def fault_of_command(program, words, folder):

@@ -46,7 +46,7 @@ CONTENT_BYTES = 16 * MEBIBYTE
 # (nearly as many as the system takes)
 WORDS = 200_000
 # (an argument is shorter than 128 KiB)
-RANGES = 10_900
+RANGES, REGISTERS_MORE = 10_900, 65_000
 MOST_SHOWN = 200
 BANKS = {algorithm.identifier: algorithm.size for algorithm in ALGORITHMS}
 BANK = {SHA256.identifier: SHA256.size}
@@ -363,9 +363,10 @@ class Limits(harness.TestCase):
         self.ask(f"{MISSING} names", "measure L --files-from names".split(), (3, "failed: read x\n"))
 
     def test_words(self):
-        """Very many words, and words as long as the system takes: a file named again and again before another one, a range, and names in the
-        lines of faults."""
-        files = {"L": LOG.spelling(), "list": list_spelling(ENTRIES), "expected": EXPECTED.encode(), "f": b"abc", "g": b"abc"}
+        """Very many words, and words as long as the system takes: a file named again and again before another one, a selection, and names in
+        the lines of faults."""
+        files = {"L": LOG.spelling(), "list": list_spelling(ENTRIES), "expected": EXPECTED.encode(), "f": b"abc", "g": b"abc",
+                 "printed": PRINTED.encode()}
         for name, data in files.items():
             (self.room / name).write_bytes(data)
         entries = [ENTRIES[0], *(entry_of(IMA_NG, SHA256, SHA256.hash(b"abc"), name) for name in (b"f", b"g"))]
@@ -375,7 +376,11 @@ class Limits(harness.TestCase):
         for command in ("verify L list expected", "locate L list expected", "replay list expected"):
             word, *names = command.split()
             wanted = reference.answer([word, "--require", "sha256:0-23", *names], self.room)
-            self.ask_of_parts(f"{RANGES} ranges", {f"{word} --require {','.join(['sha256:0-23'] * RANGES)} {' '.join(names)}": wanted})
+            for text in (",".join(["sha256:0-23"] * RANGES), "sha256:all" + "+9" * REGISTERS_MORE):
+                self.ask_of_parts("very many parts", {f"{word} --require {text} {' '.join(names)}": wanted})
+        for first, more in (("sha512:4", "+4"), ("4", ",4")):
+            wanted = reference.answer(["expected", "--registers", first, "printed"], self.room)
+            self.ask_of_parts("very many parts", {f"expected --registers {first}{more * REGISTERS_MORE} printed": wanted})
         longest = "./" * 2045 + "names"
         for data, command, fault in (
             (b"\xff" + bytes(MOST_BYTES), f"show {longest}", (2, f"refused: too long {longest}\n")),

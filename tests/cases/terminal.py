@@ -1,11 +1,12 @@
 #!/usr/bin/env python3
-"""Tries what a terminal gets beside the output: why a run failed, and how far a measurement is.
+"""Tries what a terminal gets beside the output: why a run failed, what to do next, and how far a measurement is.
 
 tests/cases/terminal.py [PROGRAM]: by default the program that was built in this tree.
 
 Each command of the cases whose files have at most 4 MiB runs with a terminal as its standard error. Status and output must be what the
-case wants. After a fault the terminal must get its sentence, which is made here of the fault's line, by the tables of docs/errors.txt.
-After a success it must get nothing, and after a refused command line some text of clap's: `USAGES` has some. Where the output goes to the
+case wants. After a fault the terminal must get its sentence, which is made here of the fault's line, by the tables of docs/errors.txt, and
+where the input is not what it should be a line of `MISTAKES` more. After a verdict `differ`, or values that are not located, it gets lines of
+`HINTS`, three at most. After a success it must get nothing, and after a refused command line some text of clap's: `USAGES` has some. Where the output goes to the
 same terminal, the sentence must come after the line. Further commands have names with bytes that a terminal acts upon, are out of memory,
 have an output that fails, or measure for more than a second. Each of these runs without a terminal too, and standard error must then get
 nothing. Pipes that are closed one after another show when which number is due. The script counts commands."""
@@ -16,6 +17,7 @@ import pty
 import re
 import resource
 import select
+import shutil
 import subprocess
 import sys
 import tempfile
@@ -39,6 +41,9 @@ from reference.registers import SHA256  # noqa: E402
 from reference.texts import read_requirement  # noqa: E402
 
 PROGRAM = harness.argument()
+SAMPLES = Path(__file__).resolve().parents[2] / "samples"
+NONCE_GIVEN = (SAMPLES / "quoted" / "nonce").read_text().strip()
+WAITING = b"reading a firmware event log in hexadecimal from standard input; ima-agent --help tells the commands\n"
 SECONDS = 180  # (beside the other parts of the gate)
 MEBIBYTE = 1 << 20
 MOST_BYTES = 4 * MEBIBYTE
@@ -69,30 +74,38 @@ LOG, LIST, REPLAY, EXPECTED, KNOWN, QUOTE, KEY, CHECKPOINT, BOOK = map(
 
 # What clap says of wrong arguments, or the program in its form where clap takes them.
 MORE = "\nFor more information, try '--help'.\n"
-REQUIRE, REGISTERS, NONCE = "--require <BANK:A-B[,BANK:C-D..]>", "--registers <A-B>", "--nonce <HEX>"
-MALFORMED = "not of the form BANK:A-B[,BANK:C-D..]"
+REQUIRE, REGISTERS, NONCE = "--require <SELECTION>", "--registers <SELECTION>", "--nonce <HEX>"
+MALFORMED = "not of the form BANK:A,B-C[+BANK:D..]"
 UNBOUND = "register 10 is named of no bank, so nothing of the list would be required"
 USAGES = [
-    (["nothing"], f"error: unrecognized subcommand 'nothing'\n\nUsage: ima-agent <COMMAND>\n{MORE}"),
+    (["nothing"], f"error: unrecognized subcommand 'nothing'\n\nUsage: ima-agent [COMMAND]\n{MORE}"),
     (["show"], f"error: the following required arguments were not provided:\n  <LIST>\n\nUsage: ima-agent show <LIST>\n{MORE}"),
     (["show", "L", "M"], f"error: unexpected argument 'M' found\n\nUsage: ima-agent show [OPTIONS] <LIST>\n{MORE}"),
-    (["measure", "--workers", "9", "L"], f"error: invalid value '9' for '--workers <N>': 9 is not in 1..=8\n{MORE}"),
+    (["measure", "--workers", "9", "L"], f"error: invalid value '9' for '--workers <THREADS>': 9 is not in 1..=8\n{MORE}"),
     (["measure", "--alg", "sm3", "L"],
-     f"error: invalid value 'sm3' for '--alg <A>'\n  [possible values: sha1, sha256, sha384, sha512]\n{MORE}"),
-    (["measure", "--json", "--print", "binary", "L"], "error: invalid value 'binary' for '--print <P>' with '--json'\n"),
+     f"error: invalid value 'sm3' for '--alg <HASH>'\n  [possible values: sha1, sha256, sha384, sha512]\n{MORE}"),
+    (["measure", "--json", "--print", "binary", "L"], "error: invalid value 'binary' for '--print <OUTPUT>' with '--json'\n"),
     *((["events", "--explain", other, "L"], f"error: the argument '--explain' cannot be used with '{other}'\n") for other in ("--data", "--json")),
     *((["events", *more, "--expected", "E", "L"],
        "error: the argument '--expected <EXPECTED>' cannot be used without '--explain' or '--json'\n") for more in ([], ["--data"])),
     *(([*words, "--known", "K"], "error: the argument '--known <FILE>' cannot be used without '--require'\n")
       for words in (["verify", "L", "M", "N"], ["replay", "L", "M"], ["replay", "L"])),
     (["key", "--print", "ascii", "L"],
-     f"error: invalid value 'ascii' for '--print <P>'\n  [possible values: all, name, pem]\n{MORE}"),
-    (["\x1b[31m\nred"], f"error: unrecognized subcommand '\\x1b[31m\\x0ared'\n\nUsage: ima-agent <COMMAND>\n{MORE}"),
-    (["verify", "--require", "sha256", "L", "M", "N"], f"error: invalid value 'sha256' for '{REQUIRE}': {MALFORMED}\n"),
-    (["locate", "--require=\x9b2J", "L", "M", "N"], f"error: invalid value '\\xc2\\x9b2J' for '{REQUIRE}': {MALFORMED}\n"),
-    (["replay", "--require", "sha256:9-8", "L", "M"], f"error: invalid value 'sha256:9-8' for '{REQUIRE}': {MALFORMED}\n"),
+     f"error: invalid value 'ascii' for '--print <PART>'\n  [possible values: all, name, pem]\n{MORE}"),
+    (["\x1b[31m\nred"], f"error: unrecognized subcommand '\\x1b[31m\\x0ared'\n\nUsage: ima-agent [COMMAND]\n{MORE}"),
+    *(([*words, "--require", text, *names], f"error: invalid value '{text}' for '{REQUIRE}': at byte {place}, '{part}': {MALFORMED}\n")
+      for words, names, text, place, part in (
+          (["verify"], ["L", "M", "N"], "sha256", 1, "sha256"),
+          (["verify"], ["L", "M", "N"], "sha256:0-7,99", 12, "99"),
+          (["locate"], ["L", "M", "N"], "sha256:0-7+sha1:,10", 12, "sha1:"),
+          (["locate"], ["L", "M", "N"], "sha256:10,", 11, ""),
+          (["replay"], ["L", "M"], "sha256:9-8", 1, "sha256:9-8"),
+      )),
+    (["locate", "--require=\x9b2J", "L", "M", "N"],
+     f"error: invalid value '\\xc2\\x9b2J' for '{REQUIRE}': at byte 1, '\\xc2\\x9b2J': {MALFORMED}\n"),
     (["verify", "--require", "sha256:0-9", "L", "M", "N"], f"error: invalid value 'sha256:0-9' for '{REQUIRE}': {UNBOUND}\n"),
-    (["expected", "--registers", "24", "L"], f"error: invalid value '24' for '{REGISTERS}'\n"),
+    (["expected", "--registers", "24", "L"], f"error: invalid value '24' for '{REGISTERS}': at byte 1, '24': {MALFORMED}\n"),
+    (["expected", "--registers", "0-7+all,", "L"], f"error: invalid value '0-7+all,' for '{REGISTERS}': at byte 9, '': {MALFORMED}\n"),
     *((["attest", "--nonce", nonce, "--require", "sha256:0-10", "L", "M", "Q"], f"error: invalid value '{shown}' for '{NONCE}': {cause}\n")
       for nonce, shown, cause in (
           ("xy", "xy", "it is not hexadecimal"),
@@ -104,11 +117,12 @@ USAGES = [
     (["attest", "--nonce", "00", "L", "M", "Q"],
      f"error: the following required arguments were not provided:\n  {REQUIRE}\n\n"
      f"Usage: ima-agent attest {NONCE} {REQUIRE} <LOG> <LIST> <QUOTE> [EXPECTED]\n{MORE}"),
-    (["attest", "--nonce", "00", "--require", "sha256", "L", "M", "Q"], f"error: invalid value 'sha256' for '{REQUIRE}': {MALFORMED}\n"),
+    (["attest", "--nonce", "00", "--require", "sha256", "L", "M", "Q"],
+     f"error: invalid value 'sha256' for '{REQUIRE}': at byte 1, 'sha256': {MALFORMED}\n"),
     (["attest", "--nonce", "xy", "--require", "sha256", "L", "M", "Q"], f"error: invalid value 'xy' for '{NONCE}': it is not hexadecimal\n"),
     *((["attest", "--nonce", "0" * 32, "--require", text, "L", "M", "Q"], f"error: invalid value '{text}' for '{REQUIRE}': {cause}\n")
       for text, cause in (
-          ("sha256", MALFORMED),
+          ("sha256", f"at byte 1, 'sha256': {MALFORMED}"),
           ("sha256:0-9", UNBOUND),
           ("sha256:10", "register 0 is not required in any bank"),
           ("sha256:0-2,sha384:4-10", "register 3 is not required in any bank"),
@@ -116,6 +130,41 @@ USAGES = [
           ("sha256:0-10,sha1:16", "register 16 is required in the SHA-1 bank alone"),
       )),
 ]
+
+# What to do next, after an answer that something differs.
+ALGORITHM, NUMBER = "sha(1|256|384|512)", "[0-9]+"
+BOOT = "LOG is of another boot, or was changed; ima-agent events --explain --expected shows its events"
+APART = "log and list cannot be told apart"
+GROWN = ("PCR 10 has this value after entry {} of {}: the list grew, or the value is old; read it again, or add --prefix, which leaves out the "
+         "entries after it")
+HINTS = [re.compile(line) for line in (
+    GROWN.format(NUMBER, NUMBER),
+    "LIST is empty: copy the kernel's list with cat, since its size is given as 0",
+    "the boot aggregate is another: log and list are of different boots, or one of them was changed",
+    "LOG has no bank for the boot aggregate, so nothing says that log and list are of one boot",
+    "entry 0 is no boot aggregate: the list lacks its beginning, has another template, or was changed",
+    f"{ALGORITHM} PCR 10 differs: it was read at another time than LIST, or an entry is missing or was changed",
+    "add EXPECTED, the values read with the quote: its rows show which PCR differs",
+    "EXPECTED is not what the TPM signed: give the values read with the quote",
+    f"event {NUMBER} extends PCR 10, which only the list should: {APART}",
+    f"entry {NUMBER} extends PCR {NUMBER}, which only the log should: {APART}",
+    f"{ALGORITHM} PCR {NUMBER} (differs|never has its value): {BOOT}",
+    f"{ALGORITHM} PCR {NUMBER} differs: replay reads no log; ima-agent verify does",
+    f"EXPECTED lacks {ALGORITHM} PCR {NUMBER}: read it with the others",
+    "EXPECTED has no PCR",
+    f"{ALGORITHM} is no bank of LOG, so its PCRs cannot be judged: LOG is of another machine, or was changed",
+)]
+MOST_HINTS = 3
+
+# What an input is that is refused, if it is not what it should be.
+EMPTY = "it is empty: copy the kernel's files with cat, since their size is given as 0"
+NOTHING_PRINTED = "it is empty: the tool printed nothing"
+LIST_FOR_LOG = "it is a measurement list, and no firmware event log"
+OLD_LOG = ("it is in the form of TPM 1.2, which is not read: PCRs 0 to 9 cannot be judged; if the machine has a TPM 2.0 it was changed")
+LOG_FOR_LIST = "it is a firmware event log, and no measurement list"
+TEXT_FOR_LIST = "it is the list as text: take binary_runtime_measurements, which is beside it"
+PRINTED_FOR_EXPECTED = "it is what tpm2-tools print: ima-agent expected makes EXPECTED of it"
+MISTAKES = [EMPTY, NOTHING_PRINTED, LIST_FOR_LOG, OLD_LOG, LOG_FOR_LIST, TEXT_FOR_LIST, PRINTED_FOR_EXPECTED]
 
 # Names with bytes that a terminal acts upon (C0, DEL, C1, and a mark that turns the writing), or that are not ASCII, as they are shown.
 NAMES = [
@@ -298,6 +347,18 @@ def is_of_usage(said):
     return said.startswith(b"error: ") and said.endswith(b"\n") and all(0x20 <= each <= 0x7E or each == 0x0A for each in said)
 
 
+def are_hints(said):
+    """Whether these are lines that say what to do next, or nothing."""
+    lines = said.decode("ascii", "replace").splitlines()
+    return len(lines) <= MOST_HINTS and all(any(hint.fullmatch(line) for hint in HINTS) for line in lines)
+
+
+def is_sentence(said, wanted):
+    """Whether this is the sentence, alone or with a line that says what its input is."""
+    name = wanted.partition(b": ")[0]
+    return said == wanted or any(said == wanted + name + f": {words}\n".encode() for words in MISTAKES)
+
+
 def without_progress(said):
     """The same without the progress of a measurement, which a busy machine may show, if that is erased at the end."""
     return re.sub(rb"(?:\r\d+ of \d+ files\x1b\[K)+\r\x1b\[K", b"", said)
@@ -317,11 +378,13 @@ def case_fault(command, folder, output):
     fault = fault_of(command, Answer(status, output, b""), folder)
     if fault is not None:
         return f"the answer is another one:\n    {fault}"
+    if status == 1:
+        return None if are_hints(said) else f"the terminal got {said!r}, and not what to do next"
     try:
         wanted = b"" if line is None else sentence_of(command.words, line, folder)
     except (KeyError, ValueError) as error:
         return f"no table has the words of {text!r}: {error!r}"
-    if is_of_usage(said) if wanted is None else said == wanted:
+    if is_of_usage(said) if wanted is None else is_sentence(said, wanted):
         return None
     return f"the terminal got {said!r}, and not {'a text of clap' if wanted is None else wanted!r}"
 
@@ -350,7 +413,7 @@ def further_commands():
         unread = b"failed: read %s\n" % name.encode()
         yield Command(f"a name: {escaped}", ["show", name], Ended(3, unread, f"cannot read {escaped}: No such file or directory\n".encode()))
         empty = f"{name} is empty"
-        said = f"{escaped} is empty: event 0: its bytes are not all there\n".encode()
+        said = f"{escaped} is empty: event 0: its bytes are not all there\n{escaped} is empty: {EMPTY}\n".encode()
         yield Command(f"an empty log: {escaped}", ["events", empty], Ended(2, b"refused: log fault 1 at event 0\n", said))
     memory = b"failed: memory\n"
     yield Command("an argument that is not UTF-8", ["show", b"\xff"], Ended(3, memory, b"an argument is not UTF-8\n"))
@@ -363,12 +426,100 @@ def further_commands():
     yield Command("a full device", ["registers", "L"], Ended(3, b"", b"the output could not be written\n"), fill_output)
 
 
+def hinted_commands():
+    """Commands of which something differs, or of which an input is not what it should be; their status, and what to do next."""
+    judged, quoted = ["firmware.log", "ima.list", "expected.txt"], ["--nonce", NONCE_GIVEN, "--signature-checked"]
+    grown, changed, lacks = GROWN.format(98, 100), f"sha256 PCR 4 differs: {BOOT}", "EXPECTED lacks {} PCR {}: read it with the others"
+    earlier = "sha256 PCR 10 differs: it was read at another time than LIST, or an entry is missing or was changed"
+    other = "the boot aggregate is another: log and list are of different boots, or one of them was changed"
+    yield "all matches", ["verify", "--require=sha256:0-10", *judged], 0, []
+    yield "a list that grew", ["verify", "firmware.log", "longer.list", "expected.txt"], 1, [grown]
+    yield "a list that grew, in JSON", ["verify", "--json", "--require=sha256:0-10", "firmware.log", "longer.list", "expected.txt"], 1, [grown]
+    yield "its prefix", ["verify", "--prefix", "firmware.log", "longer.list", "expected.txt"], 0, []
+    yield "a quoted list that grew", ["attest", *quoted, "--require=sha256:0-10", "firmware.log", "longer.list", "quote.msg"], 1, [grown]
+    yield "a list without its end", ["verify", "firmware.log", "shorter.list", "expected.txt"], 1, [earlier]
+    yield "where its value is", ["locate", "firmware.log", "shorter.list", "expected.txt"], 1, [earlier]
+    yield "a quoted list without its end", ["attest", *quoted, "--require=sha256:0-10", "firmware.log", "shorter.list", "quote.msg"], 1, [
+        "add EXPECTED, the values read with the quote: its rows show which PCR differs"]
+    yield "the same with EXPECTED", [
+        "attest", *quoted, "--require=sha256:0-10", "firmware.log", "shorter.list", "quote.msg", "expected.txt"], 1, [earlier]
+    yield "the same with other values", [
+        "attest", *quoted, "--require=sha256:0-10", "firmware.log", "shorter.list", "quote.msg", "changed.txt"], 1, [
+        "EXPECTED is not what the TPM signed: give the values read with the quote"]
+    yield "another value", ["verify", "firmware.log", "ima.list", "changed.txt"], 1, [changed]
+    yield "a value that is missing", ["verify", "--require=sha256:10-10", "firmware.log", "ima.list", "four.txt"], 1, [lacks.format("sha256", 10)]
+    yield "nothing expected", ["replay", "ima.list", "empty"], 1, ["EXPECTED has no PCR"]
+    yield "a value of the log", ["replay", "ima.list", "four.txt"], 1, [
+        "sha256 PCR 4 differs: replay reads no log; ima-agent verify does"]
+    yield "no bank", ["verify", "firmware.log", "ima.list", "sha1.txt"], 1, [
+        "sha1 is no bank of LOG, so its PCRs cannot be judged: LOG is of another machine, or was changed"]
+    yield "an empty list", ["verify", "firmware.log", "empty", "expected.txt"], 1, [
+        "LIST is empty: copy the kernel's list with cat, since its size is given as 0"]
+    yield "another boot", ["verify", "firmware.log", "other.list", "empty"], 1, [
+        other, "EXPECTED has no PCR"]
+    yield "an entry alone", ["verify", "firmware.log", "end.list", "changed.txt"], 1, [
+        "entry 0 is no boot aggregate: the list lacks its beginning, has another template, or was changed", changed]
+    zero, event = changed.replace("PCR 4", "PCR 0"), f"event 1 extends PCR 10, which only the list should: {APART}"
+    yield "an event of PCR 10", ["verify", "--require=sha256:10", "ten.log", "ima.list", "expected.txt"], 1, [other, event, zero]
+    yield "more than three causes", ["verify", "--require=sha256:10+sha1:9", "ten.log", "ima.list", "expected.txt"], 1, [other, event, zero]
+    yield "an entry of another PCR", ["replay", "--require=sha256:10", "nine.list", "ten.txt"], 1, [
+        earlier, f"entry 98 extends PCR 9, which only the log should: {APART}"]
+    # (its prefix without that entry matches)
+    eleven = f"entry 99 extends PCR 11, which only the log should: {APART}"
+    yield "a list with an entry of PCR 11", ["verify", "firmware.log", "eleven.list", "expected.txt"], 1, [
+        eleven, changed.replace("PCR 4", "PCR 11")]
+    yield "what PCR 11 hides", ["verify", "--prefix", "firmware.log", "eleven.list", "expected.txt"], 0, []
+    yield "PCR 11 where PCR 10 is required", ["verify", "--require=sha256:0-10", "firmware.log", "eleven.list", "expected.txt"], 1, [
+        eleven, changed.replace("PCR 4", "PCR 11")]
+    yield "PCR 11 by a quote", [
+        "attest", *quoted, "--require=sha256:0-10", "firmware.log", "eleven.list", "quote.msg"], 1, [eleven]
+    yield "a longer list with an entry of PCR 11", ["verify", "firmware.log", "both.list", "expected.txt"], 1, [
+        earlier, eleven, changed.replace("PCR 4", "PCR 11")]
+    yield "where a value of the log is", ["locate", "firmware.log", "ima.list", "changed.txt"], 1, [
+        f"sha256 PCR 4 never has its value: {BOOT}"]
+    yield "a list that is piped", ["verify", "firmware.log", "/dev/stdin", "expected.txt"], 1, []
+
+
+def mistaken_commands():
+    """Commands whose input is not what it should be, what is refused, its sentence, and what it is."""
+    head = "the first event is not the Specification ID Version Event of a crypto-agile log"
+    line, cut = "line 1: it is not a register line", "event 0: its bytes are not all there"
+    for words, refused, name, sentence, mistake in (
+        (["verify", "firmware.log", "ima.list", "tpm2_pcrread.txt"], "expected fault 1 at line 1", "tpm2_pcrread.txt", line, PRINTED_FOR_EXPECTED),
+        (["events", "--explain", "--expected", "tpm2_pcrread.txt", "firmware.log"], "expected fault 1 at line 1", "tpm2_pcrread.txt", line,
+         PRINTED_FOR_EXPECTED),
+        (["verify", "firmware.log", "ima.ascii", "expected.txt"], "list fault 2 at entry 0", "ima.ascii",
+         "entry 0: it names a register of 24 or more", TEXT_FOR_LIST),
+        (["verify", "ima.list", "firmware.log", "expected.txt"], "log fault 2", "ima.list", head, LIST_FOR_LOG),
+        (["events", "ima.list"], "log fault 2", "ima.list", head, LIST_FOR_LOG),
+        (["registers", "old.log"], "log fault 2", "old.log", head, OLD_LOG),
+        (["registers", "empty"], "log fault 1 at event 0", "empty", cut, EMPTY),
+        (["expected", "empty"], "expected fault 6", "empty", "no register is stated, or none of those that are wanted", NOTHING_PRINTED),
+        (["registers", "L cut"], "log fault 1 at event 0", "L cut", cut, None),
+        *((["registers", f"{name} is a list"], "log fault 2", f"{escaped} is a list", head, LIST_FOR_LOG) for name, escaped in NAMES),
+    ):
+        said = [f"{name}: {sentence}"] + ([f"{name}: {mistake}"] if mistake else [])
+        yield f"{mistake or 'no mistake'}: {words}", words, f"refused: {refused}\n".encode(), said
+
+
 def limit_memory():
     resource.setrlimit(resource.RLIMIT_AS, (ADDRESS_SPACE, ADDRESS_SPACE))
 
 
 def give(file):
     os.dup2(os.open(file, os.O_RDONLY), 0)
+
+
+def pipe_list():
+    """Gives the longer list in a pipe as standard input."""
+    end, begin = os.pipe()
+    if os.fork() == 0:
+        os.close(end)
+        with open("longer.list", "rb") as listed, open(begin, "wb") as pipe:
+            pipe.write(listed.read())
+        os._exit(0)
+    os.close(begin)
+    os.dup2(end, 0)
 
 
 def fill_output():
@@ -381,9 +532,35 @@ def make_files(folder):
         "04000000 04000000 01000000 0b00" + "11" * 32 + "00000000"))
     for name, _ in NAMES:
         (folder / f"{name} is empty").touch()
+        shutil.copy(SAMPLES / "real-boot" / "ima.list", folder / f"{name} is a list")
     for number in range(LARGE_FILES):
         with open(folder / f"large {number}", "wb") as file:
             file.truncate(LARGE_BYTES)
+
+
+def make_samples(folder):
+    """The sample boot, what differs from it, and what is taken for it by mistake."""
+    for name in ("firmware.log", "ima.list", "ima.ascii", "expected.txt", "tpm2_pcrread.txt"):
+        shutil.copy(SAMPLES / "real-boot" / name, folder)
+    shutil.copy(SAMPLES / "quoted" / "quote.msg", folder)
+    shutil.copy(SAMPLES / "ovmf-boot" / "secure-boot.list", folder / "other.list")
+    listed, values = (folder / "ima.list").read_bytes(), (folder / "expected.txt").read_text()
+    (folder / "longer.list").write_bytes(listed + listed[-95:])
+    (folder / "shorter.list").write_bytes(listed[:-95])
+    (folder / "end.list").write_bytes(listed[-95:])
+    (folder / "changed.txt").write_text(re.sub("^sha256 4 .*", f"sha256 4 {'ab' * 32}", values, flags=re.MULTILINE))
+    (folder / "four.txt").write_text(re.search("^sha256 4 .*", values, re.MULTILINE)[0])
+    (folder / "ten.txt").write_text(re.search("^sha256 10 .*", values, re.MULTILINE)[0])
+    eleven = b"\x0b" + listed[-94:]
+    (folder / "eleven.list").write_bytes(listed + eleven)
+    (folder / "both.list").write_bytes(listed + eleven + listed[-95:])
+    (folder / "nine.list").write_bytes(listed[:-95] + b"\x09" + listed[-94:])
+    (folder / "ten.log").write_bytes((folder / "L").read_bytes().replace(bytes.fromhex("04000000 04000000"), bytes.fromhex("0a000000 04000000")))
+    (folder / "sha1.txt").write_text(values + f"sha1 10 {'00' * 20}\n")
+    (folder / "empty").touch()
+    (folder / "L cut").write_bytes((folder / "L").read_bytes()[:40])
+    # (an event of TPM 1.2: register, type, SHA-1, size and data)
+    (folder / "old.log").write_bytes(bytes.fromhex("00000000 08000000" + "11" * 20 + "02000000 0000"))
 
 
 def left_on_terminal(command, folder):
@@ -443,6 +620,44 @@ class Further(harness.TestCase):
         for command in further_commands():
             self.check(f"{command.title}, on a terminal", left_on_terminal(command, self.room), command.wanted)
             self.check(f"{command.title}, elsewhere", left_elsewhere(command, self.room), command.wanted._replace(said=b""))
+
+    def test_hints(self):
+        """What to do next comes on a terminal, and elsewhere only by --explain; status and output are those without."""
+        make_samples(self.room)
+        for title, words, status, hints in hinted_commands():
+            said = "".join(f"{hint}\n" for hint in hints).encode()
+            command = Command(title, words, None, pipe_list if "/dev/stdin" in words else None)
+            explained = command._replace(words=[words[0], "--explain", *words[1:]])
+            plain = left_elsewhere(command, self.room)
+            self.check(f"{title}, elsewhere", (plain.status, plain.said), (status, b""))
+            self.check(f"{title}, on a terminal", left_on_terminal(command, self.room), plain._replace(said=said))
+            self.check(f"{title}, explained", left_elsewhere(explained, self.room), plain._replace(said=said))
+            self.check(f"{title}, explained on a terminal", left_on_terminal(explained, self.room), plain._replace(said=said))
+
+    def test_mistakes(self):
+        """An input that is not what it should be is told on a terminal, and elsewhere only by --explain."""
+        make_samples(self.room)
+        for title, words, line, lines in mistaken_commands():
+            command, said = Command(title, words, None), "".join(f"{each}\n" for each in lines).encode()
+            self.check(f"{title}, on a terminal", left_on_terminal(command, self.room), Ended(2, line, said))
+            self.check(f"{title}, elsewhere", left_elsewhere(command, self.room), Ended(2, line, b""))
+            if words[0] == "verify":
+                explained = command._replace(words=["verify", "--explain", *words[1:]])
+                self.check(f"{title}, explained", left_elsewhere(explained, self.room), Ended(2, line, said))
+
+    def test_waiting(self):
+        """Without arguments a terminal that is standard input, too, is told what is read."""
+        ours, theirs = pty.openpty()
+        try:
+            os.write(ours, b"\x04")  # the end of what is typed
+            status, said = run_on_terminal([], self.room, theirs, subprocess.DEVNULL)
+        finally:
+            os.close(theirs)
+            os.close(ours)
+        sentence = b"standard input: event 0: its bytes are not all there\n"
+        self.check("nothing typed", (status, said), (2, WAITING + sentence))
+        status, said = run_on_terminal([], self.room, subprocess.DEVNULL, subprocess.DEVNULL)
+        self.check("nothing given", (status, said), (2, sentence))
 
     def test_order(self):
         """Where the output and standard error are one terminal, the line of a refusal comes before the sentence."""

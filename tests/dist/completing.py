@@ -81,8 +81,8 @@ def wanted_lines(shell):
 
 def asked_of_program():
     """The options of the program itself, by the pages."""
-    rows = re.findall(r"^\| `--.*", (ROOT / "docs/cli.md").read_text(), re.MULTILINE)
-    return ["-h", *(option for row in rows for option in ("--help", "--version") if f"`{option}`" in row.split("|")[1])]
+    rows = re.findall(r"^\| (`-.*?) \|", (ROOT / "docs/cli.md").read_text().split("\n## ")[1], re.MULTILINE)
+    return re.findall(r"`(--?[a-zA-Z]+)`", " ".join(rows))
 
 
 def try_shell(shell, share, folder):
@@ -94,12 +94,12 @@ def try_shell(shell, share, folder):
 
 def try_zsh(share, folder):
     said = zsh_specifications(share, folder, ["ima-agent", ""])
-    offered_first = {*(line for line in said if line in COMMANDS), *re.findall(r"^(?:\(.*\))?(-[a-z0-9-]+)\[", "\n".join(said), re.MULTILINE)}
+    offered_first = {*(line for line in said if line in COMMANDS), *re.findall(r"^(?:\(.*\))?(-[a-zA-Z0-9-]+)\[", "\n".join(said), re.MULTILINE)}
     if offered_first != {*COMMANDS, *asked_of_program()}:
         yield f"zsh: offers {sorted(offered_first)} at first"
     for name, command in COMMANDS.items():
-        told = dict(re.match(r"(\*?--[a-z0-9-]+)=?\[.*\](?::[a-z0-9-]+:(?:\((.*)\))?.*)?$", line).groups()
-                    for line in zsh_specifications(share, folder, ["ima-agent", name, ""]) if line.startswith(("--", "*--")))
+        told = dict(re.match(r"(?:\(.*?\))?(\*?--[a-z0-9-]+)=?\[.*\](?::[a-z0-9-]+:(?:\((.*)\))?.*)?$", line).groups()
+                    for line in zsh_specifications(share, folder, ["ima-agent", name, ""]) if re.match(r"(?:\((?!-h).*?\))?\*?--", line))
         wanted = {("*" if row.is_repeated else "") + option: " ".join(choices_of(row) or []) or None for option, row in command.options.items()}
         if told != wanted:
             yield f"zsh: {name}: tells {told}, and not {wanted}"

@@ -1,7 +1,8 @@
 """Compares the manual pages of docs/man/ with what they describe.
 
-- ima-agent.1: commands, synopses, options with their values and defaults, statuses and tables of faults are those of the program's help.
-  The fault lines are those of docs/cli.md.
+- ima-agent.1: commands, synopses, options with their values and defaults, and statuses are those of the program's help, which has at most 40
+  lines for a command. Tables and lines of faults are those of docs/errors.txt, lines of reports those of docs/reports.txt, members those of
+  docs/json.txt.
 - ima_verify.3: functions with their types, and constants, are those of the header. It names no other function.
 - ima-attest.1, ima-enroll.1, ima-collect.1: the options are those of the usage.
 - fleet-verify.1, ima-report.1: options with their values and defaults are those of the help. The statuses of the first are those of
@@ -18,6 +19,11 @@ from header import constants_of, functions_of
 MACROS = re.compile(r"^\.(?:It|Li|Ql|Pa|Cm|Ar|Fl|Dv|Fn|Fa|Dq|Xr|Pq|Sx)\b")
 # The functions of the header that make inputs.
 HELPERS = {"ima_verify_text", "ima_verify_none"}
+# A table of docs/errors.txt and its rows; a line of docs/reports.txt, who has it, and what it means; a member in docs/json.txt.
+TABLE = re.compile(r"^([A-Z][a-z]+ faults) \(.*\n((?:(?: {1,2}[0-9]+  .*| {5,}.*)\n)+)", re.MULTILINE)
+REPORTED = re.compile(r"^  (?P<line>\S.*?) {2,}(?:(?P<of>\S+(?: \S+)*) {2,})?(?P<text>\S.*)$")
+MEMBER = re.compile(r"^  ([a-z_]+)  ", re.MULTILINE)
+MOST_LINES = 40  # (of a command's help)
 # An option in the help of a command in Python, and its default.
 PYTHONS = re.compile(r"^  (?:-(?P<short>\w), )?--(?P<name>[a-z0-9-]+)(?: (?P<value>[A-Z_]+))?(?: {2,}(?P<help>\S.*))?$")
 DEFAULT = re.compile(r"\(default: ([\w-]+)")
@@ -115,19 +121,47 @@ def check_synopses(page, commands):
         yield from differences(title, [name.strip("<[]>.").lower() for name in command.arguments], arguments)
 
 
-def check_faults(page, commands):
-    """The tables of faults, each as all commands have it, and the lines of faults of docs/cli.md."""
-    wanted = {title: rows for command in commands for title, rows in command.faults.items()}
+def check_faults(page):
+    """The tables of faults, and the lines of faults, are those of docs/errors.txt."""
+    errors = (ROOT / "docs/errors.txt").read_text()
+    wanted = {title: helps.rows_of(rows.splitlines()) for title, rows in TABLE.findall(errors)}
     found = {title: dict(page.items(title)) for title in page.parts if title.endswith(" faults")}
     yield from differences(page.name, list(wanted), list(found))
     for title, rows in wanted.items():
         yield from differences(f"{page.name}: {title}", list(rows.items()), list(found.get(title, {}).items()))
-    section = (ROOT / "docs/cli.md").read_text().split("\n## Errors\n")[1].split("\n###")[0]
-    lines = re.findall(r"`(?:refused|failed): ([^`]*)`", "\n".join(re.findall(r"^\| `.*", section, re.MULTILINE)))
+    lines = re.findall(r"^  (?:refused|failed): (.*?) +(?:[a-z_0-9]+|-) +[0-9]  ", errors, re.MULTILINE)
     said = plain(page.part("DIAGNOSTICS")).lower()
     yield from (f"{page.name}: lacks the line of a fault: {line}" for line in lines if line.lower() not in said)
-    if len(lines) < 10:
-        yield "docs/cli.md: where are the lines of faults?"
+    if len(lines) < 10 or len(wanted) < 10:
+        yield "docs/errors.txt: where are the lines and the tables of faults?"
+
+
+def check_reports(page):
+    """The lines of reports, and of `locate`, are those of docs/reports.txt, with who has them and what they mean."""
+    _, *parts = (ROOT / "docs/reports.txt").read_text().split("\n\n")
+    for title, part in zip(("Reports", "Places"), parts):
+        rows = helps.joined(part.splitlines()[1:], REPORTED)
+        wanted = [(f"Li {row['line']}", " ".join([f"{row['of']}: {row['text']}" if row["of"] else row["text"], *more])) for row, more in rows]
+        yield from differences(f"{page.name}: {title}", wanted, page.items(title))
+        if len(wanted) < 5:
+            yield f"docs/reports.txt: where are the lines of {title}?"
+
+
+def check_members(page):
+    """The members of reports, places, PCRs and keys are those of docs/json.txt."""
+    parts = re.split(r"\n\n", (ROOT / "docs/json.txt").read_text())
+    wanted = [member for part in parts if part.startswith(("A report:", "Places:", "PCRs:", "A key:")) for member in MEMBER.findall(part)]
+    lines = [line for line in page.part("JSON") if line.startswith(".Li ")]
+    found = re.findall(r"[a-z_]+", " ".join(line.removeprefix(".Li ") for line in lines if line != ".Li fault"))
+    yield from differences(f"{page.name}: JSON", sorted(wanted), sorted(found))
+
+
+def check_lengths(program, commands):
+    """The help of the program, and of each command, is short."""
+    for words in ([], *([command.name] for command in commands)):
+        lines = helps.help_of(program, *words).count("\n")
+        if lines > MOST_LINES:
+            yield f"the help of {' '.join(words) or 'the program'} has {lines} lines"
 
 
 def check_program(program):
@@ -140,7 +174,10 @@ def check_program(program):
         yield from check_options(f"{page.name}: {command.name}", options, page.items(command.name))
     yield from check_options(page.name, whole.options, page.items("Other options"))
     yield from check_synopses(page, commands)
-    yield from check_faults(page, [whole, *commands])
+    yield from check_faults(page)
+    yield from check_reports(page)
+    yield from check_members(page)
+    yield from check_lengths(program, commands)
     statuses = {number: None for command in [whole, *commands] for number in command.statuses}
     yield from differences(f"{page.name}: statuses", list(statuses), [head for head, _ in page.items("EXIT STATUS")])
 

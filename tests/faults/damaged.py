@@ -1,14 +1,15 @@
 #!/usr/bin/env python3
 """Compares what the library for C and `tests/reference/` answer on damaged inputs: each prefix of the sample's log, of its list, of the message
-of its quote and of public areas of keys, and each of these with the lowest bit of one byte turned; and 100,000 small boots that are changed at
-random.
+of its quote and of public areas of keys, and each of these with the lowest bit of one byte turned; 100,000 small boots that are changed at
+random; and 20,000 selections of registers, of which half are changed at random.
 
 tests/faults/damaged.py [LIBRARY]: a libima_verify.so; without it `dist/library` makes one, which builds what is not up to date.
 
 The text of each input is compared, and its verdict; of a damaged list also the lines of the entries before the fault. Most of a log is data
 that no register depends on, so a log is judged with the first entry of the list alone. The boots (boots.py) are judged by a quote: half of the
-messages are such as an honest TPM signs of the changed log and list. For each kind of input the script prints how many have which answer. It
-counts inputs."""
+messages are such as an honest TPM signs of the changed log and list. A selection is tried as that of expected registers and as one of required
+registers. What it selects is also found without either: by a table of all parts, for each of the 96 registers. For each kind of input the script
+prints how many have which answer. It counts inputs."""
 
 import os
 import random
@@ -27,8 +28,9 @@ from reference.attestations import attest_report  # noqa: E402
 from reference.faults import Fault  # noqa: E402
 from reference.keys import read_key  # noqa: E402
 from reference.log import read_log  # noqa: E402
-from reference.measurement_list import read_list  # noqa: E402
-from reference.texts import read_expected  # noqa: E402
+from reference.measurement_list import IMA_REGISTER, read_list  # noqa: E402
+from reference.registers import ALGORITHMS, REGISTERS, Registers, register_line  # noqa: E402
+from reference.texts import pcrread_text, read_expected, read_requirement, read_selection  # noqa: E402
 from reference.verdict import verdict  # noqa: E402
 
 BOOT = ROOT / "samples/real-boot"
@@ -39,7 +41,16 @@ NONCE = bytes.fromhex((ROOT / "samples/quoted/nonce").read_text())
 TENTH = next(line for line in (BOOT / "expected.txt").read_bytes().splitlines() if line.startswith(b"sha256 10 "))
 ROOM = 65536
 RSA_AREA, CURVE_AREA, ENDORSEMENT_AREA = ((ROOT / "samples/keys" / f"{name}.pub").read_bytes() for name in ("ak-rsassa", "ak-p256", "ek-rsa"))
-SEEDS, BOOTS_OF_A_SEED = 20, 5000
+SEEDS, BOOTS_OF_A_SEED, SELECTIONS_OF_A_SEED = 20, 5000, 1000
+AT_RESET = Registers(ALGORITHMS)
+PRINTED = pcrread_text(AT_RESET).encode()
+RANGES = {"all": range(REGISTERS)}
+RANGES |= {f"{register}": range(register, register + 1) for register in range(REGISTERS)}
+RANGES |= {f"{first}-{last}": range(first, last + 1) for first in range(REGISTERS) for last in range(first, REGISTERS)}
+# Each part that a selection can have: which banks it names, and which registers.
+PARTS = {f"{bank}{text}": (named, registers) for bank, named in [("", None), *((f"{it.name}:", it) for it in ALGORITHMS)]
+         for text, registers in RANGES.items()}
+CHARACTERS = ",,++::--0123456789alsh AL\n"
 
 
 def answer_of(decide):
@@ -158,18 +169,81 @@ def compared_boots(file, seed):
     return counts, wrong
 
 
+def random_selection(chance):
+    """The text of a selection, or with one or two characters that are other ones, are missing or are more."""
+    parts = chance.choices([*PARTS], k=chance.choice((1, 1, 2, 3, 6)))
+    text = parts[0] + "".join(chance.choice(",+") + part for part in parts[1:])
+    for _ in range(chance.choice((0, 0, 1, 2))):
+        place = chance.randrange(len(text) + 1)
+        text = text[:place] + chance.choice(("", *CHARACTERS)) + text[place + chance.choice((0, 1)) :]
+    return text
+
+
+def selected_by(text):
+    """Which registers a selection has, in the order of all, and whether its first part names a bank. They are none if one of its parts is none."""
+    parts, banks = text.replace("+", ",").split(","), [None]
+    if not all(part in PARTS for part in parts):
+        return [], False
+    for part in parts:
+        banks.append(PARTS[part][0] or banks[-1])
+    ranges = [(bank, PARTS[part][1]) for bank, part in zip(banks[1:], parts)]
+    selected = [row for row in AT_RESET.rows() if any(bank in (None, row[0]) and row[1] in registers for bank, registers in ranges)]
+    return selected, banks[1] is not None
+
+
+def selection_answers(selected, is_bound):
+    """What `expected` and `replay` of nothing answer where a text selects these registers, if any, and its first part names a bank or not."""
+    refused = 2, b"refused: command line\n"
+    missing = "".join(f"{algorithm.name} {register} missing\n" for algorithm, register, _ in selected)
+    is_required = is_bound and any(register == IMA_REGISTER for _, register, _ in selected)
+    report = f"entries 0\ncompared 0\n{missing}verdict differ\n"
+    return (0, "".join(register_line(*row) for row in selected).encode()) if selected else refused, (1, report.encode()) if is_required else refused
+
+
+def selection_fault(library, text, selected, wanted):
+    """What is wrong with the answers to a selection, or None."""
+    pairs = {row[:2] for row in selected}
+    if (read_selection(text) or set(), read_requirement(text) or set()) != (pairs, pairs if wanted[1][0] == 1 else set()):
+        return f"{text!r}: the reference selects {read_selection(text)}, and requires {read_requirement(text)}"
+    if not text:
+        return None  # (which has another meaning in the library)
+    found = (library.ask_with_room("expected", [PRINTED, text.encode()], [AS_TEXT])[:2],
+             library.ask_with_room("replay", [b"", b"", text.encode(), NO_KNOWN], [KNOWN_IS_NOT_GIVEN, AS_TEXT])[:2])
+    return None if found == wanted else f"{text!r}: {found}, not {wanted}"
+
+
+def compared_selections(file, seed):
+    """How many selections, which are made from this seed on, have which answers, and what is wrong with some."""
+    library, chance, counts, wrong = Library(file), random.Random(seed), Counter(), []
+    for _ in range(SELECTIONS_OF_A_SEED):
+        text = random_selection(chance)
+        selected, is_bound = selected_by(text)
+        wanted = selection_answers(selected, is_bound)
+        counts["refused" if wanted[0][0] == 2 else "not to be required" if wanted[1][0] == 2 else "well"] += 1
+        try:
+            wrong += filter(None, [selection_fault(library, text, selected, wanted)])
+        except Unlike as cause:
+            wrong.append(f"{text!r}: {cause}")
+    return counts, wrong
+
+
+def totals(runs):
+    """The counts and the faults of several runs together."""
+    results = [run.result() for run in runs]
+    return sum((counts for counts, _ in results), Counter()), [fault for _, wrong in results for fault in wrong]
+
+
 class Damaged(harness.TestCase):
     def test_answers(self):
         file, groups = self.library(), [(kind, damage) for kind in KINDS for damage in DAMAGES]
         with ProcessPoolExecutor(os.cpu_count()) as pool:
             runs = [pool.submit(compared, str(file), *group) for group in groups]
             changed = [pool.submit(compared_boots, str(file), seed) for seed in range(SEEDS)]
+            selections = [pool.submit(compared_selections, str(file), seed) for seed in range(SEEDS)]
             for (kind, damage), run in zip(groups, runs):
                 self.check_answers(f"{kind}, {damage}", *run.result())
-            counts, wrong = Counter(), []
-            for run in changed:
-                counts, wrong = counts + run.result()[0], wrong + run.result()[1]
-            self.check_answers("boots that are changed at random, by a quote", counts, wrong)
+            self.check_answers("boots that are changed at random, by a quote", *totals(changed))
+            self.check_answers("selections", *totals(selections))
 
     def check_answers(self, title, counts, wrong):
         answers = ", ".join(f"{answer} {times}" for answer, times in sorted(counts.items()))

@@ -13,6 +13,8 @@ A command of each kind (those of `tests/faults/sweep.py`) runs again and again, 
   file fail in turn. The answer must be `failed: write` with its name, and what has that name must stay as it was.
 - Each write fails in turn, or takes no byte. What was written must be a prefix of the output, with nothing after it, and the status 3.
 
+Standard error must be empty; but with `--explain` a file that fails is told there, and what fails in the second look at inputs changes only that.
+
 For each command the script prints how many calls failed. It counts commands."""
 
 import errno
@@ -28,7 +30,7 @@ sys.path[:0] = [str(HERE.parent), str(HERE.parent / "cases"), str(HERE)]
 
 import harness  # noqa: E402
 from answers import answer_of, saved_by  # noqa: E402
-from sweep import check_runs, command_runs  # noqa: E402
+from sweep import check_runs, command_runs, is_explained  # noqa: E402
 
 MOST_CALLS = 10_000
 FAILED = 3
@@ -86,8 +88,8 @@ class Devices:
 
 
 def is_told(found, wanted, name, command):
-    """Whether an answer tells that this file failed, or is the refusal that is wanted in any case."""
-    if wanted[0] > 1 and found == wanted:
+    """Whether an answer tells that this file failed, or is the refusal that is wanted in any case, or one that was explained."""
+    if found == wanted and wanted[0] > 1 or found[:2] == wanted[:2] and is_explained(command):
         return True
     words, kind = command.words, "read"
     if command.saved and name == f"{command.saved}.0.new".encode():
@@ -97,6 +99,8 @@ def is_told(found, wanted, name, command):
         line = json.dumps({"fault": {"kind": kind, "message": line[:-1].decode()}}, separators=(",", ":"), ensure_ascii=False).encode() + b"\n"
     status, text, errors = found
     before = text.removesuffix(line)
+    if is_explained(command):
+        return status == FAILED and name in errors and text == line
     return (status, errors) == (FAILED, b"") and text != before and (not before or is_read_before(before, wanted[1], words))
 
 
@@ -107,10 +111,11 @@ def is_read_before(text, wanted, words):
     return shows_entries and wanted.splitlines(keepends=True)[: len(lines)] == lines and all(line.startswith(b'{"entry":') for line in lines)
 
 
-def is_cut(found, wanted, _name, _command):
-    """Whether an answer is a front of the one wanted, and no more."""
+def is_cut(found, wanted, _name, command):
+    """Whether an answer is a front of the one wanted, and no more. (Why an input is refused may be explained then, too.)"""
     status, text, errors = found
-    return status == FAILED and errors == b"" and text != wanted[1] and wanted[1].startswith(text)
+    is_due = errors == b"" or is_explained(command) and wanted[2].startswith(errors)
+    return status == FAILED and is_due and text != wanted[1] and wanted[1].startswith(text)
 
 
 class FailingDevices(harness.TestCase):

@@ -127,7 +127,7 @@ def judged(room, seed):
     growing = [*drawn.choice(([], ["--prefix"])), *drawn.choice(([], [f"--save={SAVED}"]))]
     room.restore(None)
     room.put(log=LOG, list=boot.list, expected=rows(boot, end), quote=quote_of(boot, end))
-    required = ["--require", drawn.choice(("sha256:10", boots.REQUIRE))]
+    required = ["--require", drawn.choice(("sha256:10", boots.REQUIRE, "sha256:0-7,10+sha1:10"))]
     yield kind_of(room.answer(*required, *options, *growing, "log", "list", "expected"), growing)
     yield kind_of(room.answer(*required, *options, "list", "expected", command=("replay",)), [])
     signed = QUOTED if drawn.random() < 0.8 else [word for word in QUOTED if word != "--signature-checked"]

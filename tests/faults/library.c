@@ -367,6 +367,11 @@ static size_t piece_of(struct answer right, size_t room) {
     }
 }
 
+/* The position behind the last piece: the end of the input, and as JSON one more behind the line that counts a list's entries. */
+static size_t end_of(const char *function, struct ima_verify_bytes input) {
+    return input.size + (is(function, "entries") && form_of(function) == IMA_VERIFY_JSON);
+}
+
 /* Calls for one piece of what is still to come, and returns how many of its bytes came. */
 static size_t take_piece(const char *function, const struct ima_verify_bytes *in, struct ima_verify_position *position, size_t *size,
                          struct answer rest, bool *is_last) {
@@ -395,7 +400,7 @@ static size_t take_piece(const char *function, const struct ima_verify_bytes *in
     if (result == IMA_VERIFY_TOO_SHORT && (position->offset != at.offset || position->number != at.number))
         fail("a piece that is too short moves the position from %zu to %zu", at.offset, position->offset);
     *is_last = is_right && is_end && result != IMA_VERIFY_TOO_SHORT;
-    if (*is_last && result == IMA_VERIFY_DONE && position->offset != in[0].size)
+    if (*is_last && result == IMA_VERIFY_DONE && position->offset != end_of(function, in[0]))
         fail("the last position is %zu of %zu bytes", position->offset, in[0].size);
     settle();
     free(out.buffer);

@@ -103,7 +103,7 @@ class Case:
 
 
 def option_of(name, value):
-    """The option of the program, if it has one: all registers are the range without bytes."""
+    """The option of the program, if it has one: all registers are the selection without bytes."""
     text = value.read_bytes()
     return [] if text == NONE_REQUIRED or not text and name == "--registers" else [f"{name}={text.decode()}"]
 
@@ -172,8 +172,10 @@ def made_files(folder, program):
         "low": b"sha256:0-10",
         "all": b"sha256:0-23",
         "ten": b"sha256:10",
-        "more": b"sha1:10,sha256:0-10,sha512:0",
+        "more": b"sha1:10+sha256:0-7,8,9-10+sha512:0",
         "range": b"0-10",
+        "selection": b"10,sha256:all+sha1:0",
+        "part that is none": b"sha256:0-10,24",
         "no registers": b"nothing",
         "none": NONE_REQUIRED,
         "empty": b"",
@@ -216,6 +218,8 @@ CASES = (
         ("expected registers of which one is wrong", "log", "list", "wrong line", "none"),
         ("an empty requirement", "log", "list", "expected", "empty"),
         ("a requirement that names none", "log", "list", "expected", "no registers"),
+        ("a requirement of every bank", "log", "list", "expected", "range"),
+        ("a requirement with a part that is none", "log", "list", "expected", "part that is none"),
     )),
     (("more", "more:prefix"), BOTH, (
         ("the real boot", "log", "empty", "list", "expected", "none"),
@@ -313,6 +317,8 @@ CASES = (
     (("expected",), BOTH, (
         ("what was printed", "printed", "empty"),
         ("a range of it", "printed", "range"),
+        ("a selection of it", "printed", "selection"),
+        ("a selection with a part that is none", "printed", "part that is none"),
         ("a range that is none", "printed", "no registers"),
         ("another text", "expected", "range"),
     )),

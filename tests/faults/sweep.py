@@ -100,8 +100,10 @@ class CommandRun:
         return f"{self.case.name}:{self.command.line}: {self.command.text}"
 
     def wants_of_memory(self):
-        """The answers of which one is due out of memory: with `--json` the plain one while the arguments are read."""
-        return (OUT_OF_MEMORY, OUT_OF_MEMORY_AS_JSON) if "--json" in self.command.words else (OUT_OF_MEMORY,)
+        """The answers of which one is due out of memory: with `--json` the plain one while the arguments are read, and with `--explain` the one
+        that stands on standard error, too, once they are."""
+        wanted = (OUT_OF_MEMORY, OUT_OF_MEMORY_AS_JSON) if "--json" in self.command.words else (OUT_OF_MEMORY,)
+        return wanted + tuple((status, text, b"out of memory\n") for status, text, _ in wanted if is_explained(self.command))
 
     def output_of_memory(self, output):
         """What is due out of memory, of an output: of a list's or a log's lines of JSON, or those of events that are explained, the last, if
@@ -120,6 +122,11 @@ class CommandRun:
             if met.exists() and (answer.status, output, answer.errors) in self.wants_of_memory():
                 return None
             return fault_of(self.command, answer, self.folder)
+
+
+def is_explained(command):
+    """Whether standard error has what to do next, and why the command failed. (Events are explained in the output.)"""
+    return "--explain" in command.words and command.words[0] != "events"
 
 
 def request_of(command, folder):
@@ -294,11 +301,11 @@ class Sweep(harness.TestCase):
         (empty_status, least), (status, peak) = (
             peak_of([self.program, "show", "--json", name], self.room, output) for name in ("empty-list", "large-list"))
         with open(output, "rb") as lines:
-            wrong = next((number for number, line in enumerate(lines) if line != wanted % number), None)
-            size = lines.tell()
+            wrong = next((number for number in range(count) if lines.readline() != wanted % number), None)
+            rest = lines.read()
         self.assertEqual((empty_status, status), (0, 0))
         self.assertIsNone(wrong, "a wrong line")
-        self.assertEqual(size, sum(len(wanted % number) for number in range(count)))
+        self.assertEqual(rest, b'{"entries":%d}\n' % count)
         self.assertLessEqual(peak, least + MOST_ABOVE_EMPTY)
 
     def test_large_log(self):

@@ -105,11 +105,11 @@ def test_json(tools):
     tools.check("--json: ages", 0 <= told["oldest_match_seconds"] <= told["seconds"] <= (now - begun).total_seconds(), True)
     tools.check("--json: the rate", abs(told["machines_a_second"] - 4 / told["seconds"]) < 0.1, True)
     gone, nothing = "list: FileNotFoundError: [Errno 2] No such file or directory", "nothing to compare: no register is expected"
-    value = query(table, "SELECT value FROM registers WHERE machine = 'machine 2' AND state = 'differ'")[0][0]
+    [(expected, value)] = query(table, "SELECT expected, value FROM registers WHERE machine = 'machine 2' AND state = 'differ'")
     differing = {
         "machine": "machine 2", "verdict": "differ", "cause": None, "boot_aggregate": "good",
-        "registers": [{"bank": "sha256", "register": 10, "state": "differ", "value": value}], "extends": [], "quote": None, "unknown": None,
-        "first_unknown": None,
+        "registers": [{"bank": "sha256", "register": 10, "expected": expected, "state": "differ", "value": value}], "extends": [], "quote": None,
+        "unknown": None, "first_unknown": None,
     }
     named = [
         differing, {"machine": "machine 1", "verdict": "refused", "cause": nothing},

@@ -6,24 +6,30 @@ import signal
 import subprocess
 import sys
 import time
+import unittest
 from contextlib import contextmanager, suppress
 from dataclasses import dataclass, field
 from pathlib import Path
 from typing import Optional, Sequence, Tuple
 
 ROOT = Path(__file__).resolve().parents[2]
+NO_DASK = "this machine has no python3 with Dask's distributed"
 SECONDS = 240  # (a limit for what is to come: the computer may have much else to do)
 REQUIRE = "sha256:0-10"  # of all runs that ask for nothing else
 UNQUOTED = ("--unquoted",)  # of all runs that say nothing of quotes
 SHARED = ("--progress", "1", "--deadline", str(2 * SECONDS))  # (a machine may wait at a gate)
 
 
-def python_with_dask():
-    """A Python that has `distributed`, or None."""
+def python_with(module):
+    """A Python that has this module, or None."""
     for python in (sys.executable, shutil.which("python3"), "/usr/bin/python3"):
-        if python and not subprocess.run([python, "-c", "import distributed"], capture_output=True, timeout=SECONDS).returncode:
+        if python and not subprocess.run([python, "-c", f"import {module}"], capture_output=True, timeout=SECONDS).returncode:
             return python
     return None
+
+
+def python_with_dask():
+    return python_with("distributed")
 
 
 def until(what, condition, client=None):
@@ -92,6 +98,7 @@ class Processes:
     python: str
     folder: Path
     environment: dict
+    has_dask: bool = True
     started: list = field(default_factory=list)
 
     def __post_init__(self):
@@ -135,7 +142,9 @@ class Processes:
     @contextmanager
     def cluster(self, name, workers, *words, protocol="tls", **given):
         """A scheduler and workers, by TLS, unless the protocol is another. Gives the scheduler's address, and the processes, of which the
-        scheduler's is the last."""
+        scheduler's is the last. Without Dask the rest of the test is skipped."""
+        if not self.has_dask:
+            raise unittest.SkipTest(NO_DASK)
         file = self.folder / f"{name}.json"
         common = ["--protocol", protocol, "--host", "127.0.0.1", "--no-dashboard"]
         scheduler = ["-m", "distributed.cli.dask_scheduler", *common, "--port", "0", "--scheduler-file", file]

@@ -26,8 +26,8 @@ LEAVING = f"""
 import sys
 sys.path.append({str(NOTES.parent)!r})
 import noted_calls
-import fleet_verify.worker
-fleet_verify.worker.MOST_THREADS = 6
+import fleet_verify.work
+fleet_verify.work.MOST_LEFT = 6
 """
 # Preloaded by workers: each may have few threads.
 LIMITED = f"""

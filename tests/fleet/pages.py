@@ -18,13 +18,16 @@ from page_tree import Reader, folded, foreign, hostile_texts, lacks_jinja, rows_
 from tables import change
 
 TEMPLATES = ROOT / "fleet/fleet_verify/templates"
+GOOD = "e8ed95b94e8d66f42e5b9be4d794dc0c7701e2360f03537fe59e9ba861a8024f"
 OTHER = "a2bcf779880ae33077f9e7992851299f30cea5f6cffc6512de6cd10aa457a7f3"
 MOMENT_AGO = "UPDATE ends SET time = strftime('%Y-%m-%dT%H:%M:%f+00:00', 'now', '-5 seconds')"
 
 
 def registers_of(others=()):
     """Rows of a report, of which these registers have another value."""
-    rows = [{"bank": "sha256", "register": number, "state": "differ" if number in others else "match"} for number in range(11)]
+    rows = [
+        {"bank": "sha256", "register": number, "expected": GOOD, "state": "differ" if number in others else "match"} for number in range(11)
+    ]
     return [{**row, "value": OTHER} if row["state"] == "differ" else row for row in rows]
 
 
@@ -116,7 +119,7 @@ def test_listed(tools, folder):
     ])
     rows = {row[0]: row[1:] for row in rows_below(page, "Machines that do not match")}
     tools.check("a page: who does not match", list(rows), ["late", "moved", "strange", "ten", "two", "cut", "cut too", "gone"])
-    tools.check("a page: registers with their values", rows["two"][1], f"sha256 0 differ {OTHER}sha256 10 differ {OTHER}")
+    tools.check("a page: registers with their values", rows["two"][1], "".join(f"sha256 {number} differ {OTHER}, expected {GOOD}" for number in (0, 10)))
     tools.check("a page: what extends", rows["moved"][1], "boot aggregate wrongan event extends PCR 10: event 25")
     tools.check("a page: unknown entries", rows["strange"][1], "unknown entries: 3, the first is entry 93")
     tools.check("a page: a cause", rows["cut"][:2], ["refused", "refused: log fault 1 at event 24"])

@@ -199,7 +199,7 @@ def judge(require):
             require_fitness(require, is_poll)
             print("fit")
         except Exception as fault:
-            print(type(fault).__module__, type(fault).__name__, str(fault).startswith(f"--require {require!r} is neither"))
+            print(type(fault).__module__, type(fault).__name__, str(fault).startswith(f"--require {require!r} is no selection"))
 for require in ("sha256:0-10", "none", "", "sha256:24", "sha256:0-9", "None"):
     judge(require)
 digest = 64 * b"a"
@@ -325,4 +325,4 @@ def test_wheel(tools):
     commands = {"fleet-verify": "fleet_verify.main:main", "ima-report": "fleet_verify.report:main"}
     tools.check("the wheel has the commands", dict(re.findall(r"^(\S+) = (\S+)$", entry, re.MULTILINE)), commands)
     done = subprocess.run([tools.python, "-m", "fleet_verify", "--help"], env={"PYTHONPATH": str(wheel)}, capture_output=True, text=True)
-    tools.check("the command's help", (done.returncode, "--require REGISTERS" in done.stdout), (0, True))
+    tools.check("the command's help", (done.returncode, "--require SELECTION" in done.stdout), (0, True))

@@ -52,11 +52,13 @@ def answer(machines, given, keys, expected):
         (keys / f"{name}.pem").write_bytes(pems[number % SIGNERS])
 
 
-def give_quotes(processes, machines, verdicts, expected):
-    """Gives the machines of a table quotes for one run with this table of verdicts, and is the folder of their keys."""
+def give_quotes(processes, machines, verdicts, expected, answering=None):
+    """Gives the machines of a table quotes for one run with this table of verdicts, or those of another table that answer, and is the folder of
+    their keys."""
     given, keys = machines.with_suffix(".nonces"), machines.with_suffix(".keys")
     program = Path(__file__).resolve().parents[2] / "fleet/verify.py"
-    for words in ([program, "nonces", "--folder", given, machines, verdicts], [Path(__file__).resolve(), machines, given, keys, expected]):
+    answer_those = [Path(__file__).resolve(), answering or machines, given, keys, expected]
+    for words in ([program, "nonces", "--folder", given, machines, verdicts], answer_those):
         subprocess.run([processes.python, *map(str, words)], env=processes.environment, check=True)
     return keys
 

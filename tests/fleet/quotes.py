@@ -34,6 +34,7 @@ EVIDENCE = ("firmware.log", "ima.list", "quote.msg", "quote.sig")
 PLACES = ("{0}", "\t".join(f"{{0}}/{file}" for file in EVIDENCE), "\t".join(f"file://{{0}}/{file}" for file in EVIDENCE))
 VERDICTS = ("match", "differ", "refused", "unreadable", "failed")
 MOST_BYTES = 64 * 1024 * 1024
+ADD_NONCE = "INSERT INTO nonces (machine, nonce, given_out, max_age) VALUES (?, ?, ?, ?)"
 OLD = "stale: the nonce of its quote is older than --max-age, or of a time to come"
 USED = "stale: an earlier verdict used the nonce of its quote"
 NO_NONCE = "no nonce: none was given out for this machine, or each is used or too old"
@@ -172,6 +173,8 @@ class Quotes:
 def test_quotes(tools):
     """Machines with quotes, from poll to poll; and what comes of quotes that prove nothing."""
     test_taking(tools)
+    test_ages(tools)
+    test_taking_over(tools)
     test_keys(tools)
     tools.needs(*NEEDED)
     folder = tools.folder / "quotes"
@@ -222,8 +225,9 @@ def test_taking(tools):
     stale = ("unreadable", "stale: th", None, ["cause", "time", "verdict"])
     gone = ("unreadable", "stale: an", None, ["cause", "time", "verdict"])
     with closing(open_table(str(tools.folder / "taking.db"))) as connection:
-        rows = [("a", "11", time_of(0)), ("a", "22", time_of(5)), ("a", "33", time_of(10)), ("b", "44", time_of(5)), ("b", "55", time_of(50))]
-        connection.executemany("INSERT INTO nonces (machine, nonce, given_out) VALUES (?, ?, ?)", rows)
+        rows = [("a", "11", 0), ("a", "22", 5), ("a", "33", 10), ("b", "44", 5), ("b", "55", 50)]
+        connection.executemany(ADD_NONCE, [(name, nonce, time_of(minute), 7200) for name, nonce, minute in rows])
+        connection.executemany(ADD_NONCE, [("c", "77", time_of(5), 600)])
         connection.commit()
         tools.check("a nonce is used", taken("22", 20), ("match", "", 900.0, plain))
         connection.rollback()
@@ -238,10 +242,68 @@ def test_taking(tools):
             ("a nonce that was given out later", taken("33", 20), ("match", "", 600.0, plain)),
             ("a nonce that is too old", taken("44", 36, "b"), stale),
             ("a nonce of a time to come", taken("55", 20, "b"), stale),
+            ("a nonce that is too old by its own age", taken("77", 16, "c"), stale),
+            ("a nonce that is as old as it may be", taken("77", 15, "c"), ("match", "", 600.0, plain)),
         ):
             tools.check(f"taking: {title}", found, wanted)
         tools.check("taking: what is used", (nonces_of(connection, "a"), nonces_of(connection, "b")), (
             (("33", True), ("22", True), ("11", True)), (("55", False), ("44", False))))
+
+
+def test_ages(tools):
+    """A nonce is kept for half of its age, and none takes the place of one that is to be valid for another time."""
+    from fleet_verify.machines import Machine
+    from fleet_verify.nonces import give_out
+    from fleet_verify.verdicts import open_table
+
+    machines = [Machine("a", ("/",), True)]
+    with closing(open_table(str(tools.folder / "ages.db"))) as connection:
+        first, same, other, last = (give_out(connection, machines, age)["a"] for age in (3600, 3600, 60, 60))
+        tools.check("nonces: another for another --max-age", (first == same, first == other, other == last), (True, False, True))
+        connection.execute("UPDATE nonces SET given_out = ?", (ago(70),))
+        connection.commit()
+        give_out(connection, machines, 86400)
+        ages = [age for (age,) in connection.execute("SELECT max_age FROM nonces ORDER BY max_age")]
+        tools.check("nonces: each is forgotten by its own age", ages, [3600.0, 86400.0])
+
+
+def test_taking_over(tools):
+    """A poll takes over from one that never ended what machines have that lack a nonce for another verdict."""
+    from fleet_verify.machines import Machine
+    from fleet_verify.nonces import give_out
+    from fleet_verify.reading import now
+    from fleet_verify.verdicts import Quoting, Verdicts
+
+    machines = [Machine(name, (f"/{name}",), True) for name in "abcd"]
+    quoted = {"verdict": "match", "report": "{}", "resets": 1, "restarts": 0, "checkpoint": "x"}
+    missed = {"verdict": "unreadable", "cause": ""}
+
+    def polled(is_whole=False, known=None, age=7200.0):
+        """What another poll takes over, and no verdict then has an earlier one."""
+        with closing(Verdicts(path, REQUIRE, known, Quoting("/keys", age))) as table:
+            taken = table.begin_poll(now(), is_whole)
+            polls = dict(table.connection.execute("SELECT machine, poll FROM verdicts"))
+            return sorted(taken), sorted(name for name, poll in polls.items() if poll == table.poll)
+
+    path = str(tools.folder / "taking over.db")
+    with closing(Verdicts(path, REQUIRE, None, Quoting("/keys", 7200.0))) as table:
+        given = give_out(table.connection, machines, 3600)
+        table.begin_poll(now())
+        answers = [{**quoted, "nonce": given["a"], "list_from": 0}, {**quoted, "nonce": given["b"], "list_from": 7}, missed]
+        table.record([(machine, {**answer, "time": now()}) for machine, answer in zip(machines, answers)], ())
+    for title, given, wanted in (
+        ("by quotes, and no others", {}, ["a", "b"]), ("again", {}, ["a", "b"]), ("by whole lists", {"is_whole": True}, ["a"]),
+    ):
+        tools.check(f"a poll takes over verdicts {title}", polled(**given), (wanted, wanted))
+    for title, statement, given in (
+        ("by other known files", "", {"known": "ab"}), ("by nonces that are too old", "", {"age": 0.0}),
+        ("where a nonce was given out since", "INSERT INTO nonces VALUES ('a', 'ef', 'now', 3600, NULL)", {}),
+        ("of a poll that ended", "INSERT INTO ends SELECT 'now', max(number) FROM polls", {}),
+    ):
+        copy, path = path, shutil.copy(path, tools.folder / "copy.db")
+        change(path, statement) if statement else None
+        tools.check(f"a poll takes over no verdicts {title}", polled(**given), ([], []))
+        path = copy
 
 
 def test_keys(tools):
@@ -434,7 +496,7 @@ class Case:
 
     def have_two(self):
         """It has another nonce meanwhile, and answers the earlier one, which is still good."""
-        change(self.verdicts, "INSERT INTO nonces (machine, nonce, given_out) VALUES (?, ?, ?)", self.machine.name, "ab" * 32, ago(0))
+        change(self.verdicts, ADD_NONCE, self.machine.name, "ab" * 32, ago(0), 3600)
 
     def make_fifo(self):
         self.remove("quote.msg")
@@ -541,8 +603,8 @@ def test_bad_quotes(quotes, verdicts):
 
 
 def test_stopped_poll(quotes, verdicts):
-    """A poll stops in the middle: what it recorded has used its nonces, so the next poll takes these quotes for old ones, and the others as they
-    are. With new quotes all is well."""
+    """A poll stops in the middle: what it recorded has used its nonces. The next poll takes that over, unless new nonces were given out; and the
+    one after it takes all quotes for old ones. With new quotes all is well."""
     quotes.answer(quotes.give_out(verdicts))
     change(verdicts, "CREATE TRIGGER stop BEFORE UPDATE ON nonces WHEN new.machine = 'machine 15' BEGIN SELECT RAISE(ABORT, 'stop'); END")
     status = quotes.call(*quotes.run_words(verdicts, "--poll", "--in-flight", 4))[0]
@@ -551,10 +613,17 @@ def test_stopped_poll(quotes, verdicts):
     quotes.check("quotes: a poll stops in the middle", (status, 0 < len(recorded) < MACHINES), (3, True))
     used = {name for (name,) in query(verdicts, "SELECT machine FROM nonces GROUP BY machine HAVING count(*) = count(used)")}
     quotes.check("quotes: what it recorded has used its nonces", used, recorded)
+    times = dict(query(verdicts, "SELECT machine, time FROM verdicts"))
+    anew = shutil.copy(verdicts, quotes.folder / "nonces anew.db")
+    quotes.check_run("quotes: the poll after it", quotes.run_words(verdicts, "--poll"), quotes.all())
+    kept = {name for name, time in query(verdicts, "SELECT machine, time FROM verdicts") if times[name] == time}
+    quotes.check("quotes: the poll after it keeps what was recorded", kept, recorded)
+    quotes.give_out(anew)
     wanted = {**quotes.all(), **dict.fromkeys(recorded, ("unreadable", USED))}
-    quotes.check_run("quotes: the poll after it, without new quotes", quotes.run_words(verdicts, "--poll"), wanted)
+    quotes.check_run("quotes: the poll after it, with new nonces and no new quotes", quotes.run_words(anew, "--poll"), wanted)
+    quotes.check_run("quotes: the second poll after it", quotes.run_words(verdicts, "--poll"), quotes.all("unreadable", USED))
     quotes.answer(quotes.give_out(verdicts))
-    quotes.check_run("quotes: the poll after it, with new quotes", quotes.run_words(verdicts, "--poll"), quotes.all())
+    quotes.check_run("quotes: the third poll after it, with new quotes", quotes.run_words(verdicts, "--poll"), quotes.all())
 
 
 def test_killed(quotes):

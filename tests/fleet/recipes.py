@@ -18,7 +18,6 @@ from cluster import ROOT, SECONDS
 sys.path.append(str(ROOT / "tests/attest"))
 from emulated import BOOT, emulated, read_list  # noqa: E402
 
-MOST_WORDS = 1800
 BLOCK = re.compile(r"^```sh\n(.*?)^```$", re.MULTILINE | re.DOTALL)
 HANDLE = "0x81010002"  # (of the key that `ima-collect --enroll` makes)
 KERNEL = {"firmware.log": "tpm0/binary_bios_measurements", "ima.list": "ima/binary_runtime_measurements"}
@@ -113,7 +112,6 @@ def test_recipes(tools):
         test_cluster(reader)
     left = [block for block in reader.blocks if sum(mark in block for mark in (*RUN_HERE, OF_SYSTEM)) != 1]
     tools.check("the page: each block is run", (left, len(reader.blocks)), ([], len(RUN_HERE) + 1))
-    tools.check("the page: its words", len((ROOT / "docs/fleet.md").read_text().split()) <= MOST_WORDS)
     test_pages_of(reader)
 
 

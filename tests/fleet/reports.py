@@ -23,6 +23,9 @@ SAMPLES = ROOT / "samples"
 REAL, QUOTED = SAMPLES / "real-boot", SAMPLES / "quoted"
 FILES = ("firmware.log", "ima.list", "expected.txt")
 EV_ACTION = 5
+# Register 10 of samples/real-boot, and after its longer list.
+TEN = "e8ed95b94e8d66f42e5b9be4d794dc0c7701e2360f03537fe59e9ba861a8024f"
+LONGER = "a2bcf779880ae33077f9e7992851299f30cea5f6cffc6512de6cd10aa457a7f3"
 
 
 def program_of(tools):
@@ -149,6 +152,8 @@ def test_report_states(tools, folder):
     found, page, _ = report_of(tools, folder / "no list")
     told = any("it is no regular file" in cell.text for cell in page.all("td"))
     tools.check("a boot: a pipe in place of the list", (found, judged(page), told), (3, ("failed", False), True))
+    ten = next(row for row in rows_below(report_of(tools, folder / "a longer list")[1], "PCRs") if row[1] == "10")
+    tools.check("a boot: what is expected of a PCR that differs, and its value", ten[2:4], ["differ", TEN + LONGER])
     changed = rows_below(report_of(tools, folder / "a changed entry")[1], "Entries of the measurement list")
     tools.check("a boot: which entry was changed", [row[0] for row in changed if "does not match" in row[2]], ["5"])
     test_unconfirmed_entries(tools, folder)
@@ -234,6 +239,11 @@ def test_failing_program(tools, folder):
         ("a fault with status 0", "verify", """echo '{"fault":{"kind":"memory","message":"failed: memory"}}'""", 3, "failed: memory"),
         ("its events fail", "events", "echo 'out of <b>luck</b>' >&2; exit 3", 3, "out of <b>luck</b>"),
         ("its entries are cut", "show", f'"{good}" "$@" | head -n 5; exit 2', 2, "ended with status 2"),
+        ("its entries are not counted", "show", f'"{good}" "$@" | head -n 5', 3, "5 entries, and no line that counts them"),
+        ("its entries are counted twice", "show", f"""'{good}' "$@"; echo '{{"entries":99}}'""", 3, "a line after the one that counts"),
+        ("its entries are counted first", "show", f"""echo '{{"entries":99}}'; '{good}' "$@" | sed '$d'""", 3, "a line after the one that counts"),
+        ("its count is none", "show", f"""'{good}' "$@" | sed 1q; echo '{{"entries":true}}'""", 3, "no line that counts them"),
+        ("an entry is left out", "show", f'"{good}" "$@" | sed 3d', 3, "98 entries, and no line that counts them"),
         ("what was booted is not there", "boot", "exit 0", 3, "wrote nothing"),
         ("it does not end", "events", "sleep 1000", 3, "did not end within 2 seconds"),
     ):

@@ -1,15 +1,11 @@
 #!/usr/bin/env python3
-"""Requires that the pages quote proved callers, and docs/errors.txt the tables of faults in the program's help, to the letter, that links lead
-to what is there, and that the picture is what its script makes.
+"""Requires that the pages quote proved callers to the letter, that links lead to what is there, and that the picture is what its script makes.
 
 tests/pages/quotes.py [ROOT]: the tree whose README.md and docs/*.md are read, by default the one that this file is in.
 
 Each block that begins with ```rust must be in one file of crates/uses/src, as whole lines in a row: as they are in that file, or with
 contracts, doc comments or both left out. A contract is what is between the signature of a function and the line `{` of its body. Where it
 is left out, the `{` ends the signature's last line. A doc comment is a line that begins with `///`. There must be at least one block.
-
-Each table of docs/errors.txt, which ends at an empty line, must be one of crates/command_line/src/fault_tables.rt. Each of these must be
-there once.
 
 Each link to a file of the tree must lead to one, and if it names a heading of a page, to that. The links of CONTRIBUTING.md and of the READMEs
 of dist/, samples/, tests/cases/ and each folder of bindings/ are checked too. docs/trust.svg must be what tools/picture.py prints.
@@ -29,8 +25,6 @@ sys.path.insert(0, str(Path(__file__).resolve().parents[1]))
 import harness  # noqa: E402
 
 BLOCK = re.compile(r"^```rust\n(.*?)^```$", re.MULTILINE | re.DOTALL)
-FAULTS = re.compile(r"^([A-Z][a-z]+ faults \(.*?\n)(?=\n|\Z)", re.MULTILINE | re.DOTALL)
-TABLE = re.compile(r'"\\\n(.*?\n)" "\\n"', re.DOTALL)
 CONTRACT = re.compile(r"\n(?:    (?:requires|ensures|//) ?.*\n(?:        .*\n)*)+\{\n")
 DOC_COMMENT = re.compile(r"^ *///.*\n", re.MULTILINE)
 FENCED = re.compile(r"^```.*?^```$", re.MULTILINE | re.DOTALL)
@@ -101,17 +95,6 @@ class Quotes(harness.TestCase):
             is_there = block and any(stands_in(block, lines) for lines in sources)
             self.check(f"{place}: the block is in crates/uses/src", None if is_there else difference(block, sources), None)
         self.assertTrue(blocks, "no block to look for in README.md and docs/*.md")
-
-    def test_tables(self):
-        tables = TABLE.findall((self.root / "crates/command_line/src/fault_tables.rt").read_text())
-        quoted = FAULTS.findall((self.root / "docs/errors.txt").read_text())
-        for table in tables:
-            self.check(f"how often this is quoted: {table.splitlines()[0]}", quoted.count(table), 1)
-        for text in quoted:
-            if text not in tables:
-                fault = difference(text.splitlines(), map(str.splitlines, tables))
-                self.check(f"docs/errors.txt: it is a table of the help: {text.splitlines()[0]}", fault, None)
-        self.assertTrue(tables, "no table of faults in crates/command_line/src/fault_tables.rt")
 
     def test_links(self):
         passed, faults = 0, []

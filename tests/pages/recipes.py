@@ -1,6 +1,6 @@
 #!/usr/bin/env python3
 """Runs the recipes of attest.md, investigate.md and cli.md, as they are on the pages, on lists and logs that try to evade them; and the
-examples of these pages and README, which must print what is below them.
+examples of these pages, json.md and README, which must print what is below them.
 
 tests/pages/recipes.py PROGRAM: the program that is installed as `ima-agent`. A recipe must show what is due as JSON, by `tests/reference/`. It
 must fail with an empty, a cut and a missing input, and with a program that dies after its last line. Each runs in a folder in which a machine
@@ -25,7 +25,7 @@ from reference.measurement_list import IMA, IMA_NG, IMA_SIG, VIOLATION, Entry, e
 from reference.registers import BY_NAME, SHA1  # noqa: E402
 
 [PROGRAM] = (Path(name).resolve() for name in sys.argv[1:])
-PAGES = "docs/attest.md", "docs/investigate.md", "docs/cli.md"
+PAGES = "docs/attest.md", "docs/investigate.md", "docs/cli.md", "docs/json.md"
 BLOCK = re.compile(r"^```sh\n(.*?)^```$", re.MULTILINE | re.DOTALL)
 EXAMPLES = re.compile(r"(?:^    \$ .*\n(?:^    .*\n)*)", re.MULTILINE)
 EXAMPLE = re.compile(r"^\$ ((?:.*\\\n)*.*)\n((?:(?!\$ ).*\n)*)", re.MULTILINE)
@@ -33,6 +33,7 @@ EXAMPLE = re.compile(r"^\$ ((?:.*\\\n)*.*)\n((?:(?!\$ ).*\n)*)", re.MULTILINE)
 JUDGE, TAKE, EVENTS = '--known "$known"', "--argjson confirmed", "diff before.events"
 AGGREGATE = "--arg aggregate"
 JUDGED, MEASURED = "ima-agent verify --require sha256:0-10 firmware.log ima.list expected.txt", "--files-from names"
+ALONE, LOCATED, CONVERTED = "ima-agent replay", "ima-agent locate", "ima-agent expected"
 
 SAMPLE = ROOT / "samples/real-boot"
 LOG = read_log((SAMPLE / "firmware.log").read_bytes())
@@ -292,6 +293,27 @@ class Recipes(harness.TestCase):
             left = {name: data for name, data in (whole | {"firmware.log": data}).items() if data is not None}
             self.check(what, self.fails(JUDGED, left | of_list(*entries)))
         self.check("a program that dies", self.fails(JUDGED, whole | of_list(*entries), DYING))
+
+    def test_sample(self):
+        """the blocks of one command, on the sample boot"""
+        whole = {path.name: path.read_bytes() for path in SAMPLE.iterdir()}
+        lines = whole["expected.txt"].splitlines(keepends=True)
+        grown = {"ima.list": whole["ima.list"] + measured(KNOWN).spelling()}
+        for mark, last, expected in ((ALONE, b"verdict match\n", lines[10]), (LOCATED, b"\nlocated\n", whole["expected.txt"])):
+            files = whole | {"expected.txt": expected}
+            status, output = self.ran(mark, files)
+            self.check(f"{mark}: the sample", (status, output.endswith(last)), (0, True))
+            self.check(f"{mark}: another value", self.ran(mark, files | {"expected.txt": b"sha256 10 %s\n" % (b"0" * 64)})[0], 1)
+            for what, changed in damaged_lists():
+                self.check(f"{mark}: {what}", self.fails(mark, files | {"ima.list": None} | changed))
+            self.check(f"{mark}: a program that dies", self.fails(mark, files, DYING))
+            self.check(f"{mark}: a list that grew", self.ran(mark, files | grown)[0], int(mark == ALONE))
+        printed = whole["tpm2_pcrread.txt"]
+        status, output = self.ran(CONVERTED, {"pcrread.txt": printed})
+        self.check(f"{CONVERTED}: PCRs 0 to 10", (status, output, (self.sent / "expected.txt").read_bytes()), (0, b"", b"".join(lines[:11])))
+        for what, text in (("an empty file", b""), ("a cut line", printed[:-20]), ("no file", None)):
+            self.check(f"{CONVERTED}: {what}", self.fails(CONVERTED, {"pcrread.txt": text}))
+        self.check(f"{CONVERTED}: a program that dies", self.fails(CONVERTED, {"pcrread.txt": printed}, DYING))
 
     def test_measures(self):
         """the list of a file tree, here of a folder with two files"""

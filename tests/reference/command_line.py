@@ -8,6 +8,9 @@ from .registers import BY_NAME
 
 FLAG = None
 KNOWN = "--known"
+EXPLAIN = "--explain"
+# An option of one letter, and its name.
+SHORT = {"0": "--null"}
 
 
 class HelpAsked(Exception):
@@ -77,6 +80,7 @@ COMMANDS = {
         "--prefix": Option(FLAG, False),
         "--save": Option(str, None),
         "--resume": Option(str, None),
+        EXPLAIN: Option(FLAG, False),
         "--json": Option(FLAG, False),
     }),
     "attest": Command(3, 4, {
@@ -88,10 +92,11 @@ COMMANDS = {
         "--prefix": Option(FLAG, False),
         "--save": Option(str, None),
         "--resume": Option(str, None),
+        EXPLAIN: Option(FLAG, False),
         "--json": Option(FLAG, False),
     }),
-    "locate": Command(3, 3, {"--require": Option(str, None), "--json": Option(FLAG, False)}),
-    "expected": Command(1, 1, {"--registers": Option(str, "0-23"), "--json": Option(FLAG, False)}),
+    "locate": Command(3, 3, {"--require": Option(str, None), EXPLAIN: Option(FLAG, False), "--json": Option(FLAG, False)}),
+    "expected": Command(1, 1, {"--registers": Option(str, "all"), "--json": Option(FLAG, False)}),
     "key": Command(1, 1, {
         "--endorsement": Option(FLAG, False),
         "--print": Option(one_of("all", "name", "pem"), "all"),
@@ -100,7 +105,7 @@ COMMANDS = {
     "registers": Command(1, 1, {"--json": Option(FLAG, False)}),
     "events": Command(1, 1, {
         "--data": Option(FLAG, False),
-        "--explain": Option(FLAG, False),
+        EXPLAIN: Option(FLAG, False),
         **CONFIRMING,
         "--json": Option(FLAG, False),
     }),
@@ -113,6 +118,7 @@ COMMANDS = {
     "replay": Command(1, 2, {
         "--require": Option(str, None),
         KNOWN: Option(str, [], is_repeated=True),
+        EXPLAIN: Option(FLAG, False),
         "--json": Option(FLAG, False),
     }),
 }
@@ -123,7 +129,7 @@ def asks_for_help(word):
 
 
 def asks_for_version(word):
-    return word == "--version"
+    return word == "--version" or word.startswith("-V")
 
 
 def read_words(words):
@@ -152,7 +158,7 @@ def lacks_another(command, names, values):
     if KNOWN in values and "--require" not in values:
         return True
     if command == "replay":
-        return "--require" in values and len(names) < 2
+        return len(names) < 2 and not {"--require", EXPLAIN}.isdisjoint(values)
     return "--null" in values and "--files-from" not in values
 
 
@@ -173,7 +179,7 @@ def is_json_of_binary(values):
 
 def has_wrong_pair(values):
     """Whether events are to be explained in another form, or expected registers or a quote are given where nothing is said of them."""
-    if "--explain" in values:
+    if EXPLAIN in values:
         return "--data" in values or "--json" in values
     return ("--expected" in values or "--quote" in values) and "--json" not in values
 
@@ -199,9 +205,19 @@ def read_arguments(command, words):
             has_options_left = False
         elif asks_for_help(word):
             raise HelpAsked
-        else:
+        elif word.startswith("--"):
             read_option(command, word, words, values)
+        else:
+            read_letters(command, word[1:], values)
     return names, values
+
+
+def read_letters(command, letters, values):
+    """Adds the options of one letter each that an argument has after its dash. None of them takes a value."""
+    for letter in letters:
+        if asks_for_help(f"-{letter}"):
+            raise HelpAsked
+        read_option(command, SHORT.get(letter, ""), [], values)
 
 
 def read_option(command, word, words, values):

@@ -1,4 +1,4 @@
-"""The faults of docs/cli.md with their numbers, and the lines that tell them ('Errors')."""
+"""The faults of docs/errors.txt with their numbers, and the lines that tell them."""
 
 from enum import IntEnum
 

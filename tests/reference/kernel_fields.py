@@ -1,4 +1,4 @@
-"""The fields of entries with the kernel's other templates ('As JSON')."""
+"""The fields of entries with the kernel's other templates (docs/json.txt)."""
 
 from .fields import Cut, Fields
 from .registers import BY_NAME

@@ -43,7 +43,7 @@ from .measurement_list import (
     replay,
 )
 from .registers import ALGORITHMS, BY_NAME, SHA1, Registers, registers_value
-from .texts import read_expected, read_hexadecimal, read_names, read_printed, read_range, read_requirement
+from .texts import read_expected, read_hexadecimal, read_names, read_printed, read_requirement, read_selection
 from .verdict import front_report, front_that_matches, list_report, places, report_at
 
 MOST_BYTES = 64 << 20
@@ -221,8 +221,8 @@ def show_command(inputs, values, listed):
         fault = found
     if fault and not values["--json"]:
         raise fault
-    ended = [fault.as_json()] if fault else []
-    return Told(lambda: list_text(entries), lambda: entry_values(entries) + ended, fault.status if fault else 0)
+    ended = fault.as_json() if fault else {"entries": len(entries)}
+    return Told(lambda: list_text(entries), lambda: [*entry_values(entries), ended], fault.status if fault else 0)
 
 
 def replay_command(inputs, values, listed, expected=None):
@@ -256,10 +256,10 @@ def known_by(inputs, values):
 
 
 def expected_command(inputs, values, text):
-    wanted = read_range(values["--registers"])
-    if wanted is None:
+    selected = read_selection(values["--registers"])
+    if selected is None:
         raise USAGE
-    rows = [row for row in read_printed(inputs.load(text)) if row.register in wanted]
+    rows = [row for row in read_printed(inputs.load(text)) if (row.algorithm, row.register) in selected]
     if not rows:
         raise ExpectedFault.NO_REGISTER.of_text()
     return Told(lambda: "".join(row.line() for row in rows), lambda: [registers_value(rows)])

@@ -1,18 +1,19 @@
 """The texts that the program reads: expected registers, what tpm2-tools print, names of files, a log in hexadecimal."""
 
 import re
-from typing import NamedTuple
+from typing import NamedTuple, Optional
 
 from .faults import NOT_HEXADECIMAL, ExpectedFault
 from .measurement_list import IMA_REGISTER
-from .registers import BY_NAME, Algorithm, register_line
+from .registers import ALGORITHMS, BY_NAME, REGISTERS, Algorithm, register_line
 
 REGISTER = rb"(0|[1-9]|1[0-9]|2[0-3])"
 EXPECTED = re.compile(rb"(\w+) " + REGISTER + rb" ([0-9a-fA-F]+)")
 BANK = re.compile(rb"  ([A-Za-z0-9_]+):")
 VALUE = re.compile(rb"    (?:" + REGISTER + rb")( ?): 0x([0-9a-fA-F]+)")
 SIGNATURE = re.compile(rb"sig: [0-9a-fA-F]+")
-RANGE = re.compile(REGISTER.decode() + "(?:-" + REGISTER.decode() + ")?")
+SEPARATOR = re.compile("[,+]")
+PART = re.compile(f"(?:({'|'.join(BY_NAME)}):)?(?:all|{REGISTER.decode()}(?:-{REGISTER.decode()})?)")
 WHITE_SPACE = b" \t\r\n"
 HEXADECIMAL = b"0123456789abcdefABCDEF"
 
@@ -100,25 +101,50 @@ def pcrread_text(registers):
     return "".join(f"{line}\n" for line in lines)
 
 
-def read_range(text):
-    """The registers of a range, or None if the text is none."""
-    match = RANGE.fullmatch(text)
-    if not match:
-        return None
-    first, last = int(match[1]), int(match[2] or match[1])
-    return range(first, last + 1) if first <= last else None
+class Part(NamedTuple):
+    """A part of a selection: the algorithm of its bank, or None for every bank, and the registers."""
+
+    algorithm: Optional[Algorithm]
+    registers: range
+
+    def members(self):
+        """Each register, by its algorithm and its number."""
+        algorithms = ALGORITHMS if self.algorithm is None else (self.algorithm,)
+        return {(algorithm, register) for algorithm in algorithms for register in self.registers}
+
+
+def read_parts(text):
+    """The parts of a selection ('Selections'), or None if the text is none."""
+    parts, algorithm = [], None
+    for match in map(PART.fullmatch, SEPARATOR.split(text)):
+        if match is None:
+            return None
+        name, first, last = match.groups()
+        algorithm = algorithm if name is None else BY_NAME[name]
+        registers = range(REGISTERS) if first is None else range(int(first), int(last or first) + 1)
+        if not registers:
+            return None
+        parts.append(Part(algorithm, registers))
+    return parts
+
+
+def selected_by(parts):
+    return set().union(*(part.members() for part in parts))
+
+
+def read_selection(text):
+    """The registers that a text selects, each by its algorithm and its number, or None if the text is no selection."""
+    parts = read_parts(text)
+    return None if parts is None else selected_by(parts)
 
 
 def read_requirement(text):
-    """The registers that a text requires, each by its algorithm and its number ('Expected PCRs'), or None if the text is none, or names
-    that of the list in no bank."""
-    required = set()
-    for part in text.split(","):
-        name, _, numbers = part.partition(":")
-        registers = read_range(numbers)
-        if name not in BY_NAME or registers is None:
-            return None
-        required |= {(BY_NAME[name], register) for register in registers}
+    """The registers that a text requires, or None if it is no selection, its first part names no bank, or it selects that of the list in
+    no bank."""
+    parts = read_parts(text)
+    if parts is None or parts[0].algorithm is None:
+        return None
+    required = selected_by(parts)
     return required if any(register == IMA_REGISTER for _, register in required) else None
 
 

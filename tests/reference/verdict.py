@@ -48,7 +48,7 @@ class Report(NamedTuple):
 
     def as_json(self):
         """The report as JSON."""
-        rows = [named(row.algorithm, row.register, **dict(zip(("state", "value"), state))) for row, state in self.rows]
+        rows = [named_row(row, ("state", "value"), state) for row, state in self.rows]
         missing = [named(*register, state="missing") for register in self.missing or []]
         strays = [{word: number, "register": register} for word, number, register in self.strays]
         told = ({"extends": strays} if strays else {}) | (self.unknown.members() if self.unknown else {})
@@ -58,6 +58,11 @@ class Report(NamedTuple):
 def named(algorithm, register, **told):
     """A register as JSON, with what is told of it."""
     return {"bank": algorithm.name, "register": register, **told}
+
+
+def named_row(row, names, told):
+    """An expected register as JSON, with its value and what is told of it by these names."""
+    return named(row.algorithm, row.register, expected=row.value.hex(), **dict(zip(names, told)))
 
 
 def verdict_report(log, entries, expected, required=None):
@@ -173,7 +178,7 @@ class Places(NamedTuple):
 
     def as_json(self):
         """The places as JSON."""
-        rows = [named(row.algorithm, row.register, **dict(zip(("place", "number"), place))) for row, place in self.rows]
+        rows = [named_row(row, ("place", "number"), place) for row, place in self.rows]
         missing = [named(*register, place="missing") for register in self.missing]
         return {"registers": [*rows, *missing], "located": self.are_located}
 

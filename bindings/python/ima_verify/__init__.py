@@ -399,11 +399,11 @@ def read_endorsement_key(area: BytesLike) -> Key:
 def expected(printed: Text, registers: Optional[str] = None) -> bytes:
     """The lines of expected registers that a text states which tpm2_pcrread or tpm2_checkquote printed.
 
-    `registers` is a range such as `0-10`, or a number, and selects registers; None selects all. Neither who wrote the text nor whether a
-    quote holds is known from it: take the values of a quote that was checked, or of a machine that is trusted.
+    `registers` is a selection such as `sha256:0-10` or `0-7,10`; None selects all. Neither who wrote the text nor whether a quote holds is
+    known from it: take the values of a quote that was checked, or of a machine that is trusted.
 
     Raises:
-        Refused: The text is not of its form, or states no register of the range.
+        Refused: The text is not of its form, or states no register of the selection.
         Misuse: `registers` is not of its form.
 
     >>> printed = Path("tpm2_pcrread.txt").read_bytes()

@@ -19,7 +19,8 @@ UINT16, UINT32, UINT64 = 2**16 - 1, 2**32 - 1, 2**64 - 1
 
 # A report of a match as libraries write it, which need not be taken apart: its counts, and its rows as one. (Larger numbers are rare.)
 _COUNT = "(0|[1-9][0-9]{0,17})"
-_MATCHING_ROW = '{"bank":"sha(?:1|256|384|512)","register":(?:1?[0-9]|2[0-3]),"state":"match"}'
+_MATCHING_BANK = "|".join(f'{bank.value}","register":(?:1?[0-9]|2[0-3]),"expected":"[0-9a-f]{{{2 * bank.digest_size}}}' for bank in Algorithm)
+_MATCHING_ROW = f'{{"bank":"(?:{_MATCHING_BANK})","state":"match"}}'
 _MATCH = re.compile(
     f'{{"events":{_COUNT},"locality":([0-9]),"entries":{_COUNT},"boot_aggregate":"good",'
     f'"registers":\\[({_MATCHING_ROW}(?:,{_MATCHING_ROW})*)\\],("known_from":0,"unknown":\\[\\],)?"verdict":"match"}}\n'.encode()
@@ -212,6 +213,12 @@ def read_entry(line: bytes, number: int) -> Entry:
         return _entry_of(_object_of(line), number)
 
 
+def read_entry_count(line: bytes, entries: int) -> None:
+    """Reads the line after the last of so many entries."""
+    with _reading(DONE, line):
+        _require(_number(_object_of(line), "entries") == entries)
+
+
 def read_event(line: bytes, number: int) -> Event:
     """The event of a line, which has this number."""
     with _reading(DONE, line):
@@ -335,14 +342,25 @@ def _matches(result: int, report: Object, rows: Tuple[Row, ...], is_good: bool) 
 
 def _row_of(row: Object) -> Row:
     bank, state = Algorithm(row["bank"]), State(row["state"])
+    expected = _expected_in(row, bank, state is State.MISSING)
     value = _bytes(row, "value", bank.digest_size) if state is State.DIFFER else None
-    return Row(bank, _number(row, "register", REGISTERS - 1), state, value)
+    _require(value is None or value != expected)
+    return Row(bank, _number(row, "register", REGISTERS - 1), state, value, expected)
+
+
+def _expected_in(row: Object, bank: Algorithm, is_missing: bool) -> Optional[bytes]:
+    """The expected value of a row, which only one that is missing lacks."""
+    if is_missing:
+        _require("expected" not in row)
+        return None
+    return _bytes(row, "expected", bank.digest_size)
 
 
 def _place_row_of(row: Object) -> PlaceRow:
-    place = Place(row["place"])
+    bank, place = Algorithm(row["bank"]), Place(row["place"])
+    expected = _expected_in(row, bank, place is Place.MISSING)
     number = _number(row, "number") if place in (Place.EVENT, Place.ENTRY) else None
-    return PlaceRow(Algorithm(row["bank"]), _number(row, "register", REGISTERS - 1), place, number)
+    return PlaceRow(bank, _number(row, "register", REGISTERS - 1), place, number, expected)
 
 
 def _register_of(row: Object) -> Register:

@@ -28,7 +28,7 @@ KINDS = {
 WITHOUT_PLACES = Kind.CHECKPOINT, Kind.QUOTE, Kind.KEY
 NO_PLACE = c_uint64(-1).value
 
-# 4 banks have 96 registers, and no row of these has more than 256 bytes.
+# A report on all 96 registers of 4 banks has less, even if all values differ.
 ROOM = 32 * 1024
 # Of entries and events so much text comes at once, or one line that is longer.
 PIECE = 64 * 1024
@@ -170,9 +170,10 @@ class Pieces:
 
     def __init__(self, name: str, data: BytesLike, *options: bool):
         self._name, self._data, self._options = name, _pinned(data), options
-        self._size = memoryview(self._data).nbytes
+        # (as JSON the position after the line of how many entries there are is one further than the list)
+        self._last = memoryview(self._data).nbytes + ((name, *options) == ("entries", JSON))
         self._position = 0, 0
-        self._is_over = False
+        self.is_over = False
 
     def next(self) -> bytes:
         """The next whole lines, or no bytes at the end. After an error other than `Refused` they can be asked for again.
@@ -181,7 +182,7 @@ class Pieces:
             Refused: The input is damaged; what comes before has been given. It is raised once, and then it is the end.
             OutOfMemory, LibraryError: As `call` says.
         """
-        if self._is_over:
+        if self.is_over:
             return b""
         offset, number = (c_size_t(value) for value in self._position)
         try:
@@ -189,9 +190,9 @@ class Pieces:
         except Refused:
             self._end()
             raise
-        # (each piece takes bytes of the input, the last one all that are left; so only an input without bytes has no lines)
+        # (each piece has lines and goes on, the last one to the end; so only what ends where it begins has no lines)
         is_last, is_right = result == DONE, text.endswith(b"\n") and offset.value > self._position[0]
-        if not (is_right or self._size == len(text) == 0) or result == DIFFERS or is_last != (offset.value == self._size):
+        if not (is_right or self._last == len(text) == 0) or result == DIFFERS or is_last != (offset.value == self._last):
             unexpected(result, text)
         self._position = offset.value, number.value
         if is_last:
@@ -199,7 +200,7 @@ class Pieces:
         return text
 
     def _end(self) -> None:
-        self._is_over, self._data = True, b""
+        self.is_over, self._data = True, b""
 
 
 def _pinned(data: BytesLike) -> Union[bytes, memoryview]:

@@ -23,7 +23,7 @@ class Listing(Iterator[_Item]):
 
     def __next__(self) -> _Item:
         line = self._line()
-        if not line:
+        if not line or self._is_end(line):
             raise StopIteration
         item = self._read(line, self._number)  # (if this fails, so it does the next time)
         self._start, self._number = self._start + len(line), self._number + 1
@@ -35,12 +35,23 @@ class Listing(Iterator[_Item]):
             self._lines, self._start = self._pieces.next(), 0
         return self._lines[self._start:self._lines.find(b"\n", self._start) + 1]
 
+    def _is_end(self, line: bytes) -> bool:
+        """Whether a line has no item and is the last."""
+        return False
+
 
 class Entries(Listing[Entry]):
     """The entries of a measurement list."""
 
     def __init__(self, measurements: BytesLike):
         super().__init__(Pieces("entries", measurements, JSON), _answers.read_entry, 0)
+
+    def _is_end(self, line: bytes) -> bool:
+        if not self._pieces.is_over or self._start + len(line) < len(self._lines):
+            return False
+        _answers.read_entry_count(line, self._number)  # (the last line is this one, or the list was cut)
+        self._start += len(line)
+        return True
 
 
 class Events(Listing[Event]):

@@ -68,12 +68,14 @@ class Row:
 
     Attributes:
         value: What the register has instead of the expected value, if the state is DIFFER, otherwise None.
+        expected: The expected value, or None if the state is MISSING.
     """
 
     algorithm: Algorithm
     register: int
     state: State
     value: Optional[bytes] = None
+    expected: Optional[bytes] = None
 
 
 @dataclass(frozen=True)
@@ -319,12 +321,14 @@ class PlaceRow:
 
     Attributes:
         number: The number of the event or the entry, if the place is EVENT or ENTRY, otherwise None.
+        expected: The expected value, or None if the place is MISSING.
     """
 
     algorithm: Algorithm
     register: int
     place: Place
     number: Optional[int] = None
+    expected: Optional[bytes] = None
 
 
 @dataclass(frozen=True)

@@ -24,15 +24,16 @@ from ima_verify import NOTHING, Kind, _answers, _library
 LOG, LIST, EXPECTED, ASCII, REGISTER_LINES = (
     (ROOT / "samples/real-boot" / name).read_bytes() for name in ("firmware.log", "ima.list", "expected.txt", "ima.ascii", "registers.txt")
 )
-REPORT = (b'{"events":1,"locality":0,"entries":3,"boot_aggregate":"good",'
-          b'"registers":[{"bank":"sha256","register":10,"state":"match"}],"verdict":"match"}\n')
+WANTED = b'"expected":"' + 64 * b"e" + b'",'
+ROW = b'{"bank":"sha256","register":10,' + WANTED + b'"state":"match"}'
+REPORT = b'{"events":1,"locality":0,"entries":3,"boot_aggregate":"good","registers":[' + ROW + b'],"verdict":"match"}\n'
 VALUE = b'"state":"differ","value":"' + 64 * b"0" + b'"'
 DIFFERING = REPORT.replace(b'"state":"match"', VALUE).replace(b'"verdict":"match"', b'"verdict":"differ"')
-PLACES = (b'{"registers":[{"bank":"sha256","register":8,"place":"reset"},{"bank":"sha256","register":4,"place":"event","number":18},'
-          b'{"bank":"sha256","register":10,"place":"entry","number":98}],"located":true}\n')
-NOT_LOCATED = (b'{"registers":[{"bank":"sha256","register":8,"place":"reset"},{"bank":"sha256","register":23,"place":"nowhere"},'
-               b'{"bank":"sha1","register":10,"place":"absent"}],"located":false}\n')
-LIST_REPORT = b'{"entries":3,"registers":[{"bank":"sha256","register":10,"state":"match"}],"verdict":"match"}\n'
+PLACES = (b'{"registers":[{"bank":"sha256","register":8,%b"place":"reset"},{"bank":"sha256","register":4,%b"place":"event","number":18},'
+          b'{"bank":"sha256","register":10,%b"place":"entry","number":98}],"located":true}\n') % (WANTED, WANTED, WANTED)
+NOT_LOCATED = (b'{"registers":[{"bank":"sha256","register":8,%b"place":"reset"},{"bank":"sha256","register":23,%b"place":"nowhere"},'
+               b'{"bank":"sha1","register":10,%b"place":"absent"}],"located":false}\n') % (WANTED, WANTED, WANTED.replace(24 * b"e", b"", 1))
+LIST_REPORT = b'{"entries":3,"registers":[' + ROW + b'],"verdict":"match"}\n'
 EXTENDS = b'"extends":[{"event":1,"register":10},{"entry":2,"register":11}],"verdict":"differ"'
 STRAYING = REPORT.replace(b'"verdict":"match"', EXTENDS)
 ATTESTED = (b'{"quoted":[{"bank":"sha1","registers":[10]},{"bank":"sha256","registers":[0,1,10]}],"signer":"000b' + 64 * b"a" + b'",'
@@ -48,6 +49,7 @@ ENTRY = (b'{"entry":0,"register":10,"template":"ima-sig","template_digest":"' + 
          b'"algorithm":"sha1","digest":"' + 40 * b"a" + b'","path":"/a","signature":""}\n')
 OTHER = (b'{"entry":1,"register":10,"template_hex":"ff0a","template_digest":"' + 40 * b"0" + b'","violation":true,"genuine":true,'
          b'"payload":"00"}\n')
+COUNT = b'{"entries":2}\n'
 ALGORITHMS = (
     b'{"algorithms":[{"id":18,"size":1},{"name":"sha1","id":4,"size":20}],'
     b'"specification":{"platform_class":0,"major":2,"minor":0,"errata":0,"uintn_size":2,"vendor":""}}\n'
@@ -154,8 +156,8 @@ class Buffers(unittest.TestCase):
         with fake.counted("verdict") as rooms:
             self.assertEqual(len(ima_verify.verify(LOG, LIST, every_register, require=NOTHING).rows), 96)
         self.assertEqual(rooms, [_library.ROOM])
-        row = '{"bank":"sha512","register":23,"state":"differ","value":"' + 128 * "0" + '"},'
-        self.assertLess(256 + 96 * len(row), _library.ROOM)
+        row = len('{"bank":"sha512","register":23,"expected":"","state":"differ","value":""},')
+        self.assertLess(256 + 24 * sum(row + 2 * digits for digits in (40, 64, 96, 128)), _library.ROOM)
 
     def test_entries_have_room_for_a_piece_and_more_only_for_a_long_line(self):
         smallest = bytes(4) + 20 * b"x" + bytes(8)
@@ -183,7 +185,10 @@ class Answers(unittest.TestCase):
 
     def test_right_answers_are_read(self):
         self.assertTrue(_answers.read_verdict(0, REPORT).matches)
-        self.assertEqual(_answers.read_verdict(1, DIFFERING).rows[0].value, bytes(32))
+        (differing,) = _answers.read_verdict(1, DIFFERING).rows
+        self.assertEqual((differing.value, differing.expected), (bytes(32), 32 * b"\xee"))
+        self.assertEqual([row.expected for row in _answers.read_verdict(1, LACKING).rows], [32 * b"\xee", None])
+        self.assertEqual([row.expected for row in _answers.read_places(1, LACKING_PLACES).rows], 3 * [32 * b"\xee"] + [None])
         self.assertTrue(_answers.read_places(0, PLACES).located)
         self.assertFalse(_answers.read_places(1, NOT_LOCATED).located)
         self.assertEqual(_answers.read_registers(0, REGISTERS)[0].value, 20 * b"\xaa")
@@ -192,7 +197,7 @@ class Answers(unittest.TestCase):
     def test_reports_are_verdicts_without_rows(self):
         for status, text in (
             (0, REPORT), (1, DIFFERING), (1, LACKING), (1, STRAYING), (0, REPORT.replace(b'"locality":0', b'"locality":255')),
-            (0, REPORT.replace(b"}]", b"}" + 95 * b',{"bank":"sha1","register":23,"state":"match"}' + b"]")),
+            (0, REPORT.replace(b"}]", b"}" + 95 * (b"," + ROW) + b"]")),
             (0, REPORT.replace(b'"events":1', b'"events":18446744073709551615')), (0, REPORT.replace(b":3", b": 3")),
         ):
             report, verdict = _answers.read_report(status, text), _answers.read_verdict(status, text)
@@ -220,8 +225,10 @@ class Answers(unittest.TestCase):
             (b'"locality":0', b'"locality":256'), (b'"entries":3,', b""), (b'"entries":3', b'"entries":NaN'),
             (b'"good"', b'"fine"'), (b'"good"', b'"wrong"'), (b'"good"', b"{}"), (b'"boot_aggregate":"good",', b""),
             (b'"sha256"', b'"md5"'), (b'"bank":"sha256",', b""), (b":10,", b":24,"), (b":10,", b":-1,"), (b'"register":10,', b""),
+            (WANTED, b""), (WANTED, WANTED.replace(b"ee", b"", 1)), (WANTED, WANTED.replace(b"e", b"E")), (WANTED, b'"expected":null,'),
             (match, b'"state":"differ"'), (match, VALUE.replace(b"00", b"", 1)),
-            (match, b'"state":"absent"'), (match, b'"state":"missing"'), (match, b'"state":"Match"'), (b"," + match, b""),
+            (match, b'"state":"absent"'), (match, b'"state":"missing"'), (WANTED + match, b'"state":"missing"'),
+            (match, b'"state":"Match"'), (b"," + match, b""),
             (b'"verdict":"match"', b'"verdict":"differ"'), (b',"verdict":"match"', b""), (b'"verdict":"match"', b'"verdict":true'),
             (b'"registers":[', b'"registers":[1,'), (b'"registers":[', b'"registers":[[],'), (b'"registers"', b'"rows"'),
             (b"}\n", b"}"), (b"}\n", b"}\n\n"), (b"}\n", b"\n"), (b"}\n", b"}}\n"), (b"}\n", b"}x\n"), (b"}\n", b"}\n{}\n"),
@@ -234,7 +241,7 @@ class Answers(unittest.TestCase):
             self.check_wrong(read, 0, DIFFERING)
             for size in range(len(REPORT)):
                 self.check_wrong(read, 0, REPORT[:size])
-            for value in (63 * b"0" + b"A", 62 * b"0", 66 * b"0", b"", 62 * b"0" + b" 0", 63 * b"0" + b"g"):
+            for value in (64 * b"e", 63 * b"0" + b"A", 62 * b"0", 66 * b"0", b"", 62 * b"0" + b" 0", 63 * b"0" + b"g"):
                 self.check_wrong(read, 1, DIFFERING.replace(64 * b"0", value))
 
     def test_right_reports_by_a_quote_are_read(self):
@@ -367,7 +374,7 @@ class Answers(unittest.TestCase):
             self.check_wrong(read, 1, with_unknown(report.replace(b'"verdict":"match"', b'"verdict":"differ"'), b"1"))
 
     def test_report_of_no_registers_is_no_match(self):
-        row, match, differ = b'{"bank":"sha256","register":10,"state":"match"}', b'"verdict":"match"', b'"verdict":"differ"'
+        row, match, differ = ROW, b'"verdict":"match"', b'"verdict":"differ"'
         # (the program's report of `verify` on no registers is a match; no other is)
         for read, report, status, word, wrong_word in (
             (_answers.read_verdict, REPORT, 0, match, differ), (_answers.read_list_verdict, LIST_REPORT, 1, differ, match),
@@ -392,7 +399,7 @@ class Answers(unittest.TestCase):
         verdict = _answers.read_list_verdict(0, LIST_REPORT)
         self.assertEqual((verdict.matches, verdict.entries, verdict.compared), (True, 3, 1))
         for old, new in (
-            (b'"entries":3', b'"entries":0'), (b'"state":"match"', VALUE), (b'"state":"match"', b'"state":"missing"'),
+            (b'"entries":3', b'"entries":0'), (b'"state":"match"', VALUE), (WANTED + b'"state":"match"', b'"state":"missing"'),
             (b"}]", b"}," + MISSING + b"]"),
         ):
             matching = LIST_REPORT.replace(old, new, 1)
@@ -412,10 +419,12 @@ class Answers(unittest.TestCase):
         self.check_changes(_answers.read_places, 0, PLACES, (
             (b'"reset"', b'"event"'), (b',"number":18', b""), (b'"number":18', b'"number":"18"'),
             (b'"entry"', b'"line"'), (b'"sha256"', b'"sha257"'), (b":4,", b":44,"), (b"}\n", b"}"), (b"true", b"false"),
-            (b"true", b"1"), (b"true", b'"true"'), (b',"located":true', b""), (b'"reset"', b'"nowhere"'), (PLACES, b""),
+            (b"true", b"1"), (b"true", b'"true"'), (b',"located":true', b""), (b'"reset"', b'"nowhere"'), (WANTED, b""), (b"ee", b"e"), (PLACES, b""),
         ))
         missing = b'{"bank":"sha1","register":4,"place":"missing"}'
-        self.check_changes(_answers.read_places, 1, LACKING_PLACES, ((b",%b]" % missing, b"]"),))
+        both = b'"expected":"%b",%%b:"missing"' % (40 * b"e")
+        self.check_changes(_answers.read_places, 1, LACKING_PLACES, ((b",%b]" % missing, b"]"), (b'"place":"missing"', both % b'"place"')))
+        self.check_changes(_answers.read_verdict, 1, LACKING, ((b'"state":"missing"', both % b'"state"'),))
         self.check_wrong(_answers.read_places, 1, PLACES)
         self.check_wrong(_answers.read_places, 0, NOT_LOCATED)
         self.check_wrong(_answers.read_places, 0, LACKING_PLACES)
@@ -515,22 +524,29 @@ class Inputs(unittest.TestCase):
 
 
 class Listings(unittest.TestCase):
-    """What a library may answer of entries and events, and what not. An input has a byte for each of its lines, and some pieces of these."""
+    """What a library may answer of entries and events, and what not. An input has a byte for each of its lines, apart from that of how many
+    entries there are, and some pieces of these."""
 
-    def given(self, name, pieces, fault=None):
-        """A library that gives these pieces of lines, one at each call, and then the fault, or with the last piece the end."""
+    def given(self, name, pieces, fault=None, last=None):
+        """A library that gives these pieces of lines, one at each call, and then the fault, or with the last piece the end: of entries this last
+        line, or that of their number."""
+        is_counted = name == "entries" and not fault
+        if is_counted:
+            last = b'{"entries":%d}\n' % sum(piece.count(b"\n") for piece in pieces) if last is None else last
+            pieces = [*pieces[:-1], b"".join(pieces[-1:]) + last]
+
         def answer(call):
             (data,), (offset, number) = call.inputs, call.position
             at = counts.index(offset)
             if at == len(pieces):
                 return call.give(REFUSED if fault else DONE, b"fault\n" if fault else b"", fault or fake.NO_FAULT)
             call.move_to(counts[at + 1], number + 1)
-            return call.give(DONE if not fault and counts[at + 1] == len(data) else MORE, pieces[at])
+            return call.give(DONE if not fault and counts[at + 1] == len(data) + is_counted else MORE, pieces[at])
 
         counts = [0]
         for piece in pieces:
             counts.append(counts[-1] + piece.count(b"\n"))
-        return fake.library(**{name: answer}), counts[-1] + bool(fault)
+        return fake.library(**{name: answer}), counts[-1] + bool(fault) - is_counted
 
     def read(self, name, pieces, fault=None):
         """What comes of these pieces, and then of the fault."""
@@ -614,8 +630,8 @@ class Listings(unittest.TestCase):
                 call.move_to(7, 7)
                 return call.give(OUT_OF_MEMORY, MEMORY, (_library.MEMORY, 0, NONE))
             offset, number = call.position
-            call.move_to(offset + 1, number + 1)
-            return call.give(DONE if offset else MORE, OTHER if offset else ENTRY)
+            call.move_to(offset + 1 + bool(offset), number + 1)
+            return call.give(*((DONE, OTHER + COUNT) if offset else (MORE, ENTRY)))
 
         with fake.library(entries=answer):
             listing = ima_verify.entries(b"xx")
@@ -626,9 +642,9 @@ class Listings(unittest.TestCase):
         with fake.answering("events", OUT_OF_MEMORY, MEMORY, (_library.MEMORY, 0, NONE)):
             self.assertRaises(MemoryError, ima_verify.events, b"x")
 
-    def check_wrong(self, name, pieces, fault=None):
+    def check_wrong(self, name, pieces, fault=None, last=None):
         """After what is wrong nothing is read, nor is it if one tries once more."""
-        library, size = self.given(name, pieces, fault)
+        library, size = self.given(name, pieces, fault, last)
         with library, self.assertRaises(ima_verify.LibraryError, msg=repr(pieces)):
             listing = getattr(ima_verify, name)(size * b"x")
             with self.assertRaises(ima_verify.LibraryError):
@@ -642,6 +658,18 @@ class Listings(unittest.TestCase):
             self.check_wrong("entries", [text], fake.fault_of(Kind.LIST, 1, 2))
         self.check_wrong("entries", [ENTRY, ENTRY])
         self.check_wrong("entries", [ENTRY, b"{}\n"], fake.fault_of(Kind.LIST, 1, 2))
+
+    def test_entries_without_their_number_are_cut(self):
+        for last in (b"", COUNT + COUNT, COUNT.replace(b"2", b"1"), COUNT.replace(b"2", b"3"), COUNT.replace(b"2", b'"2"'), b"{}\n", b"\n",
+                     COUNT.replace(b"entries", b"count"), COUNT.replace(b"}", b',"fault":null}'), COUNT + b"\n"):
+            self.check_wrong("entries", [ENTRY + OTHER], last=last)
+            self.check_wrong("entries", [ENTRY, OTHER], last=last)
+        for pieces in ([COUNT + ENTRY + OTHER], [ENTRY + COUNT, OTHER], [ENTRY + COUNT + OTHER]):
+            self.check_wrong("entries", pieces)
+        self.check_wrong("entries", [], last=COUNT)
+        self.check_wrong("entries", [ENTRY + OTHER + COUNT], fake.fault_of(Kind.LIST, 1, 2))
+        with fake.answering("entries", DONE, b""), self.assertRaises(ima_verify.LibraryError):
+            list(ima_verify.entries(b""))
 
     def test_pieces_that_cannot_be_are_errors(self):
         for name, text in (("entries", ENTRY), ("events", ALGORITHMS)):

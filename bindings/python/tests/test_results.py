@@ -50,6 +50,10 @@ def registers_in(text):
     return tuple(Register(Algorithm(bank), int(number), bytes.fromhex(value)) for bank, number, value in words)
 
 
+# The expected value of register 10.
+TENTH = registers_in(EXPECTED)[10].value
+
+
 def state_of(register):
     return State.DIFFER if register.register == 10 else State.MATCH
 
@@ -59,8 +63,9 @@ class Sample(unittest.TestCase):
 
     def test_verdict_on_the_sample_is_a_match(self):
         verdict = ima_verify.verify(LOG, LIST, EXPECTED, require=NOTHING)
-        rows = tuple(Row(row.algorithm, row.register, State.MATCH) for row in registers_in(EXPECTED))
-        lines = ",".join(f'{{"bank":"sha256","register":{number},"state":"match"}}' for number in range(24))
+        wanted = registers_in(EXPECTED)
+        rows = tuple(Row(row.algorithm, row.register, State.MATCH, expected=row.value) for row in wanted)
+        lines = ",".join(f'{{"bank":"sha256","register":{row.register},"expected":"{row.value.hex()}","state":"match"}}' for row in wanted)
         line = f'{{"events":24,"locality":0,"entries":99,"boot_aggregate":"good","registers":[{lines}],"verdict":"match"}}'
         self.assertEqual(verdict, ima_verify.Verdict(24, 0, 99, BootAggregate.GOOD, rows, True, line))
         self.assertTrue(verdict)
@@ -89,13 +94,13 @@ class Sample(unittest.TestCase):
     def test_list_that_went_on_differs_in_register_10(self):
         verdict = ima_verify.verify(LOG, LONGER, EXPECTED, require=NOTHING)
         differing = [row for row in verdict.rows if row.state is not State.MATCH]
-        self.assertEqual(differing, [Row(Algorithm.SHA256, 10, State.DIFFER, AFTER_LONGER)])
+        self.assertEqual(differing, [Row(Algorithm.SHA256, 10, State.DIFFER, AFTER_LONGER, TENTH)])
         self.assertEqual((verdict.entries, verdict.boot_aggregate, verdict.matches), (100, BootAggregate.GOOD, False))
         self.assertFalse(verdict)
 
     def test_list_that_went_on_is_located_before_its_end(self):
         places = ima_verify.locate(LOG, LONGER, EXPECTED, require=NOTHING)
-        self.assertEqual([row for row in places.rows if row.register == 10], [PlaceRow(Algorithm.SHA256, 10, Place.ENTRY, 98)])
+        self.assertEqual([row for row in places.rows if row.register == 10], [PlaceRow(Algorithm.SHA256, 10, Place.ENTRY, 98, TENTH)])
         self.assertTrue(places.located and places)
         self.assertEqual(len(places.rows), 24)
 
@@ -103,9 +108,10 @@ class Sample(unittest.TestCase):
         text = f"sha1 10 {ZERO[Algorithm.SHA1]}\nsha256 10 {64 * '1'}\nsha256 8 {ZERO[Algorithm.SHA256]}"
         verdict, places = ima_verify.verify(LOG, LONGER, text, require=NOTHING), ima_verify.locate(LOG, LONGER, text, require=NOTHING)
         absent, differing, matching = verdict.rows
-        self.assertEqual(absent, Row(Algorithm.SHA1, 10, State.ABSENT))
-        self.assertEqual(differing, Row(Algorithm.SHA256, 10, State.DIFFER, AFTER_LONGER))
-        self.assertEqual(matching, Row(Algorithm.SHA256, 8, State.MATCH))
+        self.assertEqual(absent, Row(Algorithm.SHA1, 10, State.ABSENT, expected=bytes(20)))
+        self.assertEqual(differing, Row(Algorithm.SHA256, 10, State.DIFFER, AFTER_LONGER, 32 * b"\x11"))
+        self.assertEqual(matching, Row(Algorithm.SHA256, 8, State.MATCH, expected=bytes(32)))
+        self.assertEqual([row.expected for row in places.rows], [row.expected for row in verdict.rows])
         self.assertEqual([(row.place, row.number) for row in places.rows],
                          [(Place.ABSENT, None), (Place.NOWHERE, None), (Place.RESET, None)])
         self.assertFalse(verdict.matches or places.located or verdict or places)
@@ -457,8 +463,9 @@ class ListAlone(unittest.TestCase):
     TENTH = EXPECTED.splitlines(True)[10]
 
     def test_register_of_the_list_matches(self):
-        row = Row(Algorithm.SHA256, 10, State.MATCH)
-        line = '{"entries":99,"registers":[{"bank":"sha256","register":10,"state":"match"}],"verdict":"match"}'
+        row = Row(Algorithm.SHA256, 10, State.MATCH, expected=TENTH)
+        row_line = f'{{"bank":"sha256","register":10,"expected":"{TENTH.hex()}","state":"match"}}'
+        line = f'{{"entries":99,"registers":[{row_line}],"verdict":"match"}}'
         wanted = ima_verify.ListVerdict(99, (row,), True, line)
         for listed, expected in ((LIST, self.TENTH), (bytearray(LIST), self.TENTH.decode())):
             verdict = ima_verify.replay(listed, expected, require="sha256:10")
@@ -478,18 +485,18 @@ class ListAlone(unittest.TestCase):
         after_log = {register.register for register in registers_in(REGISTERS)}
         states = {row.register: row.state for row in verdict.rows}
         self.assertEqual(states, {number: State.DIFFER if number in after_log else State.MATCH for number in range(24)})
-        self.assertEqual(verdict.rows[0], Row(Algorithm.SHA256, 0, State.DIFFER, bytes(32)))
+        self.assertEqual(verdict.rows[0], Row(Algorithm.SHA256, 0, State.DIFFER, bytes(32), registers_in(EXPECTED)[0].value))
         self.assertEqual((verdict.matches, bool(verdict), verdict.compared), (False, False, 24))
 
     def test_list_that_went_on_differs(self):
         verdict = ima_verify.replay(LONGER, self.TENTH, require="sha256:10")
-        self.assertEqual(verdict.rows, (Row(Algorithm.SHA256, 10, State.DIFFER, AFTER_LONGER),))
+        self.assertEqual(verdict.rows, (Row(Algorithm.SHA256, 10, State.DIFFER, AFTER_LONGER, TENTH),))
         self.assertEqual((verdict.matches, verdict.entries), (False, 100))
 
     def test_required_register_that_is_not_expected_is_missing(self):
         verdict = ima_verify.replay(LIST, self.TENTH, require="sha1:10,sha256:10")
         missing = Row(Algorithm.SHA1, 10, State.MISSING)
-        self.assertEqual(verdict.rows, (Row(Algorithm.SHA256, 10, State.MATCH), missing))
+        self.assertEqual(verdict.rows, (Row(Algorithm.SHA256, 10, State.MATCH, expected=TENTH), missing))
         self.assertEqual((verdict.matches, verdict.compared), (False, 1))
         for empty in (b"", "\n"):
             verdict = ima_verify.replay(LIST, empty, require="sha1:10")
@@ -498,7 +505,7 @@ class ListAlone(unittest.TestCase):
     def test_list_without_entries_never_matches(self):
         for empty in (b"", bytearray()):
             verdict = ima_verify.replay(empty, f"sha256 10 {ZERO[Algorithm.SHA256]}", require="sha256:10")
-            self.assertEqual(verdict.rows, (Row(Algorithm.SHA256, 10, State.MATCH),))
+            self.assertEqual(verdict.rows, (Row(Algorithm.SHA256, 10, State.MATCH, expected=bytes(32)),))
             self.assertEqual((verdict.matches, bool(verdict), verdict.entries), (False, False, 0))
 
     def test_requirement_is_given_and_of_its_form(self):
@@ -512,7 +519,7 @@ class ListAlone(unittest.TestCase):
 
     def test_nothing_may_be_required(self):
         verdict = ima_verify.replay(LIST, self.TENTH, require=NOTHING)
-        self.assertEqual((verdict.rows, verdict.matches), ((Row(Algorithm.SHA256, 10, State.MATCH),), True))
+        self.assertEqual((verdict.rows, verdict.matches), ((Row(Algorithm.SHA256, 10, State.MATCH, expected=TENTH),), True))
         for empty in (b"", "\n"):
             verdict = ima_verify.replay(LIST, empty, require=NOTHING)
             self.assertEqual((verdict.rows, verdict.matches, verdict.compared, verdict.entries), ((), False, 0, 99))
@@ -539,6 +546,8 @@ class ExpectedRegisters(unittest.TestCase):
         lines = EXPECTED.splitlines(True)
         self.assertEqual(ima_verify.expected(PRINTED, "0-10"), b"".join(lines[:11]))
         self.assertEqual(ima_verify.expected(PRINTED, registers="10"), lines[10])
+        for selection in ("sha256:0-10", "0-7,8+9-10", "sha1:all,sha256:0-9,10"):
+            self.assertEqual(ima_verify.expected(PRINTED, selection), b"".join(lines[:11]))
 
     def test_they_are_verified(self):
         text = ima_verify.expected(PRINTED, registers="0-10")
@@ -564,7 +573,7 @@ class ExpectedRegisters(unittest.TestCase):
             self.assertEqual((found.message, found.number, found.place), (f"refused: expected fault {number}", number, None))
 
     def test_wrong_range_is_a_misuse(self):
-        for wrong in ("24", "10-0", "0-", "-", " ", "sha256:0", "\u00e4"):
+        for wrong in ("24", "10-0", "0-", "-", " ", "sha256:24", "0,", "sha256", "\u00e4"):
             text = f"^not of its form: {re.escape(repr(wrong))}$"
             self.assertRaisesRegex(ima_verify.Misuse, text, ima_verify.expected, PRINTED, wrong)
         for wrong in (10, 0, False, b"10"):

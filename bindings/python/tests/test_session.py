@@ -2,10 +2,8 @@
 
 From bindings/python: IMA_VERIFY_LIBRARY=/path/to/libima_verify.so python3 -m unittest discover tests"""
 
-import contextlib
 import copy
 import hashlib
-import io
 import pickle
 import sys
 import threading
@@ -39,8 +37,9 @@ NONCE = bytes.fromhex((ROOT / "samples/quoted/nonce").read_text())
 TEN = b"".join(EXPECTED.splitlines(True)[:10])
 
 STATE = b"ima-agent checkpoint 3\nentries 3\nbytes 300\nboot_aggregate none\n"
+MATCHING = b'"expected":"' + 64 * b"e" + b'","state":"match"'
 REPORT = (b'{"events":1,"locality":0,"entries":3,"boot_aggregate":"good",'
-          b'"registers":[{"bank":"sha256","register":10,"state":"match"}],"verdict":"match"}\n')
+          b'"registers":[{"bank":"sha256","register":10,"expected":"' + 64 * b"e" + b'","state":"match"}],"verdict":"match"}\n')
 DIFFERING = REPORT.replace(b'"match"}\n', b'"differ"}\n').replace(b'"good"', b'"wrong"')
 FRONT = REPORT.replace(b'"entries":3,', b'"entries":5,"confirmed":3,')
 TOLD = (b'"confirmed":3,"unconfirmed":{"kind":"replay","number":1,"entry":4,"message":"unconfirmed: replay fault 1 at entry 4"},')
@@ -414,22 +413,21 @@ class Page(unittest.TestCase):
 
     def judge(self, *words):
         page = (ROOT / "bindings/python/README.md").read_text()
-        program, said = {"ima_verify": ima_verify}, io.StringIO()
+        program = {"ima_verify": ima_verify}
         exec("def judge(" + page.split("```python\ndef judge(")[1].split("```")[0], program)
-        with contextlib.redirect_stdout(said):
-            verdict, state = program["judge"](LOG, *words)
-        return verdict.matches, state, said.getvalue()
+        verdict, state = program["judge"](LOG, *words)
+        return verdict.matches, state, (verdict.confirmed, verdict.entries)
 
     def test_list_is_judged_as_it_grows(self):
-        wanted = True, state_after(50), "50 of 60 entries are confirmed\n"
+        wanted = True, state_after(50), (50, 60)
         self.assertEqual(self.judge(tenth_after(50), None, lambda start: LIST[start:ENDS[60]]), wanted)
         self.assertEqual(self.judge(tenth_after(60), wanted[1], lambda start: changed(61)[start:])[:2], (True, state_after(60)))
-        self.assertEqual(self.judge(EXPECTED, wanted[1], lambda start: LIST[start:ENDS[98]]), (False, wanted[1], ""))
+        self.assertEqual(self.judge(EXPECTED, wanted[1], lambda start: LIST[start:ENDS[98]])[:2], (False, wanted[1]))
 
     def test_front_that_is_not_apart_from_the_log_is_no_state(self):
         listed = list_spelling(Apart.STRAYING)
         for state in (None, state_after(30)):
-            self.assertEqual(self.judge(Apart.AFTER_60, state, lambda start: listed[start:]), (False, state, ""))
+            self.assertEqual(self.judge(Apart.AFTER_60, state, lambda start: listed[start:])[:2], (False, state))
         self.assertTrue(self.judge(tenth_after(40), None, lambda start: listed[start:])[0])
 
 
@@ -672,7 +670,7 @@ class Answers(unittest.TestCase):
             (b'"confirmed":3', b'"confirmed":null'), (b'"confirmed":3', b'"confirmed":4'), (b'"confirmed":3', b'"confirmed":2'),
             (b'"confirmed":3,', b""), (b'"confirmed":3', b'"unconfirmed":3'), (b'"confirmed":3,', TOLD[len(b'"confirmed":3,'):]),
             (b'"entries":5', b'"entries":2'), (b'"verdict":"match"', b'"verdict":"differ"'), (b'"good"', b'"wrong"'),
-            (b'"state":"match"', b'"state":"missing"'),
+            (MATCHING, b'"state":"missing"'),
         ):
             self.assertIn(old, FRONT)
             self.check_wrong(0, FRONT.replace(old, new, 1), True)
@@ -691,7 +689,7 @@ class Answers(unittest.TestCase):
                 self.check_wrong(1, text, False)
                 self.check_wrong(1, text, True, state=STATE)  # (only a match has one)
                 for old, new in ((extends, b'"verdict":"differ"'), (b'"verdict":"differ"', b'"verdict":"match"'), (b'"good"', b'"wrong"'),
-                                 (b'"state":"match"', b'"state":"missing"'), (b'"entry":2,"register":11', b'"entry":3,"register":11')):
+                                 (MATCHING, b'"state":"missing"'), (b'"entry":2,"register":11', b'"entry":3,"register":11')):
                     if old in text:
                         self.check_wrong(1, text.replace(old, new), True)
             whole = REPORT.replace(b'"verdict":"match"', extends)
@@ -770,7 +768,7 @@ class Answers(unittest.TestCase):
             self.assertEqual(session.state, later)
 
     def test_report_of_no_registers_is_no_match(self):
-        row = b'{"bank":"sha256","register":10,"state":"match"}'
+        row = b'{"bank":"sha256","register":10,"expected":"' + 64 * b"e" + b'","state":"match"}'
         for text, has_front in ((REPORT, False), (FRONT, True)):
             self.check_wrong(0, text.replace(row, b""), has_front)
             self.check_wrong(1, text.replace(row, b""), has_front)

@@ -190,7 +190,8 @@ impl Answer {
         self.read(|answer| {
             let PlacesLine { registers: rows, located, .. } = object(&answer.text)?;
             let are_reached = rows.iter().all(|row| !matches!(row.place, Place::Nowhere | Place::Absent | Place::Missing));
-            let says = located == (are_reached && !rows.is_empty()) && answer.says(located);
+            let fit = rows.iter().all(|row| is_expected(row.algorithm, row.expected.as_deref(), row.place == Place::Missing));
+            let says = fit && located == (are_reached && !rows.is_empty()) && answer.says(located);
             says.then_some(Places { located, rows, json: answer.line()? })
         })
     }
@@ -243,9 +244,10 @@ impl Answer {
         let rows = &report.registers;
         let matches = is_good && rows.iter().all(|row| row.state == State::Match);
         let fit = rows.iter().all(|row| match &row.state {
-            State::Differ(value) => value.len() == row.algorithm.digest_size(),
+            State::Differ(value) => value.len() == row.algorithm.digest_size() && Some(value) != row.expected.as_ref(),
             _ => true,
         });
+        let fit = fit && rows.iter().all(|row| is_expected(row.algorithm, row.expected.as_deref(), row.state == State::Missing));
         let says = self.says(matches) && matches == (report.verdict == Said::Match);
         (says && fit).then_some(matches)
     }
@@ -556,6 +558,13 @@ struct AfterConfirmed {
 }
 
 #[derive(Deserialize)]
+pub(crate) struct EntryCountLine {
+    entries: u64,
+    #[serde(default, rename = "fault")]
+    _fault: NoFault,
+}
+
+#[derive(Deserialize)]
 pub(crate) struct EntryLine {
     entry: u64,
     #[serde(deserialize_with = "register")]
@@ -602,6 +611,16 @@ pub(crate) fn bytes<'de, D: Deserializer<'de>>(from: D) -> Result<Vec<u8>, D::Er
     pairs.collect::<Option<_>>().ok_or_else(|| D::Error::custom("no hexadecimal"))
 }
 
+/// An expected value, of a row that has one.
+pub(crate) fn some_bytes<'de, D: Deserializer<'de>>(from: D) -> Result<Option<Vec<u8>>, D::Error> {
+    bytes(from).map(Some)
+}
+
+/// Whether a row has an expected value of the bank's size, or none if it is missing.
+fn is_expected(algorithm: Algorithm, expected: Option<&[u8]>, is_missing: bool) -> bool {
+    expected.map(<[u8]>::len) == (!is_missing).then(|| algorithm.digest_size())
+}
+
 pub(crate) fn register<'de, D: Deserializer<'de>>(from: D) -> Result<u8, D::Error> {
     let register = u8::deserialize(from)?;
     if register < REGISTERS {
@@ -622,6 +641,11 @@ pub(crate) fn object<T: DeserializeOwned>(line: &[u8]) -> Option<T> {
 
 pub(crate) fn algorithms(line: AlgorithmsLine, _: u64) -> Option<Vec<LogAlgorithm>> {
     Some(line.algorithms)
+}
+
+/// Reads the line after the last of so many entries.
+pub(crate) fn entry_count(line: EntryCountLine, entries: u64) -> Option<()> {
+    (line.entries == entries).then_some(())
 }
 
 pub(crate) fn entry(line: EntryLine, number: u64) -> Option<Entry> {

@@ -129,6 +129,9 @@ pub struct Row {
     /// The PCR's number, from 0 to 23.
     #[serde(deserialize_with = "answers::register")]
     pub register: u8,
+    /// The expected value; none if the state is [`State::Missing`].
+    #[serde(default, deserialize_with = "answers::some_bytes")]
+    pub expected: Option<Vec<u8>>,
     /// How it compares.
     #[serde(flatten)]
     pub state: State,
@@ -341,7 +344,7 @@ pub enum Place {
 }
 
 /// Where an expected PCR first has its value, or that a required one is missing.
-#[derive(Debug, Clone, Copy, PartialEq, Eq, Hash, Deserialize)]
+#[derive(Debug, Clone, PartialEq, Eq, Hash, Deserialize)]
 #[non_exhaustive]
 pub struct PlaceRow {
     /// The algorithm of the PCR's bank.
@@ -350,6 +353,9 @@ pub struct PlaceRow {
     /// The PCR's number, from 0 to 23.
     #[serde(deserialize_with = "answers::register")]
     pub register: u8,
+    /// The expected value; none if the place is [`Place::Missing`].
+    #[serde(default, deserialize_with = "answers::some_bytes")]
+    pub expected: Option<Vec<u8>>,
     /// Where it has its value.
     #[serde(flatten)]
     pub place: Place,
@@ -584,7 +590,7 @@ impl FusedIterator for Events<'_> {}
 #[derive(Debug, Clone, Copy, PartialEq, Eq, Hash)]
 #[non_exhaustive]
 pub enum Kind {
-    /// The requirement, or the range of PCRs, is not of its form, or does not suit a quote or known files; or a nonce is too short. It
+    /// The selection of PCRs, required or asked for, is not of its form, or does not suit a quote or known files; or a nonce is too short. It
     /// has no number.
     Argument,
     /// The firmware event log.
@@ -609,7 +615,7 @@ pub enum Kind {
 #[derive(Debug, Clone, PartialEq, Eq, Hash)]
 #[non_exhaustive]
 pub enum Error {
-    /// An input is refused, or a requirement or a range. `docs/errors.txt` says what each number means.
+    /// An input or a selection is refused. `docs/errors.txt` says what each number means.
     #[non_exhaustive]
     Refused {
         /// What `ima-agent` prints, such as `refused: replay fault 1 at entry 5`.
@@ -811,17 +817,17 @@ pub fn replay<'a>(list: &[u8], expected: &[u8], require: impl Into<Required<'a>>
 }
 
 /// The lines of expected PCRs, as [`verify`] takes them, that a text which tpm2_pcrread or tpm2_checkquote printed states: of the PCRs
-/// in a range, such as `0-10` or `4`, or of all.
+/// that a selection has, such as `sha256:0-10` or `0-7,10`, or of all.
 ///
 /// Nothing says who wrote the text, nor whether a quote holds: take the values of a quote that was checked, or of a trusted machine.
 ///
 /// # Errors
 ///
-/// [`Error::Refused`] if the range is not of its form, if the text is not, or if it has none of the PCRs; otherwise as for
+/// [`Error::Refused`] if the selection is not of its form, if the text is not, or if it has none of the PCRs; otherwise as for
 /// [`verify`].
 pub fn expected(printed: &[u8], registers: Option<&str>) -> Result<Vec<u8>, Error> {
-    let range = registers.unwrap_or_default();
-    ask(|out| library::expected(printed, range.as_bytes(), out))?.lines()
+    let selection = registers.unwrap_or_default();
+    ask(|out| library::expected(printed, selection.as_bytes(), out))?.lines()
 }
 
 /// The PCRs that differ from their reset values after a firmware event log.

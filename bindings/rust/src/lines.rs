@@ -1,6 +1,6 @@
 //! Lines of entries and of events, which the library gives by pieces.
 
-use crate::answers::{algorithms, entry, event, object, Answer};
+use crate::answers::{algorithms, entry, entry_count, event, object, Answer};
 use crate::library::{ask, entries, events, zeros, Position, Told, DONE, MORE, ROOM};
 use crate::{Entry, Error, Event, LogAlgorithm};
 use serde::de::DeserializeOwned;
@@ -28,7 +28,7 @@ impl Source for OfList<'_> {
     }
 
     fn is_empty(&self) -> bool {
-        self.list.is_empty()
+        self.list.is_empty() && !self.json // (as JSON the last line says how many entries there are)
     }
 }
 
@@ -125,7 +125,7 @@ impl<S: Source> Lines<S> {
         let Some(at) = rest.iter().position(|byte| *byte == b'\n') else { return Ok(None) };
         let line = &rest[..=at];
         let Some(item) = object(line).and_then(|value| read(value, self.number)) else {
-            return Err(Error::Unexpected { result: self.result, size: line.len(), text: line.to_vec() });
+            return Err(self.unexpected(line));
         };
         (self.start, self.number) = (self.start + line.len(), self.number + 1);
         Ok(Some(item))
@@ -136,7 +136,34 @@ impl<S: Source> Lines<S> {
     }
 
     pub(crate) fn next_entry(&mut self) -> Option<Result<Entry, Error>> {
-        self.next(entry)
+        if self.is_over {
+            return None;
+        }
+        match self.ends_with_count() {
+            Ok(false) => self.next(entry),
+            end => {
+                self.is_over = true;
+                end.err().map(Err)
+            }
+        }
+    }
+
+    /// Whether the next line is the last one. It says how many entries there are, or the list was cut.
+    fn ends_with_count(&mut self) -> Result<bool, Error> {
+        if self.start == self.end {
+            self.fill()?;
+        }
+        let rest = &self.buffer[self.start..self.end];
+        let at = rest.iter().position(|byte| *byte == b'\n');
+        if self.result != DONE || at.map_or(true, |at| at + 1 < rest.len()) {
+            return Ok(false);
+        }
+        let counted = object(rest).and_then(|line| entry_count(line, self.number));
+        counted.map(|()| true).ok_or_else(|| self.unexpected(rest))
+    }
+
+    fn unexpected(&self, line: &[u8]) -> Error {
+        Error::Unexpected { result: self.result, size: line.len(), text: line.to_vec() }
     }
 
     pub(crate) fn next_event(&mut self) -> Option<Result<Event, Error>> {

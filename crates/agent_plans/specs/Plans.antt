@@ -29,7 +29,7 @@ task_of (plans.Measure alg template workers limit print log files) = (
   forms.Text,
 )
 task_of (plans.Verify log list expected) =
-    (tasks.Answer (questions.Judge (record { judged = judged.Verdict log Whole None None; list = list; expected = expected; required = None; known = None })), forms.Text)
+    (tasks.Answer (questions.Judge (record { judged = judged.Verdict log Whole None None; list = list; expected = expected; required = None; known = None; explained = false })), forms.Text)
 task_of (plans.Show list) = (tasks.Entries list, forms.Text)
 task_of (plans.Help text) = (tasks.Help text, forms.Text)
 task_of (plans.Task task form) = (task, form)
@@ -37,14 +37,14 @@ task_of (plans.Task task form) = (task, form)
 -- ---- one plan for each
 
 -- The verdict on a whole list, and nothing more.
-abbrev pub is_plain_verdict : Judged → Option (String Global) → Option (Vec (String Global)) → Bool
-is_plain_verdict (judged.Verdict log Whole None None) None None = true
-is_plain_verdict judged required known = false
+abbrev pub is_plain_verdict : Judged → Option (String Global) → Option (Vec (String Global)) → Bool → Bool
+is_plain_verdict (judged.Verdict log Whole None None) None None false = true
+is_plain_verdict judged required known explained = false
 
 -- Some other plan than `Task` requests this, as text.
 abbrev pub has_plan : Task → Bool
 has_plan tasks.Registers = true
-has_plan (tasks.Answer (questions.Judge judge)) = is_plain_verdict judge.judged judge.required judge.known
+has_plan (tasks.Answer (questions.Judge judge)) = is_plain_verdict judge.judged judge.required judge.known judge.explained
 has_plan (tasks.Measure request) = not (is_some request.names)
 has_plan (tasks.Entries list) = true
 has_plan (tasks.Help text) = true

@@ -95,6 +95,8 @@ pub struct Judge {
     pub required: Option<String>,
     /// The names of the texts of known files, if there are some: only for a verdict, and only where registers are required.
     pub known: Option<Vec<String>>,
+    /// Whether standard error says what to do next even if it is no terminal.
+    pub explained: bool,
 }
 
 /// A quote of a log and a list, and what it must be.
@@ -131,6 +133,8 @@ pub struct Attest {
     pub resume: Option<String>,
     /// The name under which the checkpoint is saved, if it is.
     pub save: Option<String>,
+    /// Whether standard error says what to do next even if it is no terminal.
+    pub explained: bool,
 }
 
 /// What tells which data of a log is confirmed.
@@ -334,6 +338,7 @@ impl Plan {
                     expected,
                     required: None,
                     known: None,
+                    explained: false,
                 };
                 (Task::Answer(Question::Judge(judge)), Form::Text)
             }
@@ -392,8 +397,9 @@ fn judge_plan(judge: Judge) -> Plan
         expected,
         required,
         known,
+        explained,
     } = judge;
-    match (judged, required, known) {
+    match (judged, required, known, explained) {
         (
             Judged::Verdict {
                 log,
@@ -403,18 +409,20 @@ fn judge_plan(judge: Judge) -> Plan
             },
             None,
             None,
+            false,
         ) => Plan::Verify {
             log,
             list,
             expected,
         },
-        (judged, required, known) => {
+        (judged, required, known, explained) => {
             let judge = Judge {
                 judged,
                 list,
                 expected,
                 required,
                 known,
+                explained,
             };
             Plan::Task(Task::Answer(Question::Judge(judge)), Form::Text)
         }

@@ -82,7 +82,7 @@ pub const MEASURE: Command = Command {
 };
 
 /// Every command.
-pub static COMMANDS: [Command; 17] = [
+pub static COMMANDS: [Command; 18] = [
     Command {
         arguments: &[],
         status: 0,
@@ -143,6 +143,11 @@ verdict match
     },
     Command {
         arguments: &["verify", "log", "list", "values"],
+        status: 1,
+        output: REPORT,
+    },
+    Command {
+        arguments: &["verify", "--explain", "log", "list", "values"],
         status: 1,
         output: REPORT,
     },

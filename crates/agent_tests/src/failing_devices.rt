@@ -2,10 +2,15 @@
 
 use crate::commands::{COMMANDS, Command, FAULTS, FILES};
 use crate::devices::{PieceFiles, answered, arguments_of};
-use ima_agent::{NoProgress, exit_code, run};
+use ima_agent::{
+    Failure, FileProgress, NoProgress, Progress, exit_code, hint, run, run_with_progress,
+};
+use std::alloc::Global;
 use std::io::{Error, ErrorKind};
 use std::process::{Abort, ExitCode};
+use std::rt::Files as FileSystem;
 use std::sync::Wait;
+use std::sync::atomic::{AtomicBool, Ordering};
 use std::test::Fail;
 use std::thread::Threads;
 use test_kit::sinks::PieceSink;
@@ -106,7 +111,7 @@ fn each_write_of_an_output_fails(rt: HostRuntime) -> Result<(), Fail> {
 #[test]
 fn exit_codes(rt: HostRuntime) -> Result<(), Fail> {
     let opened = [
-        1, 1, 1, 2, 3, 1, 1, 2, 1, 1, 3, 3, 5, 3, 3, 1, 2, 1, 1, 3, 1,
+        1, 1, 1, 2, 3, 1, 1, 2, 1, 1, 3, 3, 3, 5, 3, 3, 1, 2, 1, 1, 3, 1,
     ];
     for (command, opened) in COMMANDS.iter().chain(&FAULTS).zip(opened) {
         let arguments = arguments_of(rt.alloc(), command.arguments)?;
@@ -123,6 +128,50 @@ fn exit_codes(rt: HostRuntime) -> Result<(), Fail> {
         assert!(rt; code == ExitCode::from(command.status) && sink.is_full());
         assert_eq!(rt; files.opened, opened);
     }
+    Ok(())
+}
+
+/// Looks for what to do next, in the system's files.
+#[derive(Drop)]
+struct SecondLook<'a, R> {
+    runtime: &'a R,
+    /// Whether it found something.
+    has_hint: AtomicBool,
+}
+
+impl<R: FileSystem + Sync> FileProgress for SecondLook<'_, R> {
+    fn done(&self, _files: u32, _all: u32) {}
+
+    fn ended(&self) {}
+}
+
+impl<R: FileSystem + Sync> Progress for SecondLook<'_, R> {
+    fn waits(&self) {}
+
+    fn explain(&self, alloc: Global, failure: Failure<'_>) {
+        if let Ok(text) = hint(self.runtime, alloc, failure) {
+            if !text.is_empty() {
+                self.has_hint.store(true, Ordering::SeqCst);
+            }
+        }
+    }
+}
+
+/// Files that cannot be read a second time give no hint, and the output is the same.
+#[test]
+fn second_look_fails(rt: HostRuntime) -> Result<(), Fail> {
+    let look = SecondLook {
+        runtime: &rt,
+        has_hint: AtomicBool::new(false),
+    };
+    for command in COMMANDS.iter().chain(&FAULTS) {
+        let arguments = arguments_of(rt.alloc(), command.arguments)?;
+        let mut files = PieceFiles::whole(&FILES);
+        let mut sink = PieceSink::failing(command.output, usize::MAX, usize::MAX);
+        let status = run_with_progress(&rt, rt.alloc(), &arguments, &mut files, &mut sink, &look);
+        assert!(rt; status == command.status && sink.is_full());
+    }
+    assert!(rt; !look.has_hint.load(Ordering::SeqCst));
     Ok(())
 }
 

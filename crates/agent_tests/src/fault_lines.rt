@@ -16,7 +16,7 @@ fn line_of(alloc: Global, fault: &RunFault) -> Result<Vec<u8>, Failed> {
     })
 }
 
-/// By the table of fault lines of docs/formats.md.
+/// By the table of fault lines of docs/cli.md.
 #[test]
 fn faults_of_workers(rt: HostRuntime) -> Result<(), Fail> {
     let last = RunFault::Outcome {

@@ -34,6 +34,8 @@ impl FileProgress for Notes {
 }
 
 impl Progress for Notes {
+    fn waits(&self) {}
+
     fn explain(&self, _alloc: Global, _failure: Failure<'_>) {}
 }
 

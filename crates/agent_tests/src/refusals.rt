@@ -31,7 +31,9 @@ fn ran_with_room(
 
 /// Whether the command explains events, the lines of which are written as they are read, and its output begins so.
 fn is_begun(command: &Command, before: &[u8]) -> bool {
-    command.arguments.contains(&"--explain") && command.output.strip_prefix(before).is_some()
+    command.arguments.first() == Some(&"events")
+        && command.arguments.contains(&"--explain")
+        && command.output.strip_prefix(before).is_some()
 }
 
 /// The program answers so; or it says that memory ran out, and does so when it is asked again.

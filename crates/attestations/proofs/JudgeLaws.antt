@@ -21,10 +21,10 @@ use Rattle.ima_list.specs.Spelling.{IsReading}
 use Rattle.ima_list.specs.Replaying.{AreGenuine, IsReplayed, digests_of}
 use Rattle.boot_verdict.specs.declared.report.Aggregate.{Aggregate}
 use Rattle.boot_verdict.specs.declared.report.Aggregate.TheVariants.{Good, Wrong, NoBank, Missing}
-use Rattle.boot_verdict.specs.declared.requirement.BankRange.{BankRange}
+use Rattle.boot_verdict.specs.declared.selection.BankRange.{BankRange}
 use Rattle.boot_verdict.specs.declared.verifier.VerifyFault.{VerifyFault}
 use Rattle.boot_verdict.specs.declared.verifier.VerifyFault.TheVariants as verdicts
-use Rattle.boot_verdict.specs.Requirements.{names}
+use Rattle.boot_verdict.specs.Selections.{names}
 use Rattle.boot_verdict.specs.Verdicts.{IsVerifyFault, aggregate_of, is_good, pcr_after_log_and_list, recorded_aggregate}
 use Rattle.tpm_quotes.specs.Spelling.{BankSelection, IsQuote, TpmQuote, all_registers, selects}
 use Rattle.tpm_quotes.specs.Quoting.{confirms}

@@ -11,7 +11,7 @@ use Rattle.ima_list.specs.Replaying.{AreGenuine}
 use Rattle.boot_verdict.specs.declared.report.Aggregate.TheVariants.{Good}
 use Rattle.boot_verdict.specs.declared.verifier.VerifyFault.{VerifyFault}
 use Rattle.boot_verdict.specs.declared.verifier.VerifyFault.TheVariants as verdicts
-use Rattle.boot_verdict.specs.Requirements.{names}
+use Rattle.boot_verdict.specs.Selections.{names}
 use Rattle.boot_verdict.specs.Verdicts.{IsVerifyFault, aggregate_of, pcr_after_log_and_list, recorded_aggregate}
 use Rattle.tpm_quotes.specs.Spelling.{IsQuote, TpmQuote, selects}
 use Rattle.tpm_quotes.specs.Reading.{quote_fault}

@@ -13,4 +13,5 @@ pub mod PrintedLaws
 pub mod RangeLaws
 pub mod WrittenLaws
 pub mod LineLaws
+pub mod SelectionLaws
 pub mod RequirementLaws

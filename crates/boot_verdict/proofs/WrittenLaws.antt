@@ -14,29 +14,14 @@ use Rattle.pcr_banks.specs.Hashing.{name_of, size_of}
 use Rattle.pcr_banks.specs.Digests.{alg_of, bytes_of}
 use Rattle.pcr_banks.specs.Registers.{register_count}
 use Rattle.boot_verdict.specs.declared.expected.Expected.{Expected}
-use Rattle.boot_verdict.specs.declared.register_range.RegisterRange.{RegisterRange}
 use Rattle.boot_verdict.specs.StatedRegisters.{SayAll, lines_of, same_register, without_return}
 use Rattle.boot_verdict.specs.ExpectedTexts.{IsExpectedText, IsRegisterLine, Spells}
 use Rattle.boot_verdict.specs.declared.printed.Part.{Part}
 use Rattle.boot_verdict.specs.declared.printed.Part.TheVariants.{Printed, Quoted, Signed}
 use Rattle.boot_verdict.specs.PcrReadTexts.{GivesValue, Position}
 use Rattle.boot_verdict.specs.PrintedTexts.{IsPrintedText, PrintedPosition, Prints, PrintsIn}
-use Rattle.boot_verdict.specs.RegisterRanges.{is_within}
-use Rattle.boot_verdict.specs.WrittenTexts.{expected_line, expected_text, those_within}
-use Rattle.boot_verdict.specs.parts.WrittenLines.{line_within}
+use Rattle.boot_verdict.specs.WrittenTexts.{expected_line, expected_text}
 use Rattle.boot_verdict.proofs.ExpectedLaws.{AllAbove, Lacks, feed_cuts, name_above}
-
--- ---- one after another
-
--- The texts of those within the range are those of all, where others have an empty text.
-pub text_within : (range : RegisterRange) (expected : List Expected) → flat_map (line_within range) expected ≡ expected_text range expected
-text_within range [] = refl
-text_within range (e ∷ expected) =
-    let others = text_within range expected in
-    elim (cases_Bool (is_within range e.register)) [
-      | inl within ↦ simp (flat_map-cons, within, others) refl
-      | inr outside ↦ simp (outside, others) refl
-    ]
 
 -- ---- what is left of a list
 
@@ -209,11 +194,17 @@ written_states expected all distinct = record {
   };
 }
 
--- What is written of the registers that a text of tpm2-tools states, states them.
-pub reads_back : (text : List ℕ) (expected : List Expected) (range : RegisterRange) → IsPrintedText text expected
-    → IsExpectedText (expected_text range expected) (those_within range expected)
-reads_back text expected range is =
+-- What is written of the registers that a text of tpm2-tools states, states them: of those that a test passes, and of all.
+pub those_read_back : (text : List ℕ) (expected : List Expected) (test : Expected → Bool) → IsPrintedText text expected
+    → IsExpectedText (expected_text (filter test expected)) (filter test expected)
+those_read_back text expected test is =
     let stated = is.printed.1 in
     let proper = all_proper (lines_of text) (Printed, None) (is.part, is.printed.0) expected stated.say in
-    written_states (those_within range expected) (filter_all (λ e. is_within range e.register) IsProper expected proper)
-    (filter_distinct (λ e. is_within range e.register) expected stated.distinct)
+    written_states (filter test expected) (filter_all test IsProper expected proper) (filter_distinct test expected stated.distinct)
+
+pub all_read_back : (text : List ℕ) (expected : List Expected) → IsPrintedText text expected
+    → IsExpectedText (expected_text expected) expected
+all_read_back text expected is =
+    let stated = is.printed.1 in
+    let proper = all_proper (lines_of text) (Printed, None) (is.part, is.printed.0) expected stated.say in
+    written_states expected proper stated.distinct

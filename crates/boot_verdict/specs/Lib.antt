@@ -13,6 +13,7 @@ pub mod parts
 pub mod PcrReadTexts
 pub mod PrintedTexts
 pub mod RegisterRanges
+pub mod Selections
 pub mod Requirements
 pub mod ListVerdicts
 pub mod WrittenTexts

@@ -10,7 +10,7 @@ use Rattle.boot_verdict.specs.declared.expected.Expected.{Expected}
 use Rattle.boot_verdict.specs.declared.isolation.Strays.{Strays}
 use Rattle.boot_verdict.specs.declared.list_verifier.ListReport.{ListReport}
 use Rattle.boot_verdict.specs.declared.report.Row.{Row}
-use Rattle.boot_verdict.specs.declared.requirement.BankRange.{BankRange}
+use Rattle.boot_verdict.specs.declared.selection.BankRange.{BankRange}
 use Rattle.boot_verdict.specs.Isolation.{are_none, strays_of}
 use Rattle.boot_verdict.specs.ListReplays.{AreTracked}
 use Rattle.boot_verdict.specs.ListSources.{CameWhole}

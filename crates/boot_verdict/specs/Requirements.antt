@@ -1,68 +1,40 @@
--- Registers that must be among the expected ones, and how a text spells them.
-use Rattle.std.specs.Prelude.{◌≡◌, ℕ, ◌&&◌, ◌==◌, not, Bool, true, if◌then◌else◌, List, [], ◌∷◌, ◌++◌, map, codes}
+-- Registers that must be among the expected ones.
+use Rattle.std.specs.Prelude.{◌≡◌, ◌⊎◌, ℕ, ◌&&◌, ◌==◌, not, Bool, true, false, is_some, List, map}
 use Rattle.std.specs.List.{Contains, list_all, list_any}
 use Rattle.pcr_banks.specs.declared.alg.Alg.{Alg}
-use Rattle.pcr_banks.specs.Hashing.{all_algs, name_of, same_alg}
+use Rattle.pcr_banks.specs.Hashing.{all_algs, same_alg}
 use Rattle.boot_verdict.specs.declared.expected.Expected.{Expected}
 use Rattle.boot_verdict.specs.declared.positions.Located.{Located}
 use Rattle.boot_verdict.specs.declared.report.Row.{Row}
 use Rattle.boot_verdict.specs.declared.report.State.TheVariants.{Match}
-use Rattle.boot_verdict.specs.declared.requirement.BankRange.{BankRange}
+use Rattle.boot_verdict.specs.declared.selection.BankRange.{BankRange}
 use Rattle.boot_verdict.specs.Isolation.{are_none, list_register}
-use Rattle.boot_verdict.specs.StatedRegisters.{onto_first}
 use Rattle.boot_verdict.specs.Positions.{all_found}
-use Rattle.boot_verdict.specs.RegisterRanges.{IsRangeText, is_within}
 use Rattle.boot_verdict.specs.RegisterTexts.{all_registers}
+use Rattle.boot_verdict.specs.Selections.{IsFirstWrong, SpellsRanges, names}
 use Rattle.boot_verdict.specs.Verdicts.{Verdict, matches}
 
--- ---- how a text spells them
-
--- The text spells this range of a bank: the bank's name, a colon and a text of the range.
-pub record IsBankRangeText (text : List ℕ) (bank : BankRange) : Type 0 where
-  pub registers : List ℕ
-  pub range_is : IsRangeText registers bank.range
-  pub spelled : text ≡ name_of bank.alg ++ (codes ":" ++ registers)
-
--- A text, split at its commas: one more part than there are commas.
-abbrev pub split_at_commas : List ℕ → List (List ℕ)
-split_at_commas [] = [] ∷ []
-split_at_commas (byte ∷ text) = if byte == 44 then [] ∷ split_at_commas text else onto_first byte (split_at_commas text)
-
--- The parts spell these ranges, one each.
-abbrev pub AreBankRanges : List (List ℕ) → List BankRange → Type 0
-AreBankRanges [] ranges = ranges ≡ []
-AreBankRanges (part ∷ parts) [] = ⊥
-AreBankRanges (part ∷ parts) (first ∷ ranges) = IsBankRangeText part first × AreBankRanges parts ranges
-
--- The text spells these ranges, with a comma between them: at least one, since no part of a text may be empty.
-abbrev pub SpellsRanges : List ℕ → List BankRange → Type 0
-SpellsRanges text ranges = AreBankRanges (split_at_commas text) ranges
-
--- The first part of the text spells a range of a bank.
-pub record BeginsWithBankRange (text : List ℕ) : Type 0 where
-  pub first : List ℕ
-  pub others : List (List ℕ)
-  pub bank : BankRange
-  pub parts : split_at_commas text ≡ first ∷ others
-  pub first_is : IsBankRangeText first bank
-
--- ---- which registers are missing
-
--- Whether the register of the bank of this algorithm is in the range.
-abbrev pub is_in : BankRange → Alg → ℕ → Bool
-is_in bank alg register = same_alg bank.alg alg && is_within bank.range register
-
--- Whether one of the ranges names the register.
-abbrev pub names : List BankRange → Alg → ℕ → Bool
-names ranges alg register = list_any (λ bank. is_in bank alg register) ranges
+-- Whether each is of a bank that is named.
+abbrev pub are_of_banks : List BankRange → Bool
+are_of_banks ranges = list_all (λ bank. is_some bank.alg) ranges
 
 -- Whether they name the list's register in some bank: without it nothing that is required tells of the list.
 abbrev pub bind_list : List BankRange → Bool
 bind_list ranges = list_any (λ alg. names ranges alg list_register) all_algs
 
--- The text spells these ranges, and the list's register is among theirs.
+-- The text selects these registers of banks that it names, and the list's register is among them.
 abbrev pub IsRequirementText : List ℕ → List BankRange → Type 0
-IsRequirementText text ranges = SpellsRanges text ranges × (bind_list ranges ≡ true)
+IsRequirementText text ranges = SpellsRanges text ranges × (are_of_banks ranges ≡ true) × (bind_list ranges ≡ true)
+
+-- A part of the text is the first that is wrong; or it selects registers, but names no bank at first.
+abbrev pub IsWrong : List ℕ → ℕ → Type 0
+IsWrong text at =
+    IsFirstWrong text at ⊎ ((at ≡ 0) × ((ranges : List BankRange) × SpellsRanges text ranges × (are_of_banks ranges ≡ false)))
+
+-- The text selects registers of banks that it names, and not the list's register.
+abbrev pub IsUnbound : List ℕ → Type 0
+IsUnbound text =
+    (ranges : List BankRange) × SpellsRanges text ranges × (are_of_banks ranges ≡ true) × (bind_list ranges ≡ false)
 
 -- Whether this is the expected value of the register.
 abbrev pub is_of : Expected → Alg → ℕ → Bool

@@ -1,7 +1,6 @@
 pub mod StatedLines
 pub mod LogPositions
 pub mod Rows
-pub mod WrittenLines
 pub mod RangeEnds
-pub mod RequirementParts
+pub mod SelectionParts
 pub mod RowTrackers

@@ -1,15 +1,15 @@
 //! Ranges of registers.
 
-ghost use Rattle.std.specs.Prelude.{◌≡◌, ℕ, nat_lt, IfSome, IfNone};
-ghost use Rattle.pcr_banks.specs.Registers.{register_count};
+ghost use Rattle.std.specs.Prelude.{◌≡◌, codes, IfSome, IfNone};
+ghost use Rattle.std.specs.Str.{bytes_eq};
 ghost use Rattle.boot_verdict.specs.declared.register_range.RegisterRange.{RegisterRange};
-ghost use Rattle.boot_verdict.specs.RegisterRanges.{IsRangeText, is_within};
+ghost use Rattle.boot_verdict.specs.RegisterRanges.{IsNumberedRange, IsRangeText, is_within};
 ghost use Rattle.boot_verdict.specs.parts.RangeEnds.{AreEnds};
 
 use crate::lines::{register_named, split_once};
 use pcr_banks::REGISTERS;
 
-/// Some registers of every bank: from a first to a last one, both included.
+/// Some registers of a bank: from a first to a last one, both included.
 #[derive(Clone, Copy, PartialEq, Eq)]
 pub struct RegisterRange {
     first: u32,
@@ -18,20 +18,27 @@ pub struct RegisterRange {
 
 impl RegisterRange {
     /// All registers, 0 to 23.
-    pub fn all() -> Self
-        ensures { (register : ℕ) → is_within result register ≡ nat_lt register register_count }
-    {
-        RegisterRange {
-            first: 0,
-            last: REGISTERS - 1,
-        }
-    }
+    const ALL: Self = RegisterRange {
+        first: 0,
+        last: REGISTERS - 1,
+    };
 
-    /// The range that the text spells: `0-10`, its first and last register, or `4`, its only one. Both are decimal numbers from 0
-    /// to 23 without leading zeros, and the last is not below the first. `None` if the text is not of this form.
+    /// The range that the text spells: `0-10`, its first and last register; `4`, its only one; or `all`. Registers are decimal numbers from
+    /// 0 to 23 without leading zeros, and the last is not below the first. `None` if the text is not of this form.
     pub fn from_text(text: &[u8]) -> Option<Self>
         ensures found { IfSome result (IsRangeText text.now) }
         ensures none { IfNone result ((range : RegisterRange) → IsRangeText text.now range → ⊥) }
+    {
+        if is_all(text) {
+            return Some(RegisterRange::ALL);
+        }
+        RegisterRange::from_numbers(text)
+    }
+
+    // The range whose first and last register, or only one, the text has.
+    fn from_numbers(text: &[u8]) -> Option<Self>
+        ensures found { IfSome result (IsNumberedRange text.now) }
+        ensures none { IfNone result ((range : RegisterRange) → IsNumberedRange text.now range → ⊥) }
     {
         let (first, last) = ends_of(text);
         let first = register_named(first)?;
@@ -48,6 +55,13 @@ impl RegisterRange {
     {
         (self.first..=self.last).contains(&register)
     }
+}
+
+// Whether the text names all registers.
+fn is_all(text: &[u8]) -> bool
+    ensures { result ≡ bytes_eq (codes "all") text.now }
+{
+    b"all".as_slice() == text
 }
 
 // What the text has before its first hyphen and after it, or the whole text for both.

@@ -74,6 +74,10 @@ optional id default parser = record (without_default id) { defaults = default �
 abbrev pub flag : Text → Rule
 flag id = record (new_rule id) { long = Some id; action = Some SetTrue }
 
+-- A flag that has a letter, too.
+abbrev pub short_flag : ℕ → Text → Rule
+short_flag letter id = record (flag id) { short = Some letter }
+
 -- An option or a flag that requires another argument. Which one that is, a plan says (`HasValues`).
 abbrev pub beside : Rule → Rule
 beside rule = record rule { is_free = false }
@@ -88,32 +92,19 @@ repeated id = record (new_rule id) {
 -- The commands: their names and arguments.
 abbrev pub table : Parsers → List (Text × List Rule)
 table parsers = (
-  codes "measure",
-  optional (codes "alg") (codes "sha256") parsers.algs
-      ∷ optional (codes "template") (codes "ima-ng") parsers.templates
-      ∷ optional (codes "workers") (codes "2") parsers.workers
-      ∷ optional (codes "limit") (codes "100000") parsers.limit
-      ∷ optional (codes "print") (codes "ascii") parsers.prints
-      ∷ without_default (codes "files-from")
-      ∷ beside (flag (codes "null"))
+  codes "verify",
+  without_default (codes "require")
+      ∷ several (codes "known")
+      ∷ flag (codes "prefix")
+      ∷ without_default (codes "save")
+      ∷ without_default (codes "resume")
+      ∷ flag (codes "explain")
       ∷ flag (codes "json")
       ∷ required (codes "LOG")
-      ∷ repeated (codes "FILE")
+      ∷ required (codes "LIST")
+      ∷ required (codes "EXPECTED")
       ∷ [],
 )
-    ∷ (
-      codes "verify",
-      without_default (codes "require")
-          ∷ several (codes "known")
-          ∷ flag (codes "prefix")
-          ∷ without_default (codes "save")
-          ∷ without_default (codes "resume")
-          ∷ flag (codes "json")
-          ∷ required (codes "LOG")
-          ∷ required (codes "LIST")
-          ∷ required (codes "EXPECTED")
-          ∷ [],
-    )
     ∷ (
       codes "attest",
       required_option (codes "nonce")
@@ -124,6 +115,7 @@ table parsers = (
           ∷ flag (codes "prefix")
           ∷ without_default (codes "save")
           ∷ without_default (codes "resume")
+          ∷ flag (codes "explain")
           ∷ flag (codes "json")
           ∷ required (codes "LOG")
           ∷ required (codes "LIST")
@@ -131,23 +123,24 @@ table parsers = (
           ∷ new_rule (codes "EXPECTED")
           ∷ [],
     )
-    ∷ (codes "locate", without_default (codes "require") ∷ flag (codes "json") ∷ required (codes "LOG") ∷ required (codes "LIST") ∷ required (codes "EXPECTED") ∷ [])
-    ∷ (codes "expected", without_default (codes "registers") ∷ flag (codes "json") ∷ required (codes "PCRREAD") ∷ [])
-    ∷ (codes "key", flag (codes "endorsement") ∷ optional (codes "print") (codes "all") parsers.parts ∷ flag (codes "json") ∷ required (codes "FILE") ∷ [])
-    ∷ (codes "registers", flag (codes "json") ∷ required (codes "LOG") ∷ [])
     ∷ (
-      codes "events",
-      flag (codes "data")
+      codes "replay",
+      beside (without_default (codes "require"))
+          ∷ several (codes "known")
+          ∷ beside (flag (codes "explain"))
+          ∷ flag (codes "json")
+          ∷ required (codes "LIST")
+          ∷ new_rule (codes "EXPECTED")
+          ∷ [],
+    )
+    ∷ (
+      codes "locate",
+      without_default (codes "require")
           ∷ flag (codes "explain")
-          ∷ without_default (codes "expected")
-          ∷ without_default (codes "quote")
-          ∷ without_default (codes "list")
-          ∷ without_default (codes "nonce")
-          ∷ without_default (codes "require")
-          ∷ flag (codes "sha1")
-          ∷ flag (codes "signature-checked")
           ∷ flag (codes "json")
           ∷ required (codes "LOG")
+          ∷ required (codes "LIST")
+          ∷ required (codes "EXPECTED")
           ∷ [],
     )
     ∷ (
@@ -164,14 +157,37 @@ table parsers = (
           ∷ required (codes "LOG")
           ∷ [],
     )
-    ∷ (codes "show", flag (codes "json") ∷ required (codes "LIST") ∷ [])
     ∷ (
-      codes "replay",
-      beside (without_default (codes "require"))
-          ∷ several (codes "known")
+      codes "events",
+      flag (codes "data")
+          ∷ flag (codes "explain")
+          ∷ without_default (codes "expected")
+          ∷ without_default (codes "quote")
+          ∷ without_default (codes "list")
+          ∷ without_default (codes "nonce")
+          ∷ without_default (codes "require")
+          ∷ flag (codes "sha1")
+          ∷ flag (codes "signature-checked")
           ∷ flag (codes "json")
-          ∷ required (codes "LIST")
-          ∷ new_rule (codes "EXPECTED")
+          ∷ required (codes "LOG")
+          ∷ [],
+    )
+    ∷ (codes "show", flag (codes "json") ∷ required (codes "LIST") ∷ [])
+    ∷ (codes "registers", flag (codes "json") ∷ required (codes "LOG") ∷ [])
+    ∷ (codes "expected", without_default (codes "registers") ∷ flag (codes "json") ∷ required (codes "PCRREAD") ∷ [])
+    ∷ (codes "key", flag (codes "endorsement") ∷ optional (codes "print") (codes "all") parsers.parts ∷ flag (codes "json") ∷ required (codes "FILE") ∷ [])
+    ∷ (
+      codes "measure",
+      optional (codes "alg") (codes "sha256") parsers.algs
+          ∷ optional (codes "template") (codes "ima-ng") parsers.templates
+          ∷ optional (codes "workers") (codes "2") parsers.workers
+          ∷ optional (codes "limit") (codes "100000") parsers.limit
+          ∷ optional (codes "print") (codes "ascii") parsers.prints
+          ∷ without_default (codes "files-from")
+          ∷ beside (short_flag 48 (codes "null"))  -- (`-0`)
+          ∷ flag (codes "json")
+          ∷ required (codes "LOG")
+          ∷ repeated (codes "FILE")
           ∷ [],
     )
     ∷ []
@@ -180,7 +196,7 @@ table parsers = (
 abbrev pub program_app : App
 program_app = with_rule
     (record { top = record (new_app (codes "ima-agent")).top { no_binary_name = true; disable_help_subcommand = true; subcommand_required = true }; subs = [] })
-    (record (new_rule (codes "version")) { long = Some (codes "version"); action = Some show_version })
+    (record (new_rule (codes "version")) { long = Some (codes "version"); short = Some 86; action = Some show_version })  -- (`-V`)
 
 -- The program with all commands.
 abbrev pub commands : Parsers → App
@@ -257,6 +273,7 @@ pub record HasAttest (rows : List Row) (attest : Attest) : Type 0 where
   pub scope_is : IsFlag (codes "prefix") rows Whole Prefix attest.scope
   pub resume_is : IsGivenAs (codes "resume") rows attest.resume
   pub save_is : IsGivenAs (codes "save") rows attest.save
+  pub explained_is : IsFlag (codes "explain") rows false true attest.explained
 
 abbrev pub part_name : KeyPart → Text
 part_name parts.All = codes "all"
@@ -315,7 +332,7 @@ HasJudged command rows (judged.Positions log) = (command ≡ codes "locate") × 
 HasJudged command rows judged.ListVerdict = command ≡ codes "replay"
 
 -- The command of this name asks this, and the matches have its options and names. `ListRegisters` requires that none of EXPECTED,
--- `--require` and `--known` is present.
+-- `--require`, `--known` and `--explain` is present.
 abbrev pub HasQuestion : Text → List Row → Question → Type 0
 HasQuestion command rows (questions.LogRegisters log) = (command ≡ codes "registers") × IsGivenAs (codes "LOG") rows (Some log)
 HasQuestion command rows (questions.ListRegisters list) =
@@ -324,12 +341,14 @@ HasQuestion command rows (questions.ListRegisters list) =
     × IsGivenAs (codes "EXPECTED") rows None
     × IsGivenAs (codes "require") rows None
     × AreGivenAs (codes "known") rows None
+    × IsFlag (codes "explain") rows false true false
 HasQuestion command rows (questions.Judge judge) =
     HasJudged command rows judge.judged
     × IsGivenAs (codes "LIST") rows (Some judge.list)
     × IsGivenAs (codes "EXPECTED") rows (Some judge.expected)
     × IsGivenAs (codes "require") rows judge.required
     × AreGivenAs (codes "known") rows judge.known
+    × IsFlag (codes "explain") rows false true judge.explained
 HasQuestion command rows (questions.Attest attest) = (command ≡ codes "attest") × HasAttest rows attest
 HasQuestion command rows (questions.Expected printed registers) =
     (command ≡ codes "expected") × IsGivenAs (codes "PCRREAD") rows (Some printed) × IsGivenAs (codes "registers") rows registers
@@ -370,9 +389,13 @@ pub record IsMatched (command : Text) (arguments : List Text) (plan : Plan) : Ty
 abbrev pub AreNotTaken : List Text → Type 0
 AreNotTaken arguments = (parsers : Parsers) × (takes (commands parsers) arguments ≡ true → ⊥)
 
--- The argument requests help: it is `--help`, or short options of which the first is `-h`.
+-- The argument begins with these short options.
+abbrev pub begins_with : Text → List ℕ → Bool
+begins_with options word = starts_with (λ a b. a == b) word options
+
+-- The argument requests help: it is `--help`, or short options of which `-h` is the first, or follows `-0`.
 abbrev pub asks_help : List ℕ → Bool
-asks_help word = bytes_eq word (codes "--help") || starts_with (λ a b. a == b) word (codes "-h")
+asks_help word = bytes_eq word (codes "--help") || begins_with (codes "-h") word || begins_with (codes "-0h") word
 
 -- Some argument requests help.
 abbrev pub HasHelpWord : List (String Global) → Type 0
@@ -382,10 +405,14 @@ HasHelpWord arguments = IsTrue (list_any (λ word. asks_help (string_bytes word)
 abbrev pub IsHelp : Plan → Type 0
 IsHelp plan = (text : String Global) × (plan ≡ plans.Help text)
 
--- The first argument is `--version`.
+-- The argument requests the version: it is `--version`, or short options of which the first is `-V`.
+abbrev pub asks_version : List ℕ → Bool
+asks_version word = bytes_eq word (codes "--version") || begins_with (codes "-V") word
+
+-- The first argument requests the version.
 abbrev pub BeginsWithVersion : List (String Global) → Type 0
 BeginsWithVersion [] = ⊥
-BeginsWithVersion (word ∷ arguments) = string_bytes word ≡ codes "--version"
+BeginsWithVersion (word ∷ arguments) = IsTrue (asks_version (string_bytes word))
 
 -- The plan is of the command of this name, and all arguments match its options and names; or they are not taken, and one of them requests
 -- help.
@@ -393,8 +420,8 @@ abbrev pub IsPlanOrHelp : List (String Global) → Text → Plan → Type 0
 IsPlanOrHelp arguments command plan =
     IsMatched command (map string_bytes arguments) plan ⊎ (HasHelpWord arguments × IsHelp plan × AreNotTaken (map string_bytes arguments))
 
--- Without arguments the plan is `Registers`: the log on standard input. Otherwise the first argument is the command; or it is
--- `--version`.
+-- Without arguments the plan is `Registers`: the log on standard input. Otherwise the first argument is the command; or it requests the
+-- version.
 abbrev pub IsRequestedBy : List (String Global) → Plan → Type 0
 IsRequestedBy [] plan = plan ≡ plans.Registers
 IsRequestedBy (word ∷ arguments) plan =

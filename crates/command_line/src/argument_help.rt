@@ -1,40 +1,14 @@
 //! The help of arguments.
 
-/// The help of EXPECTED, and what else is to be said of it.
-macro_rules! expected_help {
-    ($($more:literal)?) => {
+/// The help of a selection of PCRs: which these are, with two examples; the grammar of selections; and what else is to be said of it.
+macro_rules! selection_help {
+    ($which:literal $(, $more:literal)?) => {
         concat!(
+            $which,
             "\
-Expected registers, at most 64 MiB, one per line, for example `sha256 4 3d45..`:
-algorithm, register in decimal and value in hexadecimal, separated by single
-spaces. `ima-agent expected` writes such lines"
-            $(, ". ", $more)?
-        )
-    };
-}
-
-/// The help of --require, and what else is to be said of it.
-macro_rules! require_help {
-    ($more:literal) => {
-        concat!(
-            "\
-Registers that EXPECTED has to name, for example sha256:0-10 or
-sha256:0-7,sha1:10; register 10 must be among them. Each that EXPECTED
-lacks is a row `missing`, and the ",
-            $more
-        )
-    };
-}
-
-/// The help of --known, and what else is to be said of it.
-macro_rules! known_help {
-    ($($more:literal)?) => {
-        concat!(
-            "\
-FILE lists known files by digest, as sha256sum prints them, at most 64 MiB.
-Each entry that is not known is a line `unknown entry`, and the verdict is
-`differ`. May be given several times; only with --require"
-            $(, ". ", $more)?
+Parts, with a comma or plus between: [BANK:]A,
+[BANK:]A-B, [BANK:]all; without BANK, of the bank before"
+            $(, $more)?
         )
     };
 }
@@ -42,192 +16,165 @@ Each entry that is not known is a line `unknown entry`, and the verdict is
 /// The help of the argument of this name, of the command of this name.
 pub(crate) fn help_of<'a>(command: &str, id: &str) -> &'a str {
     match id {
-        "LOG" => "Firmware event log, binary, at most 64 MiB",
-        "LIST" => "Measurement list, binary, at most 64 MiB",
-        "json" => help_of_json(command),
+        "LOG" => "Firmware event log, binary",
+        "LIST" => "Measurement list, binary",
         "EXPECTED" => help_of_expected(command),
         "require" => help_of_require(command),
-        "nonce" => "Nonce that the quote must have, in hexadecimal, at least 16 bytes",
-        "sha1" =>
-            "Take registers that are required in the SHA-1 bank alone, though collisions of SHA-1 are made",
         "known" => help_of_known(command),
+        "explain" => help_of_explain(command),
+        "json" => help_of_json(command),
+        "nonce" => "The quote's nonce, in hexadecimal, 16 bytes or more",
+        "sha1" => "Accept PCRs in the SHA-1 bank alone: SHA-1 has collisions",
+        "signature-checked" => "\
+You have verified the signature of QUOTE by the
+machine's key; without this the status is 4",
         _ => match command {
+            "verify" | "attest" => help_of_verdict(command, id),
             "measure" => help_of_measure(id),
-            "verify" => help_of_verify(id),
-            "attest" => help_of_attest(id),
-            "events" => help_of_events(id),
-            "boot" => help_of_boot(id),
+            "events" | "boot" => help_of_events(id),
             _ => help_of_other(id),
         },
-    }
-}
-
-// The help of `--json`.
-fn help_of_json<'a>(command: &str) -> &'a str {
-    match command {
-        "measure" => "\
-Print the list as JSON, one object per line for each entry, or the
-registers, one object on one line; not with --print binary",
-        "events" => "\
-Print the events as JSON, one object per line, with the data of each
-event, what it says, and which part of it was measured",
-        "boot" => "Print the answers as JSON, one object per line",
-        "show" => "Print the entries as JSON, one object per line",
-        _ => "Print the result as JSON, one object on one line",
     }
 }
 
 // The help of EXPECTED.
 fn help_of_expected<'a>(command: &str) -> &'a str {
     match command {
-        "verify" => expected_help!(
-            "\
-An empty file compares no
-register: the verdict then depends on the list's boot aggregate alone,
-and is `differ` with --require, --prefix, --save or --resume"
-        ),
-        "attest" => expected_help!(
-            "Nobody has signed\nthem: they count only if they are the values of QUOTE, and decide nothing"
-        ),
-        "replay" => expected_help!(
-            "\
-Without EXPECTED the
-registers are printed that differ from their reset values"
-        ),
-        _ => expected_help!(),
+        "attest" => "Expected PCRs: rows for the report. They decide nothing",
+        "replay" => "Expected PCRs; without them the list's own are printed",
+        _ => "Expected PCRs, as `ima-agent expected` prints them",
     }
 }
 
 // The help of --require.
 fn help_of_require<'a>(command: &str) -> &'a str {
     match command {
-        "attest" | "events" | "boot" => "\
-Registers that must be quoted, for example sha256:0-10 or
-sha256:0-7,sha384:0-10; each from 0 to 10 must be among them",
-        "locate" => require_help!("last line is `not located`"),
-        "replay" => require_help!("verdict is `differ`. Only with EXPECTED"),
-        _ => require_help!("verdict is `differ`"),
+        "attest" | "events" | "boot" => selection_help!(
+            "\
+PCRs that must be quoted, 0 to 10 among them, such as
+sha256:0-10 or sha256:0-7,sha384:8-10.
+"
+        ),
+        "replay" => selection_help!(
+            "\
+PCRs that EXPECTED must have, 10 among them, such as
+sha256:10 or sha256:10+sha1:10. Only with EXPECTED.
+"
+        ),
+        _ => selection_help!(
+            "\
+PCRs that EXPECTED must have, 10 among them, such as
+sha256:0-10 or sha256:0-7,10+sha1:10.
+"
+        ),
     }
 }
 
 // The help of --known.
 fn help_of_known<'a>(command: &str) -> &'a str {
     match command {
-        "replay" => known_help!(),
-        _ => known_help!(
-            "\
-With --resume
-only entries after the checkpoint are looked at: those before it may never
-have been"
-        ),
+        "attest" => "\
+Each new entry must be of a file whose digest FILE has,
+as sha256sum prints it. May be given several times",
+        _ => "\
+Each new entry must be of a file whose digest FILE has,
+as sha256sum prints it. May be given several times; only
+with --require",
+    }
+}
+
+// The help of --explain.
+fn help_of_explain<'a>(command: &str) -> &'a str {
+    match command {
+        "events" => "\
+Print what each event's data says, and which part of it
+was measured; not with --data or --json",
+        "replay" => "\
+Say what to do next on standard error, terminal or not.
+Only with EXPECTED",
+        _ => "Say what to do next on standard error, terminal or not",
+    }
+}
+
+// The help of --json.
+fn help_of_json<'a>(command: &str) -> &'a str {
+    match command {
+        "measure" => "\
+Print JSON, one object per line for each entry, or one
+for all PCRs; not with --print binary",
+        "events" => "\
+Print JSON, one object per line: each event, its data,
+and what they say",
+        "boot" | "show" => "Print JSON, one object per line",
+        _ => "Print JSON, one object on one line",
+    }
+}
+
+// The help of what only `verify` and `attest` have.
+fn help_of_verdict<'a>(command: &str, id: &str) -> &'a str {
+    match (command, id) {
+        (_, "QUOTE") => "Message that the TPM signed, as `tpm2_quote -m` writes it",
+        ("attest", "prefix") => "Judge the shortest prefix of LIST that QUOTE confirms",
+        (_, "prefix") => "Judge the shortest prefix of LIST that matches",
+        (_, "save") => "If the verdict is `match`, write a checkpoint to FILE",
+        ("attest", _) => "\
+Continue from your own checkpoint of this boot in FILE:
+LIST has only the bytes after it",
+        _ => "\
+Continue from your own checkpoint in FILE: LIST has
+only the bytes after it",
     }
 }
 
 // The help of the arguments of `measure`.
 fn help_of_measure<'a>(id: &str) -> &'a str {
     match id {
-        "alg" => "Hash algorithm for the files' digests\n",
-        "template" => "Template of the list's entries\n",
+        "alg" => "Hash of the files' digests\n",
+        "template" => "Template of the entries\n",
         "workers" => "\
-How many workers hash files at once, 1 to 8. Only with 1 are files
-measured in the given order, so that every run gives the same list
-and registers\n",
-        "limit" => "Maximum number of records, including the opening record, 1 to 4294967295\n",
-        "print" => "\
-What to print: the list as text, the binary list, or the registers that
-differ from their reset values\n",
-        "files-from" => "File that names more files to measure, one per line, at most 64 MiB",
-        "null" => "Names in that file end with NUL, as written by `find -print0`",
-        _ => "Files to measure, each at most 64 MiB, recorded under the names given here",
+How many threads hash files, 1 to 8. Only one keeps the
+order of FILE, so that each run prints the same list
+",
+        "limit" => "\
+At most this many records, 1 to 4294967295: one for
+each FILE, and one for the boot aggregate
+",
+        "print" => "The list as text or as IMA's binary, or the PCRs\n",
+        "files-from" => "File with names of more files to measure, one per line",
+        "null" => "Names in NAMES end with NUL, as of `find -print0`",
+        _ => "Files to measure, which keep the names given here",
     }
 }
 
-// The help of the arguments of `verify`.
-fn help_of_verify<'a>(id: &str) -> &'a str {
-    match id {
-        "prefix" =>
-            "Judge the shortest prefix of the list that matches; if none does, the whole list",
-        "save" => "If the verdict is `match`, write the checkpoint of what was judged to FILE",
-        _ => "Go on from the checkpoint in FILE, your own: LIST then has only the bytes after it",
-    }
-}
-
-// The help of the arguments of `attest`.
-fn help_of_attest<'a>(id: &str) -> &'a str {
-    match id {
-        "signature-checked" => "\
-Say that you have verified the signature of QUOTE by the machine's key:
-without this nothing is attested, and a report has status 4",
-        "prefix" =>
-            "Judge the shortest prefix of the list that the quote confirms; if none is, the whole list",
-        "save" => "If log and list are attested, write the checkpoint of what was judged to FILE",
-        "resume" => "\
-Go on from the checkpoint in FILE, your own, of an attestation of this
-boot: LIST then has only the bytes after it",
-        _ => "Message that the TPM signed, as `tpm2_quote -m` writes it, at most 64 MiB",
-    }
-}
-
-// The help of the arguments of `events`.
+// The help of the arguments of `events` and `boot`.
 fn help_of_events<'a>(id: &str) -> &'a str {
     match id {
-        "data" => "Print the data of each event in hexadecimal, not only how many bytes there are",
-        "explain" => "\
-Print what the data of each event says, and which part of it was
-measured; not with --data or --json",
-        "expected" => expected_help!(
-            "With these
---explain and --json also tell which data is confirmed, by a register that
-has its expected value after LOG; only with one of the two"
-        ),
-        _ => help_of_quoting(id),
-    }
-}
-
-// The help of the arguments of a quote that confirms data.
-fn help_of_quoting<'a>(id: &str) -> &'a str {
-    match id {
+        "data" => "Print each event's data in hexadecimal",
+        "expected" => "\
+Expected PCRs. What the log says is confirmed where a
+PCR has its expected value",
         "quote" => "\
-Message that the TPM signed, as `tpm2_quote -m` writes it, at most 64 MiB, in
-place of EXPECTED. If `attest` attests LOG and LIST by it, the registers that
-it is of confirm what was measured, but for register 10; else nothing is
-confirmed, and the status is that of `attest`. With --list, --nonce and
---require",
-        "list" => "Measurement list, binary, at most 64 MiB, that QUOTE is also of",
-        _ => "\
-Say that you have verified the signature of QUOTE by the machine's key:
-without this nothing is confirmed, and the status is 4",
-    }
-}
-
-// The help of the arguments of `boot`.
-fn help_of_boot<'a>(id: &str) -> &'a str {
-    match id {
-        "before" => "\
-Firmware event log of an earlier boot, binary, at most 64 MiB: also print
-how many first events of each register both logs have, and those after them",
-        "expected" => expected_help!(
-            "They confirm
-what the log says, where a register has its expected value after LOG;
-without them every answer is `unknown`"
-        ),
-        _ => help_of_quoting(id),
+Message that the TPM signed, in place of EXPECTED. Only
+with --list, --nonce and --require",
+        "list" => "Measurement list, binary, that was quoted with LOG",
+        _ => "Firmware event log of an earlier boot, to compare with",
     }
 }
 
 // The help of the arguments of `expected` and `key`.
 fn help_of_other<'a>(id: &str) -> &'a str {
     match id {
-        "registers" => "Only registers A to B, 0 to 23, for example 0-10; or only A, for example 4",
-        "PCRREAD" =>
-            "Text that tpm2_pcrread or tpm2_checkquote printed, at most 64 MiB; no text tells whether a quote holds",
-        "endorsement" => "\
-Take an endorsement key: the TPM decrypts with it only what is meant
-for it, and signs nothing",
-        "print" => "\
-What to print: name, kind, scheme and PEM; the name alone; or the PEM
-alone\n",
-        _ =>
-            "Public area of the key, as `tpm2_createak -u` or `tpm2_readpublic -o` writes it, at most 64 MiB",
+        "registers" => selection_help!(
+            "\
+Only these PCRs, such as 0-10 or sha256:0-7,10+sha1:10.
+",
+            ",\nat first of every bank"
+        ),
+        "PCRREAD" => "\
+What tpm2_pcrread or tpm2_checkquote printed, which does
+not show that a quote is valid",
+        "endorsement" => "Take an endorsement key, which signs nothing",
+        "print" => "Name, type, scheme and PEM; or only one of name and PEM\n",
+        _ => "Public area, as `tpm2_createak -u` or `tpm2_readpublic -o` writes it",
     }
 }

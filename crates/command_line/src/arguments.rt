@@ -5,14 +5,14 @@ ghost use Rattle.clap.specs.Values.{kind_of};
 ghost use Rattle.clap.specs.Words.{Text as Words, found_of, rows_of, subcommand_rows_of};
 ghost use Rattle.std.specs.Vec.Iter.{into_iter_items};
 ghost use Rattle.agent_plans.specs.Plans.{IsWithinRanges, IsWithin, NamesKnown, TakesKnown};
-ghost use Rattle.command_line.specs.Arguments.{BeginsWithVersion, HasHelpWord, HasJudged, HasQuestion, HasValues, HasValuesIn, IsRequestedBy, IsHelp, IsPlanOrHelp, asks_help};
+ghost use Rattle.command_line.specs.Arguments.{BeginsWithVersion, HasHelpWord, HasJudged, HasQuestion, HasValues, HasValuesIn, IsRequestedBy, IsHelp, IsPlanOrHelp, asks_help, asks_version};
 ghost use Rattle.std.specs.List.{list_any};
 ghost use Rattle.agent_plans.specs.declared.plan.Form.TheVariants.{Text};
 ghost use Rattle.agent_plans.specs.declared.plan.Plan.TheVariants as plans;
 ghost use Rattle.agent_plans.specs.declared.plan.Question.TheVariants as questions;
 ghost use Rattle.agent_plans.specs.declared.plan.Task.TheVariants.{Version};
 
-use crate::commands::{KnownNames, VERSION, all_commands};
+use crate::commands::{KnownNames, all_commands};
 use crate::values::{
     attest_of, boot_of, events_of, flag_of, key_of, known_of, measurement_of, name_of,
     text_if_given,
@@ -27,7 +27,8 @@ use std::alloc::{AllocError, Global};
 use std::env::Args;
 
 // What is wrong with `--print binary` beside `--json`.
-const NO_JSON_OF_BYTES: &str = "error: invalid value 'binary' for '--print <P>' with '--json'\n";
+const NO_JSON_OF_BYTES: &str =
+    "error: invalid value 'binary' for '--print <OUTPUT>' with '--json'\n";
 
 // What is wrong with `--known` where no registers are required.
 const KNOWN_WITHOUT_REQUIRED: &str =
@@ -67,7 +68,7 @@ const NONCE_WITHOUT_QUOTE: &str =
     "error: the argument '--nonce <HEX>' cannot be used without '--quote'\n";
 
 const REQUIRED_WITHOUT_QUOTE: &str =
-    "error: the argument '--require <BANK:A-B[,BANK:C-D..]>' cannot be used without '--quote'\n";
+    "error: the argument '--require <SELECTION>' cannot be used without '--quote'\n";
 
 const SHA1_WITHOUT_QUOTE: &str = "error: the argument '--sha1' cannot be used without '--quote'\n";
 
@@ -75,22 +76,22 @@ const CHECKED_WITHOUT_QUOTE: &str =
     "error: the argument '--signature-checked' cannot be used without '--quote'\n";
 
 /// Reads the program's arguments, without its name. Without arguments the plan is `Registers`: the log on standard input. After
-/// `--version` nothing is looked at. Otherwise the first argument is the command, and the rest are its options and names, by `clap`'s
-/// own definition.
+/// `--version` or `-V` nothing is looked at. Otherwise the first argument is the command, and the rest are its options and names, by
+/// `clap`'s own definition.
 ///
 /// Fails with `Usage` if the arguments are not those of a command, and with `Memory` if memory runs out.
 pub fn read_words(alloc: Global, arguments: &[String]) -> Result<Plan, ArgumentsFault>
     // The first argument is the command, the arguments match its options and names, and these are within their ranges; or they are not
-    // taken, and one of them requests help; or the first is `--version`.
+    // taken, and one of them requests help; or the first requests the version.
     ensures request { IfOk result (λ plan. IsRequestedBy arguments.now plan × IsWithinRanges plan) }
     // Without arguments the plan is `Registers`, whatever memory there is.
     ensures none { arguments.now ≡ [] → result ≡ Ok plans.Registers }
-    // After `--version` the plan is to show the version, whatever follows it.
+    // After `--version` or `-V` the plan is to show the version, whatever follows it.
     ensures version { BeginsWithVersion arguments.now → result ≡ Ok (plans.Task Version Text) }
 {
     match arguments.first() {
         None => Ok(Plan::Registers),
-        Some(word) if word.as_str() == VERSION => Ok(Plan::Task(Task::Version, Form::Text)),
+        Some(word) if asks_version(word) => Ok(Plan::Task(Task::Version, Form::Text)),
         Some(command) => plan_in(alloc, arguments, command),
     }
 }
@@ -347,10 +348,11 @@ fn judge_of(alloc: Global, matches: &ArgMatches, judged: Judged) -> Result<Judge
         known: known_of(alloc, matches, &judged, &required)?,
         judged,
         required,
+        explained: flag_of(matches, "explain", false, true)?,
     })
 }
 
-// What `replay` asks. Refuses `--require` without EXPECTED, and `--known` without `--require`.
+// What `replay` asks. Refuses `--require` and `--explain` without EXPECTED, and `--known` without `--require`.
 fn replay_of(alloc: Global, matches: &ArgMatches) -> Result<Question, ArgumentsFault>
     ensures values { IfOk result (HasQuestion (codes "replay") (rows_of (found_of matches.now))) }
     ensures known { IfOk result NamesKnown }
@@ -360,16 +362,18 @@ fn replay_of(alloc: Global, matches: &ArgMatches) -> Result<Question, ArgumentsF
     let required = text_if_given(alloc, matches, "require")?;
     let judged = Judged::ListVerdict;
     let known = known_of(alloc, matches, &judged, &required)?;
-    match (expected, required, known) {
-        (Some(expected), required, known) => Ok(Question::Judge(Judge {
+    let explained = flag_of(matches, "explain", false, true)?;
+    match (expected, required, known, explained) {
+        (Some(expected), required, known, explained) => Ok(Question::Judge(Judge {
             judged,
             list,
             expected,
             required,
             known,
+            explained,
         })),
-        (None, None, None) => Ok(Question::ListRegisters { list }),
-        (None, _, _) => Err(ArgumentsFault::Usage),
+        (None, None, None, false) => Ok(Question::ListRegisters { list }),
+        (None, _, _, _) => Err(ArgumentsFault::Usage),
     }
 }
 
@@ -380,11 +384,20 @@ fn has_help_word(arguments: &[String]) -> bool
     arguments.iter().any(asks_help)
 }
 
-// Whether this argument requests help: it is `--help`, or short options that begin with `-h`.
+// Whether this argument requests help: it is `--help`, or short options that begin with `-h` or `-0h`.
 fn asks_help(word: &String) -> bool
     ensures { result ≡ asks_help (string_bytes word.now) }
 {
-    word.as_str() == "--help" || word.as_bytes().starts_with(b"-h")
+    word.as_str() == "--help"
+        || word.as_bytes().starts_with(b"-h")
+        || word.as_bytes().starts_with(b"-0h")
+}
+
+// Whether this argument requests the version: it is `--version`, or short options that begin with `-V`.
+fn asks_version(word: &String) -> bool
+    ensures { result ≡ asks_version (string_bytes word.now) }
+{
+    word.as_str() == "--version" || word.as_bytes().starts_with(b"-V")
 }
 
 // The help, if it was requested; else `Usage`, or `Memory` if memory ran out.

@@ -1,6 +1,6 @@
 //! The commands and their arguments, as rows of a table.
 
-use crate::help_texts::REQUIRED_REGISTERS;
+use crate::help_texts::with_abouts;
 use clap::builder::ValueParser;
 
 /// A command. The help of its arguments and the end of its help are no fields (`help_of` and `help_end_of` have them): a static that is
@@ -32,8 +32,10 @@ pub(crate) enum Form<'a> {
     Repeated,
     /// As a flag.
     Flag,
-    /// As a flag, and only beside this option.
+    /// As a flag, and only beside this argument.
     FlagBeside(&'a str),
+    /// As a flag that has this letter, too, and only beside this option.
+    ShortFlagBeside(char, &'a str),
     /// As an option with a value, which has to be there.
     RequiredOption(&'a str),
     /// As an option with a value, or not at all.
@@ -101,8 +103,8 @@ const SHA1: ArgumentRow<'static> = row!("sha1"; Form::Flag);
 /// Whether the caller has verified the quote's signature.
 const SIGNATURE_CHECKED: ArgumentRow<'static> = row!("signature-checked"; Form::Flag);
 
-/// Registers that have to be expected, or quoted.
-const REQUIRE: ArgumentRow<'static> = row!("require"; Form::Optional(REQUIRED_REGISTERS));
+/// PCRs that have to be expected, or quoted.
+const REQUIRE: ArgumentRow<'static> = row!("require"; Form::Optional("SELECTION"));
 
 /// The files that are known.
 const KNOWN: ArgumentRow<'static> = row!("known"; Form::Several("FILE"));
@@ -116,46 +118,34 @@ const SAVE: ArgumentRow<'static> = row!("save"; Form::Optional("FILE"));
 /// The checkpoint to go on from.
 const RESUME: ArgumentRow<'static> = row!("resume"; Form::Optional("FILE"));
 
+/// Whether standard error says what to do next even if it is no terminal.
+const EXPLAIN: ArgumentRow<'static> = row!("explain"; Form::Flag);
+
 /// Whether the result is printed as JSON.
 const JSON: ArgumentRow<'static> = row!("json"; Form::Flag);
 
 /// The commands, in the order of the help. `table` of specs/Arguments.antt has the same.
 pub(crate) static COMMANDS: [CommandRow; 11] = [
     CommandRow {
-        name: "measure",
-        about: "Measures files into the registers left by a firmware event log, and prints the result",
-        arguments: &[
-            row!("alg"; Form::Defaulted("A", "sha256", Values::Algs)),
-            row!("template"; Form::Defaulted("T", "ima-ng", Values::Templates)),
-            row!("workers"; Form::Defaulted("N", "2", Values::Parsed(ValueParser::Unsigned(1, MOST_WORKERS)))),
-            row!("limit"; Form::Defaulted("N", "100000", Values::Parsed(ValueParser::Unsigned(1, MOST_RECORDS)))),
-            row!("print"; Form::Defaulted("P", "ascii", Values::Parsed(ValueParser::Names(&["ascii", "binary", "registers"])))),
-            row!("files-from"; Form::Optional("NAME")),
-            row!("null"; Form::FlagBeside("files-from")),
-            JSON,
-            LOG,
-            row!("FILE"; Form::Repeated),
-        ],
-    },
-    CommandRow {
         name: "verify",
-        about: "Replays a firmware event log and a measurement list, and compares the registers",
+        about: with_abouts!(; verify),
         arguments: &[
-            REQUIRE, KNOWN, PREFIX, SAVE, RESUME, JSON, LOG, LIST, EXPECTED,
+            REQUIRE, KNOWN, PREFIX, SAVE, RESUME, EXPLAIN, JSON, LOG, LIST, EXPECTED,
         ],
     },
     CommandRow {
         name: "attest",
-        about: "Judges a firmware event log and a measurement list by a quote of the TPM",
+        about: with_abouts!(; attest),
         arguments: &[
             row!("nonce"; Form::RequiredOption("HEX")),
-            row!("require"; Form::RequiredOption(REQUIRED_REGISTERS)),
+            row!("require"; Form::RequiredOption("SELECTION")),
             KNOWN,
             SHA1,
             SIGNATURE_CHECKED,
             PREFIX,
             SAVE,
             RESUME,
+            EXPLAIN,
             JSON,
             LOG,
             LIST,
@@ -164,37 +154,41 @@ pub(crate) static COMMANDS: [CommandRow; 11] = [
         ],
     },
     CommandRow {
+        name: "replay",
+        about: with_abouts!(; replay),
+        arguments: &[
+            row!("require"; Form::OptionalBeside("SELECTION", "EXPECTED")),
+            KNOWN,
+            row!("explain"; Form::FlagBeside("EXPECTED")),
+            JSON,
+            LIST,
+            EXPECTED_IF_GIVEN,
+        ],
+    },
+    CommandRow {
         name: "locate",
-        about: "Prints which event or entry first gives each expected register its value",
-        arguments: &[REQUIRE, JSON, LOG, LIST, EXPECTED],
+        about: with_abouts!(; locate),
+        arguments: &[REQUIRE, EXPLAIN, JSON, LOG, LIST, EXPECTED],
     },
     CommandRow {
-        name: "expected",
-        about: "Prints expected registers from what tpm2_pcrread or tpm2_checkquote printed",
+        name: "boot",
+        about: with_abouts!(; boot),
         arguments: &[
-            row!("registers"; Form::Optional("A-B")),
+            CONFIRMED,
+            QUOTE,
+            QUOTED_LIST,
+            NONCE,
+            REQUIRE,
+            SHA1,
+            SIGNATURE_CHECKED,
+            row!("before"; Form::Optional("OLD_LOG")),
             JSON,
-            row!("PCRREAD"; Form::Required),
+            LOG,
         ],
-    },
-    CommandRow {
-        name: "key",
-        about: "Prints the name and the PEM of a TPM's key, if the TPM signs with it only what it made",
-        arguments: &[
-            row!("endorsement"; Form::Flag),
-            row!("print"; Form::Defaulted("P", "all", Values::Parsed(ValueParser::Names(&["all", "name", "pem"])))),
-            JSON,
-            row!("FILE"; Form::Required),
-        ],
-    },
-    CommandRow {
-        name: "registers",
-        about: "Prints the registers after a firmware event log that differ from their reset values",
-        arguments: &[JSON, LOG],
     },
     CommandRow {
         name: "events",
-        about: "Prints the events of a firmware event log as text",
+        about: with_abouts!(; events),
         arguments: &[
             row!("data"; Form::Flag),
             row!("explain"; Form::Flag),
@@ -210,35 +204,48 @@ pub(crate) static COMMANDS: [CommandRow; 11] = [
         ],
     },
     CommandRow {
-        name: "boot",
-        about: "Answers what a machine booted, by the events of a firmware event log that registers confirm",
-        arguments: &[
-            CONFIRMED,
-            QUOTE,
-            QUOTED_LIST,
-            NONCE,
-            REQUIRE,
-            SHA1,
-            SIGNATURE_CHECKED,
-            row!("before"; Form::Optional("OLD_LOG")),
-            JSON,
-            LOG,
-        ],
-    },
-    CommandRow {
         name: "show",
-        about: "Prints the entries of a measurement list as text",
+        about: with_abouts!(; show),
         arguments: &[JSON, LIST],
     },
     CommandRow {
-        name: "replay",
-        about: "Replays a measurement list alone, and prints or compares the registers it gives",
+        name: "registers",
+        about: with_abouts!(; registers),
+        arguments: &[JSON, LOG],
+    },
+    CommandRow {
+        name: "expected",
+        about: with_abouts!(; expected),
         arguments: &[
-            row!("require"; Form::OptionalBeside(REQUIRED_REGISTERS, "EXPECTED")),
-            KNOWN,
+            row!("registers"; Form::Optional("SELECTION")),
             JSON,
-            LIST,
-            EXPECTED_IF_GIVEN,
+            row!("PCRREAD"; Form::Required),
+        ],
+    },
+    CommandRow {
+        name: "key",
+        about: with_abouts!(; key),
+        arguments: &[
+            row!("endorsement"; Form::Flag),
+            row!("print"; Form::Defaulted("PART", "all", Values::Parsed(ValueParser::Names(&["all", "name", "pem"])))),
+            JSON,
+            row!("FILE"; Form::Required),
+        ],
+    },
+    CommandRow {
+        name: "measure",
+        about: with_abouts!(; measure),
+        arguments: &[
+            row!("alg"; Form::Defaulted("HASH", "sha256", Values::Algs)),
+            row!("template"; Form::Defaulted("TEMPLATE", "ima-ng", Values::Templates)),
+            row!("workers"; Form::Defaulted("THREADS", "2", Values::Parsed(ValueParser::Unsigned(1, MOST_WORKERS)))),
+            row!("limit"; Form::Defaulted("RECORDS", "100000", Values::Parsed(ValueParser::Unsigned(1, MOST_RECORDS)))),
+            row!("print"; Form::Defaulted("OUTPUT", "ascii", Values::Parsed(ValueParser::Names(&["ascii", "binary", "registers"])))),
+            row!("files-from"; Form::Optional("NAMES")),
+            row!("null"; Form::ShortFlagBeside('0', "files-from")),
+            JSON,
+            LOG,
+            row!("FILE"; Form::Repeated),
         ],
     },
 ];

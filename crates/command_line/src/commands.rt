@@ -9,13 +9,10 @@ ghost use Rattle.command_line.specs.Arguments.{Parsers, commands, program_app};
 
 use crate::argument_help::help_of;
 use crate::command_table::{ArgumentRow, COMMANDS, CommandRow, Form, Values};
-use crate::help_texts::{PROGRAM_ABOUT, help_end_of};
+use crate::help_texts::{PROGRAM_HELP, PROGRAM_USAGE, help_end_of};
 use clap::builder::ValueParser;
 use clap::{Arg, ArgAction, Command};
 use std::alloc::{AllocError, Global};
-
-/// The argument that asks for the version.
-pub(crate) const VERSION: &str = "--version";
 
 /// The names that options take as values. They come from the crates below, so the table has no room for them.
 #[derive(Clone, Copy)]
@@ -48,15 +45,17 @@ fn rows<'a>() -> &'a [CommandRow<'a>]
     &COMMANDS
 }
 
-// The program, without its commands. `read_words` looks for `--version` itself: it is here for the help.
+// The program, without its commands. `read_words` looks for `--version` and `-V` itself.
 fn program<'a>(alloc: Global) -> Built<'a>
     ensures { IfOk result (IsCommand program_app) }
 {
     let version = Arg::new(alloc, "version")
-        .help("Print version")
+        .short('V')
         .long("version")
         .action(ArgAction::Version);
-    describe(alloc, "ima-agent", PROGRAM_ABOUT)
+    Command::new(alloc, "ima-agent")
+        .override_help(PROGRAM_HELP)
+        .override_usage(PROGRAM_USAGE)
         .no_binary_name(true)
         .disable_help_subcommand(true)
         .subcommand_required(true)
@@ -69,21 +68,14 @@ fn program<'a>(alloc: Global) -> Built<'a>
 fn command<'a>(alloc: Global, row: &'a CommandRow<'a>, known: KnownNames<'a>) -> Built<'a>
     ensures { IfOk result (IsCommand (app_of_row known.entry row.now)) }
 {
-    let mut command = describe(alloc, row.name, row.about);
+    let mut command = Command::new(alloc, row.name)
+        .about(row.about)
+        .after_help(help_end_of(row.name));
     for argument_row in row.arguments {
         let help = help_of(row.name, argument_row.id);
         command = command.arg(argument(alloc, argument_row, help, known)?)?;
     }
     Ok(command)
-}
-
-// A command of this name, without arguments.
-fn describe<'a>(alloc: Global, name: &'a str, about: &'a str) -> Command<'a>
-    ensures { IsCommand (new_app name.now) result }
-{
-    Command::new(alloc, name)
-        .about(about)
-        .after_help(help_end_of(name))
 }
 
 // The argument of this row, with this help.
@@ -101,7 +93,12 @@ fn argument<'a>(
         Form::Omittable => Ok(arg),
         Form::Repeated => Ok(arg.action(ArgAction::Append).num_args(0..)),
         Form::Flag => Ok(arg.long(row.id).action(ArgAction::SetTrue)),
-        Form::FlagBeside(option) => arg
+        Form::FlagBeside(argument) => arg
+            .long(row.id)
+            .action(ArgAction::SetTrue)
+            .requires_arg(argument),
+        Form::ShortFlagBeside(letter, option) => arg
+            .short(letter)
             .long(row.id)
             .action(ArgAction::SetTrue)
             .requires_arg(option),

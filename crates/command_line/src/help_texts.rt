@@ -1,76 +1,185 @@
-//! What the program does, and the ends of the help.
+//! What the commands do, the help of the program, and the ends of the commands' help.
 
-use crate::fault_tables::with_fault_tables;
+/// A text of these literals, and of what the commands do that are named. Each stands here once.
+macro_rules! with_abouts {
+    ($($begun:literal)*;) => {
+        concat!($($begun),*)
+    };
+    ($($begun:literal)*; verify $($more:tt)*) => {
+        with_abouts!($($begun)* "Compares the PCRs that log and list make with expected PCRs"; $($more)*)
+    };
+    ($($begun:literal)*; attest $($more:tt)*) => {
+        with_abouts!($($begun)* "Compares the PCRs that log and list make with a quote of the TPM"; $($more)*)
+    };
+    ($($begun:literal)*; replay $($more:tt)*) => {
+        with_abouts!($($begun)* "Prints the PCRs that a list alone makes, or compares them"; $($more)*)
+    };
+    ($($begun:literal)*; locate $($more:tt)*) => {
+        with_abouts!($($begun)* "Prints which event or entry first gives each PCR its expected value"; $($more)*)
+    };
+    ($($begun:literal)*; boot $($more:tt)*) => {
+        with_abouts!($($begun)* "Prints what the machine booted, as far as PCRs confirm the log"; $($more)*)
+    };
+    ($($begun:literal)*; events $($more:tt)*) => {
+        with_abouts!($($begun)* "Prints the events of a log"; $($more)*)
+    };
+    ($($begun:literal)*; show $($more:tt)*) => {
+        with_abouts!($($begun)* "Prints the entries of a list"; $($more)*)
+    };
+    ($($begun:literal)*; registers $($more:tt)*) => {
+        with_abouts!($($begun)* "Prints the PCRs that a log changes"; $($more)*)
+    };
+    ($($begun:literal)*; expected $($more:tt)*) => {
+        with_abouts!($($begun)* "Prints expected PCRs, from what tpm2-tools printed"; $($more)*)
+    };
+    ($($begun:literal)*; key $($more:tt)*) => {
+        with_abouts!($($begun)* "Prints name and PEM of a TPM's key, if the key is restricted"; $($more)*)
+    };
+    ($($begun:literal)*; measure $($more:tt)*) => {
+        with_abouts!($($begun)* "Measures files as IMA does, from the PCRs of a log, without a TPM"; $($more)*)
+    };
+    ($($begun:literal)*; $text:literal $($more:tt)*) => {
+        with_abouts!($($begun)* $text; $($more)*)
+    };
+}
 
-/// The end of the help: an example, if there is one, the tables of the faults that may be answered, and the exit statuses.
-macro_rules! help_end {
-    ($($example:literal;)? $($table:ident)+) => {
-        with_fault_tables!(
-            $("Example:\n  " $example "\n\n")?;
-            $($table)+;
-            "\
+pub(crate) use with_abouts;
+
+/// How the program is called.
+pub(crate) const PROGRAM_USAGE: &str = "ima-agent [COMMAND]";
+
+/// The help of the program.
+pub(crate) const PROGRAM_HELP: &str = with_abouts!(;
+    "\
+Checks whether a firmware event log and an IMA measurement list make the values that
+a TPM's PCRs have.
+
+Usage: ima-agent [COMMAND]
+
+Commands that judge:
+"
+    "  verify     " verify "\n"
+    "  attest     " attest "\n"
+    "  replay     " replay "\n"
+    "  locate     " locate "\n"
+    "  boot       " boot "\n"
+    "
+Commands that read:
+"
+    "  events     " events "\n"
+    "  show       " show "\n"
+    "  registers  " registers "\n"
+    "  expected   " expected "\n"
+    "  key        " key "\n"
+    "
+Commands that prepare:
+"
+    "  measure    " measure "\n"
+    "
+Options:
+  -V, --version  Print version
+  -h, --help     Print help; after a command, its arguments and an example
+
+A log is a copy of /sys/kernel/security/tpm0/binary_bios_measurements, a list of
+/sys/kernel/security/ima/binary_runtime_measurements. An input has at most 64 MiB.
+
+Without a command: reads a log in hexadecimal from standard input, and prints the
+PCRs that it changes.
+
 Exit status:
-  0  done; for verify: the expected registers and the boot aggregate match;
-     for replay with EXPECTED: the expected registers match;
-     for attest, and events and boot with --quote: the quote is of log and
-     list, and its signature was checked
-  1  for verify: an expected register or the boot aggregate does not match;
-     with --prefix, --save or --resume: no register is expected;
-     for replay with EXPECTED: an expected register does not match;
-     for locate: a register's value was not reached, or none is expected;
-     for each of these: EXPECTED lacks a register that --require names;
-     for verify and replay with --require, for attest, and for events and
-     boot with --quote: an event extends register 10, or an entry another;
-     for verify, replay and attest with --known: an entry is not known;
-     for attest, and events and boot with --quote: the boot aggregate or the
-     quote does not match
-  2  the arguments or an input were refused
-  3  out of memory, an input could not be read, or the output failed;
-     for verify and attest: the checkpoint of --save could not be written;
-     for measure: an error of the program itself
-  4  for attest, and events and boot with --quote: QUOTE was refused, or
-     --signature-checked is not given"
+  0  all is printed; a verdict is `match`
+  1  the verdict is `differ`, or a value is not located
+  2  the arguments or an input are refused
+  3  an input cannot be read, an output cannot be written, or memory ran out
+  4  a quote is refused, or its signature was not checked
+
+`man ima-agent` has the lines of reports, and what the numbers of errors mean."
+);
+
+/// The end of a command's help: an example, the exit statuses that the command has, and its errors that have numbers.
+macro_rules! help_end {
+    (
+        $example:literal;
+        0 $done:literal $(1 $differs:literal)? $(4 $unquoted:literal)?;
+        $errors:literal
+    ) => {
+        concat!(
+            "Example:\n  ",
+            $example,
+            "\n\nExit status:\n  0  ",
+            $done,
+            $("\n  1  ", $differs,)?
+            "
+  2  the arguments or an input are refused
+  3  an input cannot be read, an output cannot be written, or memory ran out",
+            $("\n  4  ", $unquoted,)?
+            "\n\nErrors with numbers (man ima-agent): ",
+            $errors
         )
     };
 }
 
-/// What the help calls the value of --require.
-pub(crate) const REQUIRED_REGISTERS: &str = "BANK:A-B[,BANK:C-D..]";
-
-/// What the program does.
-pub(crate) const PROGRAM_ABOUT: &str = "\
-Replays firmware event logs and IMA measurement lists, measures files, and compares registers.
-
-Without a command: reads a firmware event log in hexadecimal from standard input, at most 64 MiB,
-and prints the registers that differ from their reset values.
-
-`--help` after a command shows its arguments and an example.";
-
-/// The end of the program's help.
-const PROGRAM_END: &str = help_end!(log);
-
-/// The end of the help of the command of this name: that of the program, for a command without one of its own.
+/// The end of the help of the command of this name.
 pub(crate) fn help_end_of<'a>(command: &str) -> &'a str {
     match command {
-        "measure" =>
-            help_end!("ima-agent measure --print registers firmware.log /bin/sh /bin/ls"; log book gather),
-        "verify" =>
-            help_end!("ima-agent verify --require sha256:0-10 firmware.log ima.list expected.txt"; log list replay expected checkpoint known),
-        "attest" =>
-            help_end!("ima-agent attest --nonce \"$nonce\" --require sha256:0-10 firmware.log ima.list quote.msg"; quote log list replay expected checkpoint known),
-        "locate" =>
-            help_end!("ima-agent locate firmware.log ima.list expected.txt"; log list replay expected),
-        "expected" =>
-            help_end!("ima-agent expected --registers 0-10 pcrread.txt > expected.txt"; expected),
-        "key" => help_end!("ima-agent key --print pem ak.pub > ak.pem"; key),
-        "registers" => help_end!("ima-agent registers firmware.log"; log),
-        "events" =>
-            help_end!("ima-agent events --data firmware.log"; quote log list replay expected),
-        "boot" =>
-            help_end!("ima-agent boot --expected expected.txt firmware.log"; quote log list replay expected),
-        "show" => help_end!("ima-agent show ima.list"; list),
-        "replay" =>
-            help_end!("ima-agent replay --require sha256:10 ima.list expected.txt"; list replay expected known),
-        _ => PROGRAM_END,
+        "verify" => help_end!(
+            "ima-agent verify --require sha256:0-10 firmware.log ima.list expected.txt";
+            0 "the verdict is `match`: all expected PCRs and the boot aggregate match"
+            1 "the verdict is `differ`: one does not, or --require or --known is not met";
+            "log, list, replay, expected, checkpoint, known"
+        ),
+        "attest" => help_end!(
+            "ima-agent attest --nonce \"$nonce\" --require sha256:0-10 firmware.log ima.list quote.msg";
+            0 "the verdict is `match`: the quote and the boot aggregate match"
+            1 "the verdict is `differ`: one does not, log and list share a PCR, or --known fails"
+            4 "QUOTE is refused, or --signature-checked is missing";
+            "quote, log, list, replay, expected, checkpoint, known"
+        ),
+        "replay" => help_end!(
+            "ima-agent replay --require sha256:10 ima.list expected.txt";
+            0 "the verdict is `match`; without EXPECTED: all is printed"
+            1 "the verdict is `differ`: a PCR does, or --require or --known is not met";
+            "list, replay, expected, known"
+        ),
+        "locate" => help_end!(
+            "ima-agent locate firmware.log ima.list expected.txt";
+            0 "each expected value is located, which is no verdict"
+            1 "a value is not located, a PCR is missing, or none is expected";
+            "log, list, replay, expected"
+        ),
+        "boot" => help_end!(
+            "ima-agent boot --expected expected.txt firmware.log";
+            0 "all is printed; with --quote the verdict of `attest` is `match`"
+            1 "with --quote: the verdict is `differ`, and nothing is confirmed"
+            4 "QUOTE is refused, or --signature-checked is missing";
+            "log, expected, quote, list, replay"
+        ),
+        "events" => help_end!(
+            "ima-agent events --explain --expected expected.txt firmware.log";
+            0 "all is printed; with --quote the verdict of `attest` is `match`"
+            1 "with --quote: the verdict is `differ`, and nothing is confirmed"
+            4 "QUOTE is refused, or --signature-checked is missing";
+            "log, expected, quote, list, replay"
+        ),
+        _ => help_end_of_other(command),
+    }
+}
+
+// The end of the help of a command that gives no verdict.
+fn help_end_of_other<'a>(command: &str) -> &'a str {
+    match command {
+        "show" => help_end!("ima-agent show ima.list"; 0 "all is printed"; "list"),
+        "registers" => help_end!("ima-agent registers firmware.log"; 0 "all is printed"; "log"),
+        "expected" => help_end!(
+            "ima-agent expected --registers sha256:0-10 pcrread.txt > expected.txt";
+            0 "all is printed";
+            "expected"
+        ),
+        "key" => help_end!("ima-agent key --print pem ak.pub > ak.pem"; 0 "all is printed"; "key"),
+        _ => help_end!(
+            "ima-agent measure --print registers firmware.log /bin/sh /bin/ls";
+            0 "all is printed";
+            "log, book, gather (an error of the program itself)"
+        ),
     }
 }

@@ -5,7 +5,6 @@ mod argument_help;
 mod arguments;
 mod command_table;
 mod commands;
-mod fault_tables;
 mod help_texts;
 mod values;
 

@@ -156,6 +156,7 @@ pub(crate) fn attest_of(alloc: Global, matches: &ArgMatches) -> Result<Attest, A
         scope: flag_of(matches, "prefix", Scope::Whole, Scope::Prefix)?,
         resume: text_if_given(alloc, matches, "resume")?,
         save: text_if_given(alloc, matches, "save")?,
+        explained: flag_of(matches, "explain", false, true)?,
     })
 }
 

@@ -40,7 +40,7 @@ use Rattle.boot_verdict.proofs.RegisterLaws as registers
 use Rattle.boot_verdict.proofs.WrittenLaws.{IsProper, body, body_shown, body_spells, decimal_above, encoded_above, lacks_feed, line_is, shown, shown_join}
 use Rattle.pcr_banks.proofs.AlgLaws as algs
 use Rattle.boot_verdict.proofs.ExpectedLaws as names
-use Rattle.boot_verdict.proofs.RequirementLaws as colons
+use Rattle.boot_verdict.proofs.SelectionLaws as colons
 use Rattle.boot_verdict.proofs.StatedLaws.{same_digest}
 
 -- ---- lines

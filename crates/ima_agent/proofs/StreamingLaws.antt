@@ -1,11 +1,11 @@
 -- Outputs that are sent while their input is read: what was sent is what the program is asked for.
-use Rattle.std.proofs.Common.{◌≡◌, ◌⊎◌, ℕ, ◌<◌, List, [], ◌++◌, length, Option, None, Some, Result, Ok, Err, refl, sym, ap, subst, ◌∙◌, append_assoc, arith, inl, inr, codes}
+use Rattle.std.proofs.Common.{◌≡◌, ◌⊎◌, ℕ, ◌<◌, List, [], ◌++◌, length, Option, None, Some, Result, Ok, Err, refl, sym, ap, subst, ◌∙◌, append_assoc, append-nil, arith, inl, inr, codes}
 use Rattle.std.specs.Prelude.{IfSome, IsTrue}
 use Rattle.std.specs.Io.KnownBytes.{IsAtEnd}
 use Rattle.std.proofs.lemmas.List.{length-append}
 use Rattle.byte_streams.specs.declared.streams.Failed.{Failed}
 use Rattle.byte_streams.specs.Streams.{Sends, SinkState}
-use Rattle.byte_streams.proofs.SinkLaws.{Sends-none, Sends-ok}
+use Rattle.byte_streams.proofs.SinkLaws.{Sends-none, Sends-ok, Sends-same}
 use Rattle.boot_log.specs.declared.fault.LogFault.{LogFault}
 use Rattle.boot_log.specs.declared.header.Row.{Row}
 use Rattle.boot_log.specs.Spelling.{LogEvent}
@@ -33,7 +33,7 @@ use Rattle.agent_inputs.specs.Loading.{Holds, Inputs, IsNotRead, IsTooLong, inpu
 use Rattle.ima_agent.specs.declared.streams.StreamFault.{StreamFault}
 use Rattle.ima_agent.specs.declared.streams.StreamFault.TheVariants as streams
 use Rattle.rendering.specs.FaultTexts.{IsFailure}
-use Rattle.ima_agent.specs.Showing.{AreAllInFile, EndsAfterEntries, ShowsEntriesOf, ShowsToFault, StopsInFile, entry_lines}
+use Rattle.ima_agent.specs.Showing.{AreAllInFile, EndsAfterEntries, ShowsEntriesOf, ShowsToFault, StopsInFile, entry_lines, list_lines}
 use Rattle.ima_agent.specs.ShowingEvents.{AreAllEvents, EventForm, IsReported, ShowsEventsIn, StopsInLog, log_lines}
 use Rattle.ima_agent.specs.Program.{Streams}
 use Rattle.judging.proofs.InputLaws.{HasAll, held_more, held_whole}
@@ -66,6 +66,15 @@ module _ (form : Form) (done : ℕ) (AreAll : List ℕ → Type 0) (Stops : List
     text = text;
     sends = record { ok = tt; part = sends.part; telling = sends.telling; counts = sends.counts };
     goes_on = (memory_line form, 3, inr (text, runs.Memory, memory_line form, memory, memory_reported form, refl));
+  }
+
+  -- All is sent, and the sink failed.
+  all_cut : {E : Type 0} (fault : E) (failed : Failed) → Sends {A = Unit {0}} {E = E} old new (Err fault) text → AreAll text
+      → Streams form (ShowsToFault done AreAll Stops (IsReported form)) old new (Err (streams.Sink failed))
+  all_cut fault failed sends all = record {
+    text = text;
+    sends = record { ok = tt; part = sends.part; telling = sends.telling; counts = sends.counts };
+    goes_on = ([], done, inl (subst AreAll (sym (append-nil text)) all, refl));
   }
 
   line_follows : (fault : RunFault) → Stops text fault → Stops text runs.Memory → (last : List ℕ) (status : ℕ) → IsFailure form fault last status
@@ -226,18 +235,35 @@ module _ (inputs : Inputs) (name : List ℕ) where
           text_is = refl;
         })
 
+    -- Nothing was sent after the lines of entries.
+    without_last : {E : Type 0} (result : Result (Unit {0}) E) (text last : List ℕ) → last ≡ [] → Sends sink_old sink_new result (text ++ last)
+        → Sends sink_old sink_new result text
+    without_last result text last none sends =
+        Sends-same sink_old sink_new result (text ++ last) text (ap (λ (l : List ℕ). text ++ l) none ∙ append-nil text) sends
+
     pub entries_shown : SendsEntries old new input_limit sink_old sink_new (Ok tt)
         → Streams Json (ShowsEntriesOf inputs name) sink_old sink_new (Ok 0)
     entries_shown sends =
         let held = whole_of sends.list sends.over sends.came sends.ends.0 sends.ends.1 in
-        all_sent Json 0 (AreAllInFile inputs name) (StopsInFile inputs name) sink_old sink_new (entry_lines sends.entries) sends.sends
+        let whole = ap (λ (l : List ℕ). entry_lines sends.entries ++ l) sends.last_is in
+        all_sent Json 0 (AreAllInFile inputs name) (StopsInFile inputs name) sink_old sink_new (list_lines sends.entries)
+        (Sends-same sink_old sink_new (Ok tt) (entry_lines sends.entries ++ sends.last) (list_lines sends.entries) whole sends.sends)
         (sends.list, held, record { entries = sends.entries; reading = sends.ends.2; text_is = refl })
 
     pub entries_cut : (failed : Failed) → SendsEntries old new input_limit sink_old sink_new (Err entries.Sink)
         → Streams Json (ShowsEntriesOf inputs name) sink_old sink_new (Err (streams.Sink failed))
-    entries_cut failed sends =
-        cut_sent Json 0 (AreAllInFile inputs name) (StopsInFile inputs name) sink_old sink_new (entry_lines sends.entries) entries.Sink failed sends.sends
-        (breaks_off (Err entries.Sink) sends runs.Memory (inr (inr refl)))
+    entries_cut failed sends = elim sends.last_is [
+      | inl none ↦ cut_sent Json 0 (AreAllInFile inputs name) (StopsInFile inputs name) sink_old sink_new (entry_lines sends.entries) entries.Sink failed
+          (without_last (Err entries.Sink) (entry_lines sends.entries) sends.last none sends.sends)
+          (breaks_off (Err entries.Sink) sends runs.Memory (inr (inr refl)))
+      | inr counted ↦ all_cut Json 0 (AreAllInFile inputs name) (StopsInFile inputs name) sink_old sink_new (list_lines sends.entries) entries.Sink failed
+          (Sends-same sink_old sink_new (Err entries.Sink) (entry_lines sends.entries ++ sends.last) (list_lines sends.entries)
+          (ap (λ (l : List ℕ). entry_lines sends.entries ++ l) counted.0) sends.sends) (
+            sends.list,
+            whole_of sends.list sends.over sends.came counted.1 counted.2,
+            record { entries = sends.entries; reading = counted.3; text_is = refl },
+          )
+    ]
 
     -- Another fault of the list than `Truncated`, which no more bytes mend.
     lasting : (first : ListFault) (sends : SendsEntries old new input_limit sink_old sink_new (Err (entries.List first)))
@@ -265,14 +291,16 @@ module _ (inputs : Inputs) (name : List ℕ) where
         → SendsEntries old new input_limit sink_old sink_new (Err (entries.List first))
         → Streams Json (ShowsEntriesOf inputs name) sink_old sink_new (Err (streams.Run fault))
     entries_to_fault first fault says sends =
-        fault_sent Json 0 (AreAllInFile inputs name) (StopsInFile inputs name) sink_old sink_new (entry_lines sends.entries) fault sends.sends
+        fault_sent Json 0 (AreAllInFile inputs name) (StopsInFile inputs name) sink_old sink_new (entry_lines sends.entries) fault
+        (without_last (Ok tt) (entry_lines sends.entries) sends.last sends.last_is sends.sends)
         (fails first sends fault says) (breaks_off (Err (entries.List first)) sends runs.Memory (inr (inr refl)))
 
     pub entries_unread : (fault : RunFault) → IsTrue (inputs.may_fail (Some name)) → IsNotRead name fault ⊎ (fault ≡ runs.Memory)
         → SendsEntries old new input_limit sink_old sink_new (Err entries.Source)
         → Streams Json (ShowsEntriesOf inputs name) sink_old sink_new (Err (streams.Run fault))
     entries_unread fault may reason sends =
-        fault_sent Json 0 (AreAllInFile inputs name) (StopsInFile inputs name) sink_old sink_new (entry_lines sends.entries) fault sends.sends
+        fault_sent Json 0 (AreAllInFile inputs name) (StopsInFile inputs name) sink_old sink_new (entry_lines sends.entries) fault
+        (without_last (Ok tt) (entry_lines sends.entries) sends.last sends.last_is sends.sends)
         (breaks_off (Err entries.Source) sends fault (source_ends sends.list sends.entries fault may sends.ends.1 reason))
         (breaks_off (Err entries.Source) sends runs.Memory (inr (inr refl)))
 
@@ -288,7 +316,8 @@ module _ (inputs : Inputs) (name : List ℕ) where
         → SendsEntries old new input_limit sink_old sink_new (Err entries.TooLong)
         → Streams Json (ShowsEntriesOf inputs name) sink_old sink_new (Err (streams.Run fault))
     entries_too_long fault reason sends =
-        fault_sent Json 0 (AreAllInFile inputs name) (StopsInFile inputs name) sink_old sink_new (entry_lines sends.entries) fault sends.sends
+        fault_sent Json 0 (AreAllInFile inputs name) (StopsInFile inputs name) sink_old sink_new (entry_lines sends.entries) fault
+        (without_last (Ok tt) (entry_lines sends.entries) sends.last sends.last_is sends.sends)
         (breaks_off (Err entries.TooLong) sends fault (long_ends sends fault reason))
         (breaks_off (Err entries.TooLong) sends runs.Memory (inr (inr refl)))
 
@@ -296,5 +325,6 @@ module _ (inputs : Inputs) (name : List ℕ) where
         → Streams Json (ShowsEntriesOf inputs name) sink_old sink_new (Err (streams.Run runs.Memory))
     entries_run_out sends =
         let stops = breaks_off (Err entries.Memory) sends runs.Memory (inr (inr refl)) in
-        fault_sent Json 0 (AreAllInFile inputs name) (StopsInFile inputs name) sink_old sink_new (entry_lines sends.entries) runs.Memory sends.sends
+        fault_sent Json 0 (AreAllInFile inputs name) (StopsInFile inputs name) sink_old sink_new (entry_lines sends.entries) runs.Memory
+        (without_last (Ok tt) (entry_lines sends.entries) sends.last sends.last_is sends.sends)
         stops stops

@@ -3,7 +3,11 @@ pub mod Showing
 pub mod Matching
 pub mod ShowingEvents
 pub mod ShowingBoot
+pub mod Hints
+pub mod HintTexts
+pub mod Mistakes
 pub mod Program
+pub mod Saying
 pub use Rattle.agent_inputs.specs.Loading
 pub use Rattle.agent_inputs.specs.Loading
 pub use Rattle.agent_inputs.specs.Faults

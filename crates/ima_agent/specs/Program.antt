@@ -88,6 +88,12 @@ requested_by (questions.Attest attest) = Attests (attested_by attest)
 requested_by (questions.Expected printed registers) = ExpectedOf (file_of printed) (option_map string_bytes registers)
 requested_by (questions.Key area purpose part) = KeyOf (file_of area) purpose part
 
+-- The same with these texts of known files.
+abbrev pub with_known : List Where → Requested → Requested
+with_known known (Compares request) = Compares (record request { known = known })
+with_known known (Attests asked) = Attests (record asked { known = known })
+with_known known request = request
+
 -- The texts of known files that a question names.
 abbrev pub known_by : Question → List Where
 known_by (questions.Judge judge) = files_of judge.known

@@ -4,7 +4,7 @@ use Rattle.hex.specs.Hex.{decode_of}
 use Rattle.ima_list.specs.declared.fault.ListFault.{ListFault}
 use Rattle.ima_list.specs.ListEntry.{ListEntry}
 use Rattle.ima_list.specs.Spelling.{BeginsWith, IsReading}
-pub use Rattle.json_texts.specs.ItemLines.{entry_lines, numbered_lines, AreAllEntries, EndsWithFault, FailsAfterEntries}
+pub use Rattle.json_texts.specs.ItemLines.{entry_lines, list_lines, numbered_lines, AreAllEntries, EndsWithFault, FailsAfterEntries}
 use Rattle.json_texts.specs.SentEntries.{AreAllIn}
 use Rattle.agent_plans.specs.declared.plan.Form.{Form}
 use Rattle.agent_inputs.specs.declared.fault.RunFault.{RunFault}
@@ -61,10 +61,10 @@ ShowsToFault done AreAll Fails IsLine shown status = (AreAll shown × (status �
 
 -- ---- entries as JSON
 
--- What can be read of the bytes as a list is shown.
+-- What can be read of the bytes as a list is shown, and at the end of a list how many entries it has.
 abbrev pub ShowsEntries : List ℕ → List ℕ → ℕ → Type 0
 ShowsEntries list shown status =
-    ShowsToFault 0 (AreAllEntries entry_lines list) (FailsAfterEntries entry_lines fault_of_list list) IsReportedAsJson shown status
+    ShowsToFault 0 (AreAllEntries list_lines list) (FailsAfterEntries entry_lines fault_of_list list) IsReportedAsJson shown status
 
 -- Why no more entries of the file of this name are shown, of which the bytes `came` were read. It could not be opened or read, or it is
 -- longer than an input may be and its first bytes came, as many as one may have: then these are all entries of what came, of which none was refused (how much of a file
@@ -88,9 +88,9 @@ pub record BreaksOffAfterEntries (inputs : Inputs) (name text : List ℕ) (fault
 
 -- ---- what is shown while its input is read
 
--- The file of this name is a list, and the text is the lines of its entries as JSON.
+-- The file of this name is a list, and the text is the lines of its entries as JSON, and of how many they are.
 abbrev pub AreAllInFile : Inputs → List ℕ → List ℕ → Type 0
-AreAllInFile inputs name text = OfInput inputs (Some name) (λ list. AreAllEntries entry_lines list text)
+AreAllInFile inputs name text = OfInput inputs (Some name) (λ list. AreAllEntries list_lines list text)
 
 -- Why no more of the list in the file of this name is shown than this text: it fails, or it comes no further.
 abbrev pub StopsInFile : Inputs → List ℕ → List ℕ → RunFault → Type 0

@@ -1,6 +1,6 @@
 //! Texts for a terminal.
 
-ghost use Rattle.std.specs.Prelude.{◌≡◌, ◌<◌, ◌++◌, true, map, slice_index, string_bytes, IfOk, OnOk};
+ghost use Rattle.std.specs.Prelude.{◌≡◌, ◌<◌, ◌++◌, ◌∷◌, [], true, map, slice_index, string_bytes, IfOk, OnOk};
 ghost use Rattle.std.specs.List.{list_all};
 ghost use Rattle.hex.specs.Hex.{lower_digits};
 ghost use Rattle.ima_agent.specs.Escaping.{escape, escaped_byte, is_printable, is_shown};
@@ -56,7 +56,8 @@ fn digit(value: u8) -> char
 
 /// The text as one line, escaped, with its line feed.
 pub(crate) fn shown_line(alloc: Global, text: &str) -> Result<String, AllocError>
-    ensures { IfOk result (λ line. list_all is_shown (string_bytes line) ≡ true) }
+    ensures text { IfOk result (λ line. string_bytes line ≡ escape text.now ++ 10 ∷ []) }
+    ensures shown { IfOk result (λ line. list_all is_shown (string_bytes line) ≡ true) }
 {
     let mut line = escape(alloc, text)?;
     line.push('\n')?;

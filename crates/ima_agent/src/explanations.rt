@@ -3,30 +3,31 @@
 ghost use Rattle.std.specs.Prelude.{◌≡◌, true, string_bytes, IfOk};
 ghost use Rattle.std.specs.List.{list_all};
 ghost use Rattle.ima_agent.specs.Escaping.{is_shown};
+ghost use Rattle.ima_agent.specs.Saying.{is_asked_for, is_explained, is_said};
 
 use crate::escapes::{escape_each, shown_line, shown_lines};
+use crate::task_inputs::{STANDARD_INPUT, input_of, known_name, quoting_of};
 use agent_inputs::RunFault;
-use agent_plans::{Attest, ConfirmedBy, Judge, Judged, Measurement, Question, Quoting, Task};
+use agent_plans::{Judge, Question, Quoting, Task};
 use attestations::{Policy, PolicyFault};
-use boot_verdict::Requirement;
+use boot_verdict::{Requirement, Selection, SelectionFault};
 use command_line::refusal_of;
-use measure_book::BookFault;
 use std::alloc::{AllocError, Global};
 use std::fs::File;
 use std::io;
 use std::io::Read;
 use std::rt::Files as FileSystem;
 
-/// What standard input is called.
-const STANDARD_INPUT: &str = "standard input";
-
 /// What is wrong with arguments that are within all other limits.
 const TOO_MANY_FILES: &str = "error: 2^32 files or more";
 
 /// The option that names what is required, as the help shows it.
-const REQUIRE: &str = "--require <BANK:A-B[,BANK:C-D..]>";
+const REQUIRE: &str = "--require <SELECTION>";
 
-/// What came of a run that failed.
+/// The option that names which registers are shown.
+const REGISTERS: &str = "--registers <SELECTION>";
+
+/// What came of a run that failed, or of an answer that something differs.
 #[derive(Clone, Copy)]
 pub enum Failure<'a> {
     /// The line of a fault of a task.
@@ -48,12 +49,47 @@ pub enum Failure<'a> {
         /// The reason.
         reason: &'a io::Error,
     },
+    /// The answer to a task: something differs.
+    Differs {
+        /// What was to be done.
+        task: &'a Task,
+    },
     /// A part of the output, or nothing.
     Output,
 }
 
+impl Failure<'_> {
+    /// Whether it is said: standard error is a terminal, or the arguments ask for it.
+    pub(crate) fn is_said(self, is_terminal: bool) -> bool
+        ensures { result ≡ is_said is_terminal self.entry }
+    {
+        is_terminal || self.is_asked_for()
+    }
+
+    // Whether the arguments ask for it.
+    fn is_asked_for(self) -> bool
+        ensures { result ≡ is_asked_for self.entry }
+    {
+        match self {
+            Failure::Fault { task, .. } | Failure::Differs { task } => is_explained(task),
+            Failure::Refused { .. } | Failure::Arguments { .. } | Failure::Output => false,
+        }
+    }
+}
+
+// Whether a task asks to say what to do next.
+fn is_explained(task: &Task) -> bool
+    ensures { result ≡ is_explained task.now }
+{
+    match task {
+        Task::Answer(Question::Judge(judge)) => judge.explained,
+        Task::Answer(Question::Attest(attest)) => attest.explained,
+        _ => false,
+    }
+}
+
 /// Why the run failed, in lines for a person: the input that is at fault, and what is wrong with it; for wrong arguments what `clap`
-/// says of them. Of an input that could not be read it asks once more, to learn the system's reason.
+/// says of them. Of an input that could not be read it asks once more, to learn the system's reason. An answer explains itself.
 ///
 /// Fails if memory runs out, and if the run failed because it did.
 pub fn explanation<R: FileSystem + io::Input>(
@@ -70,6 +106,7 @@ pub fn explanation<R: FileSystem + io::Input>(
             io::ErrorKind::InvalidData => shown_line(alloc, "an argument is not UTF-8"),
             _ => Err(AllocError),
         },
+        Failure::Differs { .. } => Ok(String::new(alloc)),
         Failure::Output => shown_line(alloc, "the output could not be written"),
     }
 }
@@ -138,10 +175,10 @@ fn of_value_in(alloc: Global, task: &Task) -> Result<String, AllocError>
         ) => of_requirement(alloc, text)?,
         Task::Answer(
             Question::Expected {
-                registers: Some(range),
+                registers: Some(text),
                 ..
             },
-        ) => format!(in alloc; "error: invalid value '{range}' for '--registers <A-B>'")?,
+        ) => of_registers(alloc, text)?,
         _ => String::from_str(alloc, TOO_MANY_FILES)?,
     };
     shown_line(alloc, &text)
@@ -151,7 +188,48 @@ fn of_value_in(alloc: Global, task: &Task) -> Result<String, AllocError>
 fn of_requirement(alloc: Global, text: &str) -> Result<String, AllocError> {
     match Requirement::from_text(alloc, text.as_bytes()) {
         Ok(_) => Err(AllocError),
-        Err(fault) => format!(in alloc; "error: invalid value '{text}' for '{REQUIRE}': {fault}"),
+        Err(fault) => of_selection(alloc, text, REQUIRE, fault),
+    }
+}
+
+// Why this text selects no registers.
+fn of_registers(alloc: Global, text: &str) -> Result<String, AllocError> {
+    match Selection::from_text(alloc, text.as_bytes()) {
+        Ok(_) => Err(AllocError),
+        Err(fault) => of_selection(alloc, text, REGISTERS, fault),
+    }
+}
+
+// Why the text of this option is refused, with its first wrong part. Bytes are told from 1 on.
+fn of_selection(
+    alloc: Global,
+    text: &str,
+    option: &str,
+    fault: SelectionFault,
+) -> Result<String, AllocError> {
+    let SelectionFault::Malformed { at } = fault else {
+        return format!(in alloc; "error: invalid value '{text}' for '{option}': {fault}");
+    };
+    let part = part_at(text, at);
+    let place = at.saturating_add(1);
+    format!(in alloc;
+        "error: invalid value '{text}' for '{option}': at byte {place}, '{part}': {fault}"
+    )
+}
+
+// The part of a selection that begins at this byte.
+fn part_at(text: &str, at: usize) -> &str {
+    let Some((_, rest)) = text.split_at_checked(at) else {
+        return "";
+    };
+    before(before(rest, ","), "+")
+}
+
+// What comes before the first separator, or all.
+fn before<'a>(text: &'a str, separator: &str) -> &'a str {
+    match text.split_once(separator) {
+        Some((part, _)) => part,
+        None => text,
     }
 }
 
@@ -208,105 +286,4 @@ fn open_reason<R: FileSystem>(rt: &R, name: &str) -> Option<io::Error> {
 fn read_reason<R: Read>(reader: &mut R) -> Option<io::Error> {
     let mut byte = [0];
     reader.read(&mut byte).err()
-}
-
-// The input that has the fault, unless the fault names it itself or is of none.
-fn input_of<'a>(task: &'a Task, fault: &RunFault) -> Option<&'a str> {
-    match (fault, task) {
-        (RunFault::NotHex, _) => Some(STANDARD_INPUT),
-        (RunFault::Log(_) | RunFault::Book(BookFault::NoBank), _) => log_of(task),
-        (RunFault::List(_) | RunFault::Replay(_), _) => list_of(task),
-        (RunFault::Expect(_), Task::Answer(Question::Expected { printed, .. })) => {
-            Some(printed.as_str())
-        }
-        (RunFault::Expect(_), Task::Answer(Question::Judge(judge))) => {
-            Some(judge.expected.as_str())
-        }
-        (RunFault::Expect(_), Task::Answer(Question::Attest(attest))) => {
-            attest.expected.as_deref()
-        }
-        (
-            RunFault::Expect(_),
-            Task::Events {
-                confirmed_by: ConfirmedBy::Expected(name),
-                ..
-            }
-            | Task::Boot {
-                confirmed_by: ConfirmedBy::Expected(name),
-                ..
-            },
-        ) => Some(name.as_str()),
-        (RunFault::Quote(_), _) => Some(quoting_of(task)?.quote.as_str()),
-        (RunFault::Key(_), Task::Answer(Question::Key { area, .. })) => Some(area.as_str()),
-        (RunFault::Checkpoint(_), Task::Answer(Question::Attest(attest))) => {
-            attest.resume.as_deref()
-        }
-        (RunFault::Checkpoint(_), Task::Answer(Question::Judge(judge))) => match &judge.judged {
-            Judged::Verdict { resume, .. } => resume.as_deref(),
-            _ => None,
-        },
-        (RunFault::Outcome { job, .. }, Task::Measure(Measurement { files, .. })) => {
-            let name = files.get(*job as usize)?;
-            Some(name.as_str())
-        }
-        _ => None,
-    }
-}
-
-// The name of the text of known files of this number, counted from 1.
-fn known_name(task: &Task, file: usize) -> Option<&str> {
-    let names = match task {
-        Task::Answer(Question::Judge(judge)) => judge.known.as_ref()?,
-        Task::Answer(Question::Attest(attest)) => attest.known.as_ref()?,
-        _ => return None,
-    };
-    let name = names.get(file.checked_sub(1)?)?;
-    Some(name.as_str())
-}
-
-// The log of a task, unless there is another.
-fn log_of(task: &Task) -> Option<&str> {
-    match task {
-        Task::Registers => Some(STANDARD_INPUT),
-        Task::Measure(Measurement { log, .. })
-        | Task::Answer(Question::LogRegisters { log })
-        | Task::Answer(Question::Attest(Attest { log, .. }))
-        | Task::Events { log, .. }
-        | Task::Boot {
-            log,
-            before: None,
-            ..
-        } => Some(log.as_str()),
-        Task::Answer(Question::Judge(judge)) => match &judge.judged {
-            Judged::Verdict { log, .. } | Judged::Positions { log } => Some(log.as_str()),
-            Judged::ListVerdict => None,
-        },
-        _ => None,
-    }
-}
-
-// The measurement list of a task.
-fn list_of(task: &Task) -> Option<&str> {
-    match task {
-        Task::Answer(Question::Judge(Judge { list, .. }))
-        | Task::Answer(Question::ListRegisters { list })
-        | Task::Entries { list } => Some(list.as_str()),
-        _ => Some(quoting_of(task)?.list.as_str()),
-    }
-}
-
-// The quote that a task is of, if it is of one.
-fn quoting_of(task: &Task) -> Option<&Quoting> {
-    match task {
-        Task::Answer(Question::Attest(Attest { quoting, .. }))
-        | Task::Events {
-            confirmed_by: ConfirmedBy::Quote(quoting),
-            ..
-        }
-        | Task::Boot {
-            confirmed_by: ConfirmedBy::Quote(quoting),
-            ..
-        } => Some(quoting),
-        _ => None,
-    }
 }

@@ -4,17 +4,23 @@
 #![tactic(auto)]
 
 mod boot;
+mod causes;
 mod escapes;
 mod events;
 mod explanations;
+mod files_again;
 mod hexadecimal;
+mod hints;
 mod matches;
+mod mistakes;
 mod program;
 mod progress;
 mod quoted;
 mod requests;
+mod second_look;
 mod shown;
 mod streams;
+mod task_inputs;
 mod version;
 
 pub use agent_inputs::{
@@ -27,7 +33,7 @@ pub use agent_plans::{
 };
 pub use boot_verdict::{
     Aggregate, BankRange, ExpectFault, Expected, Located, Position, RegisterRange, Report,
-    Requirement, RequirementFault, Row, State, VerifyFault, all_found, list_start, locate,
+    Requirement, Row, Selection, SelectionFault, State, VerifyFault, all_found, list_start, locate,
     locate_from, read_expected, read_printed, replay_from, required_found, verify, verify_from,
     write_expected, write_registers,
 };
@@ -36,8 +42,9 @@ pub use escapes::escape;
 pub use explanations::{Failure, explanation};
 pub use measuring::FileProgress;
 pub use program::{exit_code, read_words, run, run_with_progress};
-pub use progress::{NoProgress, Progress, SystemProgress};
+pub use progress::{NoProgress, Progress, SystemProgress, Terminals};
 pub use rendering::{Output, json_fault_line, json_memory_line, status_of, write_fault};
+pub use second_look::hint;
 pub use verdict_texts::{
     EventData, write_events, write_positions, write_report, write_required_positions,
     write_required_report,

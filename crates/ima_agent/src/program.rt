@@ -32,6 +32,9 @@ use std::process::ExitCode;
 use std::sync::Wait;
 use std::thread::Threads;
 
+// The exit status of an answer that something differs.
+const DIFFERS: u8 = 1;
+
 // The exit status if the sink failed.
 const FAILED: u8 = 3;
 
@@ -117,7 +120,8 @@ pub fn run<R: Threads + Wait + Sync, F: AgentFiles, S: Sink>(
     run_with_progress(rt, alloc, arguments, files, sink, &NoProgress)
 }
 
-/// As [`run`]; also reports to `progress` how many files of a measurement are done, and why the run failed. The output is the same.
+/// As [`run`]; also reports to `progress` how many files of a measurement are done, that standard input is about to be read, and, after the
+/// output, why the run failed or that something differs. Output and status are the same.
 pub fn run_with_progress<R: Threads + Wait + Sync, F: AgentFiles, S: Sink, P: Progress>(
     rt: &R,
     alloc: Global,
@@ -161,7 +165,10 @@ fn run_task<R: Threads + Wait + Sync, F: AgentFiles, S: Sink, P: Progress>(
     ensures { Answers (IsOutcome (F.known files.old) task.now form (F.saved files.old) (F.saved files.new)) result (S.state sink.old) (S.state sink.new) }
 {
     match perform(rt, alloc, task, form, files, sink, progress) {
-        Ok(status) => status,
+        Ok(status) => {
+            tell_difference(alloc, task, status, progress);
+            status
+        }
         Err(StreamFault::Sink(Failed)) => {
             progress.explain(alloc, Failure::Output);
             FAILED
@@ -180,6 +187,13 @@ fn run_task<R: Threads + Wait + Sync, F: AgentFiles, S: Sink, P: Progress>(
     }
 }
 
+// Tells what an answer with this status has to tell beside the output.
+fn tell_difference<P: Progress>(alloc: Global, task: &Task, status: u8, progress: &P) {
+    if status == DIFFERS {
+        progress.explain(alloc, Failure::Differs { task });
+    }
+}
+
 // Does this task, and sends its output in this form; at a fault of the run what comes before the fault's line.
 fn perform<R: Threads + Wait + Sync, F: AgentFiles, S: Sink, P: Progress>(
     rt: &R,
@@ -194,7 +208,10 @@ fn perform<R: Threads + Wait + Sync, F: AgentFiles, S: Sink, P: Progress>(
     ensures { Streams form (IsOutcome (F.known files.old) task.now form (F.saved files.old) (F.saved files.new)) (S.state sink.old) (S.state sink.new) result }
 {
     match task {
-        Task::Registers => send_output(shown_registers(alloc, files, form), sink),
+        Task::Registers => {
+            progress.waits();
+            send_output(shown_registers(alloc, files, form), sink)
+        }
         Task::Answer(question) => send_output(answer_for(alloc, question, form, files), sink),
         Task::Measure(request) => {
             send_output(measure_for(rt, alloc, request, form, files, progress), sink)

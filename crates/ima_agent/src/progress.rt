@@ -1,6 +1,7 @@
-//! What is told beside the output: the progress of a measurement, and why a run failed.
+//! What is told beside the output: the progress of a measurement, why a run failed, and what to do next.
 
 use crate::explanations::{Failure, explanation};
+use crate::second_look::hint;
 use measuring::FileProgress;
 use std::alloc::Global;
 use std::io;
@@ -8,9 +9,12 @@ use std::rt::{Clock, Files as FileSystem};
 use std::sync::atomic::{AtomicU64, Ordering};
 use std::time::Instant;
 
-/// Receives the progress of a measurement, and why the run failed.
+/// Receives the progress of a measurement, and why the run failed or something differs.
 pub trait Progress: FileProgress {
-    /// The run failed. The fault's line, if there is one, was sent before.
+    /// Standard input is about to be read.
+    fn waits(&self);
+
+    /// The run failed, or something differs. The fault's line, if there is one, or the answer was sent before.
     fn explain(&self, alloc: Global, failure: Failure<'_>);
 }
 
@@ -25,7 +29,22 @@ impl FileProgress for NoProgress {
 }
 
 impl Progress for NoProgress {
+    fn waits(&self) {}
+
     fn explain(&self, _alloc: Global, _failure: Failure<'_>) {}
+}
+
+/// What a person is told who has given no arguments.
+const WAITING: &str =
+    "reading a firmware event log in hexadecimal from standard input; ima-agent --help tells the commands\n";
+
+/// Which standard streams are terminals.
+#[derive(Clone, Copy)]
+pub struct Terminals {
+    /// Whether standard input is one.
+    pub input: bool,
+    /// Whether standard error is one.
+    pub error: bool,
 }
 
 /// How many milliseconds pass before the first number is shown.
@@ -35,12 +54,14 @@ const INTERVAL: u64 = 100;
 
 /// Shows the progress on standard error, if that is a terminal: `123 of 10000 files`, after more than a second and at most ten
 /// times a second, written over what was shown before. The line is erased when the measurement ends. Of a run that failed it shows
-/// the [`explanation`] there. If the clock or the terminal fails, nothing is shown; this is no fault.
+/// the [`explanation`] there, and of it or an answer that something differs the [`hint`]; these also where there is no terminal, if the
+/// arguments ask for it. Before standard input is read, if that is a terminal, it says so. If the clock or the terminal fails,
+/// nothing is shown; this is no fault.
 #[derive(Drop)]
 pub struct SystemProgress<'a, R> {
     runtime: &'a R,
-    /// Whether standard error is a terminal. Else nothing is shown.
-    is_terminal: bool,
+    /// Which standard streams are terminals.
+    terminals: Terminals,
     /// When the measurement began; `None` if no number is to be shown, or the clock failed.
     began: Option<Instant>,
     /// After how many milliseconds the next number may be shown; greater than `DELAY` once one was shown.
@@ -48,16 +69,16 @@ pub struct SystemProgress<'a, R> {
 }
 
 impl<'a, R: Eprint + Clock> SystemProgress<'a, R> {
-    /// Shows the progress of a measurement that begins now. `is_terminal` says whether standard error is a terminal.
-    pub fn new(runtime: &'a R, is_terminal: bool) -> Self {
-        let began = if is_terminal {
+    /// Shows the progress of a measurement that begins now, where these streams are terminals.
+    pub fn new(runtime: &'a R, terminals: Terminals) -> Self {
+        let began = if terminals.error {
             Instant::now(runtime).ok()
         } else {
             None
         };
         SystemProgress {
             runtime,
-            is_terminal,
+            terminals,
             began,
             due: AtomicU64::new(DELAY),
         }
@@ -98,13 +119,22 @@ impl<R: Eprint + Clock + Sync> FileProgress for SystemProgress<'_, R> {
 }
 
 impl<R: Eprint + Clock + FileSystem + io::Input + Sync> Progress for SystemProgress<'_, R> {
+    fn waits(&self) {
+        if self.terminals.input && self.terminals.error {
+            let _ = eprint!(self.runtime; "{WAITING}");
+        }
+    }
+
     fn explain(&self, alloc: Global, failure: Failure<'_>) {
-        if !self.is_terminal {
+        if !failure.is_said(self.terminals.error) {
             return;
         }
         let _ = match explanation(self.runtime, alloc, failure) {
             Ok(text) => eprint!(self.runtime; "{text}"),
             Err(_) => eprint!(self.runtime; "out of memory\n"),
         };
+        if let Ok(text) = hint(self.runtime, alloc, failure) {
+            let _ = eprint!(self.runtime; "{text}");
+        }
     }
 }

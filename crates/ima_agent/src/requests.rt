@@ -3,7 +3,7 @@
 ghost use Rattle.std.specs.Prelude.{◌≡◌, [], map, option_map, IfOk, OnErr};
 ghost use Rattle.judging.specs.Requests.{requested_of, place_of, attested_of, compared_of, judgement_of, requires_of};
 ghost use Rattle.ima_agent.specs.Matching.{attested_with};
-ghost use Rattle.ima_agent.specs.Program.{requested_by, file_of, files_of, known_by, attested_by, compared_by, judgement_by, requires_by, save_by};
+ghost use Rattle.ima_agent.specs.Program.{requested_by, file_of, files_of, known_by, attested_by, compared_by, judgement_by, requires_by, save_by, with_known};
 
 use agent_plans::{Attest, Judge, Judged, Question, Quoting, Scope};
 use judging::{Attesting, Comparison, Input, Request, Required, Wanted};
@@ -39,7 +39,9 @@ fn known_names(question: &Question) -> &[String]
 
 /// What a question asks, where these are the texts of known files that it names.
 pub(crate) fn request_of<'a>(question: &'a Question, known: &'a [Input<'a>]) -> Request<'a>
-    ensures { map place_of known.now ≡ known_by question.now → requested_of result ≡ requested_by question.now }
+    ensures asked { map place_of known.now ≡ known_by question.now → requested_of result ≡ requested_by question.now }
+    // With other texts of known files it is the same, but for these.
+    ensures given { requested_of result ≡ with_known (map place_of known.now) (requested_by question.now) }
 {
     match question {
         Question::LogRegisters { log } => Request::LogRegisters {
@@ -52,7 +54,7 @@ pub(crate) fn request_of<'a>(question: &'a Question, known: &'a [Input<'a>]) -> 
         Question::Attest(attest) => Request::Attestation(attesting_of(attest, known)),
         Question::Expected { printed, registers } => Request::Expected {
             printed: Input::File(printed),
-            range: match registers {
+            registers: match registers {
                 None => None,
                 Some(range) => Some(range.as_bytes()),
             },
@@ -71,7 +73,8 @@ pub(crate) fn request_of<'a>(question: &'a Question, known: &'a [Input<'a>]) -> 
 
 // What is judged by a quote.
 fn attesting_of<'a>(attest: &'a Attest, known: &'a [Input<'a>]) -> Attesting<'a>
-    ensures { map place_of known.now ≡ files_of attest.now.known → attested_of result ≡ attested_by attest.now }
+    ensures asked { map place_of known.now ≡ files_of attest.now.known → attested_of result ≡ attested_by attest.now }
+    ensures given { attested_of result ≡ record (attested_by attest.now) { known = map place_of known.now } }
 {
     Attesting {
         expected: file_of(&attest.expected),
@@ -113,7 +116,8 @@ fn file_of(name: &Option<String>) -> Option<Input<'_>>
 
 // What is compared.
 fn comparison_of<'a>(judge: &'a Judge, known: &'a [Input<'a>]) -> Comparison<'a>
-    ensures { map place_of known.now ≡ files_of judge.now.known → compared_of result ≡ compared_by judge.now }
+    ensures asked { map place_of known.now ≡ files_of judge.now.known → compared_of result ≡ compared_by judge.now }
+    ensures given { compared_of result ≡ record (compared_by judge.now) { known = map place_of known.now } }
 {
     Comparison {
         wanted: wanted_of(&judge.judged),

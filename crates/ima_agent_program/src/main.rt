@@ -1,7 +1,9 @@
 //! The program `ima-agent`, which is `ima_agent::exit_code` over the system's files and streams.
 #![tactic(auto)]
 
-use ima_agent::{SystemFiles, SystemProgress, WriteSink, arguments_after_name, exit_code};
+use ima_agent::{
+    SystemFiles, SystemProgress, Terminals, WriteSink, arguments_after_name, exit_code,
+};
 use std::io::IsTerminal;
 use std::process::ExitCode;
 use std::rt::Env;
@@ -14,7 +16,11 @@ fn arguments(rt: &(impl Env + AllocGlobal)) -> io::Result<Vec<String>> {
 
 fn main(rt: HostRuntime) -> ExitCode {
     let mut output = WriteSink::new(rt.stdout());
-    let progress = SystemProgress::new(&rt, rt.stderr().is_terminal());
+    let terminals = Terminals {
+        input: rt.stdin().is_terminal(),
+        error: rt.stderr().is_terminal(),
+    };
+    let progress = SystemProgress::new(&rt, terminals);
     exit_code(
         &rt,
         rt.alloc(),

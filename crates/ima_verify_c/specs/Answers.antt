@@ -17,7 +17,7 @@ use Rattle.pieces.specs.declared.piece.End.{End}
 use Rattle.pieces.specs.declared.piece.End.TheVariants.{Last, Longer, More}
 use Rattle.pieces.specs.declared.piece.Piece.{Piece}
 use Rattle.pieces.specs.declared.piece.Position.{Position}
-use Rattle.pieces.specs.Pieces.{AreEntriesBefore, FailsAfterEntries, IsEntryPiece, AreEventsBefore, FailsAfterEvents, IsEventPiece, is_within}
+use Rattle.pieces.specs.Pieces.{AreEntriesBefore, FailsAfterEntries, IsEntryPiece, AreEventsBefore, FailsAfterEvents, IsEventPiece, end_in, is_within}
 use Rattle.rendering.specs.FaultTexts.{fault_line, said_of, IsFaultAsJson}
 use Rattle.tpm_keys.specs.declared.kinds.KeyPart.TheVariants.{All}
 use Rattle.tpm_keys.specs.declared.kinds.Purpose.{Purpose}
@@ -259,7 +259,7 @@ pub record GivesLines (AreBefore : Position → List ℕ → Type 0) (IsPiece : 
 
 abbrev pub GivesEntries : Form → List ℕ → Position → Position → ℤ → Told → List ℕ → List ℕ → Type 0
 GivesEntries form list position after answer told old new =
-    GivesLines (AreEntriesBefore form list) (IsEntryPiece form list) (FailsAfterEntries form list) form (length list) position after answer told
+    GivesLines (AreEntriesBefore form list) (IsEntryPiece form list) (FailsAfterEntries form list) form (end_in form list) position after answer told
     old new
 
 abbrev pub GivesEvents : List ℕ → Position → Position → ℤ → Told → List ℕ → List ℕ → Type 0

@@ -184,8 +184,8 @@ pub extern "C" fn ima_verify_raw_attest<'a>(
     give_both(alloc, request, form_of(json), next, next_size, out, told)
 }
 
-/// The expected registers that a text which tpm2_pcrread or tpm2_checkquote printed states within a range, as `0-10`, or all if that is
-/// empty, as `expected` writes them.
+/// The expected registers that a text which tpm2_pcrread or tpm2_checkquote printed states, of those that a selection such as `sha256:0-10`
+/// names, or all if that is empty, as `expected` writes them.
 #[unsafe(no_mangle)]
 pub extern "C" fn ima_verify_raw_expected(
     alloc: Global,
@@ -199,7 +199,7 @@ pub extern "C" fn ima_verify_raw_expected(
 {
     let request = Request::Expected {
         printed: Input::Bytes(printed),
-        range: given_bytes(registers),
+        registers: given_bytes(registers),
     };
     give(alloc, request, form_of(json), out, told)
 }

@@ -25,10 +25,8 @@ use Rattle.boot_verdict.specs.declared.positions.Position.TheVariants as positio
 use Rattle.boot_verdict.specs.declared.report.Row.{Row}
 use Rattle.boot_verdict.specs.declared.report.State.{State}
 use Rattle.boot_verdict.specs.declared.report.State.TheVariants.{Match, Differ, Absent}
-use Rattle.boot_verdict.specs.declared.requirement.BankRange.{BankRange}
+use Rattle.boot_verdict.specs.declared.selection.BankRange.{BankRange}
 use Rattle.boot_verdict.specs.Words.{algorithm_with, unconfirmed_entry, unconfirmed_kind, unconfirmed_message, unconfirmed_number}
-use Rattle.boot_verdict.specs.declared.register_range.RegisterRange.{RegisterRange}
-use Rattle.boot_verdict.specs.RegisterRanges.{is_within}
 use Rattle.boot_verdict.specs.RegisterTexts.{all_registers, differs, every_register}
 use Rattle.boot_verdict.specs.Requirements.{is_missing}
 use Rattle.known_files.specs.declared.unknown.Unknown.{Unknown}
@@ -38,7 +36,7 @@ use Rattle.json_texts.specs.JsonValues.{IsCount, Member, hex_json, items_of, num
 use Rattle.json_texts.specs.EventJson.{algorithm_json}
 use Rattle.json_texts.specs.FaultJson.{fault_members, number_at, place_members}
 use Rattle.json_texts.specs.ReportJson as position
-use Rattle.json_texts.specs.ReportJson.{AreCounted, IsCountedPosition, IsCountedUnknown, change_values, extends_members, missing_among, register_json, row_json, rows_values, value_if_missing, value_within, report_rows, state_members, stray_entry_values, stray_event_values, stray_members, unconfirmed_members, unknown_members, verdict_members}
+use Rattle.json_texts.specs.ReportJson.{AreCounted, IsCountedPosition, IsCountedUnknown, change_values, expected_row, extends_members, missing_among, register_json, row_json, rows_values, value_if_missing, value_json, report_rows, state_members, stray_entry_values, stray_event_values, stray_members, unconfirmed_members, unknown_members, verdict_members}
 use Rattle.json_texts.proofs.LineLaws.{ArePlain, IsPlain, ItemsArePlain, members_joined}
 
 -- ---- lists of values
@@ -54,11 +52,6 @@ AreRows js = ItemsArePlain (items_of js) 1
 
 rows_joined : (js ks : List Json) → AreRows js → AreRows ks → AreRows (js ++ ks)
 rows_joined js ks first second = values_joined 1 js ks first second
-
-pub each_plain : {A : Type 0} (Q : A → Type 0) (f : A → List Json) → ((x : A) → Q x → AreRows (f x)) → (xs : List A) → AllByRecursion Q xs
-    → AreRows (flat_map f xs)
-each_plain Q f plain [] are = tt
-each_plain Q f plain (x ∷ xs) are = rows_joined (f x) (flat_map f xs) (plain x are.0) (each_plain Q f plain xs are.1)
 
 pub mapped_plain : {A : Type 0} (Q : A → Type 0) (f : A → Json) → ((x : A) → Q x → IsPlain (f x) 1) → (xs : List A) → AllByRecursion Q xs
     → AreRows (map f xs)
@@ -120,9 +113,8 @@ change_plain alg register before None fits = tt
 change_plain alg register before (Some value) fits =
     if_plain (differs before value) (register_json alg register value) (register_plain alg register value fits)
 
-pub within_plain : (range : RegisterRange) (e : Expected) → IsCount e.register → AreRows (value_within range e)
-within_plain range e fits =
-    if_plain (is_within range e.register) (register_json e.alg e.register (bytes_of e.value)) (register_plain e.alg e.register (bytes_of e.value) fits)
+pub value_plain : (e : Expected) → IsCount e.register → IsPlain (value_json e) 1
+value_plain e fits = register_plain e.alg e.register (bytes_of e.value) fits
 
 -- ---- required registers
 
@@ -137,9 +129,9 @@ pub rows_plain : {A : Type 0} (Q : A → Type 0) (name : List ℕ) (expected_of 
     → ((row : A) → Q row → IsCount (expected_of row).register × ArePlain (members_of row) 0) → (required : Option (List BankRange)) (rows : List A)
     → AllByRecursion Q rows → AreRows (rows_values name expected_of members_of required rows)
 rows_plain {A} Q name expected_of members_of plain required rows fit =
-    let row = λ (row : A). row_json (expected_of row).alg (expected_of row).register (members_of row) in
+    let row = λ (row : A). expected_row (expected_of row) (members_of row) in
     rows_joined (map row rows) _
-    (mapped_plain Q row (λ x is. (tt, (((expected_of x).register, (plain x is).0, refl), (plain x is).1))) rows fit)
+    (mapped_plain Q row (λ x is. (tt, (((expected_of x).register, (plain x is).0, refl), (tt, (plain x is).1)))) rows fit)
     (missing_plain name required (map expected_of rows))
 
 -- ---- reports

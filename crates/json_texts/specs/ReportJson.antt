@@ -10,10 +10,8 @@ use Rattle.pcr_banks.specs.Digests.{bytes_of}
 use Rattle.boot_verdict.specs.declared.expected.Expected.{Expected}
 use Rattle.boot_verdict.specs.declared.isolation.Stray.{Stray}
 use Rattle.boot_verdict.specs.declared.isolation.Strays.{Strays}
-use Rattle.boot_verdict.specs.declared.requirement.BankRange.{BankRange}
-use Rattle.boot_verdict.specs.declared.register_range.RegisterRange.{RegisterRange}
+use Rattle.boot_verdict.specs.declared.selection.BankRange.{BankRange}
 use Rattle.boot_verdict.specs.Isolation.{are_none, list_register}
-use Rattle.boot_verdict.specs.RegisterRanges.{is_within}
 use Rattle.boot_verdict.specs.RegisterTexts.{differs, every_register}
 use Rattle.boot_verdict.specs.Requirements.{is_missing, required_matches, required_found}
 use Rattle.json_texts.specs.JsonValues.{Member, array_of, hex_json, number_json, object_of, IsCount}
@@ -60,16 +58,24 @@ registers_json now start =
 
 -- ---- expected registers
 
--- An expected register within the range; nothing if it is not within it.
-abbrev pub value_within : RegisterRange → Expected → List Json
-value_within range expected =
-    if is_within range expected.register then register_json expected.alg expected.register (bytes_of expected.value) ∷ [] else []
+-- An expected register, with its value.
+abbrev pub value_json : Expected → Json
+value_json expected = register_json expected.alg expected.register (bytes_of expected.value)
 
--- Those within the range, in order: the ones of which `expected_text` has a line.
-abbrev pub expected_json : RegisterRange → List Expected → Json
-expected_json range expected = object_of ((codes "registers", array_of (flat_map (value_within range) expected)) ∷ [])
+-- All of these, in order: the ones of which `expected_text` has a line.
+abbrev pub expected_json : List Expected → Json
+expected_json expected = object_of ((codes "registers", array_of (map value_json expected)) ∷ [])
 
 -- ---- rows
+
+-- Which register is expected to have which value.
+abbrev pub expected_members : Expected → List Member
+expected_members expected =
+    register_members expected.alg expected.register ++ (codes "expected", hex_json (bytes_of expected.value)) ∷ []
+
+-- An expected register, its expected value, and what its row says of it.
+abbrev pub expected_row : Expected → List Member → Json
+expected_row expected members = object_of (expected_members expected ++ members)
 
 -- The required register, if it is missing: `missing` under this name; nothing for any other.
 abbrev pub value_if_missing : List ℕ → List BankRange → List Expected → Alg → ℕ → List Json
@@ -82,15 +88,15 @@ missing_among name None expected = []
 missing_among name (Some ranges) expected =
     flat_map (λ register. value_if_missing name ranges expected register.0 register.1) every_register
 
--- The expected registers, each with what its row says of it, and then the required ones that have no row.
+-- The expected registers, each with its expected value and what its row says of it, and then the required ones that have no row.
 abbrev pub rows_values : {A : Type 0} → List ℕ → (A → Expected) → (A → List Member) → Option (List BankRange) → List A → List Json
 rows_values name expected_of members_of required rows =
-    map (λ row. row_json (expected_of row).alg (expected_of row).register (members_of row)) rows
+    map (λ row. expected_row (expected_of row) (members_of row)) rows
     ++ missing_among name required (map expected_of rows)
 
 -- ---- reports
 
--- How a register compares, and its value if it is another one.
+-- How a register compares, and its value if it is another than the expected one.
 abbrev pub state_members : State → List Member
 state_members Match = (codes "state", string (codes "match")) ∷ []
 state_members (Differ value) = (codes "state", string (codes "differ")) ∷ (codes "value", hex_json (bytes_of value)) ∷ []

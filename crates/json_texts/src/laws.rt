@@ -13,9 +13,8 @@ ghost use Rattle.ima_list.specs.FieldKinds.{FileFields};
 ghost use Rattle.ima_list.specs.Fields.{HasFields, fields_of};
 ghost use Rattle.boot_verdict.specs.declared.expected.Expected.{Expected};
 ghost use Rattle.boot_verdict.specs.declared.prefix_report.Unconfirmed.{Unconfirmed};
-ghost use Rattle.boot_verdict.specs.declared.register_range.RegisterRange.{RegisterRange};
 ghost use Rattle.boot_verdict.specs.declared.positions.Located.{Located};
-ghost use Rattle.boot_verdict.specs.declared.requirement.BankRange.{BankRange};
+ghost use Rattle.boot_verdict.specs.declared.selection.BankRange.{BankRange};
 ghost use Rattle.boot_verdict.specs.Words.{unconfirmed_entry};
 ghost use Rattle.boot_verdict.specs.ListVerdicts.{ListVerdict};
 ghost use Rattle.boot_verdict.specs.Verdicts.{Verdict};
@@ -30,7 +29,7 @@ ghost use Rattle.json.specs.Find.{get};
 ghost use Rattle.json_texts.specs.declared.faults.FaultPlace.{FaultPlace};
 ghost use Rattle.json_texts.specs.JsonValues.{IsCount, IsOneLine, line_of, object_of};
 ghost use Rattle.json_texts.specs.ContentJson.{content_json};
-ghost use Rattle.json_texts.specs.EntryJson.{HasBytes, IsKnown, entry_json, is_genuine};
+ghost use Rattle.json_texts.specs.EntryJson.{HasBytes, IsKnown, entry_count_json, entry_json, is_genuine};
 ghost use Rattle.json_texts.specs.EventJson.{event_json, header_json};
 ghost use Rattle.json_texts.specs.FaultJson.{fault_json, fault_members, number_at};
 ghost use Rattle.json_texts.specs.AttestJson.{IsCountedClock, IsCountedWhole, attest_json};
@@ -44,6 +43,7 @@ use ima_list::EntryRef;
 /// and an event's data is bytes.
 pub fn each_value_is_one_line()
     ensures entry { (number : ℕ) (entry : ListEntry) → IsCount number → IsEntry entry → IsOneLine (entry_json number entry) }
+    ensures entry_count { (entries : ℕ) → IsCount entries → IsOneLine (entry_count_json entries) }
     ensures event { (matched : Option (List Place)) (number : ℕ) (event : LogEvent)
         → IsCount number → IsCount event.register → IsCount event.kind → IsBytes event.payload
         → IsOneLine (event_json matched number event) }
@@ -51,8 +51,7 @@ pub fn each_value_is_one_line()
     ensures header { (said : Option SpecificationData) (rows : List TableRow)
         → IfSome said IsSpecification → AllByRecursion IsRow rows → IsOneLine (header_json said rows) }
     ensures registers { (now start : Banks) → IsOneLine (registers_json now start) }
-    ensures expected { (range : RegisterRange) (expected : List Expected) → AllByRecursion (λ e. IsCount e.register) expected
-        → IsOneLine (expected_json range expected) }
+    ensures expected { (expected : List Expected) → AllByRecursion (λ e. IsCount e.register) expected → IsOneLine (expected_json expected) }
     ensures report { (required : Option (List BankRange)) (unknown : Option Unknown) (is_match : Bool) (verdict : Verdict)
         → IsCount verdict.events → IsCount verdict.locality → IsCount verdict.entries → AreCounted verdict.strays
         → IfSome unknown IsCountedUnknown → AllByRecursion (λ row. IsCount row.expected.register) verdict.rows
@@ -85,11 +84,12 @@ pub fn only_faults_have_a_fault()
     ensures fault { (kind : List ℕ) (number : Option ℕ) (place : Option FaultPlace) (message : List ℕ)
         → get (codes "fault") (fault_json kind number place message) ≡ Some (object_of (fault_members kind number place message)) }
     ensures entry { (number : ℕ) (entry : ListEntry) → get (codes "fault") (entry_json number entry) ≡ None }
+    ensures entry_count { (entries : ℕ) → get (codes "fault") (entry_count_json entries) ≡ None }
     ensures event { (matched : Option (List Place)) (number : ℕ) (event : LogEvent)
         → get (codes "fault") (event_json matched number event) ≡ None }
     ensures header { (said : Option SpecificationData) (rows : List TableRow) → get (codes "fault") (header_json said rows) ≡ None }
     ensures registers { (now start : Banks) → get (codes "fault") (registers_json now start) ≡ None }
-    ensures expected { (range : RegisterRange) (expected : List Expected) → get (codes "fault") (expected_json range expected) ≡ None }
+    ensures expected { (expected : List Expected) → get (codes "fault") (expected_json expected) ≡ None }
     ensures report { (required : Option (List BankRange)) (unknown : Option Unknown) (is_match : Bool) (verdict : Verdict)
         → get (codes "fault") (report_json required unknown is_match verdict) ≡ None }
     ensures prefix_report { (required : Option (List BankRange)) (unknown : Option Unknown) (prefix : Verdict) (entries : ℕ)

@@ -37,7 +37,7 @@ mod variables;
 pub use attestation::append_attestation;
 pub use content_texts::write_wide;
 pub use contents::{command_word, write_content, write_form};
-pub use entries::append_entry;
+pub use entries::{append_entry, append_entry_count};
 pub use entry_lines::{EntriesFault, send_entries};
 pub use event_form::EventForm;
 pub use event_lines::{EventsFault, send_events};

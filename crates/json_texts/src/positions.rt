@@ -15,9 +15,9 @@ use std::alloc::Global;
 
 /// Appends the line of positions: where each expected register first has its value.
 ///
-/// Its members are `registers`, an array, and `located`, whether there is one and each has its value. Each register has `bank`, `register` and `place`: `reset`,
-/// `event`, `entry`, `nowhere` or `absent`, in the sense of [`Position`]; and `number`, that of the event or entry. After them each required
-/// register that is not among them has the place `missing`; `located` then is false.
+/// Its members are `registers`, an array, and `located`, whether there is one and each has its value. Each register has `bank`, `register`, `expected`, the expected value,
+/// and `place`: `reset`, `event`, `entry`, `nowhere` or `absent`, in the sense of [`Position`]; and `number`, that of the event or entry. After them
+/// each required register that is not among them has the place `missing`, and no `expected`; `located` then is false.
 ///
 /// Fails only if memory runs out; the vector then is as before.
 pub fn append_positions(

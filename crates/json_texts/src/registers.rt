@@ -4,12 +4,12 @@ ghost use Rattle.std.specs.Prelude.{◌≡◌, ℕ, List, Option, option_map};
 ghost use Rattle.pcr_banks.specs.declared.alg.Alg.{Alg};
 ghost use Rattle.pcr_banks.specs.Digests.{bytes_of, digest_of};
 ghost use Rattle.json_texts.specs.JsonValues.{AppendsLine};
-ghost use Rattle.json_texts.specs.ReportJson.{change_values, expected_json, register_json, register_members, registers_json, value_within};
+ghost use Rattle.json_texts.specs.ReportJson.{change_values, expected_json, register_json, register_members, registers_json, value_json};
 ghost use Rattle.json_texts.specs.parts.WrittenParts.{WritesItems, WritesMembers, WritesValue};
 
 use crate::lines::{Written, begin_line, end_line};
 use crate::members::{write_hex, write_number, write_text};
-use boot_verdict::{ALL_REGISTERS, Expected, RegisterRange, register_numbered};
+use boot_verdict::{ALL_REGISTERS, Expected, register_numbered};
 use json::Writer;
 use pcr_banks::{Alg, Banks, Digest};
 use std::alloc::Global;
@@ -28,21 +28,16 @@ pub fn append_registers(alloc: Global, now: &Banks, start: &Banks, line: &mut Ve
     end_line(written, writer, length, line)
 }
 
-/// Appends the line of those of the expected registers that are within the range, in order.
+/// Appends the line of these expected registers, in order: those of which [`boot_verdict::write_expected`] writes a line.
 ///
 /// The one member `registers` is an array of objects, each with `bank`, `register` and `value`.
 ///
 /// Fails only if memory runs out; the vector then is as before.
-pub fn append_expected(
-    alloc: Global,
-    expected: &[Expected],
-    range: RegisterRange,
-    line: &mut Vec<u8>,
-) -> Written
-    ensures { AppendsLine result line.old.items line.new.items (expected_json range expected.now) }
+pub fn append_expected(alloc: Global, expected: &[Expected], line: &mut Vec<u8>) -> Written
+    ensures { AppendsLine result line.old.items line.new.items (expected_json expected.now) }
 {
     let (mut writer, start) = begin_line(alloc, line);
-    let written = write_expected(alloc, expected, range, &mut writer);
+    let written = write_expected(alloc, expected, &mut writer);
     end_line(written, writer, start, line)
 }
 
@@ -82,33 +77,31 @@ fn write_change(
     }
 }
 
-fn write_expected(
-    alloc: Global,
-    expected: &[Expected],
-    range: RegisterRange,
-    writer: &mut Writer,
-) -> Written
-    ensures { WritesValue result writer.old writer.new (expected_json range expected.now) }
+fn write_expected(alloc: Global, expected: &[Expected], writer: &mut Writer) -> Written
+    ensures { WritesValue result writer.old writer.new (expected_json expected.now) }
 {
     writer.begin_object()?;
     writer.key("registers")?;
     writer.begin_array()?;
     for register in expected {
-        write_within(alloc, register, range, writer)?;
+        write_value(alloc, register, writer)?;
     }
     writer.end_array()?;
     writer.end_object()?;
     Ok(())
 }
 
-// Writes the register if it is within the range.
-fn write_within(alloc: Global, row: &Expected, range: RegisterRange, writer: &mut Writer) -> Written
-    ensures { WritesItems result writer.old writer.new (value_within range row.now) }
+// Writes the register with its expected value.
+fn write_value(alloc: Global, expected: &Expected, writer: &mut Writer) -> Written
+    ensures { WritesValue result writer.old writer.new (value_json expected.now) }
 {
-    if range.contains(row.register) {
-        write_one(alloc, row.alg, row.register, &row.value, writer)?;
-    }
-    Ok(())
+    write_one(
+        alloc,
+        expected.alg,
+        expected.register,
+        &expected.value,
+        writer,
+    )
 }
 
 // Writes the register with this value.

@@ -29,8 +29,8 @@ use std::alloc::Global;
 ///
 /// Its members are `events`, the number of events; `locality`; `entries`, the number of entries; `boot_aggregate`, one of `good`, `wrong`,
 /// `nobank` and `missing`; `registers`, an array; and `verdict`, which is `match` or `differ`. Each expected register has `bank`,
-/// `register` and `state`, one of `match`, `differ` and `absent`, and where it differs `value`. After them each required register that is
-/// not among them has the state `missing`. Where registers are required and something of log or list extends a register that is not
+/// `register`, `expected`, the expected value, and `state`, one of `match`, `differ` and `absent`, and where it differs `value`, that of the
+/// register. After them each required register that is not among them has the state `missing`, and no `expected`. Where registers are required and something of log or list extends a register that is not
 /// its own, `extends` comes before the verdict: an array with `event` of the first event that does, or `entry` of the first entry, or both,
 /// each with the `register`. Where files are known, the two members before the verdict are `known_from`, the number from which on entries were
 /// looked at, and `unknown`, an array of the numbers of those that are not known.

@@ -2,13 +2,13 @@
 
 ghost use Rattle.std.specs.Prelude.{List, [], ◌∷◌, codes, map, option_copied};
 ghost use Rattle.json_texts.specs.JsonValues.{Member, array_of};
-ghost use Rattle.json_texts.specs.ReportJson.{missing_among, row_json, rows_values, value_if_missing};
+ghost use Rattle.json_texts.specs.ReportJson.{expected_members, expected_row, missing_among, rows_values, value_if_missing};
 ghost use Rattle.json_texts.specs.parts.WrittenParts.{WritesItems, WritesMembers};
 
 use crate::lines::Written;
-use crate::members::write_text;
+use crate::members::{write_hex, write_text};
 use crate::registers::write_register_members;
-use boot_verdict::{ALL_REGISTERS, HasExpected, Requirement, register_numbered};
+use boot_verdict::{ALL_REGISTERS, Expected, HasExpected, Requirement, register_numbered};
 use json::Writer;
 use pcr_banks::Alg;
 use std::alloc::Global;
@@ -22,8 +22,8 @@ pub(crate) trait Says {
         ensures { WritesMembers result writer.old writer.new (members_of self.now) };
 }
 
-/// Writes the member `registers` of the rows, and of the required registers that have none: there the member of this name says that they
-/// are missing.
+/// Writes the member `registers` of the rows, each with the value that its register is expected to have (`expected`), and of the required
+/// registers that have no row: there the member of this name says that they are missing.
 pub(crate) fn write_rows<T: HasExpected + Says>(
     alloc: Global,
     name: &str,
@@ -44,15 +44,23 @@ pub(crate) fn write_rows<T: HasExpected + Says>(
 
 fn write_each<T: HasExpected + Says>(alloc: Global, rows: &[T], writer: &mut Writer) -> Written
     ensures { WritesItems result writer.old writer.new
-        (map (λ row. row_json (T.expected_of row).alg (T.expected_of row).register (T.members_of row)) rows.now) }
+        (map (λ row. expected_row (T.expected_of row) (T.members_of row)) rows.now) }
 {
     for row in rows {
-        let expected = row.expected();
         writer.begin_object()?;
-        write_register_members(expected.alg, expected.register, writer)?;
+        write_expected_members(alloc, row.expected(), writer)?;
         row.write_members(alloc, writer)?;
         writer.end_object()?;
     }
+    Ok(())
+}
+
+// Writes which register it is, and the value that it is expected to have.
+fn write_expected_members(alloc: Global, expected: Expected, writer: &mut Writer) -> Written
+    ensures { WritesMembers result writer.old writer.new (expected_members expected) }
+{
+    write_register_members(expected.alg, expected.register, writer)?;
+    write_hex(alloc, "expected", expected.value.bytes(), writer)?;
     Ok(())
 }
 

@@ -1,5 +1,5 @@
 -- The answer to a request, and why there is none.
-use Rattle.std.specs.Prelude.{◌≡◌, ℕ, ◌<◌, ◌≤◌, ◌⊎◌, ◌==◌, not, ◌+◌, Bool, true, false, List, [], ◌∷◌, ◌++◌, length, take, Option, Some, None, Result, Ok, Err, IfSome, IsSomeAnd, MatchResult, ◌&&◌, nat_lt, if◌then◌else◌, MatchOption, option_map}
+use Rattle.std.specs.Prelude.{◌≡◌, ℕ, ◌<◌, ◌≤◌, ◌⊎◌, ◌==◌, not, ◌+◌, Bool, true, false, List, [], ◌∷◌, ◌++◌, length, take, Option, Some, None, Result, Ok, Err, IfSome, IsSomeAnd, MatchResult, ◌&&◌, if◌then◌else◌, MatchOption, option_map}
 use Rattle.std.specs.Option.{option_map_or}
 use Rattle.byte_streams.specs.Streams.{SourceState}
 use Rattle.boot_log.specs.declared.header.Row.{Row as TableRow, Row}
@@ -10,7 +10,7 @@ use Rattle.ima_list.specs.Replaying.{AreGenuine, IsReplayFault, IsReplayed}
 use Rattle.ima_list.specs.Spelling.{BeginsWith, IsReading, list_spelling}
 use Rattle.boot_verdict.specs.declared.checkpoint.Checkpoint.{Checkpoint}
 use Rattle.boot_verdict.specs.declared.expected.Expected.{Expected}
-use Rattle.boot_verdict.specs.declared.requirement.BankRange.{BankRange}
+use Rattle.boot_verdict.specs.declared.selection.BankRange.{BankRange}
 use Rattle.boot_verdict.specs.declared.verifier.VerifyFault.{VerifyFault}
 use Rattle.boot_verdict.specs.declared.verifier.VerifyFault.TheVariants as verdicts
 use Rattle.boot_verdict.specs.Checkpoints.{IsCheckpoint, most_after}
@@ -69,16 +69,14 @@ use Rattle.judging.specs.declared.request.Judged.TheVariants as judged
 use Rattle.judging.specs.Requests.{Attested, Attests, Judgement, ListVerdictOf, PositionsOf, VerdictOf, Requested, Compared, Compares, ExpectedOf, KeyOf, ListRegistersOf, LogRegistersOf, Nothing, Requires, These, held_bytes, log_of, resume_of, takes_known}
 use Rattle.judging.specs.Inputs.{IsFaultAt, IsReadFailure, MayFail, OfInput, Where, held_in, limit_of, Holds, IsInputFault}
 use Rattle.pcr_banks.specs.declared.banks.Banks.{Banks}
-use Rattle.pcr_banks.specs.Registers.{IsReset, register_count, value_at}
+use Rattle.pcr_banks.specs.Registers.{IsReset, value_at}
 use Rattle.boot_log.specs.Replaying.{IsFirmware, startup_locality}
 use Rattle.boot_verdict.specs.declared.expected.ExpectFault.{ExpectFault}
 use Rattle.boot_verdict.specs.declared.expected.ExpectFault.TheVariants.{NoRegister}
-use Rattle.boot_verdict.specs.declared.register_range.RegisterRange.{RegisterRange}
 use Rattle.boot_verdict.specs.ExpectedTexts.{HasFirstFault, IsExpectedText}
 use Rattle.boot_verdict.specs.PrintedTexts.{HasPrintedFault, IsPrintedText}
-use Rattle.boot_verdict.specs.RegisterRanges.{IsRangeText, is_within}
 use Rattle.boot_verdict.specs.Replays.{IsListStart}
-use Rattle.boot_verdict.specs.WrittenTexts.{those_within}
+use Rattle.boot_verdict.specs.Selections.{SpellsRanges, those_selected}
 use Rattle.growing_lists.specs.CheckpointTexts.{IsOfOtherVersion, checkpoint_text}
 use Rattle.judging.specs.declared.request.Answered.{Answered}
 use Rattle.judging.specs.declared.answers.Evidence.{Evidence as HeldEvidence}
@@ -645,25 +643,32 @@ abbrev pub AreListRegisters : List ℕ → Banks → Banks → Type 0
 AreListRegisters list start now =
     (entries : List ListEntry) × IsReading list (Ok entries) × AreGenuine entries × IsListStart start × IsReplayed start entries now
 
--- The range of registers that is requested: the one that the text spells; all registers without a text.
-abbrev pub IsRequested : Option (List ℕ) → RegisterRange → Type 0
-IsRequested None range = (register : ℕ) → is_within range register ≡ nat_lt register register_count
-IsRequested (Some text) range = IsRangeText text range
+-- What is selected, if a text selects something: what it spells.
+abbrev pub IsSelected : Option (List ℕ) → Option (List BankRange) → Type 0
+IsSelected None selection = selection ≡ None
+IsSelected (Some text) selection = IsSomeAnd selection (SpellsRanges text)
 
--- A text is given, and spells no range.
-abbrev pub IsRangeFault : Option (List ℕ) → RunFault → Type 0
-IsRangeFault text fault = (fault ≡ runs.Usage) × IsSomeAnd text (λ text. (range : RegisterRange) → IsRangeText text range → ⊥)
+-- Why nothing is selected: a text is given, and does not spell a selection; or memory ran out over it.
+abbrev pub IsSelectionFault : Option (List ℕ) → RunFault → Type 0
+IsSelectionFault text fault = IsSomeAnd text
+    (λ text. ((fault ≡ runs.Usage) × ((ranges : List BankRange) → SpellsRanges text ranges → ⊥)) ⊎ (fault ≡ runs.Memory))
 
--- The text was printed by tpm2-tools, and states these registers, of which at least one is within the range.
-abbrev pub IsPrintedWithin : RegisterRange → List ℕ → List Expected → Type 0
-IsPrintedWithin range text expected = IsPrintedText text expected × (0 < length (those_within range expected))
+-- The registers that are selected, in order: all without a selection.
+abbrev pub selected_by : Option (List BankRange) → List Expected → List Expected
+selected_by None expected = expected
+selected_by (Some ranges) expected = those_selected ranges expected
 
--- Why a text gives no registers within the range: it was not printed by tpm2-tools, or states no register; it states none within the range;
--- or memory ran out.
-abbrev pub IsNotPrintedWithin : RegisterRange → List ℕ → RunFault → Type 0
-IsNotPrintedWithin range text fault =
+-- The text was printed by tpm2-tools, and of the registers that it states these are selected: at least one.
+abbrev pub IsPrintedOf : Option (List BankRange) → List ℕ → List Expected → Type 0
+IsPrintedOf selection text selected =
+    ((expected : List Expected) × IsPrintedText text expected × (selected ≡ selected_by selection expected)) × (0 < length selected)
+
+-- Why a text gives no registers that are selected: it was not printed by tpm2-tools, or states no register; it states none of them; or memory
+-- ran out.
+abbrev pub IsNotPrintedOf : Option (List BankRange) → List ℕ → RunFault → Type 0
+IsNotPrintedOf selection text fault =
     ((first : ExpectFault) × HasPrintedFault text first × (fault ≡ fault_of_expected first))
-    ⊎ ((expected : List Expected) × IsPrintedText text expected × (those_within range expected ≡ []) × (fault ≡ runs.Expect NoRegister))
+    ⊎ ((expected : List Expected) × IsPrintedText text expected × (selected_by selection expected ≡ []) × (fault ≡ runs.Expect NoRegister))
     ⊎ (fault ≡ runs.Memory)
 
 -- ---- keys
@@ -685,8 +690,9 @@ IsAlone inputs (LogRegistersOf log) (answers.Registers registers) =
     OfInput inputs log (λ content. AreRegistersAfter content registers.start registers.now)
 IsAlone inputs (ListRegistersOf list) (answers.Registers registers) =
     OfInput inputs list (λ content. AreListRegisters content registers.start registers.now)
-IsAlone inputs (ExpectedOf printed text) (answers.Expected expected range) =
-    IsRequested text range × OfInput inputs printed (λ content. IsPrintedWithin range content expected.items)
+IsAlone inputs (ExpectedOf printed text) (answers.Expected expected) =
+    (selection : Option (List BankRange)) × IsSelected text selection
+    × OfInput inputs printed (λ content. IsPrintedOf selection content expected.items)
 IsAlone inputs (KeyOf area purpose part) (answers.Key report shown) = (shown ≡ part) × OfInput inputs area (λ content. IsKey content purpose report)
 IsAlone inputs request answer = ⊥
 
@@ -696,8 +702,8 @@ IsAnswer inputs (Attests asked) given = IsAttestation inputs asked given
 IsAnswer inputs (Compares compare) given = IsComparison inputs compare given
 IsAnswer inputs request given = (answer : Answer) × IsAlone inputs request answer × (given ≡ alone answer)
 
--- Why there is no answer: an input was not loaded or read; the bytes are no log; the list is refused; the text spells no range, or the
--- other states no register within it, as tpm2-tools prints them; the bytes are no key for the purpose; or memory ran out.
+-- Why there is no answer: an input was not loaded or read; the bytes are no log; the list is refused; the text selects no registers, or
+-- the other states none of them, as tpm2-tools prints them; the bytes are no key for the purpose; or memory ran out.
 abbrev pub IsRefusal : Inputs → Requested → RunFault → Type 0
 IsRefusal inputs (Attests asked) fault = IsNoAttestation inputs asked fault
 IsRefusal inputs (Compares compare) fault = IsNoComparison inputs compare fault
@@ -705,7 +711,7 @@ IsRefusal inputs (LogRegistersOf log) fault =
     IsInputFault inputs log fault ⊎ OfInput inputs log (λ content. HasLogFault content fault) ⊎ (fault ≡ runs.Memory)
 IsRefusal inputs (ListRegistersOf list) fault = IsReadFailure inputs list fault ⊎ IsRefusedList inputs list fault ⊎ (fault ≡ runs.Memory)
 IsRefusal inputs (ExpectedOf printed text) fault =
-    IsRangeFault text fault
-    ⊎ ((range : RegisterRange) × IsRequested text range
-    × (IsInputFault inputs printed fault ⊎ OfInput inputs printed (λ content. IsNotPrintedWithin range content fault)))
+    IsSelectionFault text fault
+    ⊎ ((selection : Option (List BankRange)) × IsSelected text selection
+    × (IsInputFault inputs printed fault ⊎ OfInput inputs printed (λ content. IsNotPrintedOf selection content fault)))
 IsRefusal inputs (KeyOf area purpose part) fault = IsInputFault inputs area fault ⊎ OfInput inputs area (λ content. IsNoKey purpose content fault)

@@ -57,7 +57,7 @@ pub record Attested : Type 0 where
   pub known : List Where
 
 -- What is asked for: whether a quote is of a log and a list; what a list is worth against expected registers; the registers after a log, or after
--- a list alone; the expected registers that a text has, as tpm2-tools printed it, of those within the range that another text spells, if there is
+-- a list alone; the expected registers that a text has, as tpm2-tools printed it, of those that another text selects, if there is
 -- one; or what is told of a key of a TPM, if it is one for this purpose, and what of that is wanted.
 pub data Requested : Type 0 where
   Attests : Attested → Requested
@@ -135,5 +135,5 @@ requested_of (requests.Attestation asked) = Attests (attested_of asked)
 requested_of (requests.Comparison comparison) = Compares (compared_of comparison)
 requested_of (requests.LogRegisters log) = LogRegistersOf (place_of log)
 requested_of (requests.ListRegisters list) = ListRegistersOf (place_of list)
-requested_of (requests.Expected printed range) = ExpectedOf (place_of printed) (option_map (λ text. text.now) range)
+requested_of (requests.Expected printed registers) = ExpectedOf (place_of printed) (option_map (λ text. text.now) registers)
 requested_of (requests.Key area purpose part) = KeyOf (place_of area) purpose part

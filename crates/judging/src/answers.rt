@@ -9,7 +9,7 @@ use crate::attesting::attest;
 use crate::inputs::{Held, Input, limit_of, load_at, refusal};
 use crate::keys::told_of_key;
 use crate::known_texts::known_in;
-use crate::printed_registers::printed_within;
+use crate::printed_registers::printed_registers;
 use crate::registers::{after_list, after_log};
 use crate::request::{
     Answer, Answered, Answering, Comparison, Found, Request, Required, Wanted, weighed,
@@ -18,8 +18,7 @@ use crate::sessions::checkpoint_in;
 use agent_inputs::{AgentFiles, RunFault, not_read};
 use attestations::ExpectedValues;
 use boot_verdict::{
-    Checkpoint, Expected, Requirement, RequirementFault, locate_from, read_expected,
-    verify_list_from,
+    Checkpoint, Expected, Requirement, SelectionFault, locate_from, read_expected, verify_list_from,
 };
 use byte_streams::{Failed, SliceSource, Source};
 use growing_lists::SavedState;
@@ -45,7 +44,9 @@ pub fn answer_request<F: AgentFiles>(
         Request::Attestation(request) => attest(alloc, files, request),
         Request::LogRegisters { log } => after_log(alloc, files, log),
         Request::ListRegisters { list } => after_list(alloc, files, list),
-        Request::Expected { printed, range } => printed_within(alloc, files, printed, range),
+        Request::Expected { printed, registers } => {
+            printed_registers(alloc, files, printed, registers)
+        },
         Request::Key {
             area,
             purpose,
@@ -107,8 +108,8 @@ fn required_in(alloc: Global, required: Required<'_>) -> Result<Option<Requireme
         Required::Nothing | Required::Any => Ok(None),
         Required::These(text) => match Requirement::from_text(alloc, text) {
             Ok(requirement) => Ok(Some(requirement)),
-            Err(RequirementFault::Malformed | RequirementFault::Unbound) => Err(RunFault::Usage),
-            Err(RequirementFault::Memory) => Err(RunFault::Memory),
+            Err(SelectionFault::Malformed { .. } | SelectionFault::Unbound) => Err(RunFault::Usage),
+            Err(SelectionFault::Memory) => Err(RunFault::Memory),
         },
     }
 }

@@ -1,7 +1,7 @@
 //! The judgement on a log and a list by a quote.
 
 ghost use Rattle.std.specs.Prelude.{◌≡◌, ◌↔◌, ◌⊎◌, List, None, option_map, IfOk, IfErr, IfSome, IsTrue};
-ghost use Rattle.boot_verdict.specs.declared.requirement.BankRange.{BankRange};
+ghost use Rattle.boot_verdict.specs.declared.selection.BankRange.{BankRange};
 ghost use Rattle.boot_verdict.specs.Requirements.{IsRequirementText};
 ghost use Rattle.tpm_quotes.specs.Spelling.{IsQuote, quote_of};
 ghost use Rattle.attestations.specs.declared.refusal.QuoteRefusal.{QuoteRefusal};
@@ -21,7 +21,7 @@ use agent_inputs::{AgentFiles, NotResumed, RunFault};
 use attestations::{
     AttestReport, ExpectedValues, Policy, Quoted, Whole, keep_confirmed, quote_for,
 };
-use boot_verdict::{Checkpoint, Expected, Requirement, RequirementFault, read_expected};
+use boot_verdict::{Checkpoint, Expected, Requirement, SelectionFault, read_expected};
 use growing_lists::{Boot, SavedState};
 use std::alloc::Global;
 use tpm_quotes::Quote;
@@ -61,8 +61,8 @@ fn required_by(alloc: Global, text: &[u8]) -> Result<Requirement, RunFault>
 {
     match Requirement::from_text(alloc, text) {
         Ok(requirement) => Ok(requirement),
-        Err(RequirementFault::Malformed | RequirementFault::Unbound) => Err(RunFault::Usage),
-        Err(RequirementFault::Memory) => Err(RunFault::Memory),
+        Err(SelectionFault::Malformed { .. } | SelectionFault::Unbound) => Err(RunFault::Usage),
+        Err(SelectionFault::Memory) => Err(RunFault::Memory),
     }
 }
 

@@ -10,8 +10,8 @@ use agent_inputs::RunFault;
 use agent_plans::Scope;
 use attestations::AttestReport;
 use boot_verdict::{
-    Checkpoint, Expected, ListReport, Located, PrefixReport, RegisterRange, Report, Requirement,
-    all_found, required_found,
+    Checkpoint, Expected, ListReport, Located, PrefixReport, Report, Requirement, all_found,
+    required_found,
 };
 use growing_lists::{Boot, SavedState};
 use known_files::{Unknown, none_unknown};
@@ -113,8 +113,8 @@ pub enum Request<'a> {
     Expected {
         /// The text that one of them printed.
         printed: Input<'a>,
-        /// The text of the range of registers that are wanted, as `0-10`; none for all of them.
-        range: Option<&'a [u8]>,
+        /// The text that selects those that are wanted, as `sha256:0-10`; none for all of them.
+        registers: Option<&'a [u8]>,
     },
     /// What is told of a key of a TPM, if it is one for a purpose.
     Key {
@@ -142,13 +142,8 @@ pub enum Answer {
     ListReport(ListReport),
     /// Registers, of a log or of a list alone.
     Registers(Registers),
-    /// Expected registers that a text states.
-    Expected {
-        /// All that it states.
-        expected: Vec<Expected>,
-        /// The range of those that are wanted; at least one is within it.
-        range: RegisterRange,
-    },
+    /// Expected registers that a text states, those that are wanted; at least one.
+    Expected(Vec<Expected>),
     /// What is told of a key.
     Key {
         /// All that is told.
@@ -279,7 +274,7 @@ fn is_good(required: Required<'_>, ranges: Option<&Requirement>, answer: &Answer
         (Answer::ListReport(report), None) => report.matches(),
         (Answer::ListReport(report), Some(requirement)) => report.meets(requirement),
         (Answer::Attestation(report), _) => report.is_signed && report.is_attested(),
-        (Answer::Registers(_) | Answer::Expected { .. } | Answer::Key { .. }, _) => true,
+        (Answer::Registers(_) | Answer::Expected(_) | Answer::Key { .. }, _) => true,
     }
 }
 

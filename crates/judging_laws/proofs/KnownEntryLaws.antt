@@ -208,7 +208,7 @@ module _ (law : KnownLaw) (inputs : Inputs) (places : List Where) (list : Where)
   list_known (answers.Prefix report) next same judged = absurd judged
   list_known (answers.Positions positions) next same judged = absurd judged
   list_known (answers.Registers registers) next same judged = absurd judged
-  list_known (answers.Expected expected range) next same judged = absurd judged
+  list_known (answers.Expected expected) next same judged = absurd judged
   list_known (answers.Key report part) next same judged = absurd judged
 
 pub comparison_known : KnownLaw → (inputs : Inputs) (request : Compared) (given : Answered) (is : IsComparison inputs request given)

@@ -11,7 +11,7 @@ use Rattle.agent_plans.specs.declared.plan.Form.{Form}
 use Rattle.agent_plans.specs.declared.plan.Form.TheVariants.{Json, Text}
 use Rattle.ima_list.specs.Lines.{line_of}
 use Rattle.ima_list.specs.ListEntry.{ListEntry}
-use Rattle.ima_list.specs.Spelling.{BeginsWith}
+use Rattle.ima_list.specs.Spelling.{BeginsWith, IsReading}
 use Rattle.json_texts.specs.EntryJson.{entry_json}
 use Rattle.json_texts.specs.JsonValues as json
 use Rattle.json_texts.specs.ItemLines as shown
@@ -116,6 +116,11 @@ IsLineOf fault line status other text answer = (other ≡ fault) × (text ≡ li
 
 -- ---- the entries of a list
 
+-- How far the positions in a list go: to its end; as JSON one byte further, to where the line of how many entries it has was given too.
+abbrev pub end_in : Form → List ℕ → ℕ
+end_in Text list = length list
+end_in Json list = length list + 1
+
 -- The line of the entry with this number, in this form.
 abbrev pub line_in : Form → ℕ → ListEntry → List ℕ
 line_in Text number entry = line_of entry
@@ -126,20 +131,49 @@ abbrev pub lines_in : Form → List ListEntry → List ℕ
 lines_in Text entries = flat_map line_of entries
 lines_in Json entries = shown.entry_lines entries
 
--- The list begins with entries whose lines are this text, up to the position.
+-- The lines of a whole list, in this form: as JSON also that of how many entries it has.
+abbrev pub whole_in : Form → List ListEntry → List ℕ
+whole_in Text entries = flat_map line_of entries
+whole_in Json entries = shown.list_lines entries
+
+-- The text is all lines of the list as JSON, and the position is behind the last of them.
+pub record AreCounted (form : Form) (list : List ℕ) (position : Position) (text : List ℕ) : Type 0 where
+  pub form_is : form ≡ Json
+  pub entries : List ListEntry
+  pub reading : IsReading list (Ok entries)
+  pub number_is : position.number ≡ length entries
+  pub offset_is : position.offset ≡ length list + 1
+  pub few : position.number ≤ position.offset
+  pub text_is : text ≡ shown.list_lines entries
+
+-- The list begins with entries whose lines are this text, up to the position; or the text is all of its lines as JSON.
 abbrev pub AreEntriesBefore : Form → List ℕ → Position → List ℕ → Type 0
-AreEntriesBefore form list position text = AreItemsBefore (BeginsWith list) (lines_in form) list position text
+AreEntriesBefore form list position text =
+    AreItemsBefore (BeginsWith list) (lines_in form) list position text ⊎ AreCounted form list position text
+
+-- The bytes are a list whose entries have this text as JSON, and the line says how many they are.
+pub record HasCountLine (form : Form) (list text line : List ℕ) : Type 0 where
+  pub form_is : form ≡ Json
+  pub entries : List ListEntry
+  pub reading : IsReading list (Ok entries)
+  pub text_is : text ≡ shown.entry_lines entries
+  pub line_is : line ≡ shown.entry_count_line (length entries)
+
+-- After entries whose lines are this text comes another, which has this line; or they are all, and this is the line of how many they are.
+abbrev pub HasEntryLine : Form → List ℕ → List ℕ → List ℕ → Type 0
+HasEntryLine form list text line =
+    HasItemLine (BeginsWith list) (lines_in form) (line_in form) text line ⊎ HasCountLine form list text line
 
 -- The bytes are no list: the text is the lines of all entries that they begin with, and after these they have this fault.
 abbrev pub FailsAfterEntries : Form → List ℕ → List ℕ → RunFault → Type 0
 FailsAfterEntries form list text fault = shown.FailsAfterEntries (lines_in form) fault_of_list list text fault
 
--- The lines of a list's entries one after another.
+-- The lines of a list one after another.
 abbrev pub entries_of : Form → List ℕ → Series
 entries_of form list = record {
   AreBefore = AreEntriesBefore form list;
-  HasLine = HasItemLine (BeginsWith list) (lines_in form) (line_in form);
-  AreAll = shown.AreAllEntries (lines_in form) list;
+  HasLine = HasEntryLine form list;
+  AreAll = shown.AreAllEntries (whole_in form) list;
   FailsAfter = FailsAfterEntries form list;
 }
 

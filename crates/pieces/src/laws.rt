@@ -7,7 +7,7 @@ ghost use Rattle.pieces.specs.declared.piece.End.TheVariants.{Last};
 ghost use Rattle.pieces.specs.declared.piece.Piece.{Piece as APiece};
 ghost use Rattle.pieces.specs.declared.piece.Position.{Position as APosition};
 ghost use Rattle.json_texts.specs.ItemLines.{AreAllEntries, AreAllEvents, EndsWithFault};
-ghost use Rattle.pieces.specs.Pieces.{AreEntriesBefore, FailsAfterEntries, entries_of, lines_in, AreEventsBefore, FailsAfterEvents, events_of, AreInTurn, IsGiven, IsLineOf, log_lines, start};
+ghost use Rattle.pieces.specs.Pieces.{AreEntriesBefore, FailsAfterEntries, entries_of, whole_in, AreEventsBefore, FailsAfterEvents, events_of, AreInTurn, IsGiven, IsLineOf, log_lines, start};
 
 /// No line comes before the first position.
 pub fn lines_begin_at_the_start()
@@ -33,7 +33,7 @@ pub fn events_in_turn_are_those_of_the_log()
 pub fn entries_to_the_end_are_what_is_shown()
     ensures all { (form : Form) (list : List ℕ) (pieces : List APiece) (position : APosition) (piece : APiece)
         → AreInTurn (entries_of form list) start pieces position → IsGiven (entries_of form list) position piece → piece.end ≡ Last
-        → AreAllEntries (lines_in form) list (flat_map (λ piece. piece.text.items) pieces ++ piece.text.items) }
+        → AreAllEntries (whole_in form) list (flat_map (λ piece. piece.text.items) pieces ++ piece.text.items) }
     ensures fault { (form : Form) (list : List ℕ) (pieces : List APiece) (end : APosition) (fault : AFault) (line : List ℕ) (status : ℕ)
         → AreInTurn (entries_of form list) start pieces end
         → ((before : List ℕ) → AreEntriesBefore form list end before → FailsAfterEntries form list before fault)

@@ -11,7 +11,7 @@ use std::alloc::Global;
 /// Where lines go on: how many bytes come before, and how many entries or events. Lines begin at `Position::START`.
 #[derive(Clone, Copy, Debug, PartialEq, Eq)]
 pub struct Position {
-    /// How many bytes come before it.
+    /// How many bytes come before it; behind the line of how many entries a list has, one more than the list has.
     pub offset: usize,
     /// How many entries or events come before it.
     pub number: usize,

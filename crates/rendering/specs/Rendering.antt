@@ -1,6 +1,6 @@
 -- Answers as text or JSON, and their exit statuses.
 use Rattle.std.specs.Prelude.{ℕ, Bool, true, false, List, ◌++◌, Option, Some, None, flat_map, ◌≡◌, ◌⊎◌, if◌then◌else◌, []}
-use Rattle.boot_verdict.specs.declared.requirement.BankRange.{BankRange}
+use Rattle.boot_verdict.specs.declared.selection.BankRange.{BankRange}
 use Rattle.boot_verdict.specs.ListVerdicts.{list_verdict_of}
 use Rattle.known_files.specs.declared.unknown.Unknown.{Unknown}
 use Rattle.attestations.specs.Reports.{attest_verdict_of}
@@ -53,7 +53,7 @@ lines_of well (Some ranges) unknown (Positions positions) = required_positions_t
 lines_of well None unknown (ListReport report) = list_report_text (list_verdict_of report)
 lines_of well (Some ranges) unknown (ListReport report) = required_list_report_text ranges unknown (list_verdict_of report)
 lines_of well required unknown (Registers registers) = registers_text registers.now registers.start
-lines_of well required unknown (Expected expected range) = expected_text range expected.items
+lines_of well required unknown (Expected expected) = expected_text expected.items
 lines_of well required unknown (Key report part) = key_text part report
 
 -- An answer as JSON.
@@ -65,7 +65,7 @@ json_of well required unknown (Prefix prefix) =
 json_of well required unknown (Positions positions) = positions_json required positions.items
 json_of well required unknown (ListReport report) = list_report_json required unknown (list_verdict_of report)
 json_of well required unknown (Registers registers) = registers_json registers.now registers.start
-json_of well required unknown (Expected expected range) = expected_json range expected.items
+json_of well required unknown (Expected expected) = expected_json expected.items
 json_of well required unknown (Key report part) = key_json part report
 
 -- The answer in this form.

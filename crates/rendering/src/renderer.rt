@@ -110,7 +110,7 @@ fn write_lines<S: Sink>(given: &Answered, sink: &mut S) -> Result<(), Failed>
             list, ranges, unknown, sink,
         ),
         (Answer::Registers(banks), _) => write_registers(&banks.now, &banks.start, sink),
-        (Answer::Expected { expected, range }, _) => write_expected(expected, *range, sink),
+        (Answer::Expected(expected), _) => write_expected(expected, sink),
         (Answer::Key { report, part }, _) => write_key(report, *part, sink),
     }
 }
@@ -151,7 +151,7 @@ fn append_line(alloc: Global, given: &Answered, line: &mut Vec<u8>) -> Result<()
             append_list_report(alloc, report, requirement, unknown, line)
         }
         Answer::Registers(banks) => append_registers(alloc, &banks.now, &banks.start, line),
-        Answer::Expected { expected, range } => append_expected(alloc, expected, *range, line),
+        Answer::Expected(expected) => append_expected(alloc, expected, line),
         Answer::Key { report, part } => append_key(alloc, report, *part, line),
     }
 }

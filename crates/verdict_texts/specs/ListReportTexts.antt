@@ -1,6 +1,6 @@
 -- The text of a report on a list alone.
 use Rattle.std.specs.Prelude.{ℕ, List, ◌++◌, length, Option, codes, decimal, flat_map}
-use Rattle.boot_verdict.specs.declared.requirement.BankRange.{BankRange}
+use Rattle.boot_verdict.specs.declared.selection.BankRange.{BankRange}
 use Rattle.boot_verdict.specs.ListVerdicts.{ListVerdict, list_matches, required_list_matches}
 use Rattle.known_files.specs.declared.unknown.Unknown.{Unknown}
 use Rattle.verdict_texts.specs.ReportTexts.{row_text, verdict_text}

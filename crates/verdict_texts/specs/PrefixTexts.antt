@@ -1,7 +1,7 @@
 -- The text of a report on a confirmed prefix.
 use Rattle.std.specs.Prelude.{ℕ, List, [], ◌++◌, codes, decimal, Option, Some, None}
 use Rattle.boot_verdict.specs.declared.prefix_report.Unconfirmed.{Unconfirmed}
-use Rattle.boot_verdict.specs.declared.requirement.BankRange.{BankRange}
+use Rattle.boot_verdict.specs.declared.selection.BankRange.{BankRange}
 use Rattle.known_files.specs.declared.unknown.Unknown.{Unknown}
 use Rattle.verdict_texts.specs.ReportTexts.{counts_text, outcome_text}
 use Rattle.verdict_texts.specs.RequiredTexts.{required_outcome_text}

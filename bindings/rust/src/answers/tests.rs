@@ -9,31 +9,51 @@ use crate::{LogAlgorithm, Part, Place, Scheme, Stray, Value, Verdict};
 use ima_verify_sys as c;
 use std::collections::VecDeque;
 
+macro_rules! wanted {
+    () => {
+        r#""expected":"eeeeeeeeeeeeeeeeeeeeeeeeeeeeeeeeeeeeeeeeeeeeeeeeeeeeeeeeeeeeeeee","#
+    };
+}
+macro_rules! row {
+    () => {
+        concat!(r#"{"bank":"sha256","register":10,"#, wanted!(), r#""state":"match"}"#)
+    };
+}
+const WANTED: &str = wanted!();
 const REPORT: &str = concat!(
-    r#"{"events":1,"locality":0,"entries":3,"boot_aggregate":"good","#,
-    r#""registers":[{"bank":"sha256","register":10,"state":"match"}],"verdict":"match"}"#,
+    r#"{"events":1,"locality":0,"entries":3,"boot_aggregate":"good","registers":["#,
+    row!(),
+    r#"],"verdict":"match"}"#,
     "\n"
 );
 /// The checkpoint of the list that the reports are on.
 const STATE: &str = "ima-agent checkpoint 3\nentries 3\nbytes 300\nboot_aggregate none\n";
-const ROW: &str = r#"{"bank":"sha256","register":10,"state":"match"}"#;
+const ROW: &str = row!();
 const MATCH: &str = r#""state":"match""#;
 const MISSING: &str = r#"{"bank":"sha1","register":4,"state":"missing"}"#;
 const STRAY_EVENT: &str = r#"{"event":1,"register":10}"#;
 const STRAY_ENTRY: &str = r#"{"entry":2,"register":11}"#;
 const MISSING_PLACE: &str = r#"{"bank":"sha1","register":4,"place":"missing"}"#;
 const PLACES: &str = concat!(
-    r#"{"registers":[{"bank":"sha256","register":8,"place":"reset"},{"bank":"sha256","register":4,"place":"event","number":18},"#,
-    r#"{"bank":"sha256","register":10,"place":"entry","number":98}],"located":true}"#,
+    r#"{"registers":[{"bank":"sha256","register":8,"#,
+    wanted!(),
+    r#""place":"reset"},{"bank":"sha256","register":4,"#,
+    wanted!(),
+    r#""place":"event","number":18},{"bank":"sha256","register":10,"#,
+    wanted!(),
+    r#""place":"entry","number":98}],"located":true}"#,
     "\n"
 );
 const NOT_LOCATED: &str = concat!(
-    r#"{"registers":[{"bank":"sha256","register":8,"place":"reset"},{"bank":"sha256","register":23,"place":"nowhere"},"#,
-    r#"{"bank":"sha1","register":10,"place":"absent"}],"located":false}"#,
+    r#"{"registers":[{"bank":"sha256","register":8,"#,
+    wanted!(),
+    r#""place":"reset"},{"bank":"sha256","register":23,"#,
+    wanted!(),
+    r#""place":"nowhere"},"#,
+    r#"{"bank":"sha1","register":10,"expected":"eeeeeeeeeeeeeeeeeeeeeeeeeeeeeeeeeeeeeeee","place":"absent"}],"located":false}"#,
     "\n"
 );
-const LIST_REPORT: &str =
-    concat!(r#"{"entries":3,"registers":[{"bank":"sha256","register":10,"state":"match"}],"verdict":"match"}"#, "\n");
+const LIST_REPORT: &str = concat!(r#"{"entries":3,"registers":["#, row!(), r#"],"verdict":"match"}"#, "\n");
 const ALGORITHMS: &str = concat!(
     r#"{"algorithms":[{"id":18,"size":1},{"name":"sha1","id":4,"size":20}],"#,
     r#""specification":{"platform_class":0,"major":2,"minor":0,"errata":0,"uintn_size":2,"vendor":""}}"#,
@@ -193,6 +213,11 @@ fn events(answers: impl Into<VecDeque<Answer>>) -> (Vec<Event>, Option<Error>) {
     }
 }
 
+/// Lines of entries, and the line of how many they are.
+fn counted(lines: &str) -> String {
+    format!("{lines}{{\"entries\":{}}}\n", lines.matches('\n').count())
+}
+
 fn drained<T>(mut next: impl FnMut() -> Option<Result<T, Error>>) -> (Vec<T>, Option<Error>) {
     let mut items = Vec::new();
     loop {
@@ -268,6 +293,10 @@ fn wrong_reports_are_no_verdicts() {
             (":10,", ":24,"),
             (":10,", ":-1,"),
             (r#""register":10,"#, ""),
+            (WANTED, ""),
+            (WANTED, r#""expected":null,"#),
+            ("ee", ""),
+            ("ee", "eE"),
             (MATCH, r#""state":"differ""#),
             (MATCH, &short),
             (MATCH, &matching),
@@ -316,6 +345,7 @@ fn wrong_reports_with_missing_registers_are_no_verdicts() {
     let changes = [
         (r#""verdict":"differ""#, r#""verdict":"match""#),
         (r#""missing""#, r#""missing","value":"""#),
+        (r#""missing""#, &format!(r#""missing","expected":"{}""#, "e".repeat(40))),
         (r#""register":4"#, r#""register":24"#),
     ];
     check_changes(verdict_of, DIFFERS, &lacking(), &changes);
@@ -331,7 +361,7 @@ fn right_reports_on_a_list_alone_are_read() {
     for (old, new) in [
         (r#""entries":3"#, r#""entries":0"#),
         (MATCH, &differing_state()),
-        (MATCH, r#""state":"missing""#),
+        (concat!(wanted!(), r#""state":"match""#), r#""state":"missing""#),
         ("}]", &format!("}},{MISSING}]")),
     ] {
         let matching = LIST_REPORT.replacen(old, new, 1);
@@ -633,13 +663,45 @@ fn entries_are_read() {
         content: Content::Payload(vec![0]),
         ..first.clone()
     };
-    for answers in
-        [vec![answer(DONE, entry_line() + &other_line())], vec![answer(MORE, entry_line()), answer(DONE, other_line())]]
-    {
+    let both = entry_line() + &other_line();
+    for answers in [
+        vec![answer(DONE, counted(&both))],
+        vec![answer(MORE, entry_line()), answer(DONE, &counted(&both)[entry_line().len()..])],
+        vec![answer(MORE, &both), answer(DONE, &counted(&both)[both.len()..])],
+    ] {
         assert_eq!(entries(answers), (vec![first.clone(), second.clone()], None));
     }
-    let mut none = Lines::new(Scripted { answers: [answer(DONE, "")].into(), is_empty: true });
-    assert_eq!(drained(|| none.next_entry()), (Vec::new(), None));
+    assert_eq!(entries([answer(DONE, counted(""))]), (Vec::new(), None));
+}
+
+#[test]
+fn entries_without_their_number_are_cut() {
+    let (entry, other) = (entry_line(), other_line());
+    let right = r#"{"entries":2}"#;
+    for last in [
+        "",
+        "{\"entries\":1}\n",
+        "{\"entries\":3}\n",
+        "{\"entries\":\"2\"}\n",
+        "{\"entries\":null}\n",
+        "{\"count\":2}\n",
+        "{}\n",
+        "{\"entries\":2,\"fault\":null}\n",
+        &format!("{right}\n{right}\n"),
+        &format!("{right}\n\n"),
+    ] {
+        for answers in [
+            vec![answer(DONE, format!("{entry}{other}{last}"))],
+            vec![answer(MORE, &entry), answer(DONE, format!("{other}{last}"))],
+        ] {
+            assert!(matches!(entries(answers).1, Some(Error::Unexpected { .. })), "{last:?}");
+        }
+    }
+    for text in ["", &format!("{right}\n{entry}{other}"), &format!("{entry}{{\"entries\":1}}\n{other}")] {
+        for answers in [vec![answer(DONE, text)], vec![answer(MORE, text), answer(REFUSED, LIST_FAULT)]] {
+            assert!(matches!(entries(answers).1, Some(Error::Unexpected { .. })), "{text:?}");
+        }
+    }
 }
 
 #[test]
@@ -721,7 +783,7 @@ fn buffer_grows_for_one_long_line() {
         let numbered = entry_line().replace(r#""entry":0"#, &format!(r#""entry":{number}"#));
         numbered.replace("/a", &format!("/{}", "a".repeat(size)))
     };
-    let all = [line(0, 1), line(1, 3 * ROOM), line(2, 1)];
+    let all = [line(0, 1), line(1, 3 * ROOM), line(2, 1) + "{\"entries\":3}\n"];
     let long = all[1].len();
     let mut source = Lengths { lines: all.into(), rooms: Vec::new() };
     let mut lines = Lines::new(&mut source);
@@ -735,7 +797,6 @@ fn buffer_grows_for_one_long_line() {
 fn wrong_answers_are_no_entries() {
     let (entry, other) = (entry_line(), other_line());
     for (result, text) in [
-        (DONE, ""),
         (DONE, &entry[..entry.len() - 1]),
         (DONE, "\n"),
         (DONE, LIST_FAULT),
@@ -762,11 +823,12 @@ fn wrong_answers_are_no_entries() {
         (c::IMA_VERIFY_MISUSED, &entry),
         (7, &entry),
     ] {
-        assert!(matches!(entries([answer(result, text)]).1, Some(Error::Unexpected { .. })), "{result} {text:?}");
+        let text = if result == DONE { counted(text) } else { text.to_owned() };
+        assert!(matches!(entries([answer(result, &text)]).1, Some(Error::Unexpected { .. })), "{result} {text:?}");
     }
     for (result, text) in [(DONE, entry.as_str()), (MORE, &entry), (MORE, "")] {
-        let mut lines = Lines::new(Scripted { answers: [answer(result, text)].into(), is_empty: true });
-        assert!(is_unexpected(lines.next_entry().unwrap()), "{result} {text:?}");
+        let lines = Lines::new(Scripted { answers: [answer(result, text)].into(), is_empty: true });
+        assert!(is_unexpected(lines.text()), "{result} {text:?}");
     }
     for (result, text) in [(DONE, entry.as_str()), (DONE, ""), (DIFFERS, &other), (REFUSED, &other)] {
         let (found, error) = entries([answer(MORE, &entry), answer(result, text)]); // (the next piece)
@@ -787,8 +849,11 @@ fn text_of_entries_is_its_pieces() {
     assert_eq!(lines([answer(MORE, "a\n"), answer(OUT_OF_MEMORY, MEMORY)]).text(), Err(Error::OutOfMemory));
 }
 
-fn first_entry(answer: Answer) -> Result<Entry, Error> {
-    lines([answer]).next_entry().unwrap()
+/// The only entry of a list whose line this is.
+fn first_entry(only: Answer) -> Result<Entry, Error> {
+    let count = only.text.iter().filter(|byte| **byte == b'\n').count();
+    let text = [&only.text[..], format!("{{\"entries\":{count}}}\n").as_bytes()].concat();
+    lines([answer(only.result, text)]).next_entry().unwrap()
 }
 
 #[test]
@@ -1111,9 +1176,8 @@ fn line_of_an_error_longer_than_the_buffer() {
 
 #[test]
 fn text_that_is_cut_is_none() {
-    let (first, text) = (entry_line(), entry_line() + &other_line());
-    for size in (0..text.len()).filter(|size| *size != first.len()) {
-        // (two calls may have the two lines)
+    let (first, text) = (entry_line(), counted(&(entry_line() + &other_line())));
+    for size in 0..text.len() {
         assert!(matches!(entries([answer(DONE, &text[..size])]).1, Some(Error::Unexpected { .. })), "{size}");
     }
     for size in 0..LIST_FAULT.len() {

@@ -7,9 +7,10 @@ use crate::library::{ask_for_both, verify_more, Told, DIFFERS, DONE, MORE, OUT_O
 use crate::{verify, Error, Kind, Unconfirmed, Verdict, NOTHING_REQUIRED};
 use ima_verify_sys as c;
 
+const MATCHING: &str = r#""expected":"eeeeeeeeeeeeeeeeeeeeeeeeeeeeeeeeeeeeeeeeeeeeeeeeeeeeeeeeeeeeeeee","state":"match""#;
 const REPORT: &str = concat!(
     r#"{"events":1,"locality":0,"entries":3,"boot_aggregate":"good","#,
-    r#""registers":[{"bank":"sha256","register":10,"state":"match"}],"verdict":"match"}"#,
+    r#""registers":[{"bank":"sha256","register":10,"expected":"eeeeeeeeeeeeeeeeeeeeeeeeeeeeeeeeeeeeeeeeeeeeeeeeeeeeeeeeeeeeeeee","state":"match"}],"verdict":"match"}"#,
     "\n"
 );
 const STATE: &str = "ima-agent checkpoint 3\nentries 3\nbytes 300\nboot_aggregate none\n";
@@ -27,7 +28,7 @@ fn differing() -> String {
 }
 
 fn on_nothing(report: &str) -> String {
-    report.replace(r#"{"bank":"sha256","register":10,"state":"match"}"#, "")
+    report.replace(r#"{"bank":"sha256","register":10,"expected":"eeeeeeeeeeeeeeeeeeeeeeeeeeeeeeeeeeeeeeeeeeeeeeeeeeeeeeeeeeeeeeee","state":"match"}"#, "")
 }
 
 /// The state that goes with a status: only a match has one.
@@ -152,7 +153,7 @@ fn front_that_cannot_be_is_none() {
             (r#""entries":5"#, r#""entries":2"#),
             (r#""verdict":"match""#, r#""verdict":"differ""#),
             (r#""good""#, r#""wrong""#),
-            (r#""state":"match""#, r#""state":"missing""#),
+            (MATCHING, r#""state":"missing""#),
         ],
     );
     check_unexpected(DIFFERS, "", &front(), true);
@@ -191,7 +192,7 @@ fn front_with_a_stray_is_no_match() {
                 (&format!("{extends},")[..], ""),
                 (r#""verdict":"differ""#, r#""verdict":"match""#),
                 (r#""good""#, r#""wrong""#),
-                (r#""state":"match""#, r#""state":"missing""#),
+                (MATCHING, r#""state":"missing""#),
             ] {
                 let changed = text.replace(old, new);
                 assert_ne!(changed, text);

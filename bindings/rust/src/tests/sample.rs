@@ -54,8 +54,18 @@ fn registers_in(text: &[u8]) -> Vec<Register> {
     std::str::from_utf8(text).unwrap().lines().map(register_of).collect()
 }
 
+/// The value that the sample expects of this register.
+fn value_of(register: u8) -> Vec<u8> {
+    registers_in(&expected()).swap_remove(register.into()).value
+}
+
 fn matching(register: u8) -> Row {
-    Row { algorithm: Algorithm::Sha256, register, state: State::Match }
+    Row { algorithm: Algorithm::Sha256, register, expected: Some(value_of(register)), state: State::Match }
+}
+
+fn line_of(row: &Row) -> String {
+    let digits: String = row.expected.iter().flatten().map(|byte| format!("{byte:02x}")).collect();
+    format!(r#"{{"bank":"sha256","register":{},"expected":"{digits}","state":"match"}}"#, row.register)
 }
 
 fn refused(line: &str, kind: Kind, number: u64, place: Option<u64>) -> Error {
@@ -65,8 +75,7 @@ fn refused(line: &str, kind: Kind, number: u64, place: Option<u64>) -> Error {
 #[test]
 fn verdict_on_the_sample_is_a_match() {
     let rows: Vec<_> = (0..24).map(matching).collect();
-    let row = |register| format!(r#"{{"bank":"sha256","register":{register},"state":"match"}}"#);
-    let lines = (0..24).map(row).collect::<Vec<_>>().join(",");
+    let lines = rows.iter().map(line_of).collect::<Vec<_>>().join(",");
     let front = r#"{"events":24,"locality":0,"entries":99,"boot_aggregate":"good","registers":["#;
     let json = format!("{front}{lines}],\"verdict\":\"match\"}}");
     let wanted = Verdict {
@@ -110,7 +119,8 @@ fn list_that_went_on_is_located_before_its_end() {
     let places = locate(&log(), &longer(), &expected(), NOTHING_REQUIRED).unwrap();
     assert!(places.located);
     assert_eq!(places.rows.len(), 24);
-    assert_eq!(places.rows[10], PlaceRow { algorithm: Algorithm::Sha256, register: 10, place: Place::Entry(98) });
+    let (algorithm, expected) = (Algorithm::Sha256, Some(value_of(10)));
+    assert_eq!(places.rows[10], PlaceRow { algorithm, register: 10, expected, place: Place::Entry(98) });
     let after_log: Vec<_> = registers_in(&sample("registers.txt")).iter().map(|register| register.register).collect();
     for row in &places.rows {
         match row.place {
@@ -127,11 +137,12 @@ fn expected_registers_may_be_absent_or_reached_nowhere() {
     let verdict = verify(&log(), &longer(), text.as_bytes(), NOTHING_REQUIRED).unwrap();
     let places = locate(&log(), &longer(), text.as_bytes(), NOTHING_REQUIRED).unwrap();
     assert!(!verdict.matches && !places.located);
-    let absent = Row { algorithm: Algorithm::Sha1, register: 10, state: State::Absent };
-    let differing = Row { algorithm: Algorithm::Sha256, register: 10, state: State::Differ(from_hex(AFTER_LONGER)) };
+    let absent = Row { algorithm: Algorithm::Sha1, register: 10, expected: Some(vec![0; 20]), state: State::Absent };
+    let state = State::Differ(from_hex(AFTER_LONGER));
+    let differing = Row { algorithm: Algorithm::Sha256, register: 10, expected: Some(vec![0x11; 32]), state };
     assert_eq!(verdict.rows, [absent, differing]);
-    let found: Vec<_> = places.rows.iter().map(|row| (row.algorithm, row.register, row.place)).collect();
-    assert_eq!(found, [(Algorithm::Sha1, 10, Place::Absent), (Algorithm::Sha256, 10, Place::Nowhere)]);
+    let found: Vec<_> = places.rows.iter().map(|row| (row.register, row.expected.clone(), row.place)).collect();
+    assert_eq!(found, [(10, Some(vec![0; 20]), Place::Absent), (10, Some(vec![0x11; 32]), Place::Nowhere)]);
 }
 
 #[test]
@@ -155,11 +166,14 @@ fn required_register_that_is_not_expected_is_missing() {
     let verdict = verify(&log(), &list(), text, "sha256:0-23,sha1:10").unwrap();
     assert_eq!((verdict.matches, verdict.compared()), (false, 23));
     assert_eq!(verdict.rows[..23], verify(&log(), &list(), text, NOTHING_REQUIRED).unwrap().rows);
-    assert_eq!(verdict.rows[23..], missing.map(|(algorithm, register)| Row { algorithm, register, state: State::Missing }));
+    let state = State::Missing;
+    let wanted = missing.map(|(algorithm, register)| Row { algorithm, register, expected: None, state: state.clone() });
+    assert_eq!(verdict.rows[23..], wanted);
     let places = locate(&log(), &list(), text, "sha256:0-23,sha1:10").unwrap();
     assert!(!places.located);
     assert_eq!(places.rows[..23], locate(&log(), &list(), text, NOTHING_REQUIRED).unwrap().rows);
-    assert_eq!(places.rows[23..], missing.map(|(algorithm, register)| PlaceRow { algorithm, register, place: Place::Missing }));
+    let place = Place::Missing;
+    assert_eq!(places.rows[23..], missing.map(|(algorithm, register)| PlaceRow { algorithm, register, expected: None, place }));
 }
 
 #[test]
@@ -181,8 +195,8 @@ fn tenth() -> Vec<u8> {
 fn register_of_the_list_alone_matches() {
     let verdict = replay(&list(), &tenth(), "sha256:10").unwrap();
     assert_eq!((verdict.matches, verdict.entries, verdict.compared()), (true, 99, 1));
-    let json = r#"{"entries":99,"registers":[{"bank":"sha256","register":10,"state":"match"}],"verdict":"match"}"#;
-    assert_eq!((verdict.rows, verdict.json.as_str()), (vec![matching(10)], json));
+    let json = format!(r#"{{"entries":99,"registers":[{}],"verdict":"match"}}"#, line_of(&matching(10)));
+    assert_eq!((verdict.rows, verdict.json), (vec![matching(10)], json));
     let verdict = replay(&longer(), &tenth(), "sha256:10").unwrap();
     assert_eq!((verdict.matches, verdict.entries, &verdict.rows[0].state), (false, 100, &State::Differ(from_hex(AFTER_LONGER))));
 }
@@ -199,13 +213,14 @@ fn registers_of_the_firmware_differ_after_the_list_alone() {
 
 #[test]
 fn list_alone_never_matches_without_its_registers_or_entries() {
-    let missing = Row { algorithm: Algorithm::Sha1, register: 10, state: State::Missing };
+    let missing = Row { algorithm: Algorithm::Sha1, register: 10, expected: None, state: State::Missing };
     let verdict = replay(&list(), &tenth(), "sha1:10,sha256:10").unwrap();
     assert_eq!((verdict.matches, verdict.compared(), verdict.rows), (false, 1, vec![matching(10), missing.clone()]));
     let verdict = replay(&list(), &[], "sha1:10").unwrap();
     assert_eq!((verdict.matches, verdict.compared(), verdict.rows), (false, 0, vec![missing]));
     let verdict = replay(&[], format!("sha256 10 {}", "0".repeat(64)).as_bytes(), "sha256:10").unwrap();
-    assert_eq!((verdict.matches, verdict.entries, verdict.rows), (false, 0, vec![matching(10)]));
+    let row = Row { expected: Some(vec![0; 32]), ..matching(10) };
+    assert_eq!((verdict.matches, verdict.entries, verdict.rows), (false, 0, vec![row]));
 }
 
 #[test]
@@ -219,7 +234,7 @@ fn list_alone_is_refused() {
     assert_eq!(replay(&list[..1], b"x", "sha256:10").unwrap_err(), wanted);
 }
 
-/// The requirement, or the range, is refused.
+/// The selection is refused.
 #[track_caller]
 fn check_argument<T: std::fmt::Debug>(result: Result<T, Error>, text: &str) {
     let error = result.expect_err(text);
@@ -228,15 +243,15 @@ fn check_argument<T: std::fmt::Debug>(result: Result<T, Error>, text: &str) {
 }
 
 #[test]
-fn wrong_requirement_or_range_is_refused() {
+fn wrong_selection_is_refused() {
     let wrong = ["", "sha256", "sha256:10,sha256:24", "sha256:10-0,sha256:10", "sha256:0-10,", "sha256: 10", "None", "none "];
     for require in wrong.into_iter().chain(["none,sha256:10", "0-10", "\u{e4}", "sha256:0-9", "sha1:11-23,sha256:0"]) {
         check_argument(verify(&[], &[], &[], require), require);
         check_argument(locate(&[], &[], &[], require), require);
         check_argument(replay(&[], &[], require), require);
     }
-    for range in ["24", "10-0", "0-", "-", " ", "sha256:0"] {
-        check_argument(expected_from(&sample("tpm2_pcrread.txt"), Some(range)), range);
+    for selection in ["24", "10-0", "0-", "-", " ", "sha256:24", "0,", "sha256"] {
+        check_argument(expected_from(&sample("tpm2_pcrread.txt"), Some(selection)), selection);
     }
 }
 

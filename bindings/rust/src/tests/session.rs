@@ -250,7 +250,7 @@ fn required_registers_of_a_session() {
     let new = || Session::new(&boot.log, text.as_bytes(), "sha256:0-23,sha1:10");
     for mut session in [new(), new().prefix()] {
         let verdict = session.more(&boot.list).unwrap();
-        let missing = |(algorithm, register)| Row { algorithm, register, state: State::Missing };
+        let missing = |(algorithm, register)| Row { algorithm, register, expected: None, state: State::Missing };
         assert_eq!(verdict.rows[23..], [(Algorithm::Sha1, 10), (Algorithm::Sha256, 23)].map(missing));
         assert_eq!((verdict.matches, verdict.compared(), verdict.confirmed), (false, 23, None));
     }
@@ -282,7 +282,7 @@ fn requirement_of_a_resumed_session_holds() {
             assert_eq!((session.state(), session.offset()), (Some(&state[..]), boot.ends[cut] as u64));
             for _ in 0..2 {
                 let verdict = session.more(boot.from(cut)).unwrap();
-                let missing = Row { algorithm: Algorithm::Sha256, register: 11, state: State::Missing };
+                let missing = Row { algorithm: Algorithm::Sha256, register: 11, expected: None, state: State::Missing };
                 assert_eq!((verdict.matches, &verdict.rows[11..]), (false, &[missing][..]));
             }
         }

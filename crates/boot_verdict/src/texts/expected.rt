@@ -2,44 +2,24 @@
 
 ghost use Rattle.byte_streams.specs.Streams.{Sends};
 ghost use Rattle.boot_verdict.specs.WrittenTexts.{expected_line, expected_text};
-ghost use Rattle.boot_verdict.specs.parts.WrittenLines.{line_within};
 
 use super::digits::digits_of;
 use crate::expected::Expected;
-use crate::register_range::RegisterRange;
 use byte_streams::{Failed, Sink, send_pieces};
 use itoa::Buffer;
 use pcr_banks::MOST_DIGITS;
 
-/// Writes a line for each of these registers that is within the range, in order.
+/// Writes a line for each of these registers, in order.
 /// [`crate::read_expected`] reads such lines, and from those of what [`crate::read_printed`] read, the same registers again
 /// ([`crate::laws`]).
 ///
 /// A line is the bank's algorithm by name, the register in decimal and the value in lower case hexadecimal, separated by spaces,
 /// with a line feed at the end. After `Err` the sink has taken a prefix of the text.
-pub fn write_expected<S: Sink>(
-    expected: &[Expected],
-    range: RegisterRange,
-    sink: &mut S,
-) -> Result<(), Failed>
-    ensures { Sends (S.state sink.old) (S.state sink.new) result (expected_text range expected.now) }
+pub fn write_expected<S: Sink>(expected: &[Expected], sink: &mut S) -> Result<(), Failed>
+    ensures { Sends (S.state sink.old) (S.state sink.new) result (expected_text expected.now) }
 {
     for register in expected {
-        write_within(register, range, sink)?;
-    }
-    Ok(())
-}
-
-// Writes the register's line if it is within the range.
-fn write_within<S: Sink>(
-    expected: &Expected,
-    range: RegisterRange,
-    sink: &mut S,
-) -> Result<(), Failed>
-    ensures { Sends (S.state sink.old) (S.state sink.new) result (line_within range expected.now) }
-{
-    if range.contains(expected.register) {
-        return write_line(expected, sink);
+        write_line(register, sink)?;
     }
     Ok(())
 }

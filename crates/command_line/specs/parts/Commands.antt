@@ -6,11 +6,11 @@ use Rattle.clap.specs.declared.builder.Arg.{Arg}
 use Rattle.clap.specs.declared.builder.Command.{Command}
 use Rattle.clap.specs.declared.builder.ValueParser.{ValueParser}
 use Rattle.clap.specs.declared.builder.ValueParser.TheVariants.{Names}
-use Rattle.command_line.specs.Arguments.{beside, flag, optional, repeated, required, required_option, several, without_default}
+use Rattle.command_line.specs.Arguments.{beside, flag, optional, repeated, required, required_option, several, short_flag, without_default}
 use Rattle.command_line.specs.declared.command_table.ArgumentRow.{ArgumentRow}
 use Rattle.command_line.specs.declared.command_table.CommandRow.{CommandRow}
 use Rattle.command_line.specs.declared.command_table.Form.{Form}
-use Rattle.command_line.specs.declared.command_table.Form.TheVariants.{Required, Omittable, Repeated, Flag, FlagBeside, RequiredOption, Optional, OptionalBeside, Several, Defaulted}
+use Rattle.command_line.specs.declared.command_table.Form.TheVariants.{Required, Omittable, Repeated, Flag, FlagBeside, ShortFlagBeside, RequiredOption, Optional, OptionalBeside, Several, Defaulted}
 use Rattle.command_line.specs.declared.command_table.Values.{Values}
 use Rattle.command_line.specs.declared.command_table.Values.TheVariants.{Algs, Templates, Parsed}
 use Rattle.command_line.specs.declared.commands.KnownNames.{KnownNames}
@@ -36,7 +36,8 @@ rule_of_form known id Required = required id
 rule_of_form known id Omittable = new_rule id
 rule_of_form known id Repeated = repeated id
 rule_of_form known id Flag = flag id
-rule_of_form known id (FlagBeside option) = beside (flag id)
+rule_of_form known id (FlagBeside argument) = beside (flag id)
+rule_of_form known id (ShortFlagBeside letter option) = beside (short_flag letter id)
 rule_of_form known id (RequiredOption value) = required_option id
 rule_of_form known id (Optional value) = without_default id
 rule_of_form known id (OptionalBeside value argument) = beside (without_default id)

@@ -6,7 +6,7 @@ use attestations::{
     quote_for,
 };
 use boot_log::LogFault;
-use boot_verdict::{ExpectFault, Requirement, RequirementFault, VerifyFault, read_expected};
+use boot_verdict::{ExpectFault, Requirement, SelectionFault, VerifyFault, read_expected};
 use ima_list::{ListFault, ReplayFault};
 use pcr_banks::Alg;
 use std::alloc::{AllocError, Global};
@@ -16,9 +16,9 @@ use test_kit::{joined, once_more};
 use tpm_quotes::QuoteFault;
 
 /// The registers that the text spells.
-fn required(alloc: Global, text: &[u8]) -> Result<Requirement, RequirementFault> {
+fn required(alloc: Global, text: &[u8]) -> Result<Requirement, SelectionFault> {
     once_more(
-        RequirementFault::Memory,
+        SelectionFault::Memory,
         || Requirement::from_text(alloc, text),
     )
 }
@@ -121,7 +121,7 @@ const POLICIES: [(&[u8], bool, AttestFault); 8] = [
 #[test]
 fn policies_that_the_quote_does_not_meet(rt: HostRuntime) -> Result<(), Fail> {
     let unbound = required(rt.alloc(), b"sha256:0-9").err();
-    assert_eq!(rt; unbound, Some(RequirementFault::Unbound));
+    assert_eq!(rt; unbound, Some(SelectionFault::Unbound));
     for (text, takes_sha1, fault) in POLICIES {
         let required = required(rt.alloc(), text)?;
         let policy = Policy {
@@ -137,7 +137,7 @@ fn policies_that_the_quote_does_not_meet(rt: HostRuntime) -> Result<(), Fail> {
     Ok(())
 }
 
-/// By the table of quote faults of docs/formats.md. Where two things are wrong the first is told.
+/// By the table of quote faults of docs/errors.txt. Where two things are wrong the first is told.
 #[test]
 fn quotes_that_are_not_asked_for(rt: HostRuntime) -> Result<(), Fail> {
     let alloc = rt.alloc();

@@ -1,8 +1,8 @@
 //! Verdicts on the samples, the book that makes their list, and the texts of all this.
 
 use boot_verdict::{
-    ExpectFault, Expected, Located, RegisterRange, Report, VerifyFault, locate, read_expected,
-    verify, write_expected, write_registers,
+    ExpectFault, Expected, Located, Report, VerifyFault, locate, read_expected, verify,
+    write_expected, write_registers,
 };
 use byte_streams::{Failed, Sink, VecSink};
 use measure_book::{Book, ExportFault};
@@ -30,7 +30,7 @@ impl Text<'_> {
     /// Sends the text.
     pub fn send<S: Sink>(&self, sink: &mut S) -> Result<(), Failed> {
         match self {
-            Text::Expected(expected) => write_expected(expected, RegisterRange::all(), sink),
+            Text::Expected(expected) => write_expected(expected, sink),
             Text::List(book) => match book.export(sink) {
                 Ok(()) => Ok(()),
                 Err(ExportFault::Sink) => Err(Failed),

@@ -8,3 +8,6 @@ returns-in_ok-judge_of-in-verify-clause-values c = c.in_ok-judge_of-in-verify.en
   c.in_ok-text_if_given-in-verify.ensures,
   c.in_ok-text_if_given-in-verify-2.ensures,
 )
+
+pub returns-in_ok-judge_of-in-locate-clause-values : goal.returns-in_ok-judge_of-in-locate-clause-values
+returns-in_ok-judge_of-in-locate-clause-values c = c.in_ok-judge_of-in-locate.ensures.values _ (c.in-locate.is, c.in_ok-log-in-locate.ensures)

@@ -8,7 +8,7 @@ use Rattle.command_line.proofs.commands.program.Goals as goal
 
 pub returns : goal.returns
 returns c =
-    let rule = record (new_rule (codes "version")) { long = Some (codes "version"); action = Some show_version } in
+    let rule = record (new_rule (codes "version")) { long = Some (codes "version"); short = Some 86; action = Some show_version } in
     let argument : IsArgument rule c.action-version.result = record { rule_is = search rules; local = search rules } in
     let named : app_of c.in_ok-bin_name.field-0
     ≡ record { top = record (new_app (codes "ima-agent")).top { no_binary_name = true; disable_help_subcommand = true; subcommand_required = true }; subs = [] } =

@@ -3,8 +3,8 @@ use Rattle.ima_agent.specs.Escaping.{is_shown}
 use Rattle.ima_agent.proofs.EscapingLaws.{all_joined, printable_is_shown}
 use Rattle.ima_agent.proofs.escapes.shown_line.Goals as goal
 
-pub returns : goal.returns
-returns c =
+pub returns-clause-shown : goal.returns-clause-shown
+returns-clause-shown c =
     let line = string_bytes c.in_ok-line.line in
     let feed = c.push.ensures.ascii (omega arith) in
     rw (c.in_ok-push.ensures.bytes, feed) (all_joined is_shown line (10 ∷ []) (printable_is_shown line c.in_ok-line.ensures.printable) refl)

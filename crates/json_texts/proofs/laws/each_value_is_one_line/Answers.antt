@@ -3,26 +3,26 @@ use Rattle.pcr_banks.specs.Registers.{value_at}
 use Rattle.boot_log.specs.Spelling.{IsRow}
 use Rattle.json_texts.specs.EventJson.{algorithm_json}
 use Rattle.json_texts.specs.JsonValues.{IsCount}
-use Rattle.json_texts.specs.ReportJson.{IsCountedPosition, list_meets, meets, position_members, changed_register, value_within, stray_members, unconfirmed_members}
+use Rattle.json_texts.specs.ReportJson.{IsCountedPosition, list_meets, meets, position_members, changed_register, value_json, stray_members, unconfirmed_members}
 use Rattle.json_texts.proofs.AttestLaws.{attest_line}
 use Rattle.json_texts.proofs.EntryLaws.{entry_line}
 use Rattle.json_texts.proofs.EventLaws.{content_one_line, event_one_line, said_plain}
 use Rattle.json_texts.proofs.KeyLaws.{key_line}
 use Rattle.json_texts.proofs.LineLaws.{members_joined, one_line}
-use Rattle.json_texts.proofs.ValueLaws.{algorithm_plain, change_plain, each_plain, mapped_plain, of_each_register, position_plain, report_plain, rows_plain, strays_plain, told_plain, unconfirmed_plain, verdict_plain, within_plain}
+use Rattle.json_texts.proofs.ValueLaws.{algorithm_plain, change_plain, mapped_plain, of_each_register, position_plain, report_plain, rows_plain, strays_plain, told_plain, unconfirmed_plain, value_plain, verdict_plain}
 use Rattle.json_texts.proofs.laws.each_value_is_one_line.Goals as goal
 
 pub returns : goal.returns
 returns c = record {
   entry = entry_line;
+  entry_count = λ entries fits. one_line _ ((entries, fits, refl), tt);
   event = event_one_line;
   content = content_one_line;
   header = λ said rows fit are.
       one_line _ (mapped_plain IsRow algorithm_json algorithm_plain rows are, said_plain said fit);
   registers = λ now start.
       one_line _ (of_each_register (changed_register now start) (λ alg r. change_plain alg r (value_at start alg r) (value_at now alg r)), tt);
-  expected = λ range expected fit.
-      one_line _ (each_plain (λ e. IsCount e.register) (value_within range) (within_plain range) expected fit, tt);
+  expected = λ expected fit. one_line _ (mapped_plain (λ e. IsCount e.register) value_json value_plain expected fit, tt);
   report = λ required unknown is_match verdict events locality entries strays counted rows.
       let told = members_joined 2 (stray_members required verdict.strays) _ (strays_plain required verdict.strays strays)
       (verdict_plain unknown is_match counted) in
