@@ -43,7 +43,7 @@ func ExampleAttest() {
 		log.Fatal(err)
 	}
 	message, key := read(filepath.Join(quoted, "quote.msg")), read(filepath.Join(quoted, "AK.pem")) // (the machine's own restricted key)
-	signature := read(filepath.Join(quoted, "quote.sig"))[6:]                                       // (the plain form in a TPMT_SIGNATURE)
+	signature := read(filepath.Join(quoted, "quote.sig"))
 	checked, err := imaverify.VerifyQuote(key, signature, message)
 	if err != nil {
 		log.Fatal(err) // errors.Is(err, imaverify.ErrSignature), if the signature is not the key's
@@ -59,9 +59,9 @@ func ExampleAttest() {
 
 func ExampleVerifyQuote() {
 	quoted := filepath.Join("..", "quoted")
-	key, message, signature := read(filepath.Join(quoted, "AK.pem")), read(filepath.Join(quoted, "quote.msg")), read(filepath.Join(quoted, "quote.sig"))
-	fmt.Println(imaverify.VerifyQuote(key, signature[6:], message)) // the plain form
-	checked, err := imaverify.VerifyQuote(key, signature, message)  // a TPMT_SIGNATURE
+	key, message := read(filepath.Join(quoted, "AK.pem")), read(filepath.Join(quoted, "quote.msg"))
+	fmt.Println(imaverify.VerifyQuote(key, read(filepath.Join(quoted, "quote.sig")), message))
+	checked, err := imaverify.VerifyQuote(key, read(filepath.Join(quoted, "quote.tpmt")), message) // a TPMT_SIGNATURE
 	fmt.Println(checked, errors.Is(err, imaverify.ErrSignature))
 	// Output:
 	// true <nil>

@@ -25,9 +25,9 @@ import (
 
 var (
 	sampleKey = quotedSample("AK.pem")
-	// A TPMT_SIGNATURE: the scheme, the hash, the size, and the plain form.
-	tpmtSignature   = quotedSample("quote.sig")
-	sampleSignature = tpmtSignature[6:]
+	// A TPMT_SIGNATURE: the scheme, the hash, the size, and the plain form, which is the other file.
+	tpmtSignature   = quotedSample("quote.tpmt")
+	sampleSignature = quotedSample("quote.sig")
 	quoteHashes     = []crypto.Hash{crypto.SHA256, crypto.SHA384, crypto.SHA512}
 	quoteCurves     = []elliptic.Curve{elliptic.P256(), elliptic.P384(), elliptic.P521()}
 	rsaKeys         = []*rsa.PrivateKey{rsaKey(2048), rsaKey(3072)}

@@ -81,9 +81,9 @@ def make(folder):
         (folder / f"{name}.txt").write_bytes(text)
         statuses += f"{name} {status}\n{said}"
     (folder / "statuses").write_text(statuses)
-    for given, name in {"AK.pem": "AK.pem", "sha256.msg": "quote.msg", "sha256.sig": "quote.sig"}.items():
+    for given, name in {"AK.pem": "AK.pem", "sha256.msg": "quote.msg", "sha256.sig": "quote.tpmt"}.items():
         shutil.copyfile(given, folder / name)
-    (folder / "quote.plain").write_bytes(plain(Path("sha256.sig").read_bytes()))
+    (folder / "quote.sig").write_bytes(plain(Path("sha256.sig").read_bytes()))
     (folder / "nonce").write_text(f"{NONCE}\n")
 
 

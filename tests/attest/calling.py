@@ -35,7 +35,7 @@ class Evidence:
     key: Path = QUOTED / "AK.pem"
     nonce: str = NONCE
     quote: Path = QUOTED / "quote.msg"
-    signature: Path = QUOTED / "quote.plain"
+    signature: Path = QUOTED / "quote.sig"
     require: str = "sha256:0-10"
     log: Path = BOOT / "firmware.log"
     list: Path = BOOT / "ima.list"

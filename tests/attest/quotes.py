@@ -152,7 +152,7 @@ class Samples(AttestTests):
     def test_signature(self):
         """A signature of another form, of another message, or by another key, or a key that is none."""
         signature, key, message = (path.read_bytes() for path in (GOOD.signature, GOOD.key, GOOD.quote))
-        for title, changed in (("as without `-f plain`", (QUOTED / "quote.sig").read_bytes()), ("that is empty", b""),
+        for title, changed in (("as without `-f plain`", (QUOTED / "quote.tpmt").read_bytes()), ("that is empty", b""),
                                ("that is cut", signature[:-1]), ("with a bit turned", turned(signature)), ("of zeros", bytes(256)),
                                ("that is the message", message)):
             self.check_refused(f"a signature {title}", self.attest(signature=self.put("other.sig", changed)))

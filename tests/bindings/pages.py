@@ -32,9 +32,7 @@ PAGE = r"""differ 99
 GO_CALL = """package main
 
 import (
-	"fmt"
-	"log"
-	"os"
+{imports}
 
 	"imaverify"
 )
@@ -52,7 +50,7 @@ func main() {{
 }}
 
 """
-GO_QUOTE = """	verdict, err := attested(files[0], files[1], files[2], files[3], files[4], files[5])
+GO_QUOTE = """	verdict, err := attested(files[0], files[1], files[2], files[3], files[4], string(files[5]))
 	if err != nil {
 		log.Fatal(err)
 	}
@@ -62,8 +60,9 @@ GO_PAGE = """	if err := unknownFiles(files[0], files[1], files[2], files[3]); er
 	}"""
 
 
-def go_call(call, *names):
-    return GO_CALL.format(call=call, names=", ".join(f'"{name}"' for name in names))
+def go_call(call, *names, imports=()):
+    lines = "\n".join(f'\t"{name}"' for name in sorted({"fmt", "log", "os", *imports}))
+    return GO_CALL.format(call=call, imports=lines, names=", ".join(f'"{name}"' for name in names))
 
 
 def examples_of(language):
@@ -81,23 +80,21 @@ def page_of(language):
 
 def quote_page_of(language):
     """The first example of a language's page, of a quote, as a program."""
-    begun = go_call(GO_QUOTE, *FILES[:2], "quote.msg", "quote.sig", "AK.pem", "nonce") if language == "go" else ""
+    begun = go_call(GO_QUOTE, *FILES[:2], "quote.msg", "quote.sig", "AK.pem", "nonce", imports=("encoding/hex", "strings")) if language == "go" else ""
     return begun + examples_of(language)[0]
 
 
 def quote_inputs(folder):
     """Folders with what the programs of a quote read, each with what they must print: a line, or as a pattern a part of an error."""
-    files = {name: (QUOTED / name).read_bytes() for name in ("quote.msg", "quote.sig", "AK.pem")}
+    files = {name: (QUOTED / name).read_bytes() for name in ("quote.msg", "quote.sig", "AK.pem", "nonce")}
     files |= {name: (SAMPLE / name).read_bytes() for name in FILES[:2]}
-    files["quote.sig"] = files["quote.sig"][6:]  # (the plain form of this TPMT_SIGNATURE)
-    files["nonce"] = bytes.fromhex((QUOTED / "nonce").read_text())
     message, unsigned = files["quote.msg"], "the signature is not by this key and on this message|^Error: Signature$"  # (Rust prints its name)
     for name, changes, wanted in (
         ("a boot", {}, "match 99\n"),
         ("a shorter list", {"ima.list": files["ima.list"][:-95]}, "differ 98\n"),
-        ("another nonce", {"nonce": bytes(20)}, "refused: quote fault 11"),
+        ("another nonce", {"nonce": b"00" * 20 + b"\n"}, "refused: quote fault 11"),
         ("another message", {"quote.msg": message[:-1] + bytes([message[-1] ^ 1])}, unsigned),
-        ("a TPMT_SIGNATURE", {"quote.sig": (QUOTED / "quote.sig").read_bytes()}, unsigned),
+        ("a TPMT_SIGNATURE", {"quote.sig": (QUOTED / "quote.tpmt").read_bytes()}, unsigned),
         ("no signature", {"quote.sig": b""}, unsigned),
         ("no key", {"AK.pem": message}, "not the PEM of a public key"),
     ):

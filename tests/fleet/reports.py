@@ -183,8 +183,8 @@ def test_unconfirmed_entries(tools, folder):
 def test_report_by_quote(tools, folder):
     """A boot that is judged by a quote."""
     boot, nonce = make_boot(folder / "quoted"), (QUOTED / "nonce").read_text().strip()
-    shutil.copy(QUOTED / "quote.msg", boot)
-    shutil.copy(QUOTED / "quote.plain", boot / "quote.sig")
+    for file in ("quote.msg", "quote.sig"):
+        shutil.copy(QUOTED / file, boot)
     asked = ("--key", QUOTED / "AK.pem", "--nonce")
     other = make_boot(folder / "other", expected=None, ima=(REAL / "ima.list").read_bytes() * 2)
     for file in ("quote.msg", "quote.sig"):

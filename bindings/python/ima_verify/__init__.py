@@ -273,10 +273,10 @@ def verify_quote(key: Union[BytesLike, str, "PublicKey"], signature: BytesLike, 
         LoadError: The package `cryptography` is not there, or is too old.
 
     >>> quoted = Path("../quoted")
-    >>> key, message, signature = ((quoted / name).read_bytes() for name in ("AK.pem", "quote.msg", "quote.sig"))
-    >>> ima_verify.verify_quote(key, signature[6:], message)  # (this file is a TPMT_SIGNATURE: the plain form, after 6 bytes)
-    True
+    >>> key, message, signature, tpmt = ((quoted / name).read_bytes() for name in ("AK.pem", "quote.msg", "quote.sig", "quote.tpmt"))
     >>> ima_verify.verify_quote(key, signature, message)
+    True
+    >>> ima_verify.verify_quote(key, tpmt, message)  # (a TPMT_SIGNATURE)
     Traceback (most recent call last):
     ima_verify._errors.InvalidSignature: the signature is not by this key and on this message, in plain form and by SHA-256, SHA-384 or SHA-512
     """

@@ -136,10 +136,10 @@ class Keys(unittest.TestCase):
         modulus = load_pem_public_key(stored).public_numbers().n
         key = ima_verify.read_key(rsa_area(modulus.to_bytes(256, "big")))
         self.assertEqual(key.pem.encode(), stored)
-        self.assertIs(ima_verify.verify_quote(key.pem, signature[6:], message), True)
+        self.assertIs(ima_verify.verify_quote(key.pem, signature, message), True)
         for name in ATTESTATION:
             with self.assertRaises(ima_verify.InvalidSignature):
-                ima_verify.verify_quote(ima_verify.read_key(area_of(name)).pem, signature[6:], message)
+                ima_verify.verify_quote(ima_verify.read_key(area_of(name)).pem, signature, message)
 
     def test_arguments_of_other_types_are_type_errors(self):
         for read in READS:

@@ -27,8 +27,8 @@ if HAS_CRYPTOGRAPHY:
     # (the salt as long as the digest, as long as can be, and of other lengths)
     SALTS = padding.PSS.DIGEST_LENGTH, padding.PSS.MAX_LENGTH, 0, 20
 
-KEY, MESSAGE, TPMT_SIGNATURE = ((ROOT / "samples/quoted" / name).read_bytes() for name in ("AK.pem", "quote.msg", "quote.sig"))
-SIGNATURE = TPMT_SIGNATURE[6:]  # (after the scheme, the hash and the size)
+SAMPLES = "AK.pem", "quote.msg", "quote.sig", "quote.tpmt"
+KEY, MESSAGE, SIGNATURE, TPMT_SIGNATURE = ((ROOT / "samples/quoted" / name).read_bytes() for name in SAMPLES)
 BEGIN, END = b"-----BEGIN PUBLIC KEY-----\n", b"-----END PUBLIC KEY-----\n"
 
 

@@ -35,13 +35,13 @@ fn message() -> Vec<u8> {
     sample("quoted/quote.msg")
 }
 
-/// The file of the sample: a TPMT_SIGNATURE, which has the scheme, the hash, the size, and then the plain form.
+/// The sample's TPMT_SIGNATURE, which has the scheme, the hash, the size, and then the plain form.
 fn tpmt_signature() -> Vec<u8> {
-    sample("quoted/quote.sig")
+    sample("quoted/quote.tpmt")
 }
 
 fn signature() -> Vec<u8> {
-    tpmt_signature().split_off(6)
+    sample("quoted/quote.sig")
 }
 
 fn sample_key() -> Vec<u8> {

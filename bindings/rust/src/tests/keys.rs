@@ -131,9 +131,9 @@ fn key_of_a_public_area_verifies_a_quote() {
     let modulus = openssl::pkey::PKey::public_key_from_pem(&stored).unwrap().rsa().unwrap().n().to_vec();
     let key = read_key(&rsa_area(&modulus, 0x0b, 0, &[0, 0x14, 0, 0x0b])).unwrap();
     assert_eq!(key.pem.as_bytes(), stored);
-    assert_eq!(crate::verify_quote(key.pem.as_bytes(), &signature[6..], &message), Ok(true));
+    assert_eq!(crate::verify_quote(key.pem.as_bytes(), &signature, &message), Ok(true));
     for name in ["ak-rsassa", "ak-rsapss", "ak-p256", "ak-p384", "ak-p521"] {
         let pem = read_key(&area(name)).unwrap().pem;
-        assert_eq!(crate::verify_quote(pem.as_bytes(), &signature[6..], &message), Err(Error::Signature));
+        assert_eq!(crate::verify_quote(pem.as_bytes(), &signature, &message), Err(Error::Signature));
     }
 }
