@@ -56,7 +56,7 @@ pub fn read_words(alloc: Global, arguments: &[String]) -> Result<Plan, RunFault>
 }
 
 /// Runs the program as [`run_with_progress`] does, and returns the process's exit code. If `arguments` is an error, the program fails
-/// as it does out of memory: with the line `report_fault: memory` and status 3.
+/// as it does out of memory: with the line `failed: memory` and status 3.
 /// `main` returns it, so that the exit status has a contract.
 pub fn exit_code<R: Threads + Wait + Sync, F: AgentFiles, S: Sink, P: Progress>(
     rt: &R,
