@@ -1,7 +1,6 @@
 """The files of `--known`: texts that list known files by their digests."""
 
 import hashlib
-import math
 from typing import NamedTuple, Sequence, Tuple
 
 from .reading import MOST_BYTES, read_file
@@ -39,7 +38,7 @@ def read_known(paths: Sequence[str]) -> Known:
 
 def _lines_of(path: str) -> bytes:
     try:
-        text = read_file(path, math.inf, 0)
+        text = read_file(path, follow_symlinks=True)
     except OSError as fault:
         raise BadKnown(f"{path}: {fault}") from None
     assert text is not None

@@ -40,7 +40,7 @@ def key_of(folder: str, name: str) -> Optional[str]:
         return None
     for path in (f"{folder}/{name}.pem", f"{folder}/{name}/{name}.pem"):
         try:
-            text = read_file(path, math.inf, 0)
+            text = read_file(path, follow_symlinks=True)
         except (FileNotFoundError, NotADirectoryError):
             continue
         except OSError:

@@ -1,6 +1,7 @@
 """Reads a machine's files on a worker, and tells why one cannot be read."""
 
 import hashlib
+import math
 import os
 import re
 import stat
@@ -20,6 +21,7 @@ MOST_CAUSE = 1000
 
 # Why a file is not read, or not to its end.
 NOT_REGULAR = "it is no regular file"
+LINK = "it is a symbolic link"
 LATE = "no answer in time"
 STALE = "stale: list"
 
@@ -67,15 +69,10 @@ def is_young(path: str, max_age: float) -> bool:
 
 
 def changed_at(path: str) -> Optional[float]:
-    """When a file was changed, in seconds since 1970, if that can be had."""
-    if path.startswith("/"):
-        return os.stat(path).st_mtime
-    import fsspec
-    from fsspec.implementations.local import LocalFileSystem
-
-    place = fsspec.open(path, "rb")
-    if isinstance(place.fs, LocalFileSystem):
-        return os.stat(place.path).st_mtime
+    """When a file was changed, in seconds since 1970, if that can be had. Of a link it is when that was made."""
+    local, place = located(path)
+    if local is not None:
+        return os.stat(local, follow_symlinks=False).st_mtime
     try:
         changed: datetime = place.fs.modified(place.path)
     except NotImplementedError:
@@ -83,17 +80,23 @@ def changed_at(path: str) -> Optional[float]:
     return None if changed.tzinfo is None else changed.timestamp()
 
 
-def read_input(path: str, limit: float, start: int = 0) -> Optional[bytes]:
-    """The bytes of an input from this one on, but at most one more than are allowed; None if there are fewer before. A local file must be a
-    regular one: to open another may take for ever."""
+def located(path: str) -> Tuple[Optional[str], Any]:
+    """The path of a local file, or what fsspec has of another."""
     if path.startswith("/"):
-        return read_file(path, limit, start)
+        return path, None
     import fsspec
     from fsspec.implementations.local import LocalFileSystem
 
     place = fsspec.open(path, "rb")
-    if isinstance(place.fs, LocalFileSystem):
-        require_regular(os.stat(place.path))
+    return place.path if isinstance(place.fs, LocalFileSystem) else None, place
+
+
+def read_input(path: str, limit: float, start: int = 0) -> Optional[bytes]:
+    """The bytes of an input from this one on, but at most one more than are allowed; None if there are fewer before. A local file is read as
+    one that the machine sent."""
+    local, place = located(path)
+    if local is not None:
+        return read_file(local, limit, start)
     with place as file:
         if start:
             file.seek(0, os.SEEK_END)
@@ -103,11 +106,15 @@ def read_input(path: str, limit: float, start: int = 0) -> Optional[bytes]:
         return read_rest(file.read, MOST_BYTES + 1, limit)
 
 
-def read_file(path: str, limit: float, start: int) -> Optional[bytes]:
-    """What `read_input` gives of a file, by calls of the system: to make the objects of `open` takes longer than to read a short one. (Memory
-    is asked for by the file's size, and more only of one that grew, or has none.)"""
-    require_regular(os.stat(path))  # (to open a device may do something)
-    file = os.open(path, os.O_RDONLY | os.O_CLOEXEC | os.O_NONBLOCK | os.O_NOCTTY)
+def read_file(path: str, limit: float = math.inf, start: int = 0, *, follow_symlinks: bool = False) -> Optional[bytes]:
+    """What `read_input` gives of a local file, which must be a regular one: to open another may take for ever. A machine may send a link to
+    any file of this computer; only a file that the operator names may be one.
+
+    (By calls of the system: to make the objects of `open` takes longer than to read a short file. Memory is asked for by the file's size, and
+    more only of one that grew, or has none.)"""
+    require_regular(os.stat(path, follow_symlinks=follow_symlinks))  # (to open a device may do something)
+    flags = os.O_RDONLY | os.O_CLOEXEC | os.O_NONBLOCK | os.O_NOCTTY
+    file = os.open(path, flags if follow_symlinks else flags | os.O_NOFOLLOW)
     try:
         about = os.fstat(file)
         require_regular(about)
@@ -123,7 +130,7 @@ def read_file(path: str, limit: float, start: int) -> Optional[bytes]:
 
 def require_regular(about: os.stat_result) -> None:
     if not stat.S_ISREG(about.st_mode):
-        raise OSError(NOT_REGULAR)
+        raise OSError(LINK if stat.S_ISLNK(about.st_mode) else NOT_REGULAR)
 
 
 def read_rest(read: Callable[[int], bytes], first: int, limit: float) -> bytes:

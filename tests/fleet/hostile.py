@@ -10,7 +10,9 @@ import sys
 from contextlib import contextmanager
 from pathlib import Path
 
+ROOT = Path(__file__).resolve().parents[2]
 NO_FILE = "OSError: it is no regular file"
+LINK = "OSError: it is a symbolic link"
 LATE = "TimeoutError: no answer in time"
 TEBIBYTE = 1 << 40
 
@@ -50,12 +52,13 @@ KINDS = {
     "a FIFO for a list": (fifo, "ima.list", "unreadable", f"list: {NO_FILE}"),
     "a socket": (listening_socket, "ima.list", "unreadable", f"list: {NO_FILE}"),
     "a folder": (Path.mkdir, "ima.list", "unreadable", f"list: {NO_FILE}"),
-    "a device": (link("/dev/zero"), "ima.list", "unreadable", f"list: {NO_FILE}"),
-    "a terminal": (link("/dev/tty"), "expected.txt", "unreadable", f"expected: {NO_FILE}"),
-    "a circle": (link("ima.list"), "ima.list", "unreadable", "list: OSError: [Errno 40] Too many levels of symbolic links"),
-    "nowhere": (link("nothing"), "ima.list", "unreadable", "list: FileNotFoundError: [Errno 2] No such file or directory"),
-    "a file of files": (link("firmware.log/ima.list"), "ima.list", "unreadable", "list: NotADirectoryError: [Errno 20] Not a directory"),
-    "memory": (link("/proc/self/mem"), "ima.list", "unreadable", "list: OSError: [Errno 5] Input/output error"),
+    "another's file": (lambda path: path.symlink_to(ROOT / "samples/real-boot" / path.name), "ima.list", "unreadable", f"list: {LINK}"),
+    "a device": (link("/dev/zero"), "ima.list", "unreadable", f"list: {LINK}"),
+    "a terminal": (link("/dev/tty"), "expected.txt", "unreadable", f"expected: {LINK}"),
+    "a circle": (link("ima.list"), "ima.list", "unreadable", f"list: {LINK}"),
+    "nowhere": (link("nothing"), "ima.list", "unreadable", f"list: {LINK}"),
+    "a file of files": (link("firmware.log/ima.list"), "ima.list", "unreadable", f"list: {LINK}"),
+    "memory": (link("/proc/self/mem"), "ima.list", "unreadable", f"list: {LINK}"),
     "a hole": (sparse, "ima.list", "refused", "refused: too long list"),
     "a hole for a log": (sparse, "firmware.log", "refused", "refused: too long log"),
 }

@@ -52,7 +52,31 @@ told = answer_on(["store://no memory"] * 3, Given(), asked(60))
 print(told["verdict"], told["cause"])
 """
 NO_FILE = "log: OSError: it is no regular file"
-WHOLE_WANTED = ["True True", "1 1", "refused: too long list", "True", *[NO_FILE] * 4, "troubled MemoryError"]
+WHOLE_WANTED = ["True True", "1 1", "refused: too long list", "True", *[NO_FILE] * 4, "log: OSError: [Errno 5] Input/output error", "troubled MemoryError"]
+
+# Prints what is read of files in a folder, and of links there, by a path, and by a URL: a link is the machine's, and one to the folder not.
+# Whoever names a file may have it read though it is a link.
+LINKS = """
+import math, os, sys
+from fleet_verify.reading import read_file, read_input
+folder = sys.argv[1]
+os.mkdir(folder)
+os.symlink(folder, f"{folder} linked")
+with open(f"{folder}/file", "wb") as file:
+    file.write(b"read")
+for name, target in (("link", "file"), ("to nowhere", "nowhere"), ("to a folder", "."), ("to a device", "/dev/zero"), ("circle", "circle")):
+    os.symlink(target, f"{folder}/{name}")
+for name in sorted(os.listdir(folder)):
+    for home in (folder, f"{folder} linked", f"file://{folder}", f"file://{folder} linked"):
+        try:
+            print(name, read_input(f"{home}/{name}", math.inf))
+        except OSError as fault:
+            print(name, fault)
+print(read_file(f"{folder}/link", follow_symlinks=True))
+"""
+LINKED = "it is a symbolic link"
+FOUND = {"circle": LINKED, "file": "b'read'", "link": LINKED, "to a device": LINKED, "to a folder": LINKED, "to nowhere": LINKED}
+LINKS_WANTED = [*(f"{name} {found}" for name, found in FOUND.items() for _ in range(4)), "b'read'"]
 
 # Prints the answers on machines of which nothing, or not enough, comes in time, in batches that are patient, and in those that are not, where
 # the deadline is near, and where it is far; then whether the threads that they left keep this process from its end.
@@ -76,8 +100,8 @@ UNREADABLE = [NONE, ("unreadable", DROPS, "drops"), ("unreadable", STUCK, "stuck
 SLOW = [NONE, ("slow", STUCK, "drops")]
 LATE_WANTED = [DROPS, *[f"{UNREADABLE} True"] * 3, f"{SLOW} True", str([False, *[True] * 4])]
 
-# Prints which lists are young enough, by their paths: one that was changed now, one long ago, one in a future, one that is not there; and
-# objects, of which one has no time.
+# Prints which lists are young enough, by their paths: one that was changed now, one long ago, one in a future, one that is not there, an old
+# link to one that was changed now; and objects, of which one has no time.
 AGES = STORE + """
 from datetime import datetime, timedelta, timezone
 class Aged(Store):
@@ -89,7 +113,7 @@ for path in (*sys.argv[1:], "aged://new", "aged://old", "aged://of no zone", "st
     print(read_inputs(["/proc/version", path, "/none"], math.inf, 0, max_age=3600)[0]["cause"])
 """
 READ, STALE = "expected: FileNotFoundError: [Errno 2] No such file or directory", "stale: list"
-AGES_WANTED = [READ, STALE, STALE, READ.replace("expected", "list"), READ, *[STALE] * 3]
+AGES_WANTED = [READ, STALE, STALE, READ.replace("expected", "list"), STALE, READ, *[STALE] * 3]
 
 
 def test_reading(tools):
@@ -101,10 +125,14 @@ def test_reading(tools):
     for path, age in zip(lists[:-1], (0, 7200, -7200)):
         path.write_bytes(b"")
         os.utime(path, (time.time(), time.time() - age))
+    link = tools.folder / "old link"
+    link.symlink_to(lists[0])
+    os.utime(link, (time.time(), time.time() - 7200), follow_symlinks=False)
     for title, script, words, wanted in (
-        ("files and objects are read until they end", WHOLE, (fifo, f"file://{fifo}", "/dev/zero", tools.folder), WHOLE_WANTED),
+        ("files and objects are read until they end", WHOLE, (fifo, f"file://{fifo}", "/dev/zero", tools.folder, "/proc/self/mem"), WHOLE_WANTED),
+        ("no link in a machine's folder is followed", LINKS, (tools.folder / "sent",), LINKS_WANTED),
         ("a machine of which nothing comes in time", LATE, (), LATE_WANTED),
-        ("the age of lists", AGES, lists, AGES_WANTED),
+        ("the age of lists", AGES, [*lists, link], AGES_WANTED),
     ):
         said = tools.start(["-c", script, *words], **modules).communicate(timeout=SECONDS)[0]
         tools.check(title, said.splitlines(), wanted)
