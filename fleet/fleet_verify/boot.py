@@ -1,10 +1,10 @@
 """What a page shows of one boot: the program's replies on copies of its files."""
 
 import hashlib
-import math
+import os
 from dataclasses import dataclass, field
 from pathlib import Path
-from typing import Dict, FrozenSet, List, NamedTuple, Optional, Sequence
+from typing import Dict, FrozenSet, List, NamedTuple, Optional, Sequence, Tuple
 
 from .program import REFUSED, STOPPED, Line, Output, Reply, ask
 from .reading import FILES, QUOTED_FILES, cause_of, read_file
@@ -12,8 +12,10 @@ from .verdict import NOTHING_EXPECTED
 
 LOG, LIST, EXPECTED = FILES
 QUOTE, SIGNATURE = QUOTED_FILES[2:]
-KEY, BEFORE = "key.pem", "before.log"
+KEY, BEFORE, SIGNED, NO_LIST = "key.pem", "before.log", "signed.txt", "no.list"
 _OF_LIST = 10
+# Which errors are the list's, after log, quote or expected registers were taken (docs/errors.txt).
+_OF_BROKEN_LIST = ("list", "replay")
 
 
 @dataclass(frozen=True)
@@ -61,29 +63,71 @@ class Reached(NamedTuple):
     place: str
 
 
-@dataclass
-class Boot:
-    """All that a page shows of one boot. `verdict` is the program's, and `replies` has what else it says, by the command's name. There may be
-    a quote by which it was not judged."""
+class Judgement(NamedTuple):
+    """A verdict of the program: its reply, and the report in that."""
 
-    inputs: List[Input]
-    verdict: Reply
-    is_required: bool
-    has_other_quote: bool
-    replies: Dict[str, Reply] = field(default_factory=dict)
-    is_confirming: bool = False
+    reply: Reply
 
     @property
     def report(self) -> Line:
-        return self.verdict.lines[0] if self.verdict.is_whole and self.verdict.total == 1 and self.verdict.lines else {}
+        reply = self.reply
+        return reply.lines[0] if reply.is_whole and reply.total == 1 and reply.lines else {}
 
     @property
     def word(self) -> str:
         """`match` or `differ`, if status and report agree on that; else `refused` or `failed`."""
         word = str(self.report.get("verdict"))
-        if (self.verdict.status, word) in ((0, "match"), (1, "differ")):
+        if (self.reply.status, word) in ((0, "match"), (1, "differ")):
             return word
-        return "refused" if self.verdict.status in (2, 4) and not self.verdict.is_whole else "failed"
+        return "refused" if self.reply.status in (2, 4) and not self.reply.is_whole else "failed"
+
+    @property
+    def is_list_broken(self) -> bool:
+        """Whether log and quote or expected registers were read, and only the list is refused."""
+        return self.word == "refused" and self.reply.kind in _OF_BROKEN_LIST
+
+
+@dataclass
+class Boot:
+    """All that a page shows of one boot.
+
+    Attributes:
+        inputs: The files, as they were read.
+        judgement: The verdict.
+        proof: The verdict without known files, by which log and list are confirmed: what is unknown was measured all the same.
+        is_required: Whether registers were required, so that log and list are apart.
+        has_other_quote: Whether there is a quote by which the boot was not judged.
+        replies: What else the program says, by the command's name.
+        is_confirming: Whether `events` and `boot` were asked for what is confirmed.
+        alone: A report on the log and no entry, where the list is broken.
+    """
+
+    inputs: List[Input]
+    judgement: Judgement
+    proof: Judgement
+    is_required: bool
+    has_other_quote: bool
+    replies: Dict[str, Reply] = field(default_factory=dict)
+    is_confirming: bool = False
+    alone: Line = field(default_factory=dict)
+
+    @property
+    def verdict(self) -> Reply:
+        return self.judgement.reply
+
+    @property
+    def report(self) -> Line:
+        return self.judgement.report
+
+    @property
+    def word(self) -> str:
+        return self.judgement.word
+
+    @property
+    def advice(self) -> List[str]:
+        """What the program says in words, of an error or of what to do next; and why a file was not read."""
+        unread = [f"{each.name} is not read: {each.fault}" for each in self.inputs if each.fault]
+        return [line for line in [*self.verdict.said.splitlines(), *unread] if line and line not in self.verdict.fault]
 
     @property
     def faults(self) -> Dict[str, str]:
@@ -105,22 +149,24 @@ class Boot:
     @property
     def confirmed(self) -> int:
         """How many entries are confirmed: those of a match by a value of register 10, which is the list's alone, in a bank other than SHA-1."""
-        rows = [(row["bank"], row["register"]) for row in self.report.get("registers", [])]
-        rows += [(row["bank"], number) for row in self.report.get("quoted", []) for number in row["registers"]]
-        if self.word != "match" or not self.is_required or all(bank == "sha1" for bank, number in rows if number == _OF_LIST):
+        report = self.proof.report
+        rows = [(row["bank"], row["register"]) for row in report.get("registers", [])]
+        rows += [(row["bank"], number) for row in report.get("quoted", []) for number in row["registers"]]
+        if self.proof.word != "match" or not self.is_required or all(bank == "sha1" for bank, number in rows if number == _OF_LIST):
             return 0
-        return int(self.report.get("confirmed", self.report["entries"]))
+        return int(report.get("confirmed", report["entries"]))
 
     @property
     def reasons(self) -> List[str]:
         """Why the verdict is not match, by its report."""
-        reasons = [f"{row.bank} PCR {row.number}: {row.state}" for row in self.registers if row.state != "match"]
+        reasons = [f"{row.bank} PCR {row.number}: {row.state}" for row in self.registers if row.state != "match"] if self.report else []
         if self.report.get("boot_aggregate", "good") != "good":
             reasons.append(f"The boot aggregate is {self.report['boot_aggregate']}.")
         if self.report.get("quote") == "differ":
             reasons.append("Log and list do not make the quoted PCRs.")
         if self.unknown:
-            reasons.append(f"Unknown entries: {len(self.unknown)}, the first is entry {self.unknown[0]}.")
+            count = len(self.unknown)
+            reasons.append(f"Entry {self.unknown[0]} is unknown." if count == 1 else f"Unknown entries: {count}, the first is entry {self.unknown[0]}.")
         for row in self.report.get("extends", []):
             kind = "event" if "event" in row else "entry"
             reasons.append(f"Log and list are not apart: {kind} {row[kind]} extends PCR {row['register']}.")
@@ -128,26 +174,34 @@ class Boot:
 
     @property
     def registers(self) -> List[Reached]:
-        """The registers of the report."""
+        """The registers of the report, or those that the log makes alone: register 10, which is the list's, is none of these."""
+        report = self.report or self.alone
         lines = self.replies["locate"].lines if "locate" in self.replies else []
-        places = {(row["bank"], row["register"]): _place(row) for line in lines for row in line["registers"]}
-        names = [(row["bank"], row["register"]) for row in self.report.get("registers", [])]
+        places = {(row["bank"], row["register"]): _place(row, report.get("entries", 0)) for line in lines for row in line["registers"]}
         return [
-            Reached(*name, row["state"], row.get("expected", ""), row.get("value", ""), places.get(name, ""))
-            for name, row in zip(names, self.report.get("registers", []))
+            Reached(*name, row.get("state", ""), row.get("expected", ""), row.get("value", ""), places.get(name, ""))
+            for row in report.get("registers", []) for name in [(row["bank"], row["register"])] if self.report or name[1] != _OF_LIST
         ]
 
 
-def _place(row: Line) -> str:
-    """Where a register has its value first, as the program's text says it."""
-    place = str(row.get("place", ""))
-    return {"reset": "at reset", "event": f"after event {row.get('number')}", "entry": f"after entry {row.get('number')}"}.get(place, place)
+def covered(count: int, total: int) -> str:
+    """How many entries of a list, from the first one on, something is said of."""
+    if count == total:
+        return "the only entry" if total == 1 else f"all {total} entries"
+    return {0: f"none of {total} entries", 1: f"the first of {total} entries"}.get(count, f"the first {count} of {total} entries")
 
 
-def copy(path: Path, place: Path) -> Input:
-    """Copies a regular file, of which no more is read than the program takes: all replies then are on the same bytes."""
+def _place(row: Line, entries: int) -> str:
+    """Where a register has its value first."""
+    place, number = str(row.get("place", "")), row.get("number", 0)
+    return {"reset": "at reset", "event": f"after event {number}", "entry": f"after {covered(number + 1, entries)}"}.get(place, place)
+
+
+def copy(path: Path, place: Path, is_sent: bool) -> Input:
+    """Copies a regular file, of which no more is read than the program takes: all replies then are on the same bytes. One that a machine sent
+    is no link, as that could be to any file of this computer."""
     try:
-        data = read_file(str(path), math.inf, 0)
+        data = read_file(str(path), follow_symlinks=not is_sent)
     except OSError as fault:
         return Input(path.name, 0, "", cause_of(fault, str(path)))
     assert data is not None
@@ -155,56 +209,82 @@ def copy(path: Path, place: Path) -> Input:
     return Input(path.name, len(data), hashlib.sha256(data).hexdigest(), "")
 
 
+def _copied(folder: Path, criteria: Criteria, work: Path) -> Tuple[List[Input], List[Input]]:
+    """Copies the machine's files and the operator's into the folder `work`."""
+    sent = list(QUOTED_FILES if criteria.is_quoted else FILES)
+    if criteria.is_quoted and os.path.lexists(folder / EXPECTED):
+        sent.append(EXPECTED)
+    own = [(path, name) for path, name in ((criteria.key, KEY), (criteria.before, BEFORE)) if path is not None]
+    own += [(path, f"known{number}") for number, path in enumerate(criteria.known)]
+    return [copy(folder / name, work / name, True) for name in sent], [copy(Path(path), work / name, False) for path, name in own]
+
+
 def boot_of(folder: Path, criteria: Criteria, work: Path) -> Boot:
     """The boot whose files this folder has; all is done in the folder `work`, where only this user writes."""
-    files = [folder / file for file in (QUOTED_FILES if criteria.is_quoted else FILES)]
-    if criteria.is_quoted and (folder / EXPECTED).exists():
-        files.append(folder / EXPECTED)
-    places = [(path, path.name) for path in files]
-    places += [(Path(path), name) for path, name in ((criteria.key, KEY), (criteria.before, BEFORE)) if path is not None]
-    places += [(Path(path), f"known{number}") for number, path in enumerate(criteria.known)]
-    inputs = [copy(path, work / name) for path, name in places]
-    boot = Boot(inputs, _verdict(criteria, work), criteria.require is not None, not criteria.is_quoted and (folder / QUOTE).exists())
+    sent, own = _copied(folder, criteria, work)
+    unread = [f"{each.name} is not read: {each.fault}" for each in sent if each.fault]
+    judgement = _judged(criteria, work, len(criteria.known), unread)
+    is_known_wanting = judgement.word == "differ" and criteria.known
+    proof = _judged(criteria, work, 0, unread) if is_known_wanting else judgement
+    has_other_quote = not criteria.is_quoted and os.path.lexists(folder / QUOTE)
+    boot = Boot([*sent, *own], judgement, proof, criteria.require is not None, has_other_quote)
     _confirm(boot, criteria, work)
     return boot
 
 
-def _verdict(criteria: Criteria, work: Path) -> Reply:
-    """What the program judges. As in a run, nothing is no match."""
-    words = [*criteria.requirement, *(f"--known=known{number}" for number in range(len(criteria.known))), *(["--prefix"] if criteria.prefix else [])]
+def _judged(criteria: Criteria, work: Path, known: int, unread: Sequence[str]) -> Judgement:
+    """What the program judges, by so many known files. As in a run, nothing is no match; and neither is a boot of which a file is not read."""
+    words = [*criteria.requirement, *(f"--known=known{number}" for number in range(known)), *(["--prefix"] if criteria.prefix else [])]
     expected = [EXPECTED] if (work / EXPECTED).exists() or not criteria.is_quoted else []
-    if not criteria.is_quoted:
-        command = [criteria.program, "verify", "--json", *words]
-    else:
-        command = [criteria.attest, "--json", f"--key={KEY}", f"--nonce={criteria.nonce}", f"--quote={QUOTE}", f"--signature={SIGNATURE}", *words]
+    if criteria.is_quoted:
+        command = [criteria.attest, f"--key={KEY}", f"--nonce={criteria.nonce}", f"--quote={QUOTE}", f"--signature={SIGNATURE}", *words]
         command += ["--sha1"] if criteria.sha1 else []
-    reply = ask([*command, "--", LOG, LIST, *expected], work, criteria.seconds, Output(), (0, 1))
-    if not criteria.is_quoted and reply.is_whole and not all(line.get("registers") for line in reply.lines):
-        return Reply(REFUSED, [], 0, NOTHING_EXPECTED)
-    return reply
+    else:
+        command = [criteria.program, "verify", *words]
+    reply = ask([*command, "--json", "--explain", "--", LOG, LIST, *expected], work, criteria.seconds, Output(), (0, 1))
+    if reply.is_whole and unread:
+        reply = Reply(STOPPED, [], 0, unread[0])
+    elif reply.is_whole and not criteria.is_quoted and not all(line.get("registers") for line in reply.lines):
+        reply = Reply(REFUSED, [], 0, NOTHING_EXPECTED)
+    return Judgement(reply)
 
 
-def _confirming(boot: Boot, criteria: Criteria) -> List[str]:
-    """The arguments by which `events` and `boot` say what is confirmed: of expected registers that gave a verdict, or of a quote that holds for
-    the whole list."""
+def _confirming(boot: Boot, criteria: Criteria, work: Path) -> List[str]:
+    """The arguments by which `events` and `boot` say what is confirmed: of expected registers that the program took, or of a quote that holds.
+    A quote that holds for a prefix of the list signs the values in the report's rows, if there are some."""
     if not criteria.is_quoted:
-        return [] if boot.word not in ("match", "differ") else [f"--expected={EXPECTED}"]
-    if boot.word != "match" or boot.report.get("confirmed", boot.report.get("entries")) != boot.report.get("entries"):
+        return [f"--expected={EXPECTED}"] if boot.word in ("match", "differ") or boot.judgement.is_list_broken else []
+    report = boot.proof.report
+    if boot.proof.word != "match":
         return []
-    words = [f"--quote={QUOTE}", f"--list={LIST}", f"--nonce={criteria.nonce}", *criteria.requirement, "--signature-checked"]
-    return [*words, *(["--sha1"] if criteria.sha1 else [])]
+    if report.get("confirmed", report["entries"]) == report["entries"]:
+        words = [f"--quote={QUOTE}", f"--list={LIST}", f"--nonce={criteria.nonce}", *criteria.requirement, "--signature-checked"]
+        return [*words, *(["--sha1"] if criteria.sha1 else [])]
+    if report.get("expected") != "confirmed":
+        return []
+    (work / SIGNED).write_text("".join(f"{row['bank']} {row['register']} {row['expected']}\n" for row in report["registers"]))
+    return [f"--expected={SIGNED}"]
 
 
 def _confirm(boot: Boot, criteria: Criteria, work: Path) -> None:
     """Asks the program for all that the page shows besides the verdict."""
 
-    def asking(command: str, *words: str, output: Output, statuses: Sequence[int] = (0,)) -> None:
-        boot.replies[command] = ask([criteria.program, command, "--json", *words], work, criteria.seconds, output, statuses)
+    def asking(command: str, *words: str, output: Optional[Output] = None, statuses: Sequence[int] = (0,)) -> Reply:
+        reply = ask([criteria.program, command, "--json", *words], work, criteria.seconds, output or Output(), statuses)
+        boot.replies[command] = reply
+        return reply
 
-    confirming = _confirming(boot, criteria)
+    confirming, listed = _confirming(boot, criteria, work), LIST
     boot.is_confirming = bool(confirming)
+    if boot.proof is not boot.judgement and not boot.proof.reply.is_whole:
+        boot.replies["verify"] = boot.proof.reply
+    if boot.judgement.is_list_broken:
+        listed = NO_LIST
+        (work / NO_LIST).touch()
+        words = ("registers", "--", LOG) if criteria.is_quoted else ("verify", "--", LOG, NO_LIST, EXPECTED)
+        boot.alone = Judgement(asking(*words, statuses=(0, 1))).report
     if not criteria.is_quoted or boot.report.get("expected") == "confirmed":
-        asking("locate", *criteria.requirement, "--", LOG, LIST, EXPECTED, output=Output(), statuses=(0, 1))
+        asking("locate", *criteria.requirement, "--", LOG, listed, EXPECTED, statuses=(0, 1))
     before = [] if criteria.before is None else [f"--before={BEFORE}"]
     asking("boot", *confirming, *before, "--", LOG, output=Output(criteria.most))
     asking("events", *confirming, "--", LOG, output=Output(criteria.most + 1))

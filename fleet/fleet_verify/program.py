@@ -1,8 +1,9 @@
-"""Calls the program `ima-agent`, or `ima-attest` beside it, and takes its output as lines of JSON. What it says is not judged here, but nothing
-passes for a success that is not whole."""
+"""Finds and calls the program `ima-agent`, or `ima-attest` beside it, and takes its output as lines of JSON. What it says is not judged here,
+but nothing passes for a success that is not whole."""
 
 import json
 import os
+import shutil
 import signal
 import subprocess
 import tempfile
@@ -21,17 +22,43 @@ _MOST_BYTES = 16 * 1024 * 1024
 Line = Dict[str, Any]
 
 
+class NoProgram(Exception):
+    """The program is not there; the text says what to do."""
+
+
 class Reply(NamedTuple):
-    """What a command gave: its status, the lines that were kept, how many there were, and why it failed, if it did."""
+    """What a command gave: its status, the lines that were kept, how many there were, and why it failed, if it did; of which kind that error
+    is, if the program names one (docs/errors.txt); and what it wrote to standard error."""
 
     status: int
     lines: List[Line]
     total: int
     fault: str
+    kind: str = ""
+    said: str = ""
 
     @property
     def is_whole(self) -> bool:
         return not self.fault
+
+
+def search_path() -> str:
+    """PATH without the entries that depend on the current folder, such as an empty one: that folder may be a machine's, with programs in it."""
+    return os.pathsep.join(folder for folder in os.environ.get("PATH", os.defpath).split(os.pathsep) if os.path.isabs(folder))
+
+
+def program_of(name: str) -> Path:
+    """The program of this name, looked for on `search_path` alone; or with a slash in the name, the file that it names.
+
+    Raises:
+        NoProgram: None of these folders has it.
+    """
+    if "/" in name:
+        return Path(name).absolute()
+    found = shutil.which(name, path=search_path())
+    if found is None:
+        raise NoProgram(f"{name} is not on PATH: install it, or name its file with --program")
+    return Path(found)
 
 
 class Output:
@@ -40,7 +67,7 @@ class Output:
 
     def __init__(self, most: int = 1000, is_notable: Callable[[Line], bool] = lambda line: False, is_counted: bool = False):
         self.lines: List[Line] = []
-        self.total, self.fault, self.is_notable = 0, "", is_notable
+        self.total, self.fault, self.kind, self.is_notable = 0, "", "", is_notable
         self.is_counted = is_counted
         self.count: Optional[int] = None
         self.left = {False: (most, _MOST_BYTES), True: (most, _MOST_BYTES)}
@@ -48,7 +75,7 @@ class Output:
     def take(self, text: bytes) -> None:
         line = _line(text)
         if "fault" in line:
-            self.fault = str(line["fault"]["message"])
+            self.fault, self.kind = str(line["fault"]["message"]), str(line["fault"].get("kind", ""))
             return
         if self.count is not None:
             self.fault = "a line after the one that counts the entries"
@@ -100,7 +127,8 @@ def ask(words: Sequence[str], folder: Path, seconds: float, output: Output, stat
 def _running(words: Sequence[str], folder: Path, seconds: float, told: IO[bytes]) -> Iterator["subprocess.Popen[bytes]"]:
     """A process, which is ended with all that it started after so many seconds, or where this is left early."""
     process = subprocess.Popen(
-        words, cwd=folder, stdin=subprocess.DEVNULL, stdout=subprocess.PIPE, stderr=told, start_new_session=True
+        words, cwd=folder, env={**os.environ, "PATH": search_path()}, stdin=subprocess.DEVNULL, stdout=subprocess.PIPE, stderr=told,
+        start_new_session=True,
     )
 
     def end() -> None:
@@ -133,10 +161,13 @@ def _line(text: bytes) -> Line:
 def _outcome(status: int, statuses: Sequence[int], output: Output, said: str) -> Reply:
     """What comes of a command that ended with this status, and wrote this to standard error."""
     if status < 0:
-        return Reply(STOPPED, output.lines, output.total, f"the program was ended by signal {-status}")
-    if status not in statuses:
-        return Reply(status or STOPPED, output.lines, output.total, output.fault or said or f"the program ended with status {status}")
-    if output.lack:
-        fault = f"the program ended with status {status}, and wrote {output.lack}"
-        return Reply(STOPPED, output.lines, output.total, fault)
-    return Reply(status, output.lines, output.total, "")
+        status, kind, fault = STOPPED, "", f"the program was ended by signal {-status}"
+    elif status not in statuses:
+        kind, fault = output.kind, output.fault or said or f"the program ended with status {status}"
+        status = status or STOPPED
+    elif output.lack:
+        kind, fault = "", f"the program ended with status {status}, and wrote {output.lack}"
+        status = STOPPED
+    else:
+        kind = fault = ""
+    return Reply(status, output.lines, output.total, fault, kind, said)

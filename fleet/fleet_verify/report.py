@@ -1,7 +1,6 @@
 """`ima-report FOLDER`: a page of one boot, to look at. The verdict and the status are those of the program `ima-agent`."""
 
 import argparse
-import shutil
 import signal
 import sys
 import tempfile
@@ -9,10 +8,10 @@ from pathlib import Path
 from typing import Any, NamedTuple, Optional, Sequence, Tuple
 
 from . import __version__
-from .boot import Boot, Criteria, boot_of
+from .boot import Boot, Criteria, boot_of, covered
 from .ending import SIGNALS
 from .options import Once, positive
-from .program import STOPPED, Line
+from .program import STOPPED, Line, NoProgram, program_of
 from .reading import cause_of, now
 from .rendering import render, write_page
 from .verdict import NONE
@@ -21,12 +20,13 @@ ABOUT = """Writes a page of HTML to standard output: the verdict on one boot, it
 and whether that is confirmed, and each entry of its list with whether it is known.
 
 FOLDER has firmware.log, ima.list, and expected.txt. With --key and --nonce the boot is judged by a quote: FOLDER has quote.msg and
-quote.sig, and expected.txt may be there. Without them nobody signed the expected registers.
+quote.sig, and expected.txt may be there. Without them nobody signed the expected registers. No link, pipe or device there is read.
 
 The verdict is that of the program ima-agent, or of ima-attest beside it for a quote. The page is whole: it loads nothing.
 
-Exit status: that of the program: 0 if the verdict is match; 1 if it is differ; 2 if an input is refused; 3 if the program failed, or the
-page could not be written; 4 if a quote does not hold. With 2, 3 and 4 there is a page, too, which says so. 64 if the arguments are wrong."""
+Exit status: that of the program: 0 if the verdict is match; 1 if it is differ; 2 if an input is refused; 3 if a file of FOLDER cannot be read,
+the program failed or is not there, or the page could not be written; 4 if a quote does not hold. With 2, 3 and 4 there is a page, too, which
+says so, unless it could not be written or the program is not on PATH. 64 if the arguments are wrong."""
 
 _WRONG = 64
 _UNKNOWN = "unknown"
@@ -90,9 +90,12 @@ def _variable(content: Line) -> Tuple[Any, Any]:
 def difference(line: Line) -> Difference:
     """A line of `ima-agent boot --before`."""
     if "alike" in line:
-        same = f"the first {line['alike']} events are the same" + (f" in bank {line['bank']}" if "bank" in line else "")
-        same = {"all": "no difference", _UNKNOWN: "unknown: no value confirms the register"}.get(line["alike"], same)
-        return Difference(line["register"], same, "", None)
+        count, where = line["alike"], f" in bank {line['bank']}" if "bank" in line else ""
+        told = {
+            "all": "no difference", _UNKNOWN: "unknown: no value confirms the PCR", 0: f"no event is the same{where}",
+            1: f"the first event is the same{where}",
+        }
+        return Difference(line["register"], told.get(count, f"the first {count} events are the same{where}"), "", None)
     when = "now" if "now" in line else "before"
     return Difference(line["register"], f"{when}: event {line[when]}", line.get("digest", ""), line.get("claimed"))
 
@@ -104,7 +107,7 @@ def page_of(boot: Boot, criteria: Criteria, title: str) -> bytes:
         "report.html", boot=boot, criteria=criteria, title=title, made=now(), version=__version__,
         booted=[booted(line) for line in lines if not ("register" in line and "command" not in line)],
         differences=[difference(line) for line in lines if "register" in line and "command" not in line],
-        unknown=frozenset(boot.unknown), reasons=boot.reasons,
+        unknown=frozenset(boot.unknown), reasons=boot.reasons, covered=covered,
     )
 
 
@@ -123,7 +126,7 @@ def options_of(words: Sequence[str]) -> argparse.Namespace:
     add("--title", metavar="TEXT", action=Once, help="the page's title (default: FOLDER)")
     add("--most", metavar="N", type=positive, default=10000, help="how many events and entries are shown (default: 10000)")
     add("--seconds", metavar="N", type=positive, default=600, help="how long the program may take for an answer (default: 600)")
-    add("--program", metavar="PATH", default="ima-agent", help="the program (default: ima-agent, on PATH)")
+    add("--program", metavar="PATH", default="ima-agent", help="the program (default: ima-agent, on PATH, whose relative and empty entries are skipped)")
     add("folder", metavar="FOLDER", help="the folder with the boot's files")
     options = parser.parse_args(words)
     if (options.key is None) != (options.nonce is None):
@@ -135,7 +138,7 @@ def options_of(words: Sequence[str]) -> argparse.Namespace:
 
 def criteria_of(options: argparse.Namespace) -> Criteria:
     """What a boot is judged by, by these options."""
-    program = Path(shutil.which(options.program) or options.program).absolute()
+    program = program_of(options.program)
     require = options.require or "sha256:0-10"
     return Criteria(
         str(program), str(program.with_name("ima-attest")), None if require == NONE else require, options.known, options.before, options.key,
@@ -149,13 +152,16 @@ def main(words: Optional[Sequence[str]] = None) -> int:
         options = options_of(sys.argv[1:] if words is None else words)
     except SystemExit as end:
         return _WRONG if end.code else 0
-    criteria = criteria_of(options)
     for number in SIGNALS:
         signal.signal(number, lambda *_: sys.exit(STOPPED))  # (so that what is copied goes)
     try:
+        criteria = criteria_of(options)
         with tempfile.TemporaryDirectory(prefix="ima-report.") as work:
             boot = boot_of(Path(options.folder), criteria, Path(work))
         write_page(page_of(boot, criteria, options.title or options.folder))
+    except NoProgram as fault:
+        print(f"ima-report: {ascii(str(fault))[1:-1]}", file=sys.stderr)
+        return STOPPED
     except Exception as fault:  # of the system, or none that was foreseen
         print(f"ima-report: no page: {ascii(cause_of(fault))[1:-1]}", file=sys.stderr)
         return STOPPED

@@ -2,6 +2,7 @@
 
 The program is the one that is built, or `tests/reference/` in its place."""
 
+import hashlib
 import os
 import re
 import shutil
@@ -47,9 +48,14 @@ def write_program(path, commands):
 
 def report_text(tools, folder, *words):
     """The status of `ima-report`, its output, and what it told."""
+    return called(tools, "--program", tools.folder / "program/ima-agent", *words, folder)
+
+
+def called(tools, *words, cwd=None, **environment):
+    """The same with these arguments alone, in this folder, where the environment is changed so."""
     ended = subprocess.run(
-        [tools.python, ROOT / "fleet/report.py", "--program", tools.folder / "program/ima-agent", *map(str, words), folder],
-        env=tools.environment, cwd=tools.folder, capture_output=True, timeout=SECONDS,
+        [tools.python, ROOT / "fleet/report.py", *map(str, words)], env={**tools.environment, **environment}, cwd=cwd or tools.folder,
+        capture_output=True, timeout=SECONDS,
     )
     return ended.returncode, ended.stdout.decode(), ended.stderr.decode()
 
@@ -60,10 +66,15 @@ def report_of(tools, folder, *words):
     return status, Reader(text).top, errors
 
 
-def reports_of(tools, calls):
-    """What `report_of` gives for each of these calls, several at once."""
+def texts_of(tools, calls):
+    """What `report_text` gives for each of these calls, several at once."""
     with ThreadPoolExecutor(max_workers=4) as pool:
-        return list(pool.map(lambda call: report_of(tools, *call), calls))
+        return list(pool.map(lambda call: report_text(tools, *call), calls))
+
+
+def reports_of(tools, calls):
+    """The same with the pages as trees."""
+    return [(status, Reader(text).top, errors) for status, text, errors in texts_of(tools, calls)]
 
 
 def judged(page):
@@ -82,6 +93,19 @@ def make_boot(folder, **changes):
     return folder
 
 
+def make_quoted(folder, **changes):
+    """The same with the files of samples/quoted."""
+    make_boot(folder, **changes)
+    for file in ("quote.msg", "quote.sig"):
+        shutil.copy(QUOTED / file, folder)
+    return folder
+
+
+def quoted_by_nonce():
+    """The arguments by which a boot is judged by the quote of samples/quoted."""
+    return ("--key", QUOTED / "AK.pem", "--nonce", (QUOTED / "nonce").read_text().strip())
+
+
 def test_report(tools):
     """The page of a boot has the program's verdict and status, and what the program says."""
     lacks_jinja(tools)
@@ -93,6 +117,9 @@ def test_report(tools):
     test_report_states(tools, folder)
     test_report_by_quote(tools, folder)
     test_failing_program(tools, folder)
+    test_planted_program(tools, folder)
+    test_sent_files(tools, folder)
+    test_exchanged_file(tools, folder)
     test_hostile_boot(tools, folder)
 
 
@@ -106,7 +133,7 @@ def test_whole_report(tools, folder):
     tools.check("its registers, with their values", [[*row[:2], row[3]] for row in rows], values)
     places = {int(row[1]): row[4] for row in rows}
     last = max(number for number, event in enumerate(log.events, 1) if event.register == 0 and event.type != inputs.EV_NO_ACTION)
-    wanted = (f"after event {last}", "at reset", f"after entry {len(measurements) - 1}")
+    wanted = (f"after event {last}", "at reset", f"after all {len(measurements)} entries")
     tools.check("where their values are reached", (places[0], places[8], places[10]), wanted)
     events = rows_below(page, "Events of the firmware log")
     tools.check("its events", [row[:2] for row in events], [[str(number), str(event.register)] for number, event in enumerate(log.events, 1)])
@@ -182,13 +209,8 @@ def test_unconfirmed_entries(tools, folder):
 
 def test_report_by_quote(tools, folder):
     """A boot that is judged by a quote."""
-    boot, nonce = make_boot(folder / "quoted"), (QUOTED / "nonce").read_text().strip()
-    for file in ("quote.msg", "quote.sig"):
-        shutil.copy(QUOTED / file, boot)
-    asked = ("--key", QUOTED / "AK.pem", "--nonce")
-    other = make_boot(folder / "other", expected=None, ima=(REAL / "ima.list").read_bytes() * 2)
-    for file in ("quote.msg", "quote.sig"):
-        shutil.copy(boot / file, other)
+    boot, other = make_quoted(folder / "quoted"), make_quoted(folder / "other", expected=None, ima=(REAL / "ima.list").read_bytes() * 2)
+    *asked, nonce = quoted_by_nonce()
     good, *refused, longer, unasked = reports_of(tools, [
         (boot, *asked, nonce), (boot, *asked, "00" * 20), (boot, "--key", SAMPLES / "keys/ak-p256.pem", "--nonce", nonce), (other, *asked, nonce),
         (boot,),
@@ -201,7 +223,7 @@ def test_report_by_quote(tools, folder):
     tools.check("a quote of another list", told, (1, ("differ", False), True))
     text, _ = state_of(unasked[1])
     tools.check("a quote that is not looked at", ("Not quoted" in text, "was not looked at" in text), (True, True))
-    calls = [(boot, *words) for words in (("--nonce", nonce), asked[:2], ("--sha1",), ("--frobnicate",), ("--require", "a", "--require", "b"))]
+    calls = [(boot, *words) for words in (("--nonce", nonce), tuple(asked[:2]), ("--sha1",), ("--frobnicate",), ("--require", "a", "--require", "b"))]
     for (_, word, *_), (status, page, errors) in zip(calls, reports_of(tools, calls)):
         tools.check(f"refused arguments: {word}", (status, page.inner, "usage" in errors), (64, [], True))
 
@@ -211,7 +233,7 @@ def test_quoted_report(tools, given):
     status, page, _ = given
     told = [each.text for each in page.all("dd")][:4]
     tools.check("a quote that holds", (status, judged(page), told[0]), (0, ("match", True), "sha256: 0, 1, 2, 3, 4, 5, 6, 7, 8, 9, 10"))
-    tools.check("the quote's counts", told[3], "626 ms, 1 resets, 0 restarts")
+    tools.check("the quote's counts", told[3], "626 ms, 1 reset, 0 restarts")
     tools.check("its registers are the quoted ones", [row[1] for row in rows_below(page, "PCRs")], [str(number) for number in range(11)])
     marks = {row[3] for row in rows_below(page, "Events of the firmware log")}
     tools.check("events that the quote confirms", marks, {"claimed", "confirmed data", "confirmed value"})
@@ -260,6 +282,81 @@ def test_failing_program(tools, folder):
 def program_that(path, command, commands, good):
     """A program that does this in place of a command, and otherwise what the good one does; without anything to do it is not there."""
     return path if commands is None else write_program(path, f'case $1 in {command}) {commands};; *) exec "{good}" "$@";; esac')
+
+
+def test_planted_program(tools, folder):
+    """A program in the folder that is judged is not run, though that is the current folder, and PATH has it by another name than its whole path;
+    unless its name is given with a slash."""
+    boot, ran = make_boot(folder / "planted", ima=(REAL / "ima.list").read_bytes().replace(b"/bin/helper", b"/bin/helpex")), folder / "ran"
+    report = '{"events":1,"locality":0,"entries":1,"boot_aggregate":"good","registers":[{"bank":"sha256","register":10,"state":"match"}],"verdict":"match"}'
+    answers = {"show": '{"entries":0}', "events": '{"algorithms":[]}', "boot": '{"secure_boot":"on"}', "locate": '{"registers":[],"located":true}'}
+    cases = "".join(f"{command}) echo '{answer}';; " for command, answer in answers.items())
+    for name in ("ima-agent", "ima-attest"):
+        write_program(boot / name, f"touch '{ran}'; case $1 in {cases} *) echo '{report}';; esac")
+    for file in ("quote.msg", "quote.sig"):
+        shutil.copy(QUOTED / file, boot / file.replace("plain", "sig"))
+    quoted = ("--key", QUOTED / "AK.pem", "--nonce", "00" * 20)
+    told = "ima-report: ima-agent is not on PATH: install it, or name its file with --program\n"
+    for path in ("", "/none", ":/none", "/none:", "/none::/none", ".:/none", "/none:./", "../planted"):
+        for words in ((), quoted):
+            found = (*called(tools, *words, ".", cwd=boot, PATH=path), ran.exists())
+            tools.check(f"a program in the judged folder, with PATH={path!r}, {len(words)} arguments", found, (3, "", told, False))
+    good = f".::{tools.folder / 'program'}:{os.environ['PATH']}:."
+    for words, right in (((), 2), (quoted, 4)):
+        found = (called(tools, *words, ".", cwd=boot, PATH=good)[0], ran.exists())
+        tools.check(f"a program in the judged folder, and one on PATH, {len(words)} arguments", found, (right, False))
+    found = (called(tools, "--program", "./ima-agent", ".", cwd=boot)[0], ran.exists())
+    tools.check("a program whose name is given with a slash", found, (0, True))
+
+
+def sent_as(kind, target):
+    """What puts another kind of file into the place of a machine's file."""
+    return {
+        "a link to a file": lambda path: path.symlink_to(target), "a link to its own file": lambda path: path.symlink_to(REAL / path.name),
+        "a link to nowhere": lambda path: path.symlink_to("nowhere"), "a device": lambda path: path.symlink_to("/dev/zero"),
+        "a pipe": os.mkfifo, "a folder": Path.mkdir,
+    }[kind]
+
+
+def test_sent_files(tools, folder):
+    """A file of the machine that is a link, a pipe, a device or a folder ends with an error, at once, and nothing of another file is shown."""
+    secret, data = folder / "secret", b"of the verifier alone"
+    secret.write_bytes(data)
+    traces = (hashlib.sha256(data).hexdigest(), f'<td class="number">{len(data)}</td>', data.decode())
+    calls, reasons = [], []
+    for number, (kind, file) in enumerate([
+        *(("a link to a file", file) for file in FILES), *(("a link to its own file", file) for file in ("ima.list", "quote.msg", "quote.sig")),
+        ("a link to nowhere", "expected.txt"), ("a device", "ima.list"), ("a device", "expected.txt"), *(("a pipe", file) for file in FILES),
+        ("a folder", "firmware.log"),
+    ]):
+        for words in ((), quoted_by_nonce())[file.startswith("quote"):][:1 + (file == "expected.txt")]:
+            boot = make_quoted(folder / f"sent {number} {len(words)}")
+            path = boot / file
+            path.rename(folder / f"{boot.name} {file}")
+            sent_as(kind, secret)(path)
+            calls.append((boot, *words))
+            reasons.append((kind, file, "it is a symbolic link" if path.is_symlink() else "it is no regular file"))
+    started = time.monotonic()
+    for (kind, file, reason), (status, text, errors) in zip(reasons, texts_of(tools, calls)):
+        page = Reader(text).top
+        seen = [row[1:] for row in rows_below(page, "The verdict") if row[0] == file]
+        found = (status, judged(page), f"{file} is not read: OSError: {reason}" in state_of(page)[0], seen, [each for each in traces if each in text])
+        tools.check(f"{kind} in place of {file}", found, (3, ("failed", False), True, [["", f"OSError: {reason}"]], []))
+        marks = {row[3] for row in rows_below(page, "Events of the firmware log")}
+        tools.check(f"{kind} in place of {file}: nothing is confirmed", marks <= {"claimed"}, True)
+    tools.check("what is no file is not waited for", time.monotonic() - started < SECONDS / 2, True)
+
+
+def test_exchanged_file(tools, folder):
+    """Whatever becomes of the machine's files later, all of the page is on those that were read first."""
+    boot, good = make_boot(folder / "exchanged"), tools.folder / "program/ima-agent"
+    changes = f"echo changed > '{boot}/ima.list'; rm '{boot}/firmware.log'; ln -sf /dev/zero '{boot}/expected.txt'"
+    exchange = f'''{changes}; exec '{good}' "$@"'''
+    status, page, _ = report_of(tools, boot, "--program", program_that(folder / "exchanging", "verify", exchange, good))
+    shown = {row[0]: row[1:] for row in rows_below(page, "The verdict")}
+    wanted = {file: [str((REAL / file).stat().st_size), hashlib.sha256((REAL / file).read_bytes()).hexdigest()] for file in FILES}
+    found = (status, judged(page), shown, len(rows_below(page, "Entries of the measurement list")), (boot / "ima.list").read_text())
+    tools.check("files that are exchanged after they were read", found, (0, ("match", True), wanted, 99, "changed\n"))
 
 
 def hostile_boot(folder, port):

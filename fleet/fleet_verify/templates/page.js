@@ -16,15 +16,15 @@
   let rows = null;
 
   const read = () => groups.flatMap((group) => Array.from(group.children, (row) => ({
-    row, group, kind: row.dataset.kind, text: row.textContent.toLowerCase(),
+    row, group, kinds: (row.dataset.kind ?? "").split(" "), text: row.textContent.toLowerCase(),
   })));
 
   const search = () => {
     rows ??= read();
     const wanted = words.value.toLowerCase().split(/\s+/).filter((word) => word !== "");
     const found = new Map(groups.map((group) => [group, 0]));
-    for (const { row, group, kind: own, text } of rows) {
-      const isFound = (kind.value === "" || own === kind.value) && wanted.every((word) => text.includes(word));
+    for (const { row, group, kinds, text } of rows) {
+      const isFound = (kind.value === "" || kinds.includes(kind.value)) && wanted.every((word) => text.includes(word));
       row.hidden = !isFound;
       if (isFound) found.set(group, found.get(group) + 1);
     }
