@@ -294,7 +294,7 @@ def test_planted_program(tools, folder):
     for name in ("ima-agent", "ima-attest"):
         write_program(boot / name, f"touch '{ran}'; case $1 in {cases} *) echo '{report}';; esac")
     for file in ("quote.msg", "quote.sig"):
-        shutil.copy(QUOTED / file, boot / file.replace("plain", "sig"))
+        shutil.copy(QUOTED / file, boot)
     quoted = ("--key", QUOTED / "AK.pem", "--nonce", "00" * 20)
     told = "ima-report: ima-agent is not on PATH: install it, or name its file with --program\n"
     for path in ("", "/none", ":/none", "/none:", "/none::/none", ".:/none", "/none:./", "../planted"):
