@@ -26,6 +26,14 @@ EV_EVENT_TAG = 6
 LOG = read_log((BOOT / "firmware.log").read_bytes())
 ENTRIES = read_list((BOOT / "ima.list").read_bytes())
 SECONDS = 60
+# A dd to which each read gives 16 bytes, as a file system may, unless it asks for full blocks.
+SHORT_READS = """
+    for word; do
+        case $word in if=* | of=*) names+=("$word") ;; bs=*) [[ $word == bs=64K ]] || exit 9 ;; count=*) most=${word#count=} ;; esac
+    done
+    [[ $* == *fullblock* ]] || set -- "${names[@]}" bs=16 count=$(((most + 65535) / 65536)) status=none
+    exec "$real" "$@"
+"""
 
 
 @dataclass

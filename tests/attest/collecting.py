@@ -20,7 +20,7 @@ WITHOUT_NONCE = "ima-collect made"
 HANDLE = "0x81010002"
 USAGE = "\nusage: ima-collect --enroll"
 # What it may call, beside tpm2-tools.
-COREUTILS = ("bash", "cat", "ls", "mkdir", "mktemp", "mv", "rm", "stat")
+COREUTILS = ("cat", "ls", "mkdir", "mktemp", "mv", "rm", "stat")
 TOOLS = ("tpm2_getcap", "tpm2_createek", "tpm2_createak", "tpm2_evictcontrol", "tpm2_nvread", "tpm2_flushcontext", "tpm2_startauthsession",
          "tpm2_policysecret", "tpm2_activatecredential", "tpm2_quote", "tpm2_pcrread")
 
@@ -187,6 +187,19 @@ class Collected(CollectTests):
             failing = self.stand_in("cat", f'"$real" "$@" && [[ ${{*: -1}} != */{name} ]]')
             self.check_failed(f"no copy is made of {name}", self.make(WITHOUT_NONCE, **failing), "cannot be copied, or is empty")
 
+    def test_registers(self):
+        """Who shows some of the registers, and then fails, shows none."""
+        other, said = self.folder / "kernel with some registers", "neither the kernel nor tpm2_pcrread shows PCRs"
+        shutil.copytree(self.sys, other)
+        for number in {*range(11)} - {5}:
+            path = other / f"class/tpm/tpm0/pcr-sha256/{number}"
+            path.parent.mkdir(parents=True, exist_ok=True)
+            path.write_text(f"{number:064X}\n")
+        self.check_failed("a kernel without one of the registers", self.make(WITHOUT_NONCE, sys=other), said)
+        for title, body in (("fails", '"$real" "$@" | head -n 4; exit 1'), ("is killed", '"$real" "$@"; kill -KILL $$')):
+            ended = self.make(WITHOUT_NONCE, **self.stand_in("tpm2_pcrread", body))
+            self.check_failed(f"tpm2_pcrread shows some registers, and {title}", ended, said)
+
     def test_folders(self):
         """A folder that is there is left as it is."""
         there = self.home / "there"
@@ -204,6 +217,16 @@ class Collected(CollectTests):
             self.check(f"it is {name}", (sorted(path.name for path in made.iterdir()), self.home.joinpath("called").exists()), (EVIDENCE, False))
             shutil.rmtree(made)
         self.check_failed("a folder in none", self.make(WITHOUT_NONCE.replace("made", "none/made")), "cannot be made")
+        made, other = self.home / "made", self.folder / "another's"
+        other.mkdir()
+        other.joinpath("kept").touch()
+        for title, body in (("a folder", f'cp -r "{other}" "{made}"'), ("a link to a folder", f'ln -s "{other}" "{made}"'),
+                            ("a file", f'touch "{made}"')):
+            ended = self.make(WITHOUT_NONCE, **self.stand_in("mv", f'{body}; exec "$real" "$@"'))
+            self.check(f"{title} comes in the place of FOLDER", (ended.status, "'made' cannot be made" in ended.errors, self.hidden()), (3, True, []))
+            names = sorted(path.name for path in made.iterdir()) if made.is_dir() else ["kept"]
+            self.check(f"{title} comes in the place of FOLDER: nothing is in it", (names, made.is_symlink()), (["kept"], title.startswith("a link")))
+            shutil.rmtree(made) if made.is_dir() and not made.is_symlink() else made.unlink()
 
     def test_swapped_folders(self):
         """Another folder comes in the place of the one that was made: nothing is written in it."""
@@ -320,3 +343,4 @@ class CollectCalls(AttestTests):
             ended = self.call(["ima-collect", *asked])
             told = [word in ended.output or word for word in ("--enroll", "--credential", "--nonce", "--handle", "--sys", " 0 ", " 64 ")]
             self.check(f"help: {asked[-1]}", (ended.status, told, ended.errors), (64, [True] * 7, ""))
+        self.check("an output that fails", self.call(["bash", "-c", "ima-collect --help >/dev/full"]).status, 3)

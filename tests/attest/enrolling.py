@@ -8,11 +8,12 @@ import signal
 import subprocess
 import termios
 import time
+from concurrent.futures import ThreadPoolExecutor
 from dataclasses import replace
 from pathlib import Path
 
 from authorities import Authority
-from calling import GOOD, LOG, SECONDS, AttestTests, executable, values_after
+from calling import GOOD, LOG, SECONDS, SHORT_READS, AttestTests, executable, values_after
 from emulated import emulated
 from reference.measurement_list import list_spelling
 from reference.registers import SHA256
@@ -104,10 +105,10 @@ class EnrollTests(MachineTests):
         words = ["ima-enroll", "--keys", str(self.keys), *(by or ["--ca", str(self.vendor.certificate)]), "--", name, str(folder)]
         return self.call(["bash", "-c", LIMITED, "bash", *words], TPM2TOOLS_TCTI="none", **(settings or {}))
 
-    def answer(self, data, name="m"):
+    def answer(self, data, name="m", **settings):
         """A call with the answer."""
-        answer = self.put("answer", data)
-        return self.call(["ima-enroll", "--keys", str(self.keys), "--answer", str(answer), "--", name])
+        answer = self.put(f"answer of {name}", data)
+        return self.call(["ima-enroll", "--keys", str(self.keys), "--answer", str(answer), "--", name], **settings)
 
     def opened(self, title, is_opened=True, credential=None):
         """What the machine's TPM makes of the credential."""
@@ -414,6 +415,45 @@ class Enrolled(EnrollTests):
         self.check_not("an endorsement key that cannot be read", self.challenge(), 3, "x/x.ek.pem")
         shutil.rmtree(self.keys / "x")
 
+    def test_at_once(self):
+        """Of right answers by one TPM for several names, which come at once, one is kept."""
+        names, arrived, answers = ("a", "b", "c", "d"), self.folder / "arrived", {}
+        arrived.mkdir()
+        for name in names:
+            self.check_challenged(f"at once: {name}", self.challenge(name), name)
+            answers[name] = self.opened(f"at once: {name}")
+        # A call that has looked at the other names keeps nothing before each other has looked, too, or waits for its turn.
+        note, here = f"echo >'{arrived}'/$PPID", f"here=('{arrived}'/*)"
+        wait = f"while {here}; (({'${#here[@]}'} < {len(names)} && SECONDS < {SECONDS // 2})); do sleep 0.05; done"
+        keeping = self.stand_in("mv", f'[[ {"${*: -1}"} == waiting ]] || {{ {note}; {wait}; }}; exec "$real" "$@"')["PATH"].partition(":")[0]
+        locking = self.stand_in("flock", f'{note}; exec "$real" "$@"')["PATH"]
+        with ThreadPoolExecutor(len(names)) as calls:
+            ended = list(calls.map(lambda name: self.answer(answers[name], name, PATH=f"{keeping}:{locking}"), names))
+        self.check("at once: each call came to where it waits", len(list(arrived.iterdir())), len(names))
+        self.check("at once: the statuses", sorted(each.status for each in ended), [0, 4, 4, 4])
+        kept = next(name for name, each in zip(names, ended) if each.status == 0)
+        self.check("at once: what the others say", [f"this TPM is enrolled as {kept}: " in each.errors for each in ended].count(True), 3)
+        self.check("at once: one name", self.waiting, [kept])
+        self.check_kept("at once: its key is kept", kept, self.good["AK.pub"])
+        for name in names:
+            self.forget(name)
+
+    def test_modes(self):
+        """Whoever may read the caller's files may read what is kept, and nobody else may write it."""
+        for mask in (0o022, 0o077, 0o027):
+            before = os.umask(mask)
+            try:
+                self.check_challenged(f"the mask {mask:03o}", self.challenge())
+                right = self.opened(f"the mask {mask:03o}")
+                self.check_quiet(f"the mask {mask:03o}: the answer", self.answer(right))
+            finally:
+                os.umask(before)
+            kept = self.keys / "m"
+            modes = {path.name: oct(path.stat().st_mode & 0o7777) for path in (kept, *kept.iterdir())}
+            files = dict.fromkeys(("m.pem", "m.pub", "m.ek.pem"), oct(0o666 & ~mask))
+            self.check(f"the mask {mask:03o}: modes of what is kept", modes, {"m": oct(0o777 & ~mask), **files})
+            self.forget()
+
     def check_refused_for(self, title, ended, first):
         """A call is refused, since the TPM is enrolled by this name, which alone is there."""
         said = f"this TPM is enrolled as {first}: "
@@ -476,6 +516,11 @@ class Enrolled(EnrollTests):
         link.symlink_to(self.vendor.certificate)
         self.check_challenged("a link to the file of authorities", self.challenge(by=["--ca", str(link)]))
         self.forget()
+        short = self.stand_in("dd", SHORT_READS)
+        self.check_challenged("each read is short", self.challenge(settings=short))
+        right = self.opened("each read is short")
+        self.check_quiet("each read is short: the answer", self.answer(right, **short))
+        self.forget()
 
     def test_written(self):
         """The credential takes the place of a link that a machine sent, and nothing is written elsewhere."""
@@ -487,18 +532,39 @@ class Enrolled(EnrollTests):
         folder = self.lay_out({})
         folder.joinpath("credential").mkdir()
         self.check_not("credential is a folder", self.challenge(folder=folder), 3, "cannot be written")
+        self.check_challenged("a challenge before it", self.challenge())
+        right = self.opened("a challenge before it")
+        folder = self.lay_out({})
+        folder.joinpath("credential").mkdir()
+        ended = self.challenge(folder=folder)
+        self.check("credential is a folder, and one waits", (ended.status, "cannot be written" in ended.errors, self.waiting), (3, True, [".m"]))
+        self.check_quiet("what waits still does", self.answer(right))
+        self.forget()
         self.keys.joinpath("m").symlink_to(self.folder / "none")
         ended = self.challenge()
         self.check("KEYS/NAME is a link that leads nowhere", (ended.status, "m is enrolled" in ended.errors), (64, True))
         self.keys.joinpath("m").unlink()
-        self.check("KEYS is not there", self.call(["ima-enroll", "--keys", "none", "--in-hand", "m", str(self.lay_out({}))]).status, 3)
+        for title, keys in (("not there", "none"), ("a file", str(victim))):
+            ended = self.call(["ima-enroll", "--keys", keys, "--in-hand", "m", str(self.lay_out({}))])
+            self.check(f"KEYS is {title}", (ended.status, "no folder can be made in " in ended.errors, ended.errors.count("\n")), (3, True, 1))
 
     def test_names(self):
         """Names of machines are plain, and names of files any."""
         for name in ("", ".", "..", ".m", "-m", "m/m", "/m", "m m", "m\n", "\nm", "m\nm", "é", "m*", "_m", "m" * 101, "m+abcdef"):
             ended = self.challenge(name)
             self.check(f"the name {name!r}", (ended.status, USAGE in ended.errors, self.waiting), (64, True, []))
-        for name in ("A", "9", "m.example-1_x", "m" * 100):
+        for end in ("pem", "pub", "ek.pem", "PEM", "Pub"):
+            name, said = f"m.{end}", "a name ends in neither .pem nor .pub"
+            self.check_not(f"the name {name}", self.challenge(name), 64, said)
+            self.check_challenged(f"the name {name}, as if it waited", self.challenge())
+            right = self.opened(f"the name {name}, as if it waited")
+            for kind in ("pem", "pub", "ek.pem"):
+                self.keys.joinpath(f".m/m.{kind}").rename(self.keys / f".m/{name}.{kind}")
+            self.keys.joinpath(".m").rename(self.keys / f".{name}")
+            ended = self.answer(right, name)
+            self.check(f"the name {name}: an answer", (ended.status, said in ended.errors or ended.errors, self.waiting), (64, True, [f".{name}"]))
+            self.forget(name)
+        for name in ("A", "9", "m.example-1_x", "m" * 100, "pem", "m.pem2", "pub.m"):
             self.check_challenged(f"the name {name}", self.challenge(name), name)
             self.forget(name)
         top = self.folder / "odd names"
@@ -620,14 +686,29 @@ class EnrollCalls(AttestTests):
         self.check("an output that fails", self.call(["bash", "-c", "ima-enroll --help >/dev/full"]).status, 3)
         self.check("nothing is made", list(keys.iterdir()), [])
 
+    def test_locale(self):
+        """A name has no letters but those of ASCII, in a locale, too, whose ranges have others."""
+        self.needs("localedef")
+        locales = self.folder / "locales"
+        locales.mkdir()
+        made = self.call(["localedef", "-i", "en_US", "-f", "UTF-8", str(locales / "en_US.UTF-8")])
+        if not locales.joinpath("en_US.UTF-8").is_dir():
+            self.lacks(f"sources of locales ({made.errors.strip()})")
+        settings = {"LOCPATH": str(locales), "LC_ALL": "en_US.UTF-8"}
+        for name in ("\u00e9", "\u00df", "box-\u00e9"):
+            ranged = self.call(["bash", "-c", "[[ $1 =~ ^[A-Za-z0-9][A-Za-z0-9._-]{0,99}$ ]]", "bash", name], **settings)
+            self.check(f"the name {name}: a range of that locale has it", ranged.status, 0)
+            ended = self.call(["ima-enroll", "--keys", str(self.folder), "--in-hand", name, str(self.folder)], **settings)
+            self.check(f"the name {name}", (ended.status, "a name begins with a letter" in ended.errors or ended.errors), (64, True))
+
     def test_lacking(self):
         """A tool that is not there."""
         keys = self.folder / "some keys"
         keys.mkdir()
         words = ["--keys", str(keys), "--in-hand", NAME, str(self.folder)]
-        needed = {"bash", "readlink", "mktemp", "dd", "rm", "openssl", "tpm2_makecredential"}
+        needed = {"readlink", "mktemp", "dd", "rm", "openssl", "tpm2_makecredential", "flock"}
         self.needs(*needed)
-        for tool in ("openssl", "tpm2_makecredential", "mktemp"):
+        for tool in ("openssl", "tpm2_makecredential", "flock", "mktemp"):
             lacking = self.folder / f"without {tool}"
             lacking.mkdir()
             for each in needed - {tool}:

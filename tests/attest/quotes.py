@@ -176,6 +176,23 @@ class Samples(AttestTests):
         self.check("a signature by SHA-1 is made", self.call(hashed).status, 0)
         self.check_refused("a signature by SHA-1", self.attest(**others))
 
+    def test_environment(self):
+        """What bash would take from its environment changes no call: a script to run first, options, and functions named as what is called."""
+        early, first = self.put("early.list", LIST[:-LAST_ENTRY]), self.put("first", b"exit 0\n")
+        named = ("openssl", "ima-agent", "mktemp", "dd", "readlink", "rm", "set", "trap", "printf", "exit")
+        given = [{"BASH_ENV": str(first)}, {"SHELLOPTS": "noexec"}, {"BASHOPTS": "failglob"}, {"POSIXLY_CORRECT": "1"},
+                 *({f"BASH_FUNC_{name}%%": f"() {{ {body}; }}"} for name in named for body in ("exit 0", ":"))]
+        for title, status, words in (
+            ("a list that differs", 1, replace(GOOD, list=early).words()), ("a match", 0, GOOD.words()),
+            ("a stale nonce", 4, replace(GOOD, nonce="00" * 20).words()), ("the version", 64, ["ima-enroll", "--version"]),
+            ("a wrong call of ima-enroll", 64, ["ima-enroll"]), ("help", 64, ["ima-collect", "--help"]),
+            ("no kernel", 3, ["ima-collect", "--sys", "none", "made"]),
+        ):
+            due = self.call(words)
+            self.check(f"{title}: the status", due.status, status)
+            for settings in given:
+                self.check(f"{title}, with {settings}", self.call(words, **settings), due)
+
     def made_key(self, name, *options):
         """The files of a key that openssl makes: the public one, and the signature by it of the sample's message."""
         secret, public, signature = (self.folder / f"{name}.{end}" for end in ("key", "pem", "sig"))
@@ -202,10 +219,28 @@ class Samples(AttestTests):
         added = other["key"].read_bytes()
         for title, key in (("two keys, the other first", added + good), ("two keys, the other last", good + added), ("text before it", b"x\n" + good),
                            ("text after it", good + b"x\n"), ("other line ends", good.replace(b"\n", b"\r\n")),
-                           ("the secret key", self.folder.joinpath("other.key").read_bytes())):
+                           ("the secret key", self.folder.joinpath("other.key").read_bytes()), ("a byte 0 after it", good + b"\0"),
+                           ("the key in DER", self.in_der(GOOD.key)), ("a public area", (ROOT / "samples/keys/ak-rsassa.pub").read_bytes())):
             for signature in (GOOD.signature, other["signature"]):
                 ended = self.attest(key=self.put("odd.pem", key), signature=signature)
                 self.check_refused(f"a file with {title}, and the signature {signature.name}", ended, words="its key is")
+                self.check(f"a file with {title}, and the signature {signature.name}: one sentence says why", ended.errors.count("\n"), 1)
+
+    def in_der(self, key):
+        self.check("the key in DER", self.call(["openssl", "pkey", "-pubin", "-in", str(key), "-outform", "der", "-out", "key.der"]).status, 0)
+        return self.folder.joinpath("key.der").read_bytes()
+
+    def test_salts(self):
+        """A signature by RSAPSS has a salt of any length: TPMs differ in that."""
+        made = self.made_key("pss", "-algorithm", "RSA", "-pkeyopt", "rsa_keygen_bits:2048")
+        for hashed in ("sha256", "sha384", "sha512"):
+            for salt in ("0", "20", "digest", "max"):
+                padded = ["-sigopt", "rsa_padding_mode:pss", "-sigopt", f"rsa_pss_saltlen:{salt}"]
+                words = ["-sign", self.folder / "pss.key", *padded, "-out", made["signature"], GOOD.quote]
+                title = f"a signature by {hashed} with the salt {salt}"
+                self.check(f"{title} is made", self.call(["openssl", "dgst", f"-{hashed}", *map(str, words)]).status, 0)
+                self.check_match(title, self.attest(**made))
+                self.check_refused(f"{title}, of another message", self.attest(**made, quote=self.put("other.msg", turned(GOOD.quote.read_bytes()))))
 
     def test_names(self):
         """Names that a shell or a tool could take for something else are names."""
