@@ -53,7 +53,7 @@ class MachineTests(AttestTests):
         """Runs a block on the machine, whose kernel's files are these, with the tools as they are, and sees what is left in the TPM."""
         block = re.sub(r"ima-collect(?! --(?:enroll|credential))", f"ima-collect --sys '{sys or self.sys}'", block)
         self.must("room is made", "tpm2_flushcontext", "--transient-object")
-        ended = self.call(["bash", "-c", block], folder=self.home, **{"PATH": f"{self.bin}:{os.environ['PATH']}", **settings})
+        ended = self.call(["/bin/bash", "-c", block], folder=self.home, **{"PATH": f"{self.bin}:{os.environ['PATH']}", **settings})
         if (left := self.left_in_tpm()) != ["", "", ""]:
             self.check(f"nothing is left in the TPM by {block}", left, ["", "", ""])
         return ended
