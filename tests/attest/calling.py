@@ -25,7 +25,7 @@ LAST_ENTRY = 95  # bytes
 EV_EVENT_TAG = 6
 LOG = read_log((BOOT / "firmware.log").read_bytes())
 ENTRIES = read_list((BOOT / "ima.list").read_bytes())
-SECONDS = 60
+SECONDS = 240  # after which a call hangs, however busy the machine is
 # A dd to which each read gives 16 bytes, as a file system may, unless it asks for full blocks.
 SHORT_READS = """
     for word; do

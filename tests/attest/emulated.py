@@ -27,6 +27,7 @@ from reference.registers import ALGORITHMS, SHA256  # noqa: E402
 # Those that leave an object in the TPM.
 TOOLS = ("tpm2_createek", "tpm2_createak", "tpm2_createprimary", "tpm2_create", "tpm2_evictcontrol", "tpm2_quote", "tpm2_sign", "tpm2_hash",
          "tpm2_certify", "tpm2_certifycreation", "tpm2_gettime", "tpm2_nvcertify", "tpm2_getcommandauditdigest")
+SECONDS, TRIES = 120, 5
 # Makes room for the next objects first, as Linux does at /dev/tpmrm0.
 ROOMY = """#!/bin/sh
 tpm2_flushcontext --transient-object && exec {tool} "$@"
@@ -78,13 +79,29 @@ def started(folder):
     return subprocess.Popen(words), {**os.environ, **settings}
 
 
-def wait_for(emulator, environment):
-    for _ in range(100):
+def answers(emulator, environment):
+    """Whether the emulator answers, once it does. It ends if another process took one of its ports meanwhile."""
+    end = time.monotonic() + SECONDS
+    while emulator.poll() is None and time.monotonic() < end:
         if subprocess.run(["tpm2_pcrread", "sha256:0"], env=environment, capture_output=True).returncode == 0:
-            return
-        if emulator.poll() is not None:
-            break
+            return emulator.poll() is None
         time.sleep(0.1)
+    return False
+
+
+@contextmanager
+def answering():
+    """The environment of tools that talk to an emulator, which answers."""
+    for _ in range(TRIES):
+        with tempfile.TemporaryDirectory() as folder:
+            emulator, environment = started(folder)
+            try:
+                if answers(emulator, environment):
+                    yield environment
+                    return
+            finally:
+                emulator.terminate()
+                emulator.wait()
     raise RuntimeError("swtpm does not answer")
 
 
@@ -93,16 +110,10 @@ def emulated(measurements=None):
     """An emulated TPM with the sample boot, or another list after its log: the environment of tools that talk to it."""
     if measurements is None:
         measurements = (BOOT / "ima.list").read_bytes()
-    with tempfile.TemporaryDirectory() as folder:
-        emulator, environment = started(folder)
-        try:
-            wait_for(emulator, environment)
-            words = [*event_extensions(), *entry_extensions(measurements)]
-            subprocess.run(["tpm2_pcrextend", *words], env=environment, check=True)
-            yield environment
-        finally:
-            emulator.terminate()
-            emulator.wait()
+    with answering() as environment:
+        words = [*event_extensions(), *entry_extensions(measurements)]
+        subprocess.run(["tpm2_pcrextend", *words], env=environment, check=True)
+        yield environment
 
 
 def main():

@@ -26,6 +26,7 @@ RSASSA_SHA256, NO_SCHEME = "0014000b", "0010"
 AES_128_CFB = bytes.fromhex("000600800043")
 # Neither waits forever nor writes a file of more than 1 MiB.
 LIMITED = f'ulimit -f 1024 && exec timeout {SECONDS // 2} "$@"'
+MOST_PROCESSOR_SECONDS = 15  # of a challenge
 USAGE = "\nusage: ima-enroll --keys"
 ROUNDS = 70_000  # by which a PKCS#12 derives a key from its password
 # Faults of a key, by docs/errors.txt.
@@ -324,9 +325,9 @@ class Enrolled(EnrollTests):
             ("of so many rounds that it takes minutes", slowed(container(folder, certificate, ""))),
         ):
             title = f"a PKCS#12 {title}, with the right certificate"
-            begun = time.monotonic()
+            begun = os.times().children_user
             self.check_not(title, self.challenge(EK_der=data), 4, "EK.der is no certificate")
-            self.check(f"{title}: at once", time.monotonic() - begun < SECONDS / 4)
+            self.check(f"{title}: at once", os.times().children_user - begun < MOST_PROCESSOR_SECONDS)
             self.check(f"{title}: at a terminal", self.asked_at_terminal(EK_der=data), (4, ""))
         self.check("a certificate, at a terminal", self.asked_at_terminal(), (0, ""))
         self.forget()
@@ -341,7 +342,7 @@ class Enrolled(EnrollTests):
                                        stdout=subprocess.DEVNULL, stderr=subprocess.DEVNULL, start_new_session=True,
                                        preexec_fn=lambda: fcntl.ioctl(terminal, termios.TIOCSCTTY, 0))
             try:
-                status = process.wait(SECONDS / 4)
+                status = process.wait(SECONDS / 2)
             except subprocess.TimeoutExpired:  # (it waits for an answer)
                 os.killpg(process.pid, signal.SIGKILL)
                 status = process.wait()
@@ -471,7 +472,7 @@ class Enrolled(EnrollTests):
             link.symlink_to(path)
         for title, path in (("a pipe", pipe), ("a link", linked), ("a folder", self.scratch), ("no file", self.folder / "none"),
                             ("a device", "/dev/zero"), *((title, link) for title, link, _ in links)):
-            ended = self.call(["timeout", "20", "ima-enroll", "--keys", str(self.keys), "--answer", str(path), "m"])
+            ended = self.call(["timeout", str(SECONDS // 2), "ima-enroll", "--keys", str(self.keys), "--answer", str(path), "m"])
             self.check(f"an answer: {title}", (ended.status, "no regular file has this name" in ended.errors), (3, True))
         for path in (self.keys / ".m").iterdir():
             self.check(f"the content of {path.name} is no answer", path.read_bytes() == right, False)
