@@ -6,6 +6,7 @@ import re
 import shutil
 import signal
 import subprocess
+import tempfile
 import termios
 import time
 from concurrent.futures import ThreadPoolExecutor
@@ -416,21 +417,25 @@ class Enrolled(EnrollTests):
         self.check_not("an endorsement key that cannot be read", self.challenge(), 3, "x/x.ek.pem")
         shutil.rmtree(self.keys / "x")
 
+    def at_once(self, title, call, *arguments):
+        """How such calls end, of which none moves anything into KEYS before each other is about to, too, or waits for its turn."""
+        arrived = Path(tempfile.mkdtemp(dir=self.folder))
+        note, here = f"echo >'{arrived}'/$PPID", f"here=('{arrived}'/*)"
+        wait = f"while {here}; (({'${#here[@]}'} < {len(arguments)} && SECONDS < {SECONDS // 2})); do sleep 0.05; done"
+        moving = self.stand_in("mv", f'[[ {"${*: -1}"} == waiting ]] || {{ {note}; {wait}; }}; exec "$real" "$@"')["PATH"].partition(":")[0]
+        locking = self.stand_in("flock", f'{note}; exec "$real" "$@"')["PATH"]
+        with ThreadPoolExecutor(len(arguments)) as calls:
+            ended = list(calls.map(lambda argument: call(argument, {"PATH": f"{moving}:{locking}"}), arguments))
+        self.check(f"{title}: each call came to where it waits", len(list(arrived.iterdir())), len(arguments))
+        return ended
+
     def test_at_once(self):
         """Of right answers by one TPM for several names, which come at once, one is kept."""
-        names, arrived, answers = ("a", "b", "c", "d"), self.folder / "arrived", {}
-        arrived.mkdir()
+        names, answers = ("a", "b", "c", "d"), {}
         for name in names:
             self.check_challenged(f"at once: {name}", self.challenge(name), name)
             answers[name] = self.opened(f"at once: {name}")
-        # A call that has looked at the other names keeps nothing before each other has looked, too, or waits for its turn.
-        note, here = f"echo >'{arrived}'/$PPID", f"here=('{arrived}'/*)"
-        wait = f"while {here}; (({'${#here[@]}'} < {len(names)} && SECONDS < {SECONDS // 2})); do sleep 0.05; done"
-        keeping = self.stand_in("mv", f'[[ {"${*: -1}"} == waiting ]] || {{ {note}; {wait}; }}; exec "$real" "$@"')["PATH"].partition(":")[0]
-        locking = self.stand_in("flock", f'{note}; exec "$real" "$@"')["PATH"]
-        with ThreadPoolExecutor(len(names)) as calls:
-            ended = list(calls.map(lambda name: self.answer(answers[name], name, PATH=f"{keeping}:{locking}"), names))
-        self.check("at once: each call came to where it waits", len(list(arrived.iterdir())), len(names))
+        ended = self.at_once("at once", lambda name, settings: self.answer(answers[name], name, **settings), *names)
         self.check("at once: the statuses", sorted(each.status for each in ended), [0, 4, 4, 4])
         kept = next(name for name, each in zip(names, ended) if each.status == 0)
         self.check("at once: what the others say", [f"this TPM is enrolled as {kept}: " in each.errors for each in ended].count(True), 3)
@@ -438,6 +443,11 @@ class Enrolled(EnrollTests):
         self.check_kept("at once: its key is kept", kept, self.good["AK.pub"])
         for name in names:
             self.forget(name)
+        folder, title = self.lay_out({}), "challenges for one name at once"
+        ended = self.at_once(title, lambda folder, settings: self.challenge(folder=folder, settings=settings), folder, folder)
+        self.check(f"{title}: the statuses", [each.status for each in ended], [0, 0])
+        self.check_quiet(f"{title}: what the machine gets is what waits", self.answer(self.opened(title)))
+        self.forget()
 
     def test_modes(self):
         """Whoever may read the caller's files may read what is kept, and nobody else may write it."""
