@@ -14,13 +14,14 @@ from operator import itemgetter
 from types import TracebackType
 from typing import Deque, Dict, Iterator, List, Optional, Type
 
+from .modules import elsewhere
 from .options import Options
 from .reading import cause_of
 from .verdict import Asked
 from .worker import BEGINNING, FIRST, HEAD, LEAVING, Message
 from .workers import Killed, asked_of
 
-# (a folder that others may write, where the run was called, is no place for modules)
+# (Python puts the folder of the call before all others)
 COMMAND = "import sys; sys.path[:] = filter(None, sys.path); from fleet_verify.worker import main; main()"
 KNOWN = "known"
 
@@ -34,7 +35,7 @@ MOST_DEATHS = 4
 MOST_FAILED_STARTS = 10
 # How much longer than all that a machine may take is an answer waited for, before its worker is killed.
 SPARE_SECONDS = 30.0
-END_SECONDS = 3.0
+END_SECONDS, KILLED_SECONDS = 3.0, 30.0
 RETRY_SECONDS = 0.2
 PIECE = 1024 * 1024
 BUFFER = 4 * 1024 * 1024
@@ -138,6 +139,7 @@ class LocalWorkers:
         self.cause = ""
         self._numbers: Iterator[int] = itertools.count(FIRST, 2)
         self._keepers: "List[asyncio.Task[None]]" = []
+        self._endings: "List[asyncio.Task[None]]" = []
 
     async def __aenter__(self) -> "LocalWorkers":
         self._keepers = [asyncio.create_task(self._keep()) for _ in range(self.count)]
@@ -147,6 +149,7 @@ class LocalWorkers:
         for keeper in self._keepers:
             keeper.cancel()
         await asyncio.wait(self._keepers)
+        await asyncio.gather(*self._endings, return_exceptions=True)
 
     @property
     def threads(self) -> Dict[str, int]:
@@ -216,8 +219,15 @@ class LocalWorkers:
                 await self._hear(worker)
         finally:
             worker.has_ended = True
-            await end(worker.process)
+            await self._end(worker)
             self.running.remove(worker)
+
+    async def _end(self, worker: Worker) -> None:
+        """Ends a worker. Where the run ends meanwhile, that waits for it: no process is left behind."""
+        ending = asyncio.create_task(end(worker.process))
+        self._endings.append(ending)
+        await asyncio.shield(ending)
+        self._endings.remove(ending)
 
     async def _hear(self, worker: Worker) -> None:
         """Takes what a worker tells, until it ends."""
@@ -247,7 +257,7 @@ class LocalWorkers:
 
 async def start() -> asyncio.subprocess.Process:
     """Starts a process, which takes no signals of a terminal, and says no word."""
-    environment = {**os.environ, "PYTHONPATH": os.pathsep.join(filter(None, sys.path))}
+    environment = {**os.environ, "PYTHONPATH": os.pathsep.join(elsewhere(sys.path))}
     return await asyncio.create_subprocess_exec(
         sys.executable, "-B", "-c", COMMAND, env=environment, start_new_session=True, limit=BUFFER,
         stdin=asyncio.subprocess.PIPE, stdout=asyncio.subprocess.PIPE, stderr=asyncio.subprocess.DEVNULL,
@@ -264,7 +274,7 @@ async def end(process: asyncio.subprocess.Process) -> None:
         with suppress(ProcessLookupError):
             process.kill()
         with suppress(asyncio.TimeoutError):
-            await asyncio.wait_for(ended(process), END_SECONDS)
+            await asyncio.wait_for(ended(process), KILLED_SECONDS)
 
 
 async def ended(process: asyncio.subprocess.Process) -> None:

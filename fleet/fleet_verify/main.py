@@ -5,6 +5,7 @@ from importlib import import_module
 from typing import TYPE_CHECKING, Optional, Sequence
 
 from .ending import CannotGoOn, NotStarted, complain, stop, stop_simply
+from .modules import elsewhere
 
 if TYPE_CHECKING:
     from .options import Options
@@ -17,6 +18,7 @@ COMMANDS = ("nonces", "page")
 def main(words: Optional[Sequence[str]] = None) -> int:
     """The exit status of a call with these words, or with those of the command line."""
     stop_simply()
+    sys.path[:] = elsewhere(sys.path)
     words = sys.argv[1:] if words is None else words
     if words and words[0] in COMMANDS:
         status: int = import_module(f".{words[0]}", __package__).main(words[1:])

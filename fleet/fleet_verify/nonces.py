@@ -13,9 +13,9 @@ from typing import Dict, List, Sequence
 
 from .ending import NotStarted, complain
 from .machines import BadTable, Machine, read_machines
+from .opening import BadVerdicts, open_table
 from .options import Once, duration
 from .reading import cause_of, now
-from .verdicts import BadVerdicts, open_table
 
 ABOUT = """Gives out a nonce for each machine of MACHINES, for its next quote.
 

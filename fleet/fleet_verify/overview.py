@@ -6,12 +6,12 @@ from collections import Counter
 from contextlib import closing, contextmanager
 from dataclasses import dataclass, field
 from datetime import datetime, timedelta, timezone
-from pathlib import Path
 from typing import Dict, Iterable, Iterator, List, NamedTuple, Optional, Sequence, Tuple
 
+from .opening import BadVerdicts, open_snapshot
 from .plot import Bar, bars_of
 from .rendering import text_of_bytes, time_span
-from .verdicts import APPLICATION, FORM, VERDICTS, BadVerdicts
+from .schema import VERDICTS
 
 _SECONDS = 60
 _MOST_CHANGES = 500
@@ -159,15 +159,8 @@ class Overview:
 @contextmanager
 def snapshot_of(path: str) -> Iterator[sqlite3.Connection]:
     """A table of verdicts as it is at one moment."""
-    place = Path(path).absolute().as_uri()
-    with closing(sqlite3.connect(f"{place}?mode=ro", uri=True, timeout=_SECONDS)) as connection:
+    with closing(open_snapshot(path)) as connection:
         connection.text_factory = text_of_bytes
-        application, form = (connection.execute(f"PRAGMA {name}").fetchone()[0] for name in ("application_id", "user_version"))
-        if application != APPLICATION:
-            raise BadVerdicts("it is no table of verdicts")
-        if form != FORM:
-            raise BadVerdicts("another version of this program made it")
-        connection.execute("BEGIN")
         yield connection
 
 

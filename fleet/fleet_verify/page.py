@@ -6,12 +6,12 @@ from typing import Sequence
 
 from . import __version__
 from .ending import complain
+from .opening import BadVerdicts
 from .options import DAY, duration, positive
 from .overview import overview_of, snapshot_of
 from .plot import KINDS, REBOOT, Bar, plot_of
 from .reading import cause_of, now
 from .rendering import render, write_page
-from .verdicts import BadVerdicts
 
 ABOUT = """Writes a page of HTML to standard output: how many machines have each verdict, which do not match and why, what changed over
 time, and how old quotes are. TABLE is a table of verdicts, which is read only; a run may write it meanwhile. The page is whole: it

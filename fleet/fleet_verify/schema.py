@@ -2,7 +2,8 @@
 
 VERDICTS = ("match", "differ", "refused", "unreadable", "failed")
 
-# These mark a file as a table of verdicts, and say which form its tables have.
+# These mark a file as a table of verdicts, and say which form its tables have: a file whose schema differs by a letter is refused, and so any
+# change below, be it of a comment, has another form.
 APPLICATION = 0x494D4156
 FORM = 9
 
@@ -84,7 +85,11 @@ CREATE TABLE changes ( -- by polls
     cause TEXT, -- of the verdict, or by what the boot is told from another
     time TEXT NOT NULL
 );
-CREATE TABLE retired AS SELECT NULL AS retired, * FROM verdicts; -- the last rows of machines that left or moved, and since when
+CREATE TABLE retired ( -- the last rows of machines that left or moved, and since when; its other columns are those of `verdicts`
+    retired, machine, verdict, cause, required, known_sha256, unknown, first_unknown, events, locality, entries, boot_aggregate, report,
+    log, list, expected, quote, signature, log_sha256, list_sha256, expected_sha256, quote_sha256, signature_sha256, list_from,
+    signer, resets, restarts, nonce, quote_age, interface_version, worker, time, poll
+);
 PRAGMA application_id = {APPLICATION};
 PRAGMA user_version = {FORM};
 """

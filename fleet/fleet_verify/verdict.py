@@ -2,11 +2,15 @@
 
 import base64
 import hashlib
+import os
 import time
 from dataclasses import dataclass
 from typing import Any, Optional, Sequence, Tuple
 
 from .reading import Fields, cause_of, read_inputs
+
+# The variable that may name the library.
+LIBRARY = "IMA_VERIFY_LIBRARY"
 
 # What `--require` says if it names nothing.
 NONE = "none"
@@ -94,6 +98,8 @@ def require_fitness(require: str, is_poll: bool, known: Optional[bytes] = None, 
 
     Otherwise there is an ImportError, or a ValueError, and no error of a class of `ima_verify`: the client may lack the package. The library
     reads these texts before the log. A ValueError of known files has the number of the fault and the line."""
+    if "/" not in (os.environ.get(LIBRARY) or "/"):
+        raise ImportError(f"{LIBRARY} is to be a path: a name alone would be that of a file in the folder of the call")
     import ima_verify
     from ima_verify import Kind
 

@@ -8,17 +8,14 @@ from typing import Any, Collection, Dict, List, NamedTuple, Optional, Sequence, 
 
 from . import quotes
 from .machines import Machine
+from .opening import BadVerdicts, open_table
 from .reading import PARTS, QUOTED_PARTS, Fields, now
-from .schema import APPLICATION, FORM, FOUND, GIVEN, NO_CLOCK, TABLES, VERDICTS
+from .schema import FOUND, GIVEN, NO_CLOCK, VERDICTS
 from .verdict import Given
 
-__all__ = ["APPLICATION", "FORM", "VERDICTS", "BadVerdicts", "Quoting", "Verdicts", "open_table"]
+__all__ = ["VERDICTS", "BadVerdicts", "Quoting", "Verdicts"]
 
-_SECONDS = 60
 _PLACES = ("log", "list", "expected", "quote", "signature")
-
-# How a table of verdicts, or of other programs, is told from a new file.
-_MARKS = ("PRAGMA application_id", "PRAGMA user_version", "SELECT count(*) FROM sqlite_master")
 
 # Of a quote's report: the clock, which is the first object of this name.
 _CLOCK = re.compile(r'"clock":(\{[^{}]*\})')
@@ -70,31 +67,11 @@ _FORGET = (
 )
 
 
-class BadVerdicts(Exception):
-    """The file is no table of verdicts, or not one that this run may go on with."""
-
-
 class Quoting(NamedTuple):
     """The folder of the machines' keys, and how old in seconds a quote's nonce may be, if that is less than its own age."""
 
     keys: str
     max_age: float
-
-
-def open_table(path: str) -> sqlite3.Connection:
-    """The table of verdicts in this file, which is made if it is not there."""
-    connection = sqlite3.connect(path, timeout=_SECONDS, check_same_thread=False)
-    application, form, tables = (connection.execute(query).fetchone()[0] for query in _MARKS)
-    is_new = (application, form, tables) == (0, 0, 0)
-    if not is_new and application != APPLICATION:
-        raise BadVerdicts("it is another file of SQLite")
-    if not is_new and form != FORM:
-        raise BadVerdicts("another version of this program made it: take another TABLE")
-    connection.execute("PRAGMA journal_mode = WAL")  # (else who reads the table holds up who writes it)
-    if is_new:
-        connection.executescript(f"BEGIN IMMEDIATE; {TABLES}; {quotes.TABLES}; COMMIT")
-    connection.execute("PRAGMA foreign_keys = ON")
-    return connection
 
 
 def _places(machine: Machine) -> Tuple[Optional[str], ...]:
@@ -167,10 +144,7 @@ class Verdicts:
         return verdicts
 
     def require_whole(self) -> None:
-        """Refuses a table that is damaged or written by halves: a poll goes on from what it has."""
-        damage = self.connection.execute("PRAGMA quick_check(1)").fetchone()[0]
-        if damage != "ok":
-            raise BadVerdicts(f"it is damaged: {damage}")
+        """Refuses a table that is written by halves: a poll goes on from what it has."""
         orphan = self.connection.execute("PRAGMA foreign_key_check").fetchone()
         if orphan is not None:
             raise BadVerdicts(f"it is damaged: a row of {orphan[0]} lacks that of {orphan[2]}")

@@ -15,8 +15,8 @@ from fleet_verify.verdict import Asked, Given
 from fleet_verify.work import verify_batch, written_place, written_request
 folder, require = sys.argv[1:]
 paths = [f"{folder}/{file}" for file in ("firmware.log", "ima.list", "expected.txt")]
-asked = Asked(require=require, is_poll=False, is_quoted=False, deadline=60)
-for seconds in (0, 1000):
+asked = Asked(require=require, is_poll=False, is_quoted=False, deadline=360_000)  # (so that no machine is slow, however busy the computer)
+for seconds in (0, 1_000_000):
     request = written_request(asked, False, seconds, [written_place(paths, Given())] * 5)
     told, *reports = verify_batch(request, "here", None).split("\\n")
     print([answer["verdict"] for answer in json.loads(told)["answers"]], len(reports))
@@ -102,10 +102,12 @@ ANSWERS_WANTED = [
 STOPPED = """
 import asyncio, json, sys
 from types import SimpleNamespace
+from fleet_verify import run
 from fleet_verify.ledger import Ledger
 from fleet_verify.machines import Machine
 from fleet_verify.run import Run
 from fleet_verify.verdicts import Verdicts
+run.CLOSE_SECONDS = 100
 MACHINES = [Machine(name, (f"/{name}",)) for name in "abc"]
 class Future:
     def __init__(self, machine):
@@ -149,6 +151,48 @@ for seconds in (0, 0.2):
     asyncio.run(stop(f"{sys.argv[1]} {seconds}.db", seconds))
 """
 STOPPED_WANTED = ["True a", "True a b"]
+
+# Ends a run while a worker of it ends: that has closed its output, and takes a second more. Prints whether it has ended when the run has, and what
+# asyncio logs of one that ends later.
+ENDING = """
+import asyncio, logging, os, sys, time
+from types import SimpleNamespace
+from fleet_verify import local
+logging.basicConfig(stream=sys.stdout)
+started = []
+async def start():
+    pipes = dict.fromkeys(("stdin", "stdout"), asyncio.subprocess.PIPE)
+    started.append(await asyncio.create_subprocess_exec("/bin/sh", "-c", "exec >&-; sleep 1; exit 0", **pipes))
+    return started[-1]
+async def run():
+    options = SimpleNamespace(require="none", poll=False, unquoted=True, max_age=None, deadline=60)
+    async with local.LocalWorkers(1, options, None) as workers:
+        while not any(worker.has_ended for worker in workers.running):
+            await asyncio.sleep(0.01)
+local.start = start
+asyncio.run(run())
+print([process.returncode for process in started])
+time.sleep(2)
+"""
+ENDING_WANTED = ["[0]"]
+
+# Asks a worker whether it can verify, where this process would load modules from the folder of the call, which has some.
+ELSEWHERE = """
+import sys
+sys.path[:] = filter(None, sys.path)
+import asyncio, os
+from types import SimpleNamespace
+from fleet_verify import local
+async def run():
+    options = SimpleNamespace(require="none", poll=False, unquoted=True, max_age=None, deadline=60)
+    async with local.LocalWorkers(1, options, None) as workers:
+        while not workers.threads and workers.lost() is None:
+            await asyncio.sleep(0.01)
+        print(list((await workers.faults(workers.asked)).values()), workers.lost())
+sys.path[:0] = ["", ".", os.getcwd(), os.path.join(os.getcwd(), "")]
+asyncio.run(run())
+"""
+ELSEWHERE_WANTED = ["[None] None"]
 
 # Prints the causes that exceptions of drivers have.
 CAUSES = """
@@ -213,10 +257,16 @@ print(required("none"), required("sha256:0-10"), repr(required("")))
 os.environ["IMA_VERIFY_LIBRARY"] = "/nowhere/libima_verify.so"
 ima_verify._library.loaded.cache_clear()
 judge("sha256:0-10")
+os.environ["IMA_VERIFY_LIBRARY"] = "libima_verify.so"
+try:
+    require_fitness("none", False)
+except ImportError as fault:
+    print(type(fault).__name__, fault)
 """
+BARE = "IMA_VERIFY_LIBRARY is to be a path: a name alone would be that of a file in the folder of the call"
 FITNESS_WANTED = [
     *4 * ["fit"], *8 * ["builtins ValueError True"], *2 * ["fit"], "builtins ValueError 2 2", "builtins ValueError 1 1",
-    "Nothing.NOTHING sha256:0-10 ''", *2 * ["builtins ImportError False"],
+    "Nothing.NOTHING sha256:0-10 ''", *2 * ["builtins ImportError False"], f"ImportError {BARE}",
 ]
 
 
@@ -229,10 +279,38 @@ def test_parts(tools):
         ("causes without the paths", CAUSES, (), CAUSES_WANTED),
         ("the files of folders", FOLDERS, (), FOLDERS_WANTED),
         ("what a worker says of itself", FITNESS, (), FITNESS_WANTED),
+        ("a run waits for a worker that ends, and asyncio warns of none", ENDING, (), ENDING_WANTED),
     ):
         said = tools.start(["-c", script, *words], **modules).communicate(timeout=SECONDS)[0]
         tools.check(title, said.splitlines(), wanted)
+    test_folder_of_call(tools)
     test_version(tools)
+
+
+def test_folder_of_call(tools):
+    """No module of the folder of the call is loaded: it may have a machine's files."""
+    folder = tools.folder / "folder of the call"
+    folder.mkdir()
+    for name in ("ima_verify", "json", "struct", "signal", "threading", "queue", "fcntl", "fsspec", "sqlite3", "asyncio", "argparse"):
+        (folder / f"{name}.py").write_text(f"open({str(folder / 'loaded')!r}, 'a').write('{name} ')\n")
+    home = ROOT / "samples/real-boot"
+    (folder / "machines.tsv").write_text(f"a\t{home}\n")
+    words = ["--unquoted", "--require", REQUIRE, "--workers", "1", folder / "machines.tsv", folder / "verdicts.db"]
+    modules = f"{ROOT / 'bindings/python'}:{ROOT / 'fleet'}"
+    for title, call, path in (
+        ("a run", [ROOT / "fleet/verify.py", *words], ROOT / "bindings/python"),
+        ("its workers", ["-c", ELSEWHERE], modules),
+        ("a run as a module", ["-c", f"import sys; sys.path[:] = sys.path[1:]; from fleet_verify import main; sys.path[:0] = ['', {str(folder)!r}]; "
+                               "sys.exit(main.main(sys.argv[1:]))", *words[:-1], folder / "module.db"], modules),
+    ):
+        done = subprocess.run(
+            [tools.python, *map(str, call)], env={**tools.environment, "PYTHONPATH": str(path)}, cwd=folder, capture_output=True, text=True,
+            timeout=SECONDS,
+        )
+        found = (folder / "loaded").read_text() if (folder / "loaded").exists() else ""
+        tools.check(f"modules of the folder of the call: {title}", (done.returncode, done.stderr * (done.returncode != 0), found), (0, "", ""))
+        if call[1:2] == [ELSEWHERE]:
+            tools.check("a worker of a call in such a folder can verify", done.stdout.splitlines(), ELSEWHERE_WANTED)
 
 
 def test_version(tools):

@@ -4,6 +4,7 @@ What must come of each is known from what was done to it: its list grew, it star
 
 import hashlib
 import os
+import random
 import re
 import shutil
 import sqlite3
@@ -16,7 +17,7 @@ from contextlib import closing, suppress
 from dataclasses import dataclass, field
 from pathlib import Path
 
-from cluster import REQUIRE, ROOT, SECONDS, until
+from cluster import REQUIRE, ROOT, SECONDS, children_of, until
 from quoted import CLOCK, HEAD, SELECTED, sized
 from tables import change, query
 from tpms import LOW, NEEDED, Tpm
@@ -211,17 +212,22 @@ def test_taking(tools):
     """A nonce is used by the verdict that is recorded with it, and only then; and with it those that were given out before."""
     from fleet_verify.machines import Machine
     from fleet_verify.quotes import nonces_of, take
-    from fleet_verify.verdicts import open_table
+    from fleet_verify.opening import open_table
 
     def time_of(minute):
         return f"2026-01-01T00:{minute:02}:00.000+00:00"
 
     def taken(nonce, minute, name="a", verdict="match"):
-        answer = {"verdict": verdict, "nonce": nonce, "report": "{}", "checkpoint": "x", "time": "now"}
+        answer = {"verdict": verdict, "nonce": nonce, "time": "now", **dict.fromkeys(of_verdict, "x"), "report": "{}"}
         take(connection, [(Machine(name, ("/",), True), answer)], 1800, time_of(minute))
         return answer["verdict"], answer.get("cause", "")[:9], answer.get("quote_age"), sorted(answer)
 
-    plain = ["checkpoint", "nonce", "quote_age", "report", "time", "verdict"]
+    many = 12  # (more than a machine is asked with)
+
+    of_verdict = (
+        "boot_aggregate", "checkpoint", "entries", "events", "first_unknown", "locality", "resets", "restarts", "signer", "unknown",
+    )
+    plain = sorted([*of_verdict, "nonce", "quote_age", "report", "time", "verdict"])
     stale = ("unreadable", "stale: th", None, ["cause", "time", "verdict"])
     gone = ("unreadable", "stale: an", None, ["cause", "time", "verdict"])
     with closing(open_table(str(tools.folder / "taking.db"))) as connection:
@@ -246,6 +252,11 @@ def test_taking(tools):
             ("a nonce that is as old as it may be", taken("77", 15, "c"), ("match", "", 600.0, plain)),
         ):
             tools.check(f"taking: {title}", found, wanted)
+        connection.executemany(ADD_NONCE, [("d", f"{number:02}", time_of(number), 7200) for number in range(many)])
+        connection.execute("UPDATE nonces SET used = ? WHERE machine = 'd' AND nonce > '01'", (time_of(20),))
+        first = nonces_of(connection, "d")
+        tools.check("nonces of a machine: the unused first, then the latest", (first[:3], len(first) < many), (
+            (("01", False), ("00", False), ("11", True)), True))
         tools.check("taking: what is used", (nonces_of(connection, "a"), nonces_of(connection, "b")), (
             (("33", True), ("22", True), ("11", True)), (("55", False), ("44", False))))
 
@@ -254,9 +265,15 @@ def test_ages(tools):
     """A nonce is kept for half of its age, and none takes the place of one that is to be valid for another time."""
     from fleet_verify.machines import Machine
     from fleet_verify.nonces import give_out
-    from fleet_verify.verdicts import open_table
+    from fleet_verify.opening import open_table
 
     machines = [Machine("a", ("/",), True)]
+    guessed = []
+    for number in range(2):
+        random.seed(1)
+        with closing(open_table(str(tools.folder / f"guessed {number}.db"))) as connection:
+            guessed.append(give_out(connection, machines, 3600)["a"])
+    tools.check("nonces: none can be told beforehand", guessed[0] == guessed[1], False)
     with closing(open_table(str(tools.folder / "ages.db"))) as connection:
         first, same, other, last = (give_out(connection, machines, age)["a"] for age in (3600, 3600, 60, 60))
         tools.check("nonces: another for another --max-age", (first == same, first == other, other == last), (True, False, True))
@@ -606,8 +623,14 @@ def test_stopped_poll(quotes, verdicts):
     """A poll stops in the middle: what it recorded has used its nonces. The next poll takes that over, unless new nonces were given out; and the
     one after it takes all quotes for old ones. With new quotes all is well."""
     quotes.answer(quotes.give_out(verdicts))
-    change(verdicts, "CREATE TRIGGER stop BEFORE UPDATE ON nonces WHEN new.machine = 'machine 15' BEGIN SELECT RAISE(ABORT, 'stop'); END")
-    status = quotes.call(*quotes.run_words(verdicts, "--poll", "--in-flight", 4))[0]
+    with closing(sqlite3.connect(verdicts)) as holder:
+        holder.execute("BEGIN IMMEDIATE")  # (the poll cannot begin)
+        client = quotes.tools.start([ROOT / "fleet/verify.py", *quotes.run_words(verdicts, "--poll", "--in-flight", 4)], "clients")
+        until("workers", lambda: children_of(client.pid), client)
+        holder.execute("CREATE TRIGGER stop BEFORE UPDATE ON nonces WHEN new.machine = 'machine 15' BEGIN SELECT RAISE(ABORT, 'stop'); END")
+        holder.commit()
+    client.communicate(timeout=SECONDS)
+    status = client.returncode
     change(verdicts, "DROP TRIGGER stop")
     recorded = {name for (name,) in query(verdicts, "SELECT machine FROM verdicts WHERE poll = (SELECT max(number) FROM polls)")}
     quotes.check("quotes: a poll stops in the middle", (status, 0 < len(recorded) < MACHINES), (3, True))

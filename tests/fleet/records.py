@@ -13,9 +13,9 @@ from tables import change, counted, query, record_beside, rows_of
 # machines match by a later poll.
 READER = """
 import sqlite3, sys
-from fleet_verify import verdicts
+from fleet_verify import opening, verdicts
 from fleet_verify.machines import Machine
-verdicts._SECONDS = 1
+opening.SECONDS = 1
 table = verdicts.Verdicts(sys.argv[1], "none")
 table.begin_poll("now")
 table.record([(Machine("a", ("/a",)), {"verdict": "match", "time": "now"})], ())
@@ -115,11 +115,14 @@ def test_unwritable(tools, fleet, words):
     table = tools.folder / "all match.db"
     tools.check("a table to be refused: status", tools.verify(*words, table)[0], 0)
     for title, script in REFUSING.items():
-        refusing = shutil.copyfile(table, tools.folder / f"{title}.db")
-        change(refusing, script)
-        ends = query(refusing, "SELECT * FROM ends")
-        status, output, _ = tools.verify("--again", "match", *words, refusing)
-        tools.check(f"a table that {title}: status and output", (status, output), (3, ""))
+        refusing, notes = shutil.copyfile(table, tools.folder / f"{title}.db"), Path(tools.environment["NOTED_CALLS"])
+        ends, before = query(refusing, "SELECT * FROM ends"), len(notes.read_text())
+        with tools.gate(0):
+            client = tools.client("--again", "match", *words, refusing)
+            until("the gate", lambda: len(notes.read_text()) > before, client)
+            change(refusing, script)
+        output = client.communicate(timeout=SECONDS)[0]
+        tools.check(f"a table that {title}: status and output", (client.returncode, output), (3, ""))
         found = (query(refusing, "SELECT * FROM ends"), rows_of(refusing))
         tools.check(f"a table that {title}: the run has no end, and all stands", found, (ends, fleet.rows))
 
