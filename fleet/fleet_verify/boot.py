@@ -178,9 +178,9 @@ class Boot:
         report = self.report or self.alone
         lines = self.replies["locate"].lines if "locate" in self.replies else []
         places = {(row["bank"], row["register"]): _place(row, report.get("entries", 0)) for line in lines for row in line["registers"]}
+        rows = {(row["bank"], row["register"]): row for row in report.get("registers", []) if self.report or row["register"] != _OF_LIST}
         return [
-            Reached(*name, row.get("state", ""), row.get("expected", ""), row.get("value", ""), places.get(name, ""))
-            for row in report.get("registers", []) for name in [(row["bank"], row["register"])] if self.report or name[1] != _OF_LIST
+            Reached(*name, row.get("state", ""), row.get("expected", ""), row.get("value", ""), places.get(name, "")) for name, row in rows.items()
         ]
 
 
@@ -223,9 +223,9 @@ def boot_of(folder: Path, criteria: Criteria, work: Path) -> Boot:
     """The boot whose files this folder has; all is done in the folder `work`, where only this user writes."""
     sent, own = _copied(folder, criteria, work)
     unread = [f"{each.name} is not read: {each.fault}" for each in sent if each.fault]
-    judgement = _judged(criteria, work, len(criteria.known), unread)
-    is_known_wanting = judgement.word == "differ" and criteria.known
-    proof = _judged(criteria, work, 0, unread) if is_known_wanting else judgement
+    judgement = proof = _judged(criteria, work, len(criteria.known), unread)
+    if judgement.word == "differ" and criteria.known:
+        proof = _judged(criteria, work, 0, unread)
     has_other_quote = not criteria.is_quoted and os.path.lexists(folder / QUOTE)
     boot = Boot([*sent, *own], judgement, proof, criteria.require is not None, has_other_quote)
     _confirm(boot, criteria, work)

@@ -29,13 +29,18 @@ TEN = "e8ed95b94e8d66f42e5b9be4d794dc0c7701e2360f03537fe59e9ba861a8024f"
 LONGER = "a2bcf779880ae33077f9e7992851299f30cea5f6cffc6512de6cd10aa457a7f3"
 
 
+def is_built():
+    """Whether the program is there, which says in words what the reference does not."""
+    return Path(os.environ.get("IMA_AGENT", PROGRAM)).exists()
+
+
 def program_of(tools):
     """The folder with `ima-agent`, which is the program that is built, or the reference in its place; and with `ima-attest` beside it."""
     folder = tools.folder / "program"
     folder.mkdir(exist_ok=True)
     built = Path(os.environ.get("IMA_AGENT", PROGRAM))
     reference = f'PYTHONDONTWRITEBYTECODE=1 PYTHONPATH={ROOT / "tests"} exec {sys.executable} -m reference "$@"'
-    write_program(folder / "ima-agent", f'exec {built} "$@"' if built.exists() else reference)
+    write_program(folder / "ima-agent", f'exec {built} "$@"' if is_built() else reference)
     shutil.copy(ROOT / "attest/verify", folder / "ima-attest")
     return folder
 
@@ -116,6 +121,9 @@ def test_report(tools):
     test_whole_report(tools, folder)
     test_report_states(tools, folder)
     test_report_by_quote(tools, folder)
+    test_unknown_entries(tools, folder)
+    test_broken_list(tools, folder)
+    test_prefixes(tools, folder)
     test_failing_program(tools, folder)
     test_planted_program(tools, folder)
     test_sent_files(tools, folder)
@@ -237,6 +245,138 @@ def test_quoted_report(tools, given):
     tools.check("its registers are the quoted ones", [row[1] for row in rows_below(page, "PCRs")], [str(number) for number in range(11)])
     marks = {row[3] for row in rows_below(page, "Events of the firmware log")}
     tools.check("events that the quote confirms", marks, {"claimed", "confirmed data", "confirmed value"})
+
+
+def confirmed_in(page):
+    """What a page shows as confirmed: rows on what was booted, and on events, and the numbers of entries; then how many rows are of that kind."""
+    booted = [row for row in rows_below(page, "What the machine booted") if row[1] not in ("", "unknown")]
+    events = [row for row in rows_below(page, "Events of the firmware log") if "confirmed" in row[3]]
+    entries = [row[0] for row in rows_below(page, "Entries of the measurement list") if "confirmed" in row[2]]
+    return booted, events, entries, sum("confirmed" in row.attributes.get("data-kind", "").split() for row in page.all("tr"))
+
+
+NOTHING = ([], [], [], 0)
+
+
+def most_known(folder):
+    """A file of known digests that lacks that of entry 7 of samples/real-boot, besides those of its three violations."""
+    digest, known = read_list((REAL / "ima.list").read_bytes())[7].payload[12:44].hex().encode(), folder / "most known"
+    known.write_bytes(b"".join(line for line in (SAMPLES / "known/SHA256SUMS").read_bytes().splitlines(True) if digest not in line))
+    return known
+
+
+def test_unknown_entries(tools, folder):
+    """What a quote or expected registers confirm stays confirmed, whatever is unknown."""
+    boot, quoted, known = make_quoted(folder / "wanting"), quoted_by_nonce(), ("--known", most_known(folder))
+    entries, expected = read_list((REAL / "ima.list").read_bytes())[:93], (SAMPLES / "known/before-violations.expected").read_bytes()
+    few = make_boot(folder / "few", ima=list_spelling(entries), expected=expected)
+    *found, (status, one, _) = reports_of(tools, [(boot, *quoted), (boot, *quoted, *known), (boot,), (boot, *known), (few, *known)])
+    tools.check("one entry is unknown", (status, judged(one), "Entry 7 is unknown." in state_of(one)[0]), (1, ("differ", False), True))
+    for title, (_, whole, _), (status, page, _) in (("a quote", *found[:2]), ("expected registers", *found[2:])):
+        tools.check(f"unknown entries: what {title} confirm", confirmed_in(page), confirmed_in(whole))
+        tools.check(f"unknown entries: how much {title} confirm", confirmed_in(page)[-1], 120)
+        states = {row[0]: row[2] for row in rows_below(page, "Entries of the measurement list") if "unknown" in row[2]}
+        denied = re.findall("[Nn]othing (?:is )?confirm.*", "\n".join(each.text for each in page.all("p")))
+        found = (status, judged(page), states, "Unknown entries: 4, the first is entry 7." in state_of(page)[0], denied)
+        wanted = {"7": "unknown confirmed", **{number: "violation unknown" for number in ("93", "94", "97")}}
+        tools.check(f"unknown entries, and {title}", found, (1, ("differ", False), wanted, True, []))
+    test_unknown_and_unconfirmed(tools, folder, boot, known)
+
+
+def test_unknown_and_unconfirmed(tools, folder, boot, known):
+    """Where quote or registers do not hold, unknown entries make nothing confirmed. (Registers that match still confirm events.)"""
+    log, entries = read_log((REAL / "firmware.log").read_bytes()), read_list((REAL / "ima.list").read_bytes())
+    quoted, good, again = quoted_by_nonce(), tools.folder / "program/ima-agent", entries[5]
+    hiding = log._replace(events=[*log.events, Event(10, EV_ACTION, {SHA256.identifier: bytes(32)}, b"")])
+    grown = list_spelling([*entries, again])
+
+    def of_its_own(name, log, entries):
+        return make_boot(folder / name, firmware=log.spelling(), ima=list_spelling(entries),
+                         expected=inputs.expected_text(inputs.expected_after(log, entries)))
+
+    failing = program_that(folder / "fails", "verify", f"""case "$*" in *--known*) exec '{good}' "$@";; esac; exit 3""", good)
+    cases = (
+        ("a quote with another nonce", (boot, *quoted[:-1], "00" * 20), 4, "refused", slice(4)),
+        ("a quote with another key", (boot, "--key", SAMPLES / "keys/ak-p256.pem", *quoted[2:]), 4, "refused", slice(4)),
+        ("a quote of another list", (make_quoted(folder / "quoted before", ima=grown), *quoted), 1, "differ", slice(4)),
+        ("no required register", (boot, "--require", "none"), 2, "refused", slice(4)),
+        ("a list that grew", (make_boot(folder / "grown", ima=grown),), 1, "differ", slice(2, 3)),
+        ("an entry of another register", (of_its_own("moved", log, [*entries, again._replace(register=9)]),), 1, "differ", slice(2, 3)),
+        ("an event of register 10", (of_its_own("hiding", hiding, entries),), 1, "differ", slice(2, 3)),
+        ("a program that fails without known files", (boot, "--program", failing), 1, "differ", slice(2, 3)),
+    )
+    for (title, _, status, word, parts), (found, page, _) in zip(cases, reports_of(tools, [(*call, *known) for _, call, *_ in cases])):
+        tools.check(f"unknown entries, and {title}", (found, judged(page)), (status, (word, False)))
+        tools.check(f"unknown entries, and {title}: nothing is confirmed", confirmed_in(page)[parts], NOTHING[parts])
+
+
+def list_fault(number):
+    """The words of docs/errors.txt for an error of a list."""
+    text = (ROOT / "docs/errors.txt").read_text()
+    return re.search(rf"^ +{number}  (.*)$", text[text.index("List faults"):], re.MULTILINE)[1]
+
+
+def test_broken_list(tools, folder):
+    """With a broken list the page shows the entries before that, and what the log alone makes and expected registers confirm; and says in words
+    where the list breaks."""
+    entries, data, quoted = read_list((REAL / "ima.list").read_bytes()), (REAL / "ima.list").read_bytes(), quoted_by_nonce()
+    wrong = list_spelling([*entries[:7], entries[7]._replace(register=24), *entries[8:]])
+    seven = (REAL / "expected.txt").read_bytes().replace(b"sha256 7 65", b"sha256 7 56")
+    _, whole, _ = report_of(tools, make_boot(folder / "unbroken"))
+    cases = (
+        ("cut", {"ima": data[:5000]}, 49, 1), ("cut at once", {"ima": data[:5]}, 0, 1), ("of a register that is none", {"ima": wrong}, 7, 2),
+        ("cut, and another PCR 7", {"ima": data[:5000], "expected": seven}, 49, 1),
+    )
+    calls = [(make_boot(folder / f"list {title}", **changes),) for title, changes, *_ in cases]
+    for (title, changes, count, fault), (status, page, _) in zip(cases, reports_of(tools, calls)):
+        text, rows = state_of(page)[0], rows_below(page, "Entries of the measurement list")
+        found = (status, judged(page), f"refused: list fault {fault} at entry {count}" in text, [row[0] for row in rows], confirmed_in(page)[2])
+        tools.check(f"a list {title}", found, (2, ("refused", False), True, [str(number) for number in range(count)], []))
+        if is_built():
+            tools.check(f"a list {title}: in words", f"ima.list: entry {count}: {list_fault(fault)}" in text, True)
+        registers = [row[:4] for row in rows_below(whole, "PCRs") if row[1] != "10"]
+        if "expected" not in changes:
+            tools.check(f"a list {title}: what log and registers confirm", confirmed_in(page)[:2], confirmed_in(whole)[:2])
+            tools.check(f"a list {title}: PCRs by the log alone", [row[:4] for row in rows_below(page, "PCRs")], registers)
+            continue
+        differing = [row[1:3] for row in rows_below(page, "PCRs") if row[2] != "match"]
+        booted = {row[0]: row[1] for row in rows_below(page, "What the machine booted")}
+        seventh = {row[3] for row in rows_below(page, "Events of the firmware log") if row[1] == "7"}
+        tools.check(f"a list {title}: it confirms nothing", (differing, booted["secure boot"], seventh), ([["7", "differ"]], "unknown", {"claimed"}))
+    test_broken_and_quoted(tools, folder, data, quoted)
+
+
+def test_broken_and_quoted(tools, folder, data, quoted):
+    """A quote, which is of the whole list, confirms nothing beside a broken one: the page shows what the log makes."""
+    log = read_log((REAL / "firmware.log").read_bytes())
+    wanted = {(str(row.register), row.value.hex()) for row in inputs.expected_after(log, []) if row.register != 10 and any(row.value) and row.value[0] != 255}
+    calls = [(make_quoted(folder / f"broken and quoted {expected is None}", ima=data[:5000], expected=expected), *quoted)
+             for expected in ((REAL / "expected.txt").read_bytes(), None)]
+    for status, page, _ in reports_of(tools, calls):
+        rows = rows_below(page, "PCRs")
+        tools.check("a quote, and a list that is cut", (status, judged(page), confirmed_in(page)), (2, ("refused", False), NOTHING))
+        tools.check("a quote, and a list that is cut: PCRs of the log", ({row[2] for row in rows}, {(row[1], row[3]) for row in rows}), ({"not compared"}, wanted))
+
+
+def test_prefixes(tools, folder):
+    """How much of a list is covered is said in one way: the first so many of so many entries."""
+    data, quoted = (REAL / "ima.list").read_bytes(), quoted_by_nonce()
+    boot = make_quoted(folder / "longer", ima=data + data[-95:])
+    bare = make_quoted(folder / "longer, without expected registers", ima=data + data[-95:], expected=None)
+    cases = (((boot, "--prefix"), 1), ((boot, "--prefix", *quoted), 1), ((bare, "--prefix", *quoted), 0))
+    *found, (_, differing, _), (_, whole, _) = reports_of(tools, [*(call for call, _ in cases), (boot,), (folder / "unbroken",)])
+    first = "the first 99 of 100 entries"
+    for (call, is_confirming), (status, page, _) in zip(cases, found):
+        title = f"a prefix, of {call[0].name}, {len(call)} arguments"
+        text, paragraphs = state_of(page)[0], [each.text for each in page.all("p")]
+        told = (f"The verdict covers {first}. Nothing confirms what follows." in text, f"PCR 10 covers {first}." in paragraphs)
+        tools.check(title, (status, judged(page), told), (0, ("match", True), (True, True)))
+        booted, events, entries, _ = confirmed_in(whole)
+        tools.check(f"{title}: confirmed", confirmed_in(page)[:3], (booted, events, entries) if is_confirming else ([], [], entries))
+        denied = [each for each in paragraphs if each.startswith("No event is confirmed")]
+        tools.check(f"{title}: why no event is", [first in each for each in denied], [] if is_confirming else [True])
+    for page in (found[0][1], differing):
+        tools.check("where PCR 10 is reached", [row[4] for row in rows_below(page, "PCRs") if row[1] == "10"], [f"after {first}"])
 
 
 def test_failing_program(tools, folder):
