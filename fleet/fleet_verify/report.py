@@ -68,8 +68,8 @@ def booted(line: Line) -> Booted:
         return Booted(f"{title}, PCR {line['register']}", text if value != _UNKNOWN else None, line.get("claimed"), event)
     if what == "boot_variable" and value != _UNKNOWN:
         return Booted(title, *_variable(line["content"]), event)
-    if what == "ima_policy" and value != "none":
-        return Booted(title, None, None if value == _UNKNOWN else value)
+    if what == "ima_policy":
+        return Booted(title, None, None if value == _UNKNOWN else value, event)
     return Booted(title, None if value == _UNKNOWN else value, None, event)
 
 
@@ -92,7 +92,7 @@ def difference(line: Line) -> Difference:
     if "alike" in line:
         count, where = line["alike"], f" in bank {line['bank']}" if "bank" in line else ""
         told = {
-            "all": "no difference", _UNKNOWN: "unknown: no value confirms the PCR", 0: f"no event is the same{where}",
+            "all": "no difference", _UNKNOWN: "unknown: no value confirms the PCR", 0: f"the logs differ at the first event{where}",
             1: f"the first event is the same{where}",
         }
         return Difference(line["register"], told.get(count, f"the first {count} events are the same{where}"), "", None)

@@ -124,6 +124,7 @@ def test_report(tools):
     test_unknown_entries(tools, folder)
     test_broken_list(tools, folder)
     test_prefixes(tools, folder)
+    test_differences(tools, folder)
     test_failing_program(tools, folder)
     test_planted_program(tools, folder)
     test_sent_files(tools, folder)
@@ -379,6 +380,38 @@ def test_prefixes(tools, folder):
         tools.check("where PCR 10 is reached", [row[4] for row in rows_below(page, "PCRs") if row[1] == "10"], [f"after {first}"])
 
 
+def test_differences(tools, folder):
+    """What differs from an earlier boot is said in sentences that fit their numbers."""
+    ovmf, boot = SAMPLES / "ovmf-boot", folder / "with secure boot"
+    boot.mkdir()
+    for file, ending in zip(FILES, ("log", "list", "expected")):
+        shutil.copy(ovmf / f"secure-boot.{ending}", boot / file)
+    lines = (boot / "expected.txt").read_text().splitlines(keepends=True)
+    (boot / "expected.txt").write_text("".join(line for line in lines if line.split()[1] != "14"))
+    status, page, _ = report_of(tools, boot, "--before", ovmf / "systemd-boot.log")
+    (table,) = (each for each in page.all("div") if each.attributes.get("aria-labelledby") == "before")
+    rows = [[cell.text for cell in row.inner if not isinstance(cell, str)][:2] for row in table.all("tr")][1:]
+    logs = [read_log((ovmf / f"{name}.log").read_bytes()) for name in ("secure-boot", "systemd-boot")]
+    wanted = {str(register): said_of(*(digests_of(log, register) for log in logs)) for register in range(24) if register != 14}
+    wanted = {**{register: text for register, text in wanted.items() if text}, "14": "unknown: no value confirms the PCR"}
+    found = {register: text for register, text in rows if not re.fullmatch(r"(now|before): event \d+", text)}
+    tools.check("differences from an earlier boot", (status, found), (0, wanted))
+    tools.check("differences from an earlier boot: each kind of sentence", len(set(wanted.values())), 5)
+
+
+def digests_of(log, register):
+    return [event.digests[SHA256.identifier] for event in log.events if event.register == register and event.type != inputs.EV_NO_ACTION]
+
+
+def said_of(now, before):
+    """How much of two sequences of digests is the same, in words; nothing if both are empty."""
+    same = next((count for count, pair in enumerate(zip(now, before)) if pair[0] != pair[1]), min(len(now), len(before)))
+    if now == before:
+        return "no difference" if now else None
+    sentence = {0: "the logs differ at the first event", 1: "the first event is the same"}.get(same, f"the first {same} events are the same")
+    return f"{sentence} in bank sha256"
+
+
 def test_failing_program(tools, folder):
     """A program that fails, or whose output and status do not agree, never gives a page that looks like a match."""
     boot, programs = make_boot(folder / "failing"), tools.folder / "programs"
@@ -432,7 +465,7 @@ def test_planted_program(tools, folder):
     answers = {"show": '{"entries":0}', "events": '{"algorithms":[]}', "boot": '{"secure_boot":"on"}', "locate": '{"registers":[],"located":true}'}
     cases = "".join(f"{command}) echo '{answer}';; " for command, answer in answers.items())
     for name in ("ima-agent", "ima-attest"):
-        write_program(boot / name, f"touch '{ran}'; case $1 in {cases} *) echo '{report}';; esac")
+        write_program(boot / name, f": >'{ran}'; case $1 in {cases} *) echo '{report}';; esac")
     for file in ("quote.msg", "quote.sig"):
         shutil.copy(QUOTED / file, boot)
     quoted = ("--key", QUOTED / "AK.pem", "--nonce", "00" * 20)
