@@ -1,5 +1,5 @@
 -- What is told of entries as a list is replayed.
-use Rattle.std.proofs.Common.{◌≡◌, ℕ, zero, suc, ◌+◌, ◌-◌, ◌<◌, ◌≤◌, Bool, true, false, List, [], ◌∷◌, ◌++◌, length, take, drop, Option, None, Some, refl, sym, ap, ◌∙◌, arith, append_assoc, append-nil, inl, inr}
+use Rattle.std.proofs.Common.{◌≡◌, ℕ, zero, suc, ◌+◌, ◌-◌, ◌<◌, ◌≤◌, Bool, true, false, List, [], ◌∷◌, ◌++◌, length, take, drop, Option, None, Some, refl, sym, ap, ◌∙◌, arith, append_assoc, append-nil, inl, inr, length-append, subst}
 use Rattle.std.specs.Prelude.{if◌then◌else◌, ◌&&◌, nat_lt, option_map}
 use Rattle.std.specs.Borrow.{Bor}
 use Rattle.std.specs.List.{filter}
@@ -15,7 +15,7 @@ use Rattle.boot_verdict.proofs.StepLaws.{position_of_entry}
 use Rattle.known_files.specs.declared.known.KnownFiles.{KnownFiles}
 use Rattle.known_files.specs.declared.unknown.UnknownEntries.{UnknownEntries}
 use Rattle.known_files.specs.Known.{Knows}
-use Rattle.known_files.specs.Unknown.{AreUnknown, IsFresh, IsLookedAfter, files_of, is_told, is_unknown, told_by_step, told_by_steps, unknown_at, unknown_in}
+use Rattle.known_files.specs.Unknown.{AreUnknown, HasAdded, IsFresh, IsLookedAfter, IsSomeUnknown, files_of, is_told, is_unknown, told_by_step, told_by_steps, unknown_at, unknown_in}
 
 -- ---- one step after others
 
@@ -38,26 +38,58 @@ module _ (texts : List (List ℕ)) (first events : ℕ) where
       ∙ ap (λ n. told_by_steps texts first events 0 steps ++ told_by_steps texts first events n (step ∷ [])) size
       ∙ ap (λ l. told_by_steps texts first events 0 steps ++ l) (append-nil (told_by_step texts first (position_after events (length steps + 1)) step))
 
+-- ---- what is added
+
+-- Nothing is.
+pub none_added : (now : UnknownEntries) → HasAdded now [] now
+none_added now = inl (sym (append-nil now.numbers.items), refl)
+
+-- These, and then more.
+added_joined : (start old new : UnknownEntries) (numbers more : List ℕ) → HasAdded start numbers old → HasAdded old more new
+    → HasAdded start (numbers ++ more) new
+added_joined start old new numbers more (inl all) (inl next) =
+    inl (next.0 ∙ ap (λ l. l ++ more) all.0 ∙ append_assoc start.numbers.items numbers more, next.1 ∙ all.1)
+added_joined start old new numbers more (inl all) (inr (kept, fewer, items, failed)) =
+    inr (
+      numbers ++ kept,
+      omega (arith, fewer, length-append numbers kept, length-append numbers more),
+      items ∙ ap (λ l. l ++ kept) all.0 ∙ append_assoc start.numbers.items numbers kept,
+      failed,
+    )
+added_joined start old new numbers more (inr (kept, fewer, items, failed)) (inl next) =
+    inr (
+      kept ++ more,
+      omega (arith, fewer, length-append kept more, length-append numbers more),
+      next.0 ∙ ap (λ l. l ++ more) items ∙ append_assoc start.numbers.items kept more,
+      next.1 ∙ failed,
+    )
+added_joined start old new numbers more (inr (kept, fewer, items, failed)) (inr (later, less, now, lost)) =
+    inr (
+      kept ++ later,
+      omega (arith, fewer, less, length-append kept later, length-append numbers more),
+      now ∙ ap (λ l. l ++ later) items ∙ append_assoc start.numbers.items kept later,
+      lost,
+    )
+
 pub looked_next : (start : UnknownEntries) (events : ℕ) (before : List Step) (step : Step) (old new : UnknownEntries) (position : Position)
     → position ≡ position_after events (length before + 1) → new.known ≡ old.known → new.first ≡ old.first
-    → (new.failed ≡ false → old.failed ≡ false)
-    → ((texts : List (List ℕ)) (files : KnownFiles) → files_of old ≡ Some files → Knows texts files → new.failed ≡ false
-    → new.numbers.items ≡ old.numbers.items ++ told_by_step texts old.first position step)
+    → ((texts : List (List ℕ)) (files : KnownFiles) → files_of old ≡ Some files → Knows texts files
+    → HasAdded old (told_by_step texts old.first position step) new)
+    → (files_of old ≡ None → HasAdded old [] new)
     → IsLookedAfter start events before old → IsLookedAfter start events (before ++ step ∷ []) new
-looked_next start events before step old new position at same_known same_first whole adds looked = record {
+looked_next start events before step old new position at same_known same_first adds idles looked = record {
   known_same = same_known ∙ looked.known_same;
   first_same = same_first ∙ looked.first_same;
-  whole = λ kept. looked.whole (whole kept);
-  numbers = λ texts files has knows kept.
-      let told = told_by_steps texts start.first events 0 before in
+  added = λ texts files has knows.
       let same : told_by_step texts old.first position step ≡ told_by_step texts start.first (position_after events (length before + 1)) step =
       ap (λ n. told_by_step texts n position step) looked.first_same ∙ ap (λ p. told_by_step texts start.first p step) at in
-      adds texts files (ap (option_map (λ files. files.now)) looked.known_same ∙ has) knows kept
-      ∙ ap (λ l. old.numbers.items ++ l) same
-      ∙ ap (λ l. l ++ told_by_step texts start.first (position_after events (length before + 1)) step)
-      (looked.numbers texts files has knows (whole kept))
-      ∙ append_assoc start.numbers.items told (told_by_step texts start.first (position_after events (length before + 1)) step)
-      ∙ ap (λ l. start.numbers.items ++ l) (sym (told_next texts start.first events before step));
+      let here = adds texts files (ap (option_map (λ files. files.now)) looked.known_same ∙ has) knows in
+      subst (λ numbers. HasAdded start numbers new) (sym (told_next texts start.first events before step))
+      (added_joined start old new (told_by_steps texts start.first events 0 before)
+      (told_by_step texts start.first (position_after events (length before + 1)) step) (looked.added texts files has knows)
+      (subst (λ numbers. HasAdded old numbers new) same here));
+  idle = λ none.
+      added_joined start old new [] [] (looked.idle none) (idles (ap (option_map (λ files. files.now)) looked.known_same ∙ none));
 }
 
 -- A step to a position that is not an entry's adds nothing.
@@ -72,6 +104,9 @@ told_nowhere texts first Absent (OfEntry entry) none = refl
 
 pub not_both : {A : Type 0} (one : Option A) (value : A) → one ≡ None → one ≡ Some value → ⊥
 not_both one value none some = let e : None ≡ Some value = sym none ∙ some in absurd cc
+
+pub not_so : {b : Bool} → b ≡ false → b ≡ true → ⊥
+not_so is isnt = let e : false ≡ true = sym is ∙ isnt in absurd cc
 
 pub files_none : (unknown : UnknownEntries) → unknown.known ≡ None → files_of unknown ≡ None
 files_none unknown none = ap (option_map (λ files. files.now)) none
@@ -180,8 +215,8 @@ none_looked : (start : UnknownEntries) → IsLookedAfter start 0 [] start
 none_looked start = record {
   known_same = refl;
   first_same = refl;
-  whole = λ kept. kept;
-  numbers = λ texts files has knows kept. sym (append-nil start.numbers.items);
+  added = λ texts files has knows. none_added start;
+  idle = λ none. none_added start;
 }
 
 -- A fresh watch has looked at the entries before its first.
@@ -190,15 +225,15 @@ pub begins_after : (known : Option KnownFiles) (first : ℕ) (now : UnknownEntri
 begins_after known first now entries fresh early = λ origin events log size looked. record {
   known_same = looked.known_same;
   first_same = looked.first_same;
-  whole = looked.whole;
-  numbers = λ texts files has knows kept.
+  idle = looked.idle;
+  added = λ texts files has knows.
       let from = origin.first in
       let late : 0 + length entries ≤ from = omega (arith, early, fresh.first_is, looked.first_same) in
       let none : told_by_steps texts from events (0 + length log) (entries_as_steps entries) ≡ [] =
       as_entries texts from events (0 + length log) 0 entries (omega (arith, size)) ∙ none_early texts from 0 entries late in
-      looked.numbers texts files has knows kept
-      ∙ ap (λ l. origin.numbers.items ++ l) (sym (told_joined texts from events 0 log (entries_as_steps entries)
-      ∙ ap (λ l. told_by_steps texts from events 0 log ++ l) none ∙ append-nil (told_by_steps texts from events 0 log)));
+      subst (λ numbers. HasAdded origin numbers now) (sym (told_joined texts from events 0 log (entries_as_steps entries)
+      ∙ ap (λ l. told_by_steps texts from events 0 log ++ l) none ∙ append-nil (told_by_steps texts from events 0 log)))
+      (looked.added texts files has knows);
 }
 
 module _ (known : Option KnownFiles) (first : ℕ) (start now : UnknownEntries) (entries : List ListEntry) (fresh : IsFresh known first start)
@@ -212,14 +247,37 @@ module _ (known : Option KnownFiles) (first : ℕ) (start now : UnknownEntries) 
   pub first_still : now.first ≡ first
   first_still = looked_all.first_same ∙ fresh.first_is
 
-  -- The numbers below a count are those of the first entries.
-  pub unknown_below : (files : KnownFiles) (count : ℕ) (texts : List (List ℕ)) → known ≡ Some files → Knows texts files → now.failed ≡ false
-      → AreUnknown texts first (take count entries) (filter (λ n. nat_lt n count) now.numbers.items)
-  unknown_below files count texts are knows kept =
-      let told : now.numbers.items ≡ told_of_entries texts first 0 entries =
-      looked_all.numbers texts files (fresh.known_is ∙ are) knows kept
-      ∙ ap (λ l. l ++ told_by_steps texts start.first 0 0 (entries_as_steps entries)) fresh.none
-      ∙ as_entries texts start.first 0 0 0 entries refl ∙ ap (λ n. told_of_entries texts n 0 entries) fresh.first_is in
-      let all : count - 0 ≡ count = omega arith in
-      ap (filter (λ n. nat_lt n count)) told ∙ told_below texts first count 0 entries
-      ∙ ap (λ n. told_of_entries texts first 0 (take n entries)) all ∙ told_is_unknown texts first (take count entries)
+  told_all : (texts : List (List ℕ)) → told_by_steps texts start.first 0 0 (entries_as_steps entries) ≡ told_of_entries texts first 0 entries
+  told_all texts =
+      as_entries texts start.first 0 0 0 entries refl ∙ ap (λ n. told_of_entries texts n 0 entries) fresh.first_is
+
+  module _ (files : KnownFiles) (texts : List (List ℕ)) (are : known ≡ Some files) (knows : Knows texts files) where
+    added_all : HasAdded start (told_of_entries texts first 0 entries) now
+    added_all =
+        subst (λ numbers. HasAdded start numbers now) (told_all texts) (looked_all.added texts files (fresh.known_is ∙ are) knows)
+
+    -- The numbers below a count are those of the first entries.
+    pub unknown_below : (count : ℕ) → now.failed ≡ false → AreUnknown texts first (take count entries) (filter (λ n. nat_lt n count) now.numbers.items)
+    unknown_below count kept = elim added_all [
+      | inl all ↦
+          let told : now.numbers.items ≡ told_of_entries texts first 0 entries =
+          all.0 ∙ ap (λ l. l ++ told_of_entries texts first 0 entries) fresh.none in
+          let size : count - 0 ≡ count = omega arith in
+          ap (filter (λ n. nat_lt n count)) told ∙ told_below texts first count 0 entries
+          ∙ ap (λ n. told_of_entries texts first 0 (take n entries)) size ∙ told_is_unknown texts first (take count entries)
+      | inr (fewer, less, items, failed) ↦ absurd (not_so kept failed)
+    ]
+
+    -- Memory ran out only at an unknown entry.
+    pub some_unknown : now.failed ≡ true → IsSomeUnknown texts first entries
+    some_unknown failed = elim added_all [
+      | inl all ↦ absurd (not_so (all.1 ∙ fresh.whole) failed)
+      | inr (fewer, less, items, lost) ↦
+          let same = ap length (told_is_unknown texts first entries) in omega (arith, less, same)
+    ]
+
+  pub none_lost : known ≡ None → now.failed ≡ true → ⊥
+  none_lost none failed = elim (looked_all.idle (fresh.known_is ∙ none)) [
+    | inl all ↦ not_so (all.1 ∙ fresh.whole) failed
+    | inr (fewer, less, items, lost) ↦ omega (arith, less)
+  ]

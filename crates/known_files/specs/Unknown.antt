@@ -1,5 +1,5 @@
 -- The entries of a list that are not known.
-use Rattle.std.specs.Prelude.{◌≡◌, ℕ, ◌+◌, ◌&&◌, ◌==◌, nat_le, Bool, true, false, not, if◌then◌else◌, List, [], ◌∷◌, ◌++◌, length, drop, Option, None, Some, option_map}
+use Rattle.std.specs.Prelude.{◌≡◌, ◌⊎◌, ◌<◌, ℕ, ◌+◌, ◌&&◌, ◌==◌, nat_le, Bool, true, false, not, if◌then◌else◌, List, [], ◌∷◌, ◌++◌, length, drop, Option, None, Some, option_map}
 use Rattle.ima_list.specs.ListEntry.{ListEntry}
 use Rattle.boot_verdict.specs.declared.positions.Position.{Position}
 use Rattle.boot_verdict.specs.declared.positions.Position.TheVariants.{Reset, Event, Entry, Nowhere, Absent}
@@ -31,6 +31,10 @@ unknown_in texts number (entry ∷ entries) = unknown_at texts number entry ++ u
 -- These are the numbers of the unknown ones among the entries from number `first` on.
 abbrev pub AreUnknown : List (List ℕ) → ℕ → List ListEntry → List ℕ → Type 0
 AreUnknown texts first entries numbers = numbers ≡ unknown_in texts first (drop first entries)
+
+-- There is an unknown one among them.
+abbrev pub IsSomeUnknown : List (List ℕ) → ℕ → List ListEntry → Type 0
+IsSomeUnknown texts first entries = 0 < length (unknown_in texts first (drop first entries))
 
 -- No entry is told unknown; so it is where no files are known.
 abbrev pub none_unknown : Option Unknown → Bool
@@ -69,10 +73,16 @@ told_by_steps texts first events before [] = []
 told_by_steps texts first events before (step ∷ steps) =
     told_by_step texts first (position_after events (before + 1)) step ++ told_by_steps texts first events (before + 1) steps
 
--- These steps were looked at: unless memory ran out, the numbers of the unknown ones among them were added.
+-- What came of adding these numbers: all were added; or memory ran out, which lasts, and fewer were.
+abbrev pub HasAdded : UnknownEntries → List ℕ → UnknownEntries → Type 0
+HasAdded old numbers new =
+    ((new.numbers.items ≡ old.numbers.items ++ numbers) × (new.failed ≡ old.failed))
+    ⊎ ((kept : List ℕ) × (length kept < length numbers) × (new.numbers.items ≡ old.numbers.items ++ kept) × (new.failed ≡ true))
+
+-- These steps were looked at, and the numbers of the unknown ones among them were to be added: none without known files.
 pub record IsLookedAfter (start : UnknownEntries) (events : ℕ) (steps : List Step) (now : UnknownEntries) : Type 0 where
   pub known_same : now.known ≡ start.known
   pub first_same : now.first ≡ start.first
-  pub whole : now.failed ≡ false → start.failed ≡ false
-  pub numbers : (texts : List (List ℕ)) (files : KnownFiles) → files_of start ≡ Some files → Knows texts files → now.failed ≡ false
-      → now.numbers.items ≡ start.numbers.items ++ told_by_steps texts start.first events 0 steps
+  pub added : (texts : List (List ℕ)) (files : KnownFiles) → files_of start ≡ Some files → Knows texts files
+      → HasAdded start (told_by_steps texts start.first events 0 steps) now
+  pub idle : files_of start ≡ None → HasAdded start [] now

@@ -8,7 +8,7 @@ ghost use Rattle.boot_verdict.specs.ListReplays.{AreTracked};
 ghost use Rattle.known_files.specs.declared.known.KnownFiles.{KnownFiles};
 ghost use Rattle.known_files.specs.declared.unknown.UnknownEntries.{UnknownEntries};
 ghost use Rattle.known_files.specs.Known.{Knows};
-ghost use Rattle.known_files.specs.Unknown.{AreUnknown, IsFresh, IsLookedAfter, files_of, is_passed, is_told, none_unknown};
+ghost use Rattle.known_files.specs.Unknown.{AreUnknown, HasAdded, IsFresh, IsLookedAfter, IsSomeUnknown, files_of, is_passed, is_told, none_unknown};
 
 use crate::known::{KnownFiles, is_aggregate};
 use boot_verdict::{Position, Step, Tracker};
@@ -60,7 +60,7 @@ impl<'a> UnknownEntries<'a> {
     }
 
     /// The entries that are not known, among the first `count` of the list; `None` without known files. Fails if memory ran out at an
-    /// unknown entry.
+    /// unknown entry, which may be a later one.
     pub fn within(self, count: usize) -> Result<Option<Unknown>, AllocError>
         ensures unknown { IfOk result (λ unknown. (files : KnownFiles) (first : ℕ) (start : UnknownEntries) (entries : List ListEntry)
             → IsFresh (Some files) first start → AreTracked IsLookedAfter start entries self.entry
@@ -68,7 +68,11 @@ impl<'a> UnknownEntries<'a> {
             × ((texts : List (List ℕ)) → Knows texts files → AreUnknown texts first (take count entries) unknown.numbers.items))) }
         ensures none { IfOk result (λ unknown. (first : ℕ) (start : UnknownEntries) (entries : List ListEntry) → IsFresh None first start
             → AreTracked IsLookedAfter start entries self.entry → unknown ≡ None) }
-        ensures memory { IfErr result (λ refused. self.entry.failed ≡ true) }
+        ensures memory { IfErr result (λ refused. (files : KnownFiles) (first : ℕ) (start : UnknownEntries) (entries : List ListEntry)
+            → IsFresh (Some files) first start → AreTracked IsLookedAfter start entries self.entry
+            → (texts : List (List ℕ)) → Knows texts files → IsSomeUnknown texts first entries) }
+        ensures idle { IfErr result (λ refused. (first : ℕ) (start : UnknownEntries) (entries : List ListEntry) → IsFresh None first start
+            → AreTracked IsLookedAfter start entries self.entry → ⊥) }
     {
         if self.failed {
             return Err(AllocError);
@@ -84,8 +88,9 @@ impl<'a> UnknownEntries<'a> {
 
     // Whether the entry of this number is looked at, and is unknown.
     fn is_unknown(&self, number: usize, entry: &EntryRef<'_>) -> bool
-        ensures { (texts : List (List ℕ)) (files : KnownFiles) → files_of self.now ≡ Some files → Knows texts files
+        ensures told { (texts : List (List ℕ)) (files : KnownFiles) → files_of self.now ≡ Some files → Knows texts files
             → result ≡ is_told texts self.now.first number entry.now }
+        ensures idle { files_of self.now ≡ None → result ≡ false }
     {
         match self.known {
             Some(known) => {
@@ -97,7 +102,7 @@ impl<'a> UnknownEntries<'a> {
 
     // Adds this number, unless memory runs out.
     fn tell(&mut self, number: usize)
-        ensures told { self.new.failed ≡ false → (self.old.failed ≡ false) × (self.new.numbers.items ≡ self.old.numbers.items ++ number ∷ []) }
+        ensures added { HasAdded self.old (number ∷ []) self.new }
         ensures known { self.new.known ≡ self.old.known }
         ensures first { self.new.first ≡ self.old.first }
     {
