@@ -1,12 +1,11 @@
 """What the verifier has for quotes: the machines' keys, and the nonces that it gave out, each for one verdict."""
 
-import math
 import sqlite3
 from datetime import datetime
 from typing import Optional, Sequence, Tuple
 
 from .machines import Machine
-from .reading import Fields, read_file
+from .reading import Fields, cause_of, read_file
 from .verdict import REPORTED
 
 TABLES = """
@@ -33,20 +32,22 @@ _OF_VERDICT = (
 )
 
 
-def key_of(folder: str, name: str) -> Optional[str]:
-    """The PEM of the machine of this name, if the folder of keys has it: NAME.pem, or, only where that is not there, NAME/NAME.pem, as
-    `ima-enroll` keeps it. No name leads out of the folder."""
+def key_of(folder: str, name: str) -> Tuple[Optional[str], Optional[str]]:
+    """The PEM of the machine of this name, if the folder of keys has it, or why it is not taken: NAME.pem, or, only where that is not there,
+    NAME/NAME.pem, as `ima-enroll` keeps it. No name leads out of the folder."""
     if "/" in name or name in (".", ".."):
-        return None
-    for path in (f"{folder}/{name}.pem", f"{folder}/{name}/{name}.pem"):
+        return None, None
+    for path, shown in ((f"{folder}/{name}.pem", "NAME.pem"), (f"{folder}/{name}/{name}.pem", "NAME/NAME.pem")):
         try:
             text = read_file(path, follow_symlinks=True)
         except (FileNotFoundError, NotADirectoryError):
             continue
-        except OSError:
-            return None
-        return text.decode("latin-1") if text is not None and len(text) <= MOST_KEY_BYTES else None
-    return None
+        except OSError as fault:
+            return None, f"no key: {shown} cannot be read: {cause_of(fault, path)}"
+        if text is None or len(text) > MOST_KEY_BYTES:
+            return None, f"no key: {shown} has more than {MOST_KEY_BYTES} bytes"
+        return text.decode("latin-1"), None
+    return None, None
 
 
 def nonces_of(connection: sqlite3.Connection, name: str) -> Tuple[Tuple[str, bool], ...]:

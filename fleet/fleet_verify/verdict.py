@@ -73,11 +73,13 @@ class Given:
         checkpoint: Where its last match stopped, by Latin-1.
         key: The PEM of its attestation key.
         nonces: Those that were given out for it, in hexadecimal digits, each with whether an earlier verdict used it.
+        no_key: Why its key was not taken, if there is one.
     """
 
     checkpoint: Optional[str] = None
     key: Optional[str] = None
     nonces: Sequence[Tuple[str, bool]] = ()
+    no_key: Optional[str] = None
 
 
 def required(require: str) -> Any:
@@ -304,7 +306,7 @@ def polled_verdict(paths: Sequence[str], given: Given, asked: Asked, known: Opti
 def lacking(given: Given) -> Optional[str]:
     """What the verifier lacks to judge a quote of the machine, if it lacks something."""
     if given.key is None:
-        return NO_KEY
+        return given.no_key or NO_KEY
     return None if given.nonces else NO_NONCE
 
 

@@ -167,7 +167,8 @@ class Verdicts:
         checkpoint = self._checkpoint(machine) if has_checkpoint else None
         if self.quoting is None:
             return Given(checkpoint)
-        return Given(checkpoint, quotes.key_of(self.quoting.keys, machine.name), quotes.nonces_of(self.connection, machine.name))
+        key, fault = quotes.key_of(self.quoting.keys, machine.name)
+        return Given(checkpoint, key, quotes.nonces_of(self.connection, machine.name), fault)
 
     def _checkpoint(self, machine: Machine) -> Optional[str]:
         query = "SELECT CAST(checkpoint AS BLOB) FROM checkpoints WHERE machine = ? AND known_sha256 IS ?"

@@ -78,7 +78,7 @@ class Batch:
 
 def written_place(places: Sequence[str], given: Given) -> str:
     """A machine as a line of a request."""
-    return json.dumps([places, [given.checkpoint, given.key, given.nonces]])
+    return json.dumps([places, [given.checkpoint, given.key, given.nonces, given.no_key]])
 
 
 def written_request(asked: Asked, is_patient: bool, seconds: float, machines: Iterable[str]) -> str:

@@ -326,6 +326,7 @@ def test_taking_over(tools):
 def test_keys(tools):
     """Where a machine's key is found, and where it is not."""
     from fleet_verify.quotes import key_of
+    from fleet_verify.verdict import NO_KEY, Asked, Given, answer_on
 
     folder = tools.folder / "found keys"
     for name in ("a", "b", "c", "d", "e"):
@@ -336,8 +337,22 @@ def test_keys(tools):
     (folder / "d.pem").symlink_to("d.pem")
     (folder / "e.pem").write_bytes(bytes(16 * 1024 + 1))
     (tools.folder / "out.pem").write_text("out")
-    wanted = {"a": "a", "b": "b in a folder", "c": None, "d": None, "e": None, "f": None, "../out": None, "..": None, ".": None, "x" * 255: None}
+    for name in ("h.pem", "h"):  # (the folder of one machine has the name of the other's file)
+        (folder / name).mkdir()
+        (folder / name / f"{name}.pem").write_text(name)
+    (folder / "i").mkdir()
+    (folder / "i/i.pem").symlink_to("../a.pem")
+    wanted = {
+        "a": ("a", None), "b": ("b in a folder", None), "c": (None, "no key: NAME.pem cannot be read: OSError: it is no regular file"),
+        "d": (None, "no key: NAME.pem cannot be read: OSError: [Errno 40] Too many levels of symbolic links"),
+        "e": (None, "no key: NAME.pem has more than 16384 bytes"), "h": (None, "no key: NAME.pem cannot be read: OSError: it is no regular file"),
+        "h.pem": ("h.pem", None), "i": ("a", None), **dict.fromkeys(("f", "../out", "..", ".", "", "a.pem", "h/h", "i/i", "x" * 251), (None, None)),
+        "x" * 255: (None, "no key: NAME.pem cannot be read: OSError: [Errno 36] File name too long"),
+    }
     tools.check("keys that are found: none in place of one that cannot be read", {name: key_of(str(folder), name) for name in wanted}, wanted)
+    asked = Asked(REQUIRE, False, True, 60)
+    found = [answer_on(("/none",) * 4, Given(None, *key_of(str(folder), name)[:1], (), key_of(str(folder), name)[1]), asked) for name in "hf"]
+    tools.check("keys that are not found: the cause", [answer["cause"] for answer in found], [wanted["h"][1], NO_KEY])
 
 
 def test_nonces(quotes, verdicts):
