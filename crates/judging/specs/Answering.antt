@@ -45,8 +45,10 @@ use Rattle.attestations.specs.Quoted.{stated_by}
 use Rattle.attestations.specs.Reports.{AttestVerdict, attest_verdict_of, is_attested}
 use Rattle.tpm_keys.specs.declared.fault.KeyFault.{KeyFault}
 use Rattle.tpm_keys.specs.declared.kinds.Purpose.{Purpose}
+use Rattle.tpm_keys.specs.Purposes.{lack}
 use Rattle.tpm_keys.specs.Reading.{key_fault}
 use Rattle.tpm_keys.specs.Reports.{IsKey}
+use Rattle.tpm_keys.specs.Spelling.{IsPublicArea, KeyArea}
 use Rattle.growing_lists.specs.declared.session.Session.{Session}
 use Rattle.growing_lists.specs.declared.saved_state.Boot.{Boot}
 use Rattle.growing_lists.specs.declared.saved_state.SavedState.{SavedState}
@@ -74,9 +76,9 @@ use Rattle.boot_log.specs.Replaying.{IsFirmware, startup_locality}
 use Rattle.boot_verdict.specs.declared.expected.ExpectFault.{ExpectFault}
 use Rattle.boot_verdict.specs.declared.expected.ExpectFault.TheVariants.{NoRegister}
 use Rattle.boot_verdict.specs.ExpectedTexts.{HasFirstFault, IsExpectedText}
-use Rattle.boot_verdict.specs.PrintedTexts.{HasPrintedFault, IsPrintedText}
+use Rattle.boot_verdict.specs.PrintedTexts.{HasPrintedFault, IsPrintedText, PrintsRegister}
 use Rattle.boot_verdict.specs.Replays.{IsListStart}
-use Rattle.boot_verdict.specs.Selections.{SpellsRanges, those_selected}
+use Rattle.boot_verdict.specs.Selections.{BeginsWithBankRange, SpellsRanges, those_selected}
 use Rattle.growing_lists.specs.CheckpointTexts.{IsOfOtherVersion, checkpoint_text}
 use Rattle.judging.specs.declared.request.Answered.{Answered}
 use Rattle.judging.specs.declared.answers.Evidence.{Evidence as HeldEvidence}
@@ -352,10 +354,11 @@ abbrev pub IsRequired : Requires → Option (List BankRange) → Type 0
 IsRequired (These text) ranges = IsSomeAnd ranges (IsRequirementText text)
 IsRequired requires ranges = ranges ≡ None
 
--- Why a text that is given requires nothing: it spells no registers, or memory ran out.
+-- Why a text that is given requires nothing: it spells no registers; or its first part does, and memory ran out.
 abbrev pub IsNotRequired : Requires → RunFault → Type 0
 IsNotRequired (These text) fault =
-    ((fault ≡ runs.Usage) × ((ranges : List BankRange) → IsRequirementText text ranges → ⊥)) ⊎ (fault ≡ runs.Memory)
+    ((fault ≡ runs.Usage) × ((ranges : List BankRange) → IsRequirementText text ranges → ⊥))
+    ⊎ ((fault ≡ runs.Memory) × BeginsWithBankRange text)
 IsNotRequired requires fault = ⊥
 
 -- The text is that of this state, which is possible. Any other possible one of which it is has the same data, and so its checkpoint is that of
@@ -648,10 +651,11 @@ abbrev pub IsSelected : Option (List ℕ) → Option (List BankRange) → Type 0
 IsSelected None selection = selection ≡ None
 IsSelected (Some text) selection = IsSomeAnd selection (SpellsRanges text)
 
--- Why nothing is selected: a text is given, and does not spell a selection; or memory ran out over it.
+-- Why nothing is selected: a text is given, and does not spell a selection; or its first part does, and memory ran out.
 abbrev pub IsSelectionFault : Option (List ℕ) → RunFault → Type 0
 IsSelectionFault text fault = IsSomeAnd text
-    (λ text. ((fault ≡ runs.Usage) × ((ranges : List BankRange) → SpellsRanges text ranges → ⊥)) ⊎ (fault ≡ runs.Memory))
+    (λ text. ((fault ≡ runs.Usage) × ((ranges : List BankRange) → SpellsRanges text ranges → ⊥))
+    ⊎ ((fault ≡ runs.Memory) × BeginsWithBankRange text))
 
 -- The registers that are selected, in order: all without a selection.
 abbrev pub selected_by : Option (List BankRange) → List Expected → List Expected
@@ -663,20 +667,22 @@ abbrev pub IsPrintedOf : Option (List BankRange) → List ℕ → List Expected 
 IsPrintedOf selection text selected =
     ((expected : List Expected) × IsPrintedText text expected × (selected ≡ selected_by selection expected)) × (0 < length selected)
 
--- Why a text gives no registers that are selected: it was not printed by tpm2-tools, or states no register; it states none of them; or memory
--- ran out.
+-- Why a text gives no registers that are selected: it was not printed by tpm2-tools, or states no register; it states none of them; or the first
+-- line that counts states a register, and memory ran out.
 abbrev pub IsNotPrintedOf : Option (List BankRange) → List ℕ → RunFault → Type 0
 IsNotPrintedOf selection text fault =
     ((first : ExpectFault) × HasPrintedFault text first × (fault ≡ fault_of_expected first))
     ⊎ ((expected : List Expected) × IsPrintedText text expected × (selected_by selection expected ≡ []) × (fault ≡ runs.Expect NoRegister))
-    ⊎ (fault ≡ runs.Memory)
+    ⊎ ((fault ≡ runs.Memory) × PrintsRegister text)
 
 -- ---- keys
 
--- Why the bytes are no key for this purpose: their first fault, or else the first thing that the key lacks; or memory ran out.
+-- Why nothing is told of the key: the first fault of the bytes, or else the first thing that the key lacks for this purpose; or it lacks nothing,
+-- and memory ran out over its PEM.
 abbrev pub IsNoKey : Purpose → List ℕ → RunFault → Type 0
 IsNoKey purpose content fault =
-    ((first : KeyFault) × (key_fault purpose content ≡ Some first) × (fault ≡ runs.Key first)) ⊎ (fault ≡ runs.Memory)
+    ((first : KeyFault) × (key_fault purpose content ≡ Some first) × (fault ≡ runs.Key first))
+    ⊎ ((fault ≡ runs.Memory) × ((area : KeyArea) × IsPublicArea content area × (lack purpose area ≡ None)))
 
 -- ---- what is asked for
 
@@ -708,7 +714,7 @@ abbrev pub IsRefusal : Inputs → Requested → RunFault → Type 0
 IsRefusal inputs (Attests asked) fault = IsNoAttestation inputs asked fault
 IsRefusal inputs (Compares compare) fault = IsNoComparison inputs compare fault
 IsRefusal inputs (LogRegistersOf log) fault =
-    IsInputFault inputs log fault ⊎ OfInput inputs log (λ content. HasLogFault content fault) ⊎ (fault ≡ runs.Memory)
+    IsInputFault inputs log fault ⊎ OfInput inputs log (λ content. HasLogFault content fault)
 IsRefusal inputs (ListRegistersOf list) fault = IsReadFailure inputs list fault ⊎ IsRefusedList inputs list fault ⊎ (fault ≡ runs.Memory)
 IsRefusal inputs (ExpectedOf printed text) fault =
     IsSelectionFault text fault

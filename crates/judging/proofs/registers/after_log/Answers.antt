@@ -12,7 +12,7 @@ pub returns-in_err-view-clause-fault : goal.returns-in_err-view-clause-fault
 returns-in_err-view-clause-fault g c =
     let p = err_from_is_err_and c.from_residual-in_err-view.result c.from_residual-in_err-view.ensures.1 in
     rw p.1
-    (inr (inl (
+    (inr (
       held_bytes c.in_ok-log.log,
       c.in_ok-log.ensures.all,
       record {
@@ -20,7 +20,7 @@ returns-in_err-view-clause-fault g c =
         first_is = rw c.bytes.ensures at c.in_err-view.ensures.fault;
         says = p.2;
       },
-    )))
+    ))
 
 pub returns-clause-answer : goal.returns-clause-answer
 returns-clause-answer g c =
