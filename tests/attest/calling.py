@@ -16,7 +16,7 @@ from reference.registers import SHA256
 
 QUOTED = ROOT / "samples/quoted"
 NEEDED = ("swtpm", "openssl", "tpm2_flushcontext", "tpm2_pcrread", "tpm2_pcrextend", "tpm2_pcrreset", "tpm2_readpublic", "tpm2_makecredential",
-          "tpm2_activatecredential", "tpm2_nvdefine", "tpm2_nvread", "tpm2_getcap", *TOOLS)
+          "tpm2_activatecredential", "tpm2_nvdefine", "tpm2_nvread", "tpm2_getcap", "flock", *TOOLS)
 SCRIPTS = {"verify": "ima-attest", "enroll": "ima-enroll", "collect": "ima-collect"}
 NONCE = (QUOTED / "nonce").read_text().strip()
 OF_QUOTE = "quote match"
