@@ -23,12 +23,23 @@ def main(words: Optional[Sequence[str]] = None) -> int:
     if words and words[0] in COMMANDS:
         status: int = import_module(f".{words[0]}", __package__).main(words[1:])
         return status
+    if words and (meant := nearest_command(words)):
+        return complain(f"refused: there is no command {words[0]!r}, but {meant!r}", 2)
     from .options import options_of
     from .summary import Summary
 
     options, summary = options_of(words), Summary()
     summary.end(run_status(options, summary))
     return summary.status if options.metrics is None else noted(options.metrics, summary, options.table)
+
+
+def nearest_command(words: Sequence[str]) -> Optional[str]:
+    """The command that the first word may stand for, if these are no words of a run: that says who verifies."""
+    from difflib import get_close_matches
+
+    is_run = words[0].startswith("-") or any(word.startswith(("--w", "--sc")) for word in words)
+    found = [] if is_run else get_close_matches(words[0], COMMANDS, 1)
+    return found[0] if found else None
 
 
 def run_status(options: "Options", summary: "Summary") -> int:

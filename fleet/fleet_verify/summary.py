@@ -9,8 +9,8 @@ from typing import Any, Dict, List, Mapping, Optional
 from .reading import now
 from .verdicts import Verdicts
 
-# How many machines that do not match are named.
-MOST_NAMED = 100
+# How many machines that do not match are named, and how many causes are told beside the counts.
+MOST_NAMED, MOST_CAUSES = 100, 3
 
 _REASONS = "SELECT verdict, why, machines FROM reasons ORDER BY machines DESC, verdict, why"
 _NAMED = """
@@ -60,6 +60,12 @@ class Summary:
         self.reasons = [{"verdict": verdict, "cause": cause, "machines": count} for verdict, cause, count in rows]
         self.named = [_named(*row) for row in table.connection.execute(_NAMED, (MOST_NAMED,))]
 
+    @property
+    def causes(self) -> List[str]:
+        """Why most machines have no verdict that a report explains, as lines."""
+        told = [each for each in self.reasons if each["cause"] is not None][:MOST_CAUSES]
+        return [f"{each['verdict']} {each['machines']}: {_whole(each['cause'])}" for each in told]
+
     def end(self, status: int) -> None:
         """Notes that the run has ended, with this status."""
         self.status, self.ended, self.seconds = status, now(), monotonic() - self._begun
@@ -84,6 +90,11 @@ class Summary:
             "oldest_match_seconds": None if self.oldest_match is None or math.isinf(self.oldest_match) else round(self.oldest_match, 1),
             "reasons": self.reasons, "not_matching": self.named, "not_matching_more": different - len(self.named),
         })
+
+
+def _whole(cause: str) -> str:
+    """A cause, in which the number of an event or an entry may be left out, as a line."""
+    return f"{cause}.." if cause.endswith(" ") else cause
 
 
 def exit_status(counts: Mapping[str, int], machines: int) -> int:

@@ -164,10 +164,11 @@ def print_counts(options: Options, table: Verdicts, summary: Summary) -> int:
     summary.count(table)
     if summary.without_verdict != 0:
         raise CannotGoOn("another run records in this table")
-    if options.json:
-        summary.look(table)
+    summary.look(table)
     summary.end(exit_status(summary.counts, sum(summary.counts.values())))
     print(summary.json if options.json else "\n".join(f"{kind} {summary.counts[kind]}" for kind in VERDICTS), flush=True)
+    for cause in [] if options.json else summary.causes:
+        complain(cause, 0)
     end = datetime.fromisoformat(summary.ended)
     oldest = (end - timedelta(seconds=options.keep)).isoformat(timespec="milliseconds")
     table.end(summary.ended, oldest)  # (not before, so that the same command goes on until the counts are told)

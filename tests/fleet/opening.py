@@ -31,10 +31,10 @@ EDITED = {
     "a trigger": "CREATE TRIGGER matching AFTER INSERT ON given BEGIN UPDATE found SET verdict = 'match'; END",
     "another table": "CREATE TABLE other (machine)",
     "another index": "CREATE INDEX other ON found (verdict)",
-    "a table of other columns": "DROP TABLE polls; CREATE TABLE polls (number INTEGER PRIMARY KEY, time TEXT NOT NULL DEFAULT (randomblob(1000000000)))",
+    "a table of other columns": "DROP TABLE polls; CREATE TABLE polls (number INTEGER PRIMARY KEY, time TEXT NOT NULL DEFAULT (randomblob(1000000)))",
     "no index of its own": "PRAGMA writable_schema = ON; DELETE FROM sqlite_master WHERE name = 'sqlite_autoindex_found_1'",
-    "a huge schema": "PRAGMA writable_schema = ON; INSERT INTO sqlite_master WITH RECURSIVE counted (x) AS (SELECT 1 UNION ALL SELECT x + 1 FROM counted "
-    "WHERE x < 50000) SELECT 'view', 'v' || x, 'v' || x, 0, 'CREATE VIEW v' || x || ' AS SELECT 1' FROM counted",
+    "a huge schema": "PRAGMA writable_schema = ON; INSERT INTO sqlite_master WITH RECURSIVE counted (x) AS (SELECT 1 UNION ALL SELECT x + 1 "
+    "FROM counted WHERE x < 50000) SELECT 'view', 'v' || x, 'v' || x, 0, 'CREATE VIEW v' || x || ' AS SELECT 1' FROM counted",
     "another form": "PRAGMA user_version = 8",
     "another program": "PRAGMA application_id = 0",
 }

@@ -1,12 +1,12 @@
 """Tests of parts, for tests/fleet/test: batches, answers, the end of a run, causes, the units of systemd, the types and the wheel."""
 
+import ast
 import re
 import shutil
 import subprocess
-import sys
 import zipfile
 
-from cluster import REQUIRE, ROOT, SECONDS
+from cluster import REQUIRE, ROOT, SECONDS, python_with
 
 # Prints how many machines of a batch are answered in so many seconds, for each, and their verdicts.
 BATCHES = """
@@ -374,10 +374,21 @@ def test_unit_commands(tools, fleet):
     tools.check("the service gives out nonces", (done.returncode, {path.name for path in (folder / "nonces").iterdir()}), (0, set(fleet.rows)))
 
 
+def untyped(file):
+    """The functions of a file that lack a type."""
+    for each in ast.walk(ast.parse(file.read_text())):
+        if isinstance(each, (ast.FunctionDef, ast.AsyncFunctionDef)):
+            given = [*each.args.posonlyargs, *each.args.args, *each.args.kwonlyargs, each.args.vararg, each.args.kwarg]
+            if each.returns is None or any(one and one.annotation is None and one.arg not in ("self", "cls") for one in given):
+                yield f"{file.name}: {each.name}"
+
+
 def test_types(tools):
-    """The package is typed."""
-    python = next((each for each in (sys.executable, "/usr/bin/python3") if has(each, "mypy")), None)
-    tools.lacks(*([] if python else ["mypy"]))
+    """The package is typed: each function says its types, and where there is mypy, they are right."""
+    files = sorted((ROOT / "fleet/fleet_verify").glob("*.py"))
+    tools.check("functions without types", [name for file in files for name in untyped(file)], [])
+    python = python_with("mypy")
+    tools.lacks(*([] if python else ["mypy: whether the types of fleet_verify are right"]))
     words = [python, "-m", "mypy", "--cache-dir", "/dev/null"]
     done = subprocess.run(words, cwd=ROOT / "fleet", capture_output=True, text=True, timeout=SECONDS)
     tools.check("mypy --strict", (done.returncode, done.stdout if done.returncode else ""), (0, ""))

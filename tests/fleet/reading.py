@@ -52,7 +52,9 @@ told = answer_on(["store://no memory"] * 3, Given(), asked(60))
 print(told["verdict"], told["cause"])
 """
 NO_FILE = "log: OSError: it is no regular file"
-WHOLE_WANTED = ["True True", "1 1", "refused: too long list", "True", *[NO_FILE] * 4, "log: OSError: [Errno 5] Input/output error", "troubled MemoryError"]
+WHOLE_WANTED = [
+    "True True", "1 1", "refused: too long list", "True", *[NO_FILE] * 4, "log: OSError: [Errno 5] Input/output error", "troubled MemoryError",
+]
 
 # Prints what is read of files in a folder, and of links there, by a path, and by a URL: a link is the machine's, and one to the folder not.
 # Whoever names a file may have it read though it is a link.
