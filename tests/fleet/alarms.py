@@ -33,6 +33,11 @@ for family in text_string_to_metric_families(open(sys.argv[1]).read()):
 """
 
 
+CAUSES = {
+    "refused": "nothing to compare: no register is expected", "unreadable": "list: FileNotFoundError: [Errno 2] No such file or directory",
+}
+
+
 def spoil(folder, number, kind):
     """Has a machine differ, be refused, or not be readable."""
     path = folder / str(number) / ("ima.list" if kind == "unreadable" else "expected.txt")
@@ -80,9 +85,12 @@ def test_statuses(tools):
         for place, kind in enumerate(kinds):
             spoil(folder, place, kind)
         counts = {kind: kinds.count(kind) for kind in KINDS} | {"match": 3 - len(kinds)}
-        status, output, _ = tools.verify("--workers", 1, machines, table)
+        status, output, errors = tools.verify("--workers", 1, machines, table)
         lines = "".join(f"{kind} {count}\n" for kind, count in counts.items())
         tools.check(f"the status with {kinds}", (status, output), (wanted, lines))
+        told = [line for line in errors.splitlines() if line.startswith("fleet-verify: ")]
+        causes = [f"fleet-verify: {kind} {counts[kind]}: {CAUSES[kind]}" for kind in ("refused", "unreadable") if counts[kind]]
+        tools.check(f"the causes with {kinds}", told, causes)
         change(table, "UPDATE found SET verdict = 'failed' WHERE verdict = 'unreadable'")
         tools.check(f"the status with {kinds}, and failed", tools.verify("--workers", 1, "--again", "none", machines, table)[0], wanted)
 
