@@ -20,8 +20,9 @@ NO_SOURCES = {"out", "further-edits"}
 
 
 def kit_version():
-    """The kit's one-line identity, as `rt version` prints it."""
-    rt = Path(shutil.which("rt") or "/opt/rattle/bin/rt").resolve()
+    """The kit's one-line identity, as `rt version` prints it. The current folder, which may be a machine's, has no kit for this."""
+    folders = filter(os.path.isabs, os.environ.get("PATH", os.defpath).split(os.pathsep))
+    rt = Path(shutil.which("rt", path=os.pathsep.join(folders)) or "/opt/rattle/bin/rt").resolve()
     identity = rt.parent.parent / "KIT-ID"
     return identity.read_bytes() if identity.is_file() else subprocess.run([rt, "version"], stdout=subprocess.PIPE, check=True).stdout
 

@@ -110,6 +110,16 @@ class Commands(harness.TestCase):
             self.check(f"status {status} and the arguments reach the caller", answer[:2], (status, f"<{status}>\n<a b>\n<*>\n"))
         self.check("the program that was built is run again", self.builds_for("again"), 0)
 
+    def test_planted_kit(self):
+        """A program `rt` in the caller's folder, which may be a machine's, is not run."""
+        folder = self.folder()
+        (folder / "rt").write_text(f'#!/bin/sh\n: >"{folder}/ran"\nexec "{self.tree.kit}/bin/rt" "$@"\n')
+        (folder / "rt").chmod(0o755)
+        path = f".::{self.tree.kit / 'bin'}:{os.environ['PATH']}:"
+        for command, ended in (("ima-agent", ""), ("try", "run=ended status=0 ")):
+            found = self.tree.call("0", command=command, folder=folder, PATH=path, ENDED=ended)[0], (folder / "ran").exists()
+            self.check(f"{command}: a kit in the caller's folder is not run", found, (0, False))
+
     def test_changes(self):
         """After each change the program is built anew, and once."""
         source, table = self.tree.root / "crates/byte_fields/src/fields.rt", self.tree.root / "crates.txt"
