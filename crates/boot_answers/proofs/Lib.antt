@@ -1,5 +1,6 @@
 pub mod EventLaws
 pub mod DifferenceLaws
+pub mod CommonLaws
 pub mod FrontLaws
 pub mod SecureBootLaws
 pub mod VariableLaws

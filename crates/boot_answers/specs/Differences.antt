@@ -11,11 +11,11 @@ abbrev pub digests_in : Alg → List LogEvent → List (Option (List ℕ))
 digests_in alg events = map (λ event. digest_in event.digests alg) events
 
 -- The digest is there.
-abbrev pub IsKnown : Option (List ℕ) → Type 0
+abbrev pub IsKnown : {X : Type 0} → Option X → Type 0
 IsKnown digest = digest ≡ None → ⊥
 
 -- The two are one digest. Where there is none, in one or in both, nothing is known, and they count as different.
-abbrev pub AreOne : Option (List ℕ) → Option (List ℕ) → Type 0
+abbrev pub AreOne : {X : Type 0} → Option X → Option X → Type 0
 AreOne first other = (first ≡ other) × IsKnown first
 
 -- The lists do not begin with one digest, or one of them alone is empty.

@@ -11,4 +11,5 @@ pub mod ImaPolicy
 pub mod Commands
 pub mod BootVariables
 pub mod Differences
+pub mod CommonEvents
 pub mod parts

@@ -3,3 +3,4 @@ pub mod SecureBoot
 pub mod FirmwareVersion
 pub mod ImaMeasuring
 pub mod ImaPolicy
+pub mod CommonLengths

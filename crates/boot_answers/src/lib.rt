@@ -32,11 +32,13 @@
 //!   measured: root can set a variable to the bytes of another one. They are told up to the first event that may be a separator, which may
 //!   be a BootOrder ([`Until`], [`may_be_separator`]); what comes after it is unknown, not absent.
 //! - [`first_difference`]: how far two boots extended a register alike, by their digests alone. An event without a digest is like none.
+//! - [`common_events`]: which of the next events they have in common, by their digests alone too.
 //!
 //! `matched` has the registers of a bank whose value is the log's. Each call goes over the log once, or for each bank once or twice, and
-//! allocates nothing. The crate `answer_laws` has the laws that say what the answers tell of the machine.
+//! but for [`common_events`] allocates nothing. The crate `answer_laws` has the laws that say what the answers tell of the machine.
 #![tactic(auto)]
 
+mod alike_events;
 mod banks;
 mod boot_variables;
 mod commands;
@@ -53,6 +55,7 @@ mod variables;
 mod versions;
 mod wholes;
 
+pub use alike_events::{Common, MOST_COMPARED, common_events};
 pub use banks::is_answering;
 pub use boot_variables::{SETTINGS_REGISTER, boot_variable};
 pub use commands::{COMMAND_REGISTERS, CommandText, command_text};
