@@ -27,3 +27,15 @@ def exported(file):
     """The symbols that a shared library exports, each with its version; those that are the versions' names are left out."""
     rows = re.findall(r"^ +\d+: .* (?:GLOBAL|WEAK) +DEFAULT +(?!UND|ABS)\w+ (\w+)(?:@@(\w+))?$", readelf("--dyn-syms", file), re.MULTILINE)
     return dict(rows)
+
+
+# What a library asks of its loader: to relocate all of it at the start, to make that read-only then, and to run no code on the stack.
+PROTECTIONS = {"BIND_NOW", "GNU_RELRO", "GNU_STACK"}
+
+
+def protections(file):
+    """Which of `PROTECTIONS` a program or a library asks for."""
+    segments, dynamic = readelf("--segments", file), readelf("--dynamic", file)
+    forms = {"BIND_NOW": (dynamic, r"\(FLAGS\) +.*BIND_NOW|\(BIND_NOW\)"), "GNU_RELRO": (segments, r"^ +GNU_RELRO "),
+             "GNU_STACK": (segments, r"^ +GNU_STACK .* RW +0x")}
+    return {name for name, (text, form) in forms.items() if re.search(form, text, re.MULTILINE)}

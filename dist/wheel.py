@@ -32,9 +32,11 @@ def build(folder, module, member):
 
 
 def python_with(module):
-    """A Python that has a module, or None."""
+    """A Python that has a module, or None. (`python -c` would take one from the current folder, which is any.)"""
+    folder = Path(__file__).resolve().parent
     for python in PYTHONS:
-        if os.access(python, os.X_OK) and subprocess.run([python, "-c", f"import {module}"], stderr=subprocess.DEVNULL).returncode == 0:
+        words = [python, "-B", "-c", f"import {module}"]
+        if os.access(python, os.X_OK) and subprocess.run(words, cwd=folder, stderr=subprocess.DEVNULL).returncode == 0:
             return python
     return None
 

@@ -1,5 +1,6 @@
 """A system in a folder, into which dpkg puts packages."""
 
+import re
 import shlex
 
 from installed import FOLDER, run
@@ -24,6 +25,14 @@ def begin(system):
             for ending in ("list", "md5sums"):
                 (table / "info" / f"{name.output.decode()}.{ending}").touch()
     return lacking
+
+
+def unkept(package):
+    """The files of a package that are in /etc, and are not among its conffiles, or the other way round."""
+    told = run("dpkg-deb", "--contents", package).output.decode().splitlines()
+    files = {line.split()[-1][1:] for line in told if re.search(r" \./etc/.*[^/]$", line)}
+    kept = run("dpkg-deb", "--info", package, "conffiles")  # (which fails where there are none)
+    return sorted(files ^ set([] if kept.fault else kept.output.decode().splitlines()))
 
 
 def make_tools():

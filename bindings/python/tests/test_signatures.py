@@ -6,6 +6,7 @@ import base64
 import hashlib
 import importlib.util
 import random
+import string
 import subprocess
 import sys
 import unittest
@@ -40,6 +41,16 @@ def pem_of(key):
 def pem_with(der):
     """Bytes in the place of a key, in the form of a PEM."""
     return BEGIN + base64.encodebytes(der) + END
+
+
+def respelt(der):
+    """A PEM in whose last digit of base64 a bit is turned that says nothing of these bytes."""
+    digits = string.ascii_uppercase + string.ascii_lowercase + string.digits + "+/"
+    text = base64.b64encode(der).decode()
+    body = text.rstrip("=")
+    changed = f"{body[:-1]}{digits[digits.index(body[-1]) ^ 1]}{text[len(body):]}".encode()
+    assert len(body) < len(text) and base64.b64decode(changed, validate=True) == der
+    return BEGIN + changed + b"\n" + END
 
 
 def der_in(pem):
@@ -258,6 +269,9 @@ class Signatures(unittest.TestCase):
         self.check_not_taken(pem_with(b"\x30\x83\0" + (size - 4).to_bytes(2, "big") + der[4:]), reason)
         pss = der.replace(bytes.fromhex("06092a864886f70d0101010500"), bytes.fromhex("06092a864886f70d01010a0500"))
         self.check_not_taken(pem_with(pss), reason + "|^the key is neither")
+        for key in (*self.rsa, *self.curves):
+            if len(der_in(pem_of(key))) % 3:  # (the base64 of other keys has no such bits)
+                self.check_not_taken(respelt(der_in(pem_of(key))), "^the key is not encoded as")
         for key in self.curves:
             der, public = der_in(pem_of(key)), key.public_key()
             short = public.public_bytes(serialization.Encoding.X962, serialization.PublicFormat.CompressedPoint)
