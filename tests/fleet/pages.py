@@ -4,9 +4,9 @@ are shown as text."""
 import hashlib
 import json
 import re
+import resource
 import sqlite3
 import subprocess
-import time
 from concurrent.futures import ThreadPoolExecutor
 from contextlib import closing
 
@@ -214,15 +214,21 @@ def test_refused_pages(tools, folder):
     tools.check("a page leaves the table as it was", hashlib.sha256(table.read_bytes()).hexdigest(), before)
 
 
+def processor_seconds():
+    """What this process's children took, as far as they have ended. (A busy computer gives them less at a time, and takes no more.)"""
+    spent = resource.getrusage(resource.RUSAGE_CHILDREN)
+    return spent.ru_utime + spent.ru_stime
+
+
 def test_many(tools, folder):
     """Of 20,000 machines that do not match, some are listed with their reasons, and all by name; of those that match, all by name."""
     count, listed = 20000, 500
     answers = {
         f"host {number}": answer_of("differ", number, others=(10,)) if number % 2 else answer_of("match", number) for number in range(count)
     }
-    table, started = make_table(folder / "many.db", answers), time.monotonic()
+    table, before = make_table(folder / "many.db", answers), processor_seconds()
     status, text, _ = page_of(tools, "--most", listed, table)
-    seconds = time.monotonic() - started
+    seconds = processor_seconds() - before
     names = re.findall(r"(?:<th scope=.row. class=.name.>|<li data-kind=.\w+.>)<bdi class=.text.>(host \d+)</bdi>", text)
     tools.check("20,000 machines: each is there once", (status, sorted(names)), (0, sorted(answers)))
     tools.check("20,000 machines: the page says what it lists", f"Of 10000 machines {listed} are listed" in text, True)

@@ -89,7 +89,7 @@ for is_poll, is_patient, deadline in ((False, True, 1), (True, True, 1), (False,
     lines = [written_place(paths, Given()) for paths in (["/none"] * 3, *slow, ["/none"] * 3)]
     told = json.loads(verify_batch(written_request(asked(deadline, is_poll), is_patient, 1000, lines), "here", None))
     answers = [(answer["verdict"], answer["cause"], answer["places"][1][-5:]) for answer in told["answers"]]
-    print(answers, 1 < told["seconds"] < 20)
+    print(answers, 1 < told["seconds"] < 55)
 threads = [thread.daemon for thread in threading.enumerate()]
 LET_GO.set()
 while threading.active_count() > 1:
