@@ -190,7 +190,7 @@ class Samples(AttestTests):
         ):
             due = self.call(words)
             self.check(f"{title}: the status", due.status, status)
-            for settings in given:
+            for settings in given if status == 1 else given[:4]:
                 self.check(f"{title}, with {settings}", self.call(words, **settings), due)
 
     def made_key(self, name, *options):
