@@ -379,7 +379,7 @@ def untyped(file):
     for each in ast.walk(ast.parse(file.read_text())):
         if isinstance(each, (ast.FunctionDef, ast.AsyncFunctionDef)):
             given = [*each.args.posonlyargs, *each.args.args, *each.args.kwonlyargs, each.args.vararg, each.args.kwarg]
-            if each.returns is None or any(one and one.annotation is None and one.arg not in ("self", "cls") for one in given):
+            if (each.returns is None and each.name != "__init__") or any(one and one.annotation is None and one.arg not in ("self", "cls") for one in given):
                 yield f"{file.name}: {each.name}"
 
 

@@ -83,9 +83,11 @@ LINKS_WANTED = [*(f"{name} {found}" for name, found in FOUND.items() for _ in ra
 # Prints the answers on machines of which nothing, or not enough, comes in time, in batches that are patient, and in those that are not, where
 # the deadline is near, and where it is far; then whether the threads that they left keep this process from its end.
 LATE = STORE + """
-print(answer_on(["store://pieces", "store://drops", "store://pieces"], Given(), asked(1))["cause"])
+from fleet_verify import work
+work.SLOW_SECONDS = work.GRACE_SECONDS = 6  # (so that a busy computer has the time for all else)
+print(answer_on(["store://pieces", "store://drops", "store://pieces"], Given(), asked(4))["cause"])
 slow = [["store://pieces", f"store://{name}", "store://pieces"] for name in ("drops", "stuck")]
-for is_poll, is_patient, deadline in ((False, True, 1), (True, True, 1), (False, False, 1), (False, False, 60)):
+for is_poll, is_patient, deadline in ((False, True, 4), (True, True, 4), (False, False, 4), (False, False, 60)):
     lines = [written_place(paths, Given()) for paths in (["/none"] * 3, *slow, ["/none"] * 3)]
     told = json.loads(verify_batch(written_request(asked(deadline, is_poll), is_patient, 1000, lines), "here", None))
     answers = [(answer["verdict"], answer["cause"], answer["places"][1][-5:]) for answer in told["answers"]]
