@@ -165,8 +165,8 @@ class Boot:
         if self.report.get("quote") == "differ":
             reasons.append("Log and list do not make the quoted PCRs.")
         if self.unknown:
-            count = len(self.unknown)
-            reasons.append(f"Entry {self.unknown[0]} is unknown." if count == 1 else f"Unknown entries: {count}, the first is entry {self.unknown[0]}.")
+            count, first = len(self.unknown), self.unknown[0]
+            reasons.append(f"Entry {first} is unknown." if count == 1 else f"Unknown entries: {count}, the first is entry {first}.")
         for row in self.report.get("extends", []):
             kind = "event" if "event" in row else "entry"
             reasons.append(f"Log and list are not apart: {kind} {row[kind]} extends PCR {row['register']}.")

@@ -350,13 +350,15 @@ def test_broken_list(tools, folder):
 def test_broken_and_quoted(tools, folder, data, quoted):
     """A quote, which is of the whole list, confirms nothing beside a broken one: the page shows what the log makes."""
     log = read_log((REAL / "firmware.log").read_bytes())
-    wanted = {(str(row.register), row.value.hex()) for row in inputs.expected_after(log, []) if row.register != 10 and any(row.value) and row.value[0] != 255}
+    changed = {event.register for event in log.events if event.type != inputs.EV_NO_ACTION}
+    wanted = {(str(row.register), row.value.hex()) for row in inputs.expected_after(log, []) if row.register in changed}
     calls = [(make_quoted(folder / f"broken and quoted {expected is None}", ima=data[:5000], expected=expected), *quoted)
              for expected in ((REAL / "expected.txt").read_bytes(), None)]
     for status, page, _ in reports_of(tools, calls):
         rows = rows_below(page, "PCRs")
+        found = ({row[2] for row in rows}, {(row[1], row[3]) for row in rows})
         tools.check("a quote, and a list that is cut", (status, judged(page), confirmed_in(page)), (2, ("refused", False), NOTHING))
-        tools.check("a quote, and a list that is cut: PCRs of the log", ({row[2] for row in rows}, {(row[1], row[3]) for row in rows}), ({"not compared"}, wanted))
+        tools.check("a quote, and a list that is cut: PCRs of the log", found, ({"not compared"}, wanted))
 
 
 def test_prefixes(tools, folder):
@@ -461,7 +463,8 @@ def test_planted_program(tools, folder):
     """A program in the folder that is judged is not run, though that is the current folder, and PATH has it by another name than its whole path;
     unless its name is given with a slash."""
     boot, ran = make_boot(folder / "planted", ima=(REAL / "ima.list").read_bytes().replace(b"/bin/helper", b"/bin/helpex")), folder / "ran"
-    report = '{"events":1,"locality":0,"entries":1,"boot_aggregate":"good","registers":[{"bank":"sha256","register":10,"state":"match"}],"verdict":"match"}'
+    rows = '[{"bank":"sha256","register":10,"state":"match"}]'
+    report = f'{{"events":1,"locality":0,"entries":1,"boot_aggregate":"good","registers":{rows},"verdict":"match"}}'
     answers = {"show": '{"entries":0}', "events": '{"algorithms":[]}', "boot": '{"secure_boot":"on"}', "locate": '{"registers":[],"located":true}'}
     cases = "".join(f"{command}) echo '{answer}';; " for command, answer in answers.items())
     for name in ("ima-agent", "ima-attest"):
