@@ -48,7 +48,7 @@ MARKS = {"claimed", "confirmed data", "confirmed value", "confirmed command", "m
 MARK = re.compile(r"^\d+ \d+ \w+ (claimed|confirmed \w+|measured)", re.MULTILINE)
 # What has to be among the answers of `boot`, without their numbers, digests and JSON.
 ANSWERS = {"secure_boot on", "secure_boot off", "secure_boot unknown", "firmware_version", "firmware_version unknown", "image N", "image unknown",
-           "command N N", "command unknown N", "command unknown N N", "ima_policy asked", "ima_policy possible", "ima_policy none",
+           "command N N", "command unknown N", "command unknown N N", "ima_policy asked N", "ima_policy possible N",
            "ima_policy unknown", "boot_variable N", "boot_variable unknown", "register N alike all", "register N alike unknown",
            "register N alike N", "register N now N", "register N before N"}
 TOOL = "tpm2_eventlog"

@@ -12,7 +12,7 @@ from .measured_data import COMMANDS_REGISTER, SETTINGS_REGISTER, is_measured
 from .registers import ALGORITHMS, REGISTERS, SHA1
 from .variable_values import GLOBAL, OPTION_NAME
 
-EV_S_CRTM_VERSION = 8
+EV_S_CRTM_VERSION, EV_EFI_VARIABLE_BOOT = 8, 0x80000002
 FIRMWARE_REGISTER, IMAGES_REGISTER, POLICY_REGISTER = 0, 4, 7
 COMMAND_REGISTERS = (COMMANDS_REGISTER, 12)
 SEPARATORS = [number(value) for value in (0, 1, 0xFFFFFFFF)]
@@ -64,15 +64,19 @@ class Boot(NamedTuple):
     def events(self, register):
         return extended_events(self.log, register)
 
+    def is_answered(self, register):
+        """Whether a bank answers for a register that the log extends."""
+        return bool(self.banks(register) and self.events(register))
+
     def lines(self):
         """The lines of all answers."""
-        secure_boot, policy = self.secure_boot(), self.ima_policy()
+        secure_boot = self.secure_boot()
         yield Line(f"secure_boot {secure_boot}", {"secure_boot": secure_boot})
         yield self.version_line()
         yield from self.image_lines()
         for register in COMMAND_REGISTERS:
             yield from self.command_lines(register)
-        yield Line(f"ima_policy {policy}", {"ima_policy": policy})
+        yield self.policy_line()
         yield from self.variable_lines()
 
     def secure_boot(self):
@@ -90,7 +94,7 @@ class Boot(NamedTuple):
 
     def image_lines(self):
         banks = self.banks(IMAGES_REGISTER)
-        if not banks:
+        if not self.is_answered(IMAGES_REGISTER):
             yield Line("image unknown", {"image": "unknown"})
         for place, event in self.events(IMAGES_REGISTER):
             if any(may_be_image(event, bank) for bank in banks):
@@ -112,7 +116,7 @@ class Boot(NamedTuple):
 
     def command_lines(self, register):
         told, ended = self.texts(register)
-        if not self.banks(register):
+        if not self.is_answered(register):
             yield Line(f"command unknown {register}", {"command": "unknown", "register": register})
             return
         for place, text in told:
@@ -122,19 +126,18 @@ class Boot(NamedTuple):
         if ended is not None:
             yield Line(f"command unknown {register} {ended}", {"command": "unknown", "register": register, "event": ended})
 
-    def ima_policy(self):
-        found = [self.texts(register) for register in COMMAND_REGISTERS]
-        texts = [text.ascii for told, _ in found for _, text in told]
-        if any(text is not None and asks_to_measure(text) for text in texts):
-            return "asked"
-        if any(text is None or POLICY_OPTION.search(text) for text in texts):
-            return "possible"
-        is_all_told = all(self.banks(register) for register in COMMAND_REGISTERS) and all(ended is None for _, ended in found)
-        return "none" if is_all_told and texts else "unknown"
+    def policy_line(self):
+        texts = [(place, text.ascii) for register in COMMAND_REGISTERS for place, text in self.texts(register)[0]]
+        asked = [place for place, text in texts if text is not None and asks_to_measure(text)]
+        possible = [place for place, text in texts if text is None or POLICY_OPTION.search(text)]
+        word, places = ("asked", asked) if asked else ("possible", possible)
+        if not places:
+            return Line("ima_policy unknown", {"ima_policy": "unknown"})
+        return Line(f"ima_policy {word} {places[0]}", {"ima_policy": word, "event": places[0]})
 
     def variable_lines(self):
         banks = self.banks(SETTINGS_REGISTER)
-        if not banks:
+        if not self.is_answered(SETTINGS_REGISTER):
             yield Line("boot_variable unknown", {"boot_variable": "unknown"})
             return
         for place, event in self.events(SETTINGS_REGISTER):
@@ -142,7 +145,7 @@ class Boot(NamedTuple):
                 return
             variable = variable_in(event.data)
             if variable and is_of_boot(variable) and all(is_whole(event, bank) or is_measured(event, bank, variable.value) for bank in banks):
-                content = content_of(event.type, event.data)
+                content = content_of(EV_EFI_VARIABLE_BOOT, event.data)
                 yield Line(f"boot_variable {place} {shown(content)}", {"boot_variable": place, "content": content})
 
     def differences(self, before):

@@ -1,13 +1,18 @@
 -- The texts that boot loaders measure: GRUB's commands in register 8 (GRUB, grub-core/commands/tpm.c), and the kernel's command line that
 -- systemd-stub hands over in register 12 (systemd-stub, PCR 12, a text in units of two bytes).
 --
--- What is told is what was hashed, among the first events of the register with all before them confirmed. A GRUB command's kind is
--- claimed: root can pass any command of GRUB off as the kernel's command line. Root can append texts after those of the boot.
-use Rattle.std.specs.Prelude.{ℕ, List}
+-- What is told is what was hashed. A GRUB command's kind is claimed: root can pass any command of GRUB off as the kernel's command line. Root
+-- can append texts after those of the boot, and can extend a register that the boot loader left empty. For a text that was hashed root can
+-- show other data, also the text alone without the command's start. Such an event tells no text.
+use Rattle.std.specs.Prelude.{ℕ, List, Option, Some, None, option_map}
 use Rattle.pcr_banks.specs.declared.alg.Alg.{Alg}
 use Rattle.boot_log.specs.Spelling.{LogEvent}
 use Rattle.event_data.specs.Forms.{CommandData, IsCommand, IsWideText, command_of}
+use Rattle.event_data.specs.Results.{command_in, wide_text_in}
+use Rattle.measured_data.specs.declared.part.Part.{Part}
 use Rattle.measured_data.specs.declared.part.Part.TheVariants as parts
+use Rattle.measured_data.specs.declared.place.Place.{Place}
+use Rattle.measured_data.specs.Confirming.{confirmed_part}
 use Rattle.measured_data.specs.Measuring.{IsMeasured}
 use Rattle.boot_answers.specs.declared.commands.CommandText.{CommandText}
 use Rattle.boot_answers.specs.declared.commands.CommandText.TheVariants as texts
@@ -20,6 +25,16 @@ pub data CommandSaid : Type 0 where
 abbrev pub IsCommandText : Alg → LogEvent → CommandSaid → Type 0
 IsCommandText alg event (grub command) = IsMeasured alg event parts.Command × IsCommand event.payload command
 IsCommandText alg event (wide text) = IsMeasured alg event parts.Whole × IsWideText event.payload text
+
+-- The text of data of which this part is confirmed: a command of GRUB, whose text is; or a text in units of two bytes, all of which is.
+abbrev pub text_by : Option Part → List ℕ → Option CommandSaid
+text_by (Some parts.Command) payload = option_map grub (command_in payload)
+text_by (Some parts.Whole) payload = option_map wide (wide_text_in payload)
+text_by part payload = None
+
+-- The text that the event tells: one that is measured in each bank that answers for its register.
+abbrev pub told_text : List Place → LogEvent → Option CommandSaid
+told_text matched event = text_by (confirmed_part matched event) event.payload
 
 -- ---- what contracts see of the code's values
 

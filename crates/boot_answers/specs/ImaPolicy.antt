@@ -4,8 +4,8 @@
 -- More is taken for an option than the kernel takes: `-` for `_`, as it does, after a quote, and with any value. So a text that may ask for
 -- a policy proves nothing: its policy may measure no file (ima_policy=fail_securely, ima_appraise_tcb) or be none (ima_policy=other); root
 -- can append the text to the register, and can pass any text that GRUB measured off as the kernel's command line. That no text may ask for
--- one tells more: where all events of the command registers are confirmed, and there is one, the kernel was given none by this boot
--- loader. Options that come to the kernel in another way are outside: by kexec, by bootconfig, or built in.
+-- one proves nothing either: no event says which boot loader made it. The kernel may have options from one that measures none into this
+-- register, by kexec, by bootconfig, or built in.
 use Rattle.std.specs.Prelude.{◌≡◌, ◌⊎◌, ℕ, ◌||◌, ◌&&◌, ◌==◌, Bool, true, nat_eq, nat_le, List, [], ◌∷◌, ◌++◌, codes}
 use Rattle.std.specs.List.{list_any, starts_with}
 

@@ -1,7 +1,6 @@
 pub mod Extending
 pub mod RegisterEvents
-pub mod Passing
-pub mod FrontEvents
+pub mod Separators
 pub mod Variables
 pub mod SecureBoot
 pub mod FirmwareVersion

@@ -21,7 +21,8 @@ fn is_measured_variable(event: &Event<'_>, alg: Alg) -> bool
 }
 
 /// The variable that the event's data is, in the algorithm's bank, where it is measured whole or its value is; `None` where it is none. To be
-/// asked of the events of [`crate::FrontEvents`] in [`SETTINGS_REGISTER`], up to the first that may be a separator, in each bank that answers.
+/// asked of the events of [`crate::RegisterEvents`] in [`SETTINGS_REGISTER`], up to the first that may be a separator in a bank that answers
+/// ([`crate::may_be_separator`]), and in each bank that answers.
 /// Vendor and name are always claimed: root can set a variable to the bytes of another one, and show these as all of an event's data.
 pub fn boot_variable<'a>(event: &Event<'a>, alg: Alg) -> Option<Variable<'a>>
     ensures found { IfSome result (λ variable. IsBootVariable alg (log_event_of event.now) (variable_of variable)) }

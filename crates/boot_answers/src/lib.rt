@@ -16,21 +16,19 @@
 //!   a firmware may measure SecureBoot again where keys change later in the boot, and this does not change how the boot was verified
 //!   before.
 //! - [`firmware_version`]: what the firmware measured first into register 0. This is its version, if it follows the profile.
-//! - [`image_digest`]: each image that the firmware started is told, with its true digest, in order. Root can append more, and can have
+//! - [`image_digest`]: each PE image that the firmware started is told, with its true digest, in order. Root can append more, and can have
 //!   actions told as images. Paths are claimed. The digest is an Authenticode hash, if the firmware follows its specification; it is not the
 //!   hash of a file.
-//! - [`command_text`]: a text that was hashed, after all those before it in its register. The kind of a GRUB command is claimed: any text of GRUB
-//!   may pass as the kernel's command line. Root can append texts.
-//! - [`may_set_ima_policy`]: where the boot loader's texts are in a register, all its events are confirmed, there is one at least
-//!   ([`are_all_first`]), and no text may ask for a policy, the kernel was given none by this boot loader. A register that the boot loader left
-//!   empty is root's, with all events that stand in it: so registers 8 and 12 ([`COMMAND_REGISTERS`]) are both to be judged, and which of them
-//!   the machine's boot loader extends must be known. That a text may ask for a policy proves nothing, neither that Linux has one, nor that it
-//!   measures files. Options by kexec, by bootconfig, or built in, are outside.
-//! - [`asks_to_measure`]: whether a text asks Linux to measure files. It is claimed that the text is Linux's command line. Root may extend
-//!   register 10 under a policy too; a policy keeps only what Linux measured from being taken out.
+//! - [`told_text`]: a text that was hashed; to be asked of each event of a register ([`RegisterEvents`]), up to the first that tells none. The
+//!   kind of a GRUB command is claimed: any text of GRUB may pass as the kernel's command line. Root can append texts, and all texts of a
+//!   register that the boot loader leaves empty are root's.
+//! - [`may_set_ima_policy`], [`asks_to_measure`]: what a text asks of Linux, if it is Linux's command line, which is claimed. That a text asks
+//!   for a policy proves neither that Linux has one nor that it measures files. That no text asks proves nothing either: no event says which
+//!   boot loader made it, and a kernel gets options also from a boot loader that measures none, by its EFI stub, by kexec, by bootconfig, or
+//!   built in. Root may extend register 10 under a policy too; a policy keeps only what Linux measured from being taken out.
 //! - [`boot_variable`]: a variable whose value, or whose data, was hashed. Vendor and name are always claimed, also where all of the data is
 //!   measured: root can set a variable to the bytes of another one. They are told up to the first event that may be a separator, which may
-//!   be a BootOrder ([`Until`], [`may_be_separator`]); what comes after it is unknown, not absent.
+//!   be a BootOrder ([`may_be_separator`]); what comes after it is unknown, not absent.
 //! - [`first_difference`]: how far two boots extended a register alike, by their digests alone. An event without a digest is like none.
 //! - [`common_events`]: which of the next events they have in common, by their digests alone too.
 //!
@@ -43,14 +41,12 @@ mod banks;
 mod boot_variables;
 mod commands;
 mod differences;
-mod front_events;
 mod ima_measuring;
 mod ima_policy;
 mod images;
-mod passing;
 mod register_events;
 mod secure_boot_state;
-mod until;
+mod separators;
 mod variables;
 mod versions;
 mod wholes;
@@ -58,14 +54,12 @@ mod wholes;
 pub use alike_events::{Common, MOST_COMPARED, common_events};
 pub use banks::is_answering;
 pub use boot_variables::{SETTINGS_REGISTER, boot_variable};
-pub use commands::{COMMAND_REGISTERS, CommandText, command_text};
+pub use commands::{COMMAND_REGISTERS, CommandText, told_text};
 pub use differences::first_difference;
-pub use front_events::{FrontEvents, are_all_first};
 pub use ima_measuring::asks_to_measure;
 pub use ima_policy::may_set_ima_policy;
 pub use images::{image_digest, may_be_image};
-pub use passing::may_be_separator;
 pub use register_events::RegisterEvents;
 pub use secure_boot_state::{SecureBoot, secure_boot};
-pub use until::Until;
+pub use separators::may_be_separator;
 pub use versions::firmware_version;

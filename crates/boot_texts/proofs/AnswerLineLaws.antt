@@ -18,7 +18,8 @@ use Rattle.json_texts.proofs.ContentLaws.{content_plain}
 use Rattle.json_texts.proofs.CountLaws.{content_counted}
 use Rattle.json_texts.proofs.LineLaws.{ArePlain, IsPlain, line_within, members_joined}
 use Rattle.json_texts.proofs.ValueLaws.{text_plain}
-use Rattle.boot_texts.specs.AnswerLines.{answered_digest, command_json, image_json, kind_members, text_json, text_member, unanswered_json, untold_json, variable_json, version_json, word_json}
+use Rattle.boot_texts.specs.AnswerLines.{answered_digest, boot_variable_type, command_json, image_json, kind_members, text_json, text_member, unanswered_json, untold_json, variable_json, version_json, word_json}
+use Rattle.boot_texts.specs.Policies.{asking_json}
 
 content_is_plain : (kind : ℕ) (bytes : List ℕ) → IsBytes bytes → IsPlain (content_json kind (content_in kind bytes)) 6
 content_is_plain kind bytes fits = content_plain kind (content_in kind bytes) (content_counted kind bytes fits)
@@ -33,6 +34,9 @@ answered_plain matched digests (alg ∷ algs) =
 pub word_one_line : (name word : List ℕ) → IsOneLine (word_json name word)
 word_one_line name word = line_within 3 (word_json name word) (omega arith) (tt, tt)
 
+pub asking_one_line : (word : List ℕ) (number : ℕ) → IsCount number → IsOneLine (asking_json word number)
+asking_one_line word number count = line_within 3 (asking_json word number) (omega arith) (tt, ((number, count, refl), tt))
+
 pub version_one_line : (bytes : List ℕ) → IsBytes bytes → IsOneLine (version_json (content_in version_type bytes))
 version_one_line bytes fits =
     line_within 7 (version_json (content_in version_type bytes)) (omega arith) (content_is_plain version_type bytes fits, tt)
@@ -45,7 +49,7 @@ image_one_line matched number event count fits =
 
 pub variable_one_line : (number : ℕ) (event : LogEvent) → IsCount number → IsBytes event.payload → IsOneLine (variable_json number event)
 variable_one_line number event count fits =
-    line_within 7 (variable_json number event) (omega arith) ((number, count, refl), (content_is_plain event.kind event.payload fits, tt))
+    line_within 7 (variable_json number event) (omega arith) ((number, count, refl), (content_is_plain boot_variable_type event.payload fits, tt))
 
 -- ---- commands
 

@@ -23,11 +23,10 @@ use Rattle.measured_data.specs.Confirming.{IsConfirmed, counts}
 use Rattle.measured_data.specs.Measuring.{IsFirstPart, is_measured, settings_register}
 use Rattle.measured_data.proofs.MeasuredLaws.{measured_told}
 use Rattle.boot_answers.specs.BootVariables.{IsMeasuredVariable}
-use Rattle.boot_answers.specs.Commands.{CommandSaid, IsCommandText, grub, wide}
+use Rattle.boot_answers.specs.Commands.{CommandSaid, IsCommandText, grub, text_by, wide}
 use Rattle.boot_answers.specs.Extending.{IsAnswering}
 use Rattle.boot_texts.specs.EachBank.{TellText, TellVariable}
 use Rattle.boot_texts.specs.Telling.{allows_variable, is_boot_variable, is_told_variable}
-use Rattle.boot_texts.specs.Told.{text_by}
 use Rattle.boot_texts.proofs.AnsweringLaws.{answering_counts}
 
 -- What is found, under another name.

@@ -1,65 +1,58 @@
--- What told texts ask, one after another.
-use Rattle.std.proofs.Common.{◌≡◌, true, false, List, [], ◌∷◌, ◌++◌, Option, Some, None, refl, sym, subst, inl, inr}
-use Rattle.std.specs.Prelude.{is_some}
+-- The first event of a register that asks.
+use Rattle.std.proofs.Common.{◌≡◌, ℕ, true, List, ◌∷◌, ◌++◌, Option, Some, None, refl, sym, subst, ◌∙◌, inr}
 use Rattle.std.specs.List.{AllByRecursion}
+use Rattle.boot_log.specs.Replaying.{is_extended_into}
 use Rattle.boot_log.specs.Spelling.{LogEvent}
 use Rattle.measured_data.specs.declared.place.Place.{Place}
-use Rattle.boot_answers.specs.Commands.{CommandSaid}
+use Rattle.boot_answers.specs.Commands.{CommandSaid, told_text}
+use Rattle.boot_answers.specs.Extending.{extended_events}
+use Rattle.boot_answers.proofs.EventLaws.{no_end, one_end, own_and_later}
 use Rattle.boot_texts.specs.declared.asked.Asked.{Asked}
-use Rattle.boot_texts.specs.Told.{all_tell, told_text, told_texts, with_text}
-use Rattle.boot_texts.specs.Policies.{Asks, HasSome, read_text}
+use Rattle.boot_texts.specs.Policies.{Asks, IsAskingEvent, IsAskingIn, IsFirstAsking, NoneAsks, Passes, read_text}
 
--- A text among these asks this.
-abbrev pub SomeAsks : Asked → List CommandSaid → Type 0
-SomeAsks asked texts = HasSome (λ text. Asks asked (read_text text)) texts
+some_is : {A : Type 0} (x y : A) → Some x ≡ Some y → x ≡ y
+some_is x y e = cc
 
--- The event tells a text that does not ask this.
-abbrev pub Passes : Asked → List Place → LogEvent → Type 0
-Passes asked matched event = (text : CommandSaid) × (told_text matched event ≡ Some text) × (Asks asked (read_text text) → ⊥)
+some_or_none : {A : Type 0} (x : A) (found : Option A) → found ≡ Some x → found ≡ None → ⊥
+some_or_none x found some none = absurd cc
 
--- Where the events before pass, a text after them asks.
-pub after_passed : (asked : Asked) (matched : List Place) (given rest : List LogEvent) → AllByRecursion (Passes asked matched) given
-    → SomeAsks asked (told_texts matched (given ++ rest)) → SomeAsks asked (told_texts matched rest)
-after_passed asked matched [] rest all some = some
-after_passed asked matched (event ∷ given) rest all some =
-    let first = all.0 in
-    let here : SomeAsks asked (first.0 ∷ told_texts matched (given ++ rest)) =
-    subst (λ (told : Option CommandSaid). SomeAsks asked (with_text told (told_texts matched (given ++ rest)))) first.1 some in
-    elim here [
-      | inl asks ↦ absurd (first.2 asks)
-      | inr later ↦ after_passed asked matched given rest all.1 later
-    ]
+-- An event that asks, or that tells no text, does not pass.
+asks_not_passes : (asked : Asked) (matched : List Place) (event : LogEvent) (text : CommandSaid) → told_text matched event ≡ Some text
+    → Asks asked (read_text text) → Passes asked matched event → ⊥
+asks_not_passes asked matched event text told asks passes =
+    let same : text ≡ passes.text = some_is text passes.text (sym told ∙ passes.told) in
+    passes.other (subst (λ (t : CommandSaid). Asks asked (read_text t)) same asks)
 
-pub before_passed : (asked : Asked) (matched : List Place) (given rest : List LogEvent) → AllByRecursion (Passes asked matched) given
-    → SomeAsks asked (told_texts matched rest) → SomeAsks asked (told_texts matched (given ++ rest))
-before_passed asked matched [] rest all some = some
-before_passed asked matched (event ∷ given) rest all some =
-    let first = all.0 in
-    subst (λ (told : Option CommandSaid). SomeAsks asked (with_text told (told_texts matched (given ++ rest)))) (sym first.1)
-    (inr (before_passed asked matched given rest all.1 some))
+untold_not_passes : (asked : Asked) (matched : List Place) (event : LogEvent) → told_text matched event ≡ None → Passes asked matched event → ⊥
+untold_not_passes asked matched event none passes = some_or_none passes.text (told_text matched event) passes.told none
 
--- Nothing is told from an event on that tells none.
-pub none_after : (asked : Asked) (matched : List Place) (event : LogEvent) (later : List LogEvent) → told_text matched event ≡ None
-    → SomeAsks asked (told_texts matched (event ∷ later)) → ⊥
-none_after asked matched event later none some =
-    subst (λ (told : Option CommandSaid). SomeAsks asked (with_text told (told_texts matched later))) none some
+module _ {asked : Asked} {matched : List Place} {register : ℕ} {events : List LogEvent} where
+  module _ {number : ℕ} (is : IsFirstAsking asked matched register events number) where
+    own_parts : extended_events register events ≡ extended_events register is.before ++ is.event ∷ extended_events register is.after
+    own_parts = own_and_later register is.before (extended_events register is.before) is.after events is.event is.extended refl is.parts
 
-pub first_asks : (asked : Asked) (matched : List Place) (event : LogEvent) (later : List LogEvent) (text : CommandSaid)
-    → told_text matched event ≡ Some text → Asks asked (read_text text) → SomeAsks asked (told_texts matched (event ∷ later))
-first_asks asked matched event later text told asks =
-    subst (λ (found : Option CommandSaid). SomeAsks asked (with_text found (told_texts matched later))) (sym told) (inl asks)
+    stops : Passes asked matched is.event → ⊥
+    stops = asks_not_passes asked matched is.event is.text is.told is.asks
 
--- ---- whether all tell a text
+  pub none_of_all : AllByRecursion (Passes asked matched) (extended_events register events) → NoneAsks asked matched register events
+  none_of_all all number is =
+      no_end (Passes asked matched) (extended_events register events) (extended_events register is.before) is.event
+      (extended_events register is.after) all (stops is) (own_parts is)
 
-abbrev pub TellsText : List Place → LogEvent → Type 0
-TellsText matched event = is_some (told_text matched event) ≡ true
+  pub none_before : (read later : List LogEvent) (event : LogEvent) → AllByRecursion (Passes asked matched) (extended_events register read)
+      → events ≡ read ++ event ∷ later → is_extended_into register event ≡ true → told_text matched event ≡ None
+      → NoneAsks asked matched register events
+  none_before read later event all parts own none number is =
+      let first = own_and_later register read (extended_events register read) later events event own refl parts in
+      let one = one_end (Passes asked matched) (extended_events register read) (extended_events register is.before) event is.event
+      (extended_events register later) (extended_events register is.after) all (untold_not_passes asked matched event none) is.passed (stops is)
+      (sym first ∙ own_parts is) in
+      some_or_none is.text (told_text matched event) (rw (one.ends) is.told) none
 
-pub all_told : (matched : List Place) (events : List LogEvent) → AllByRecursion (TellsText matched) events → all_tell matched events ≡ true
-all_told matched [] all = refl
-all_told matched (event ∷ events) all = rw (all.0) (all_told matched events all.1)
+-- ---- both registers
 
-pub not_all_told : (matched : List Place) (given : List LogEvent) (event : LogEvent) (later : List LogEvent)
-    → AllByRecursion (TellsText matched) given → is_some (told_text matched event) ≡ false
-    → all_tell matched (given ++ event ∷ later) ≡ false
-not_all_told matched [] event later all none = rw none refl
-not_all_told matched (first ∷ given) event later all none = rw (all.0) (not_all_told matched given event later all.1 none)
+-- Where no text of register 8 asks, the first of register 12 is the first.
+pub after_none : (asked : Asked) (matched : List Place) (events : List LogEvent) (found : Option ℕ) → NoneAsks asked matched 8 events
+    → IsAskingIn asked matched 12 events found → IsAskingEvent asked matched events found
+after_none asked matched events None none is = (none, is)
+after_none asked matched events (Some number) none is = inr (none, is)

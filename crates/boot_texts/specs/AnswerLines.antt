@@ -7,6 +7,7 @@ use Rattle.pcr_banks.specs.declared.sets.PerBank.{PerBank}
 use Rattle.pcr_banks.specs.Hashing.{all_algs, name_of}
 use Rattle.pcr_banks.specs.Sets.{digest_in}
 use Rattle.boot_log.specs.Spelling.{LogEvent}
+use Rattle.event_data.specs.ContentReading.{content_in}
 use Rattle.event_data.specs.EventForms.{Content}
 use Rattle.measured_data.specs.declared.place.Place.{Place}
 use Rattle.measured_data.specs.Confirming.{counts}
@@ -134,10 +135,18 @@ unanswered_line Explained register = codes "command unknown " ++ (decimal regist
 
 -- ---- boot variables
 
+-- EV_EFI_VARIABLE_BOOT (PC Client Platform Firmware Profile).
+abbrev pub boot_variable_type : ℕ
+boot_variable_type = 0x80000002
+
+-- What an event's data says as a variable, whatever the event's type: the type was not measured.
+abbrev pub variable_content_json : LogEvent → Json
+variable_content_json event = content_json boot_variable_type (content_in boot_variable_type event.payload)
+
 -- The event with this number as a boot variable: what its data says.
 abbrev pub variable_json : ℕ → LogEvent → Json
-variable_json number event = object_of ((codes "boot_variable", number_json number) ∷ (codes "content", event_content_json event) ∷ [])
+variable_json number event = object_of ((codes "boot_variable", number_json number) ∷ (codes "content", variable_content_json event) ∷ [])
 
 abbrev pub variable_line : EventForm → ℕ → LogEvent → List ℕ
 variable_line AsJson number event = line_of (variable_json number event)
-variable_line Explained number event = codes "boot_variable " ++ (decimal number ++ (codes " " ++ shown_json (event_content_json event)))
+variable_line Explained number event = codes "boot_variable " ++ (decimal number ++ (codes " " ++ shown_json (variable_content_json event)))

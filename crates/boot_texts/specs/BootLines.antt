@@ -12,15 +12,15 @@ use Rattle.json_texts.specs.declared.event_form.EventForm.{EventForm}
 use Rattle.boot_texts.specs.declared.policies.ImaPolicy.{ImaPolicy}
 use Rattle.boot_texts.specs.declared.subject.Subject.{Subject}
 use Rattle.boot_texts.specs.declared.subject.Subject.TheVariants.{Images, Commands, Variables}
-use Rattle.boot_texts.specs.Answering.{Chosen, has_answer}
+use Rattle.boot_texts.specs.Answering.{Chosen, is_answered}
 use Rattle.boot_texts.specs.AnswerLines.{secure_boot_line, unanswered_line, version_line, word_line}
 use Rattle.boot_texts.specs.Policies.{IsImaPolicy, policy_line}
 use Rattle.boot_texts.specs.Telling.{Tells, ToldOf}
 
--- The text is what the events tell of the subject, if a bank answers for this register; else it is the other.
+-- The text is what the events tell of the subject, if this register is answered for; else it is the other.
 abbrev pub AreSubjectLines : Subject → ℕ → List ℕ → EventForm → List Place → List LogEvent → List ℕ → Type 0
 AreSubjectLines subject register other form matched events text =
-    Chosen (has_answer matched register) (Tells (ToldOf subject form matched) 1 events text) (text ≡ other)
+    Chosen (is_answered matched register events) (Tells (ToldOf subject form matched) 1 events text) (text ≡ other)
 
 abbrev pub AreImageLines : EventForm → List Place → List LogEvent → List ℕ → Type 0
 AreImageLines form = AreSubjectLines Images image_register (word_line form (codes "image") (codes "unknown")) form

@@ -1,5 +1,4 @@
 pub mod Answering
-pub mod Told
 pub mod AnswerLines
 pub mod Telling
 pub mod Policies

@@ -1,25 +1,27 @@
 -- What the told texts ask of Linux: whether its integrity measurement architecture (IMA) has a policy by them.
 --
--- Root can append texts to both registers, and can extend one that the boot loader left empty. So a text that asks proves no policy; and that
--- none asks tells something only where the boot loader measures into one of these registers what it hands over.
-use Rattle.std.specs.Prelude.{◌≡◌, ◌⊎◌, ℕ, ◌&&◌, ◌||◌, Bool, true, false, nat_lt, if◌then◌else◌, List, [], ◌∷◌, codes, Option, Some, None, option_and_then}
-use Rattle.std.specs.List.{list_all}
+-- Root can append texts to both registers, and can extend one that the boot loader left empty. So a text that asks proves no policy. That no
+-- text asks proves nothing either: no event says which boot loader made it, and the kernel may have options from one that measures none here.
+use Rattle.std.specs.Prelude.{◌≡◌, ◌⊎◌, ℕ, ◌+◌, true, nat_lt, if◌then◌else◌, List, [], ◌∷◌, ◌++◌, codes, decimal, length, Option, Some, None, option_and_then}
+use Rattle.std.specs.List.{AllByRecursion, list_all}
 use Rattle.std.specs.Str.{is_utf8}
+use Rattle.json.specs.Json.{Json, string}
+use Rattle.boot_log.specs.Replaying.{is_extended_into}
 use Rattle.boot_log.specs.Spelling.{LogEvent}
 use Rattle.event_texts.specs.WideTexts.{wide_text}
 use Rattle.measured_data.specs.declared.place.Place.{Place}
-use Rattle.boot_answers.specs.Commands.{CommandSaid, grub, wide}
+use Rattle.boot_answers.specs.Commands.{CommandSaid, grub, told_text, wide}
 use Rattle.boot_answers.specs.Extending.{extended_events}
 use Rattle.boot_answers.specs.ImaMeasuring.{AsksToMeasure}
 use Rattle.boot_answers.specs.ImaPolicy.{MaySetImaPolicy}
 use Rattle.json_texts.specs.declared.event_form.EventForm.{EventForm}
+use Rattle.json_texts.specs.declared.event_form.EventForm.TheVariants.{Json as AsJson, Explained}
+use Rattle.json_texts.specs.JsonValues.{line_of, number_json, object_of}
 use Rattle.boot_texts.specs.declared.asked.Asked.{Asked}
 use Rattle.boot_texts.specs.declared.asked.Asked.TheVariants.{Measuring, Policy}
 use Rattle.boot_texts.specs.declared.policies.ImaPolicy.{ImaPolicy}
 use Rattle.boot_texts.specs.declared.policies.ImaPolicy.TheVariants as policies
-use Rattle.boot_texts.specs.Answering.{has_answer}
 use Rattle.boot_texts.specs.AnswerLines.{word_line}
-use Rattle.boot_texts.specs.Told.{all_tell, told_texts}
 
 -- ---- one text
 
@@ -40,49 +42,69 @@ Asks Measuring (Some text) = AsksToMeasure text
 Asks Policy None = Unit {0}
 Asks Policy (Some text) = MaySetImaPolicy text
 
--- ---- all texts
+-- ---- the events of a register
 
--- This holds of some element.
-abbrev pub HasSome : {A : Type 0} → (A → Type 0) → List A → Type 0
-HasSome Holds [] = ⊥
-HasSome Holds (first ∷ rest) = Holds first ⊎ HasSome Holds rest
+-- The event tells a text that does not ask this.
+pub record Passes (asked : Asked) (matched : List Place) (event : LogEvent) : Type 0 where
+  pub text : CommandSaid
+  pub told : told_text matched event ≡ Some text
+  pub other : Asks asked (read_text text) → ⊥
 
--- A told text of the register asks this.
-abbrev pub RegisterAsks : Asked → List Place → ℕ → List LogEvent → Type 0
-RegisterAsks asked matched register events = HasSome (λ text. Asks asked (read_text text)) (told_texts matched (extended_events register events))
+-- The log's event with this number, which counts from 1, is the first of the register that tells a text that asks this. Each event of the
+-- register before it tells a text.
+pub record IsFirstAsking (asked : Asked) (matched : List Place) (register : ℕ) (events : List LogEvent) (number : ℕ) : Type 0 where
+  pub before : List LogEvent
+  pub event : LogEvent
+  pub after : List LogEvent
+  pub parts : events ≡ before ++ event ∷ after
+  pub number_is : number ≡ length before + 1
+  pub extended : is_extended_into register event ≡ true
+  pub passed : AllByRecursion (Passes asked matched) (extended_events register before)
+  pub text : CommandSaid
+  pub told : told_text matched event ≡ Some text
+  pub asks : Asks asked (read_text text)
 
--- A told text of register 8 or 12 asks this.
-abbrev pub BootAsks : Asked → List Place → List LogEvent → Type 0
-BootAsks asked matched events = RegisterAsks asked matched 8 events ⊎ RegisterAsks asked matched 12 events
+-- No text of the register that is told asks this.
+abbrev pub NoneAsks : Asked → List Place → ℕ → List LogEvent → Type 0
+NoneAsks asked matched register events = (number : ℕ) → IsFirstAsking asked matched register events number → ⊥
 
-abbrev pub has_any : {A : Type 0} → List A → Bool
-has_any [] = false
-has_any (first ∷ rest) = true
+-- The number is that of the register's first event that asks this, or there is none.
+abbrev pub IsAskingIn : Asked → List Place → ℕ → List LogEvent → Option ℕ → Type 0
+IsAskingIn asked matched register events None = NoneAsks asked matched register events
+IsAskingIn asked matched register events (Some number) = IsFirstAsking asked matched register events number
 
--- Whether a bank answers for the register, and each event of it tells a text.
-abbrev pub is_told_whole : List Place → ℕ → List LogEvent → Bool
-is_told_whole matched register events = has_answer matched register && all_tell matched (extended_events register events)
+-- ---- both registers
 
--- Whether both registers are told whole, and there is an event in one. Where both are empty root may extend them as it likes.
-abbrev pub is_boot_told : List Place → List LogEvent → Bool
-is_boot_told matched events =
-    (is_told_whole matched 8 events && is_told_whole matched 12 events)
-    && (has_any (extended_events 8 events) || has_any (extended_events 12 events))
+-- The number is that of the first event that asks this, of register 8 or else of register 12.
+abbrev pub IsAsking : Asked → List Place → List LogEvent → ℕ → Type 0
+IsAsking asked matched events number =
+    IsFirstAsking asked matched 8 events number ⊎ (NoneAsks asked matched 8 events × IsFirstAsking asked matched 12 events number)
 
--- The answer: a text asks to measure files; else a text may ask for a policy; else none does, and all texts are told; else it is unknown.
+-- No told text of either register asks this.
+abbrev pub NeitherAsks : Asked → List Place → List LogEvent → Type 0
+NeitherAsks asked matched events = NoneAsks asked matched 8 events × NoneAsks asked matched 12 events
+
+abbrev pub IsAskingEvent : Asked → List Place → List LogEvent → Option ℕ → Type 0
+IsAskingEvent asked matched events None = NeitherAsks asked matched events
+IsAskingEvent asked matched events (Some number) = IsAsking asked matched events number
+
+-- The answer: a text asks to measure files; else a text may ask for a policy; else it is unknown.
 abbrev pub IsImaPolicy : List Place → List LogEvent → ImaPolicy → Type 0
-IsImaPolicy matched events policies.Asked = BootAsks Measuring matched events
-IsImaPolicy matched events policies.Possible = (BootAsks Measuring matched events → ⊥) × BootAsks Policy matched events
-IsImaPolicy matched events policies.NotAsked =
-    (BootAsks Measuring matched events → ⊥) × (BootAsks Policy matched events → ⊥) × (is_boot_told matched events ≡ true)
-IsImaPolicy matched events policies.Unknown =
-    (BootAsks Measuring matched events → ⊥) × (BootAsks Policy matched events → ⊥) × (is_boot_told matched events ≡ false)
+IsImaPolicy matched events (policies.Asked number) = IsAsking Measuring matched events number
+IsImaPolicy matched events (policies.Possible number) = NeitherAsks Measuring matched events × IsAsking Policy matched events number
+IsImaPolicy matched events policies.Unknown = NeitherAsks Measuring matched events × NeitherAsks Policy matched events
 
-abbrev pub policy_word : ImaPolicy → List ℕ
-policy_word policies.Asked = codes "asked"
-policy_word policies.Possible = codes "possible"
-policy_word policies.NotAsked = codes "none"
-policy_word policies.Unknown = codes "unknown"
+-- ---- its line
+
+-- What the text of the event with this number asks.
+abbrev pub asking_json : List ℕ → ℕ → Json
+asking_json word number = object_of ((codes "ima_policy", string word) ∷ (codes "event", number_json number) ∷ [])
+
+abbrev pub asking_line : EventForm → List ℕ → ℕ → List ℕ
+asking_line AsJson word number = line_of (asking_json word number)
+asking_line Explained word number = codes "ima_policy " ++ (word ++ (codes " " ++ (decimal number ++ codes "\n")))
 
 abbrev pub policy_line : EventForm → ImaPolicy → List ℕ
-policy_line form policy = word_line form (codes "ima_policy") (policy_word policy)
+policy_line form (policies.Asked number) = asking_line form (codes "asked") number
+policy_line form (policies.Possible number) = asking_line form (codes "possible") number
+policy_line form policies.Unknown = word_line form (codes "ima_policy") (codes "unknown")

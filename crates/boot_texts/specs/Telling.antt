@@ -15,14 +15,13 @@ use Rattle.measured_data.specs.declared.part.Part.TheVariants.{Value, Whole}
 use Rattle.measured_data.specs.declared.place.Place.{Place}
 use Rattle.measured_data.specs.Confirming.{counts}
 use Rattle.measured_data.specs.Measuring.{is_measured, settings_register}
-use Rattle.boot_answers.specs.Commands.{CommandSaid}
+use Rattle.boot_answers.specs.Commands.{CommandSaid, told_text}
 use Rattle.boot_answers.specs.Images.{MayBeImage, image_register}
-use Rattle.boot_answers.specs.Passing.{MayBeSeparator}
+use Rattle.boot_answers.specs.Separators.{MayBeSeparator}
 use Rattle.json_texts.specs.declared.event_form.EventForm.{EventForm}
 use Rattle.boot_texts.specs.declared.subject.Subject.{Subject}
 use Rattle.boot_texts.specs.declared.subject.Subject.TheVariants.{Images, Commands, Variables}
 use Rattle.boot_texts.specs.AnswerLines.{command_line, image_line, untold_line, variable_line}
-use Rattle.boot_texts.specs.Told.{told_text}
 
 -- Whether the events after one are looked at, and the text of the one, are these.
 abbrev pub Are : Bool → List ℕ → Bool × List ℕ → Type 0

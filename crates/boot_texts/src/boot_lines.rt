@@ -1,13 +1,13 @@
 //! The lines of all answers.
 
-ghost use Rattle.std.specs.Prelude.{◌≡◌, ◌++◌, List, ℕ, OnOk};
+ghost use Rattle.std.specs.Prelude.{◌≡◌, ◌++◌, List, ℕ, OnErr, OnOk};
 ghost use Rattle.boot_log.specs.declared.header.Row.{Row};
 ghost use Rattle.boot_log.specs.LogViews.{log_bytes};
 ghost use Rattle.boot_log.specs.Spelling.{IsLog, LogEvent};
 ghost use Rattle.boot_texts.specs.AnswerLines.{secure_boot_line, state_word};
 ghost use Rattle.boot_texts.specs.BootLines.{AreBootLines, AreCommandLines, AreImageLines, AreVariableLines};
 
-use crate::answering::has_answer;
+use crate::answering::is_answered;
 use crate::commands::append_unanswered;
 use crate::images::IMAGE_REGISTER;
 use crate::policies::{GRUB_REGISTER, STUB_REGISTER, append_policy};
@@ -28,16 +28,37 @@ use std::alloc::Global;
 /// - `secure_boot on`, `off` or `unknown` ([`boot_answers::secure_boot`]);
 /// - `firmware_version`, and what the first event says, or `unknown` ([`boot_answers::firmware_version`]);
 /// - `image 14 sha256 <digest> claimed {..}`: each event that may be an image by some bank that answers for register 4
-///   ([`boot_answers::may_be_image`]), its digests in all banks that answer, and what its data claims; `image unknown` where none answers;
+///   ([`boot_answers::may_be_image`]), its digests in all banks that answer, and what its data claims;
 /// - `command 21 8 {"text":".."}`: each event of register 8, and then of 12, with the text that is measured in each bank that answers
-///   ([`boot_answers::command_text`]), up to the first event without one: `command unknown 8 25`. `command unknown 8` where none answers.
-///   JSON has the kind of a command of GRUB under `claimed`;
-/// - `ima_policy` and what these texts ask ([`crate::ImaPolicy`]): `asked`, `possible`, `none` or `unknown`;
-/// - `boot_variable 9 {..}`: each event of register 1 that is a BootOrder or a Boot####, by its claimed name, up to the first that may be a
-///   separator by some bank that answers ([`boot_answers::boot_variable`]); `boot_variable unknown` where none answers.
+///   ([`boot_answers::told_text`]), up to the first event without one: `command unknown 8 25`. JSON has the kind of a command of GRUB under
+///   `claimed`;
+/// - `ima_policy` and what these texts ask ([`crate::ImaPolicy`]): `asked 21` or `possible 21`, by event 21, or `unknown`;
+/// - `boot_variable 9 {..}`: each event of register 1 that is a BootOrder or a Boot####, by its claimed name, and what it says, up to
+///   the first that may be a separator by some bank that answers ([`boot_answers::boot_variable`]).
 ///
-/// Fails only if memory runs out; some lines may then be appended.
+/// Where no bank answers for the register, or no event extends it, the line is `image unknown`, `command unknown 8` or
+/// `boot_variable unknown`.
+///
+/// Fails only if memory runs out; the vector then is as before.
 pub fn append_boot(
+    alloc: Global,
+    log: &LogView<'_>,
+    matched: &[Place],
+    form: EventForm,
+    lines: &mut Vec<u8>,
+) -> Written
+    ensures ok { OnOk result ((table : List Row) (events : List LogEvent) → IsLog (log_bytes log.now) table events
+        → (text : List ℕ) × AreBootLines form matched.now events text × (lines.new.items ≡ lines.old.items ++ text)) }
+    ensures err { OnErr result (lines.new.items ≡ lines.old.items) }
+{
+    let mut answers = Vec::new(alloc);
+    append_answers(alloc, log, matched, form, &mut answers)?;
+    lines.extend_from_slice(&answers)?;
+    Ok(())
+}
+
+// Appends the lines of all answers.
+fn append_answers(
     alloc: Global,
     log: &LogView<'_>,
     matched: &[Place],
@@ -85,7 +106,7 @@ fn append_images(
     ensures { OnOk result ((table : List Row) (events : List LogEvent) → IsLog (log_bytes log.now) table events
         → (text : List ℕ) × AreImageLines form matched.now events text × (lines.new.items ≡ lines.old.items ++ text)) }
 {
-    if has_answer(matched, IMAGE_REGISTER) {
+    if is_answered(log, matched, IMAGE_REGISTER) {
         append_each(alloc, form, log, matched, Subject::Images, lines)?;
     } else {
         append_word(alloc, form, "image", "unknown", lines)?;
@@ -105,7 +126,7 @@ fn append_commands(
     ensures { OnOk result ((table : List Row) (events : List LogEvent) → IsLog (log_bytes log.now) table events
         → (text : List ℕ) × AreCommandLines register form matched.now events text × (lines.new.items ≡ lines.old.items ++ text)) }
 {
-    if has_answer(matched, register) {
+    if is_answered(log, matched, register) {
         append_each(
             alloc,
             form,
@@ -131,7 +152,7 @@ fn append_variables(
     ensures { OnOk result ((table : List Row) (events : List LogEvent) → IsLog (log_bytes log.now) table events
         → (text : List ℕ) × AreVariableLines form matched.now events text × (lines.new.items ≡ lines.old.items ++ text)) }
 {
-    if has_answer(matched, SETTINGS_REGISTER) {
+    if is_answered(log, matched, SETTINGS_REGISTER) {
         append_each(alloc, form, log, matched, Subject::Variables, lines)?;
     } else {
         append_word(alloc, form, "boot_variable", "unknown", lines)?;

@@ -192,8 +192,8 @@ fn append_place(register: u32, number: usize, lines: &mut Vec<u8>) -> Written
     append_event(number, lines)
 }
 
-// Appends a space, the event's number and the line feed.
-fn append_event(number: usize, lines: &mut Vec<u8>) -> Written
+/// Appends a space, the event's number and the line feed.
+pub(crate) fn append_event(number: usize, lines: &mut Vec<u8>) -> Written
     ensures { OnOk result (lines.new.items ≡ lines.old.items ++ (codes " " ++ (decimal number ++ codes "\n"))) }
 {
     lines.extend_from_slice(b" ")?;

@@ -8,13 +8,13 @@ ghost use Rattle.event_data.specs.ContentReading.{content_in};
 ghost use Rattle.event_data.specs.Forms.{VariableData};
 ghost use Rattle.measured_data.specs.declared.place.Place.{Place};
 ghost use Rattle.measured_data.specs.Measuring.{settings_register};
-ghost use Rattle.boot_answers.specs.Commands.{CommandSaid};
+ghost use Rattle.boot_answers.specs.Commands.{CommandSaid, told_text};
 ghost use Rattle.boot_answers.specs.FirmwareVersion.{version_type};
 ghost use Rattle.json_texts.specs.JsonValues.{IsCount, IsOneLine};
 ghost use Rattle.boot_texts.specs.AnswerLines.{command_json, image_json, text_json, unanswered_json, untold_json, variable_json, version_json, word_json};
 ghost use Rattle.boot_texts.specs.EachBank.{TellText, TellVariable};
+ghost use Rattle.boot_texts.specs.Policies.{asking_json};
 ghost use Rattle.boot_texts.specs.Telling.{is_boot_variable, is_told_variable};
-ghost use Rattle.boot_texts.specs.Told.{told_text};
 
 use measured_data::parts_are_the_first;
 
@@ -44,6 +44,7 @@ pub fn each_answer_is_one_line()
     ensures text { (text : CommandSaid) → IsOneLine (text_json text) }
     ensures untold { (register number : ℕ) → IsCount register → IsCount number → IsOneLine (untold_json register number) }
     ensures unanswered { (register : ℕ) → IsCount register → IsOneLine (unanswered_json register) }
+    ensures asking { (word : List ℕ) (number : ℕ) → IsCount number → IsOneLine (asking_json word number) }
     ensures variable { (number : ℕ) (event : LogEvent) → IsCount number → AreBytes event.payload
         → IsOneLine (variable_json number event) }
 {}

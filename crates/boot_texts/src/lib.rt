@@ -17,7 +17,6 @@ pub mod laws;
 mod policies;
 mod steps;
 mod subject;
-mod told;
 mod variables;
 mod versions;
 mod words;

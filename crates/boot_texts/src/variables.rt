@@ -27,6 +27,9 @@ use measured_data::{Part, Place, is_measured};
 use pcr_banks::Alg;
 use std::alloc::{AllocError, Global};
 
+/// The type of an event with a boot variable.
+const EV_EFI_VARIABLE_BOOT: u32 = 0x8000_0002;
+
 /// Appends the line of the event with this number, if it is a boot variable. Returns whether the events after it are looked at.
 pub(crate) fn append_if_variable(
     alloc: Global,
@@ -182,7 +185,7 @@ fn write_variable(alloc: Global, number: usize, event: &Event<'_>, writer: &mut 
     writer.begin_object()?;
     write_number("boot_variable", number as u64, writer)?;
     writer.key("content")?;
-    write_content(alloc, event.kind, event.payload, writer)?;
+    write_content(alloc, EV_EFI_VARIABLE_BOOT, event.payload, writer)?;
     writer.end_object()?;
     Ok(())
 }
@@ -198,5 +201,5 @@ fn append_variable_text(
     lines.extend_from_slice(b"boot_variable ")?;
     append_number(number as u64, lines)?;
     lines.extend_from_slice(b" ")?;
-    append_content(alloc, event.kind, event.payload, lines)
+    append_content(alloc, EV_EFI_VARIABLE_BOOT, event.payload, lines)
 }

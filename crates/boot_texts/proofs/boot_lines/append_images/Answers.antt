@@ -1,5 +1,10 @@
-use Rattle.std.proofs.Common.{sym, ◌∙◌}
+use Rattle.std.proofs.Common.{refl, sym, ◌∙◌}
 use Rattle.boot_texts.proofs.boot_lines.append_images.Goals as goal
 
 pub returns-in_ok-append_each : goal.returns-in_ok-append_each
-returns-in_ok-append_each c table events is = rw (sym c.has_answer.ensures ∙ c.if-has_answer.true) (c.in_ok-append_each.ensures table events is)
+returns-in_ok-append_each c table events is =
+    rw (sym (c.is_answered.ensures table events is) ∙ c.if-is_answered.true) (c.in_ok-append_each.ensures table events is)
+
+pub returns-in_ok-append_word : goal.returns-in_ok-append_word
+returns-in_ok-append_word c table events is =
+    rw (sym (c.is_answered.ensures table events is) ∙ c.if-is_answered.false) (_, refl, c.in_ok-append_word.ensures)

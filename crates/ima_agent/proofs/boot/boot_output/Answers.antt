@@ -20,7 +20,7 @@ pub returns-clause-shown : goal.returns-clause-shown
 returns-clause-shown g c =
     let (table, events, is) = c.in_ok-view.ensures.sound in
     let viewed = subst (λ (bytes : List ℕ). IsLog bytes table events) (sym c.in_ok-view.ensures.found) is in
-    let (answers, are, text) = c.in_ok-append_boot.ensures table events viewed in
+    let (answers, are, text) = c.in_ok-append_boot.ensures.ok table events viewed in
     let (compared, so, more) = c.in_ok-append_compared.ensures.lines table events viewed in
     record {
       table = table;

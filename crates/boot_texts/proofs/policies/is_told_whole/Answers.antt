@@ -1,5 +1,0 @@
-use Rattle.std.proofs.Common.{sym, ◌∙◌}
-use Rattle.boot_texts.proofs.policies.is_told_whole.Goals as goal
-
-pub returns-then-has_answer : goal.returns-then-has_answer
-returns-then-has_answer c table events is = rw (sym c.has_answer.ensures ∙ c.if-has_answer.true) (c.all_tell.ensures table events is)
