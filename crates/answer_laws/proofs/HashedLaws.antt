@@ -5,6 +5,7 @@ use Rattle.std.specs.List.{AllByRecursion}
 use Rattle.std.proofs.lemmas.Bool.{cases_Bool}
 use Rattle.std.proofs.lemmas.Bool.Decides.{not_from_Decides}
 use Rattle.std.proofs.lemmas.List.{length-replicate}
+use Rattle.std.proofs.lemmas.List.Elements.{filter_map-append}
 use Rattle.std.proofs.lemmas.Slice.Eq.{bytes_eq-Decides}
 use Rattle.pcr_banks.specs.declared.alg.Alg.{Alg}
 use Rattle.pcr_banks.specs.Hashing.{hash_of, size_of}
@@ -29,7 +30,7 @@ chosen_size size false false first second third one two three = three
 located_size : (alg : Alg) (locality : ℕ) → length (replicate (size_of alg - 1) 0 ++ locality ∷ []) ≡ size_of alg
 located_size = every_alg _ (search rules)
 
-reset_size : (alg : Alg) (register locality : ℕ) → length (reset_value alg register locality) ≡ size_of alg
+pub reset_size : (alg : Alg) (register locality : ℕ) → length (reset_value alg register locality) ≡ size_of alg
 reset_size alg register locality =
     chosen_size (size_of alg) (eqb register 0) (nat_le 17 register && nat_le register 22) (replicate (size_of alg - 1) 0 ++ locality ∷ [])
     (replicate (size_of alg) 255) (replicate (size_of alg) 0) (located_size alg locality) (length-replicate (size_of alg) 255)
@@ -76,13 +77,19 @@ data_more x all b among = (x ∷ among.0, among.1, among.2, ap (λ (l : List Log
 pub digests_of : Alg → List LogEvent → List (List ℕ)
 digests_of alg events = filter_map (λ event. digest_in event.digests alg) events
 
+pub known_digest : (alg : Alg) (event : LogEvent) (events : List LogEvent) (bytes : List ℕ) → digest_in event.digests alg ≡ Some (hash_of alg bytes)
+    → digests_of alg (event ∷ events) ≡ hash_of alg bytes ∷ digests_of alg events
+unfolding digests_of
+known_digest alg event events bytes has = rw has refl
+
 pub first_digest : (alg : Alg) (event : LogEvent) (events : List LogEvent) → IsWhole alg event
     → digests_of alg (event ∷ events) ≡ hash_of alg event.payload ∷ digests_of alg events
-unfolding digests_of
 first_digest alg event events whole =
-    let has : digest_in event.digests alg ≡ Some (hash_of alg event.payload) =
-    whole.digest ∙ ap (λ (b : List ℕ). Some (hash_of alg b)) whole.are in
-    rw has refl
+    known_digest alg event events event.payload (whole.digest ∙ ap (λ (b : List ℕ). Some (hash_of alg b)) whole.are)
+
+pub joined_digests : (alg : Alg) (before after : List LogEvent) → digests_of alg (before ++ after) ≡ digests_of alg before ++ digests_of alg after
+unfolding digests_of
+joined_digests alg before after = filter_map-append (λ event. digest_in event.digests alg) before after
 
 -- ---- the machine's data and the log's
 

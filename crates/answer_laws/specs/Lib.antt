@@ -1,3 +1,4 @@
 pub mod Hashed
 pub mod HashedAnswers
 pub mod HashedImages
+pub mod HashedTexts

@@ -6,10 +6,12 @@ mod determined;
 mod firsts;
 mod images;
 mod secure_boots;
+mod texts;
 mod versions;
 
 pub use determined::answers_are_determined;
 pub use firsts::measured_data_was_hashed_first;
 pub use images::image_is_told;
 pub use secure_boots::{log_tells_one_value, logs_tell_one_value, secure_boot_was_hashed};
+pub use texts::text_was_hashed;
 pub use versions::version_was_hashed;
