@@ -1,6 +1,6 @@
 """Packs the library into the wheel, and names in the wheel's tag the machines on which it runs.
 
-The library is the file that the environment variable IMA_VERIFY_LIBRARY names, else `libima_verify.so` in the package's folder."""
+The library is the file that the environment variable IMA_VERIFY_LIBRARY names by a path, else `libima_verify.so` in the package's folder."""
 
 import os
 import re
@@ -22,6 +22,8 @@ FIRST_MANYLINUX = (2, 5)
 def library_in(folder):
     """The file to pack, with its bytes; a message ends the build if there is none."""
     named = os.environ.get(VARIABLE)
+    if named and os.sep not in named:
+        raise SystemExit(f"{PACKAGE}: {VARIABLE} is not a path, which has a {os.sep}: {named}")
     file = Path(named).resolve() if named else Path(folder, PACKAGE, LIBRARY)
     try:
         data = file.read_bytes()

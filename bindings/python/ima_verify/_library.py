@@ -68,8 +68,14 @@ def types_of(name: str) -> Sequence[Any]:
 
 
 def _file() -> str:
-    """The library's file: the one that the environment names, else the one beside this module, else the system's."""
+    """The library's file: the one that the environment names by a path, else the one beside this module, else the system's.
+
+    Raises:
+        LoadError: The environment has a name alone, which might be looked for in any folder.
+    """
     named = os.environ.get(VARIABLE)
+    if named and os.sep not in named:
+        raise LoadError(f"{VARIABLE} is not a path, which has a {os.sep}: {named}")
     if named:
         return os.path.abspath(named)
     beside = Path(__file__).resolve().with_name(FILE_NAME)

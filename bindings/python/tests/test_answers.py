@@ -905,6 +905,21 @@ class Loading(unittest.TestCase):
             message = f"has version {later - 1} of the interface, and {later} or later"
             self.assertRaisesRegex(ima_verify.VersionError, message, _library.load)
 
+    def test_library_of_a_later_version(self):
+        found = ima_verify.version()
+        with unittest.mock.patch.object(_library, "VERSION", found - 1):
+            self.assertEqual(_library.load().ima_verify_version(), found)
+
+    def test_name_alone_is_no_library(self):
+        """A name without a path is looked for neither in the current folder nor by the system's loader."""
+        with tempfile.TemporaryDirectory() as name:
+            folder = os.path.realpath(name)
+            Path(folder, "other.so").symlink_to(Path(_library._file()).resolve())
+            refused, taken = (self.calling(library, folder, LD_LIBRARY_PATH=folder) for library in ("other.so", "./other.so"))
+        self.assertNotEqual(refused.returncode, 0)
+        self.assertIn(b"LoadError: IMA_VERIFY_LIBRARY is not a path, which has a /: other.so", refused.stderr)
+        self.assertEqual(taken.stdout.decode(), f"{ima_verify.version()} {folder}/other.so\n")
+
     def test_library_is_loaded_at_the_first_call(self):
         program = ("import ima_verify; session = ima_verify.Session(b'', b'', require='sha256:0-10'); print('imported')\n"
                    "try: session.more(b'')\n"
