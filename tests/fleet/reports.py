@@ -367,7 +367,7 @@ def test_prefixes(tools, folder):
     boot = make_quoted(folder / "longer", ima=data + data[-95:])
     bare = make_quoted(folder / "longer, without expected registers", ima=data + data[-95:], expected=None)
     cases = (((boot, "--prefix"), 1), ((boot, "--prefix", *quoted), 1), ((bare, "--prefix", *quoted), 0))
-    *found, (_, differing, _), (_, whole, _) = reports_of(tools, [*(call for call, _ in cases), (boot,), (folder / "unbroken",)])
+    *found, (_, differing, _), (_, whole, _) = reports_of(tools, [*(call for call, _ in cases), (boot,), (make_boot(folder / "no longer"),)])
     first = "the first 99 of 100 entries"
     for (call, is_confirming), (status, page, _) in zip(cases, found):
         title = f"a prefix, of {call[0].name}, {len(call)} arguments"
