@@ -390,7 +390,7 @@ def test_types(tools):
     python = python_with("mypy")
     tools.lacks(*([] if python else ["mypy: whether the types of fleet_verify are right"]))
     words = [python, "-m", "mypy", "--cache-dir", "/dev/null"]
-    done = subprocess.run(words, cwd=ROOT / "fleet", capture_output=True, text=True, timeout=SECONDS)
+    done = subprocess.run(words, cwd=ROOT / "fleet", capture_output=True, text=True, timeout=4 * SECONDS)
     tools.check("mypy --strict", (done.returncode, done.stdout if done.returncode else ""), (0, ""))
 
 
