@@ -5,9 +5,9 @@ tests/cases/terminal.py [PROGRAM]: by default the program that was built in this
 
 Each command of the cases whose files have at most 4 MiB runs with a terminal as its standard error. Status and output must be what the
 case wants. After a fault the terminal must get its sentence, which is made here of the fault's line, by the tables of docs/errors.txt, and
-where the input is not what it should be a line of `MISTAKES` more. After a verdict `differ`, or values that are not located, it gets lines of
-`HINTS`, three at most. After a success it must get nothing, and after a refused command line some text of clap's: `USAGES` has some. Where the output goes to the
-same terminal, the sentence must come after the line. Further commands have names with bytes that a terminal acts upon, are out of memory,
+where the input is not what it should be the line of tests/reference/hints.py that says so. After a verdict `differ`, or values that are not
+located, it must get the lines of that reference, and none if an input is no regular file. After a success it must get nothing, and after a
+refused command line some text of clap's: `USAGES` has some. Where the output goes to the same terminal, the sentence must come after the line. Further commands have names with bytes that a terminal acts upon, are out of memory,
 have an output that fails, or measure for more than a second. Each of these runs without a terminal too, and standard error must then get
 nothing. Pipes that are closed one after another show when which number is due. The script counts commands."""
 
@@ -34,6 +34,27 @@ from answers import Answer, fault_of  # noqa: E402
 from reference.attestations import NotAttested, require_asked_for  # noqa: E402
 from reference.command_line import read_words  # noqa: E402
 from reference.faults import Fault  # noqa: E402
+from reference.hints import (  # noqa: E402
+    AGGREGATES,
+    APART,
+    EMPTY,
+    LIST_FOR_LOG,
+    LOG_FOR_LIST,
+    NO_ENTRIES,
+    NO_EXPECTED,
+    NOT_GIVEN,
+    NOTHING_PRINTED,
+    OLD_LOG,
+    OTHER_BOOT,
+    PRINTED_FOR_EXPECTED,
+    SEEN_BY,
+    TEXT_FOR_LIST,
+    UNCONFIRMED,
+    are_regular,
+    is_regular,
+    mistake_in,
+    next_steps,
+)
 from reference.known_files import read_known  # noqa: E402
 from reference.log import Log  # noqa: E402
 from reference.quotes import read_quote  # noqa: E402
@@ -131,40 +152,8 @@ USAGES = [
       )),
 ]
 
-# What to do next, after an answer that something differs.
-ALGORITHM, NUMBER = "sha(1|256|384|512)", "[0-9]+"
-BOOT = "LOG is of another boot, or was changed; ima-agent events --explain --expected shows its events"
-APART = "log and list cannot be told apart"
-GROWN = ("PCR 10 has this value after entry {} of {}: the list grew, or the value is old; read it again, or add --prefix, which leaves out the "
-         "entries after it")
-HINTS = [re.compile(line) for line in (
-    GROWN.format(NUMBER, NUMBER),
-    "LIST is empty: copy the kernel's list with cat, since its size is given as 0",
-    "the boot aggregate is another: log and list are of different boots, or one of them was changed",
-    "LOG has no bank for the boot aggregate, so nothing says that log and list are of one boot",
-    "entry 0 is no boot aggregate: the list lacks its beginning, has another template, or was changed",
-    f"{ALGORITHM} PCR 10 differs: it was read at another time than LIST, or an entry is missing or was changed",
-    "add EXPECTED, the values read with the quote: its rows show which PCR differs",
-    "EXPECTED is not what the TPM signed: give the values read with the quote",
-    f"event {NUMBER} extends PCR 10, which only the list should: {APART}",
-    f"entry {NUMBER} extends PCR {NUMBER}, which only the log should: {APART}",
-    f"{ALGORITHM} PCR {NUMBER} (differs|never has its value): {BOOT}",
-    f"{ALGORITHM} PCR {NUMBER} differs: replay reads no log; ima-agent verify does",
-    f"EXPECTED lacks {ALGORITHM} PCR {NUMBER}: read it with the others",
-    "EXPECTED has no PCR",
-    f"{ALGORITHM} is no bank of LOG, so its PCRs cannot be judged: LOG is of another machine, or was changed",
-)]
-MOST_HINTS = 3
-
-# What an input is that is refused, if it is not what it should be.
-EMPTY = "it is empty: copy the kernel's files with cat, since their size is given as 0"
-NOTHING_PRINTED = "it is empty: the tool printed nothing"
-LIST_FOR_LOG = "it is a measurement list, and no firmware event log"
-OLD_LOG = ("it is in the form of TPM 1.2, which is not read: PCRs 0 to 9 cannot be judged; if the machine has a TPM 2.0 it was changed")
-LOG_FOR_LIST = "it is a firmware event log, and no measurement list"
-TEXT_FOR_LIST = "it is the list as text: take binary_runtime_measurements, which is beside it"
-PRINTED_FOR_EXPECTED = "it is what tpm2-tools print: ima-agent expected makes EXPECTED of it"
-MISTAKES = [EMPTY, NOTHING_PRINTED, LIST_FOR_LOG, OLD_LOG, LOG_FOR_LIST, TEXT_FOR_LIST, PRINTED_FOR_EXPECTED]
+# After how many seconds a command that reads a pipe once more is ended: it would wait for ever.
+PIPE_SECONDS = 60
 
 # Names with bytes that a terminal acts upon (C0, DEL, C1, and a mark that turns the writing), or that are not ASCII, as they are shown.
 NAMES = [
@@ -195,7 +184,7 @@ class Command(NamedTuple):
     settle: object = None
 
 
-def run_on_terminal(words, folder, given, output, settle=None):
+def run_on_terminal(words, folder, given, output, settle=None, seconds=SECONDS):
     """Runs the program with a terminal as its standard error, and returns its status and what that got."""
     ours, theirs = pty.openpty()
     tty.setraw(theirs)
@@ -203,7 +192,7 @@ def run_on_terminal(words, folder, given, output, settle=None):
         process = subprocess.Popen([PROGRAM, *words], stdin=given, stdout=output, stderr=theirs, cwd=folder, env={}, preexec_fn=settle)
     finally:
         os.close(theirs)
-    said, end = b"", time.monotonic() + SECONDS
+    said, end = b"", time.monotonic() + seconds
     try:
         while piece := read_piece(ours, end):
             said += piece
@@ -347,16 +336,25 @@ def is_of_usage(said):
     return said.startswith(b"error: ") and said.endswith(b"\n") and all(0x20 <= each <= 0x7E or each == 0x0A for each in said)
 
 
-def are_hints(said):
-    """Whether these are lines that say what to do next, or nothing."""
-    lines = said.decode("ascii", "replace").splitlines()
-    return len(lines) <= MOST_HINTS and all(any(hint.fullmatch(line) for hint in HINTS) for line in lines)
+def hints_due(words, folder, given):
+    """What a terminal is to get after an answer to these words that something differs, where standard input has these bytes, if it is a file."""
+    if words[0] not in SEEN_BY or not are_regular(words, folder, given):
+        return b""
+    return "".join(f"{line}\n" for line in next_steps(words, folder, given or b"")).encode()
 
 
-def is_sentence(said, wanted):
-    """Whether this is the sentence, alone or with a line that says what its input is."""
-    name = wanted.partition(b": ")[0]
-    return said == wanted or any(said == wanted + name + f": {words}\n".encode() for words in MISTAKES)
+def mistake_due(words, line, folder, given):
+    """The line that says what the refused input is in place of what it should be, or no bytes."""
+    found = re.match(rb"refused: (log|list|replay|expected) fault ", line)
+    if not found or not words:
+        return b""
+    kind = found[1].decode().replace("replay", "list")
+    name = names_of(words)[0][kind]
+    if name is None or not is_regular(name, folder, given):
+        return b""
+    data = given if name == "/dev/stdin" else (folder / name).read_bytes()
+    mistake = mistake_in("printed" if words[0] == "expected" else kind, data)
+    return shown(f"{name}: {mistake}") + b"\n" if mistake else b""
 
 
 def without_progress(said):
@@ -378,13 +376,13 @@ def case_fault(command, folder, output):
     fault = fault_of(command, Answer(status, output, b""), folder)
     if fault is not None:
         return f"the answer is another one:\n    {fault}"
-    if status == 1:
-        return None if are_hints(said) else f"the terminal got {said!r}, and not what to do next"
+    given = (folder / command.input).read_bytes() if command.input else None
     try:
-        wanted = b"" if line is None else sentence_of(command.words, line, folder)
-    except (KeyError, ValueError) as error:
+        wanted = hints_due(command.words, folder, given) if status == 1 else b"" if line is None else sentence_of(command.words, line, folder)
+        wanted = wanted and wanted + (mistake_due(command.words, line, folder, given) if line else b"")
+    except (Fault, KeyError, ValueError) as error:
         return f"no table has the words of {text!r}: {error!r}"
-    if is_of_usage(said) if wanted is None else is_sentence(said, wanted):
+    if is_of_usage(said) if wanted is None else said == wanted:
         return None
     return f"the terminal got {said!r}, and not {'a text of clap' if wanted is None else wanted!r}"
 
@@ -429,9 +427,11 @@ def further_commands():
 def hinted_commands():
     """Commands of which something differs, or of which an input is not what it should be; their status, and what to do next."""
     judged, quoted = ["firmware.log", "ima.list", "expected.txt"], ["--nonce", NONCE_GIVEN, "--signature-checked"]
-    grown, changed, lacks = GROWN.format(98, 100), f"sha256 PCR 4 differs: {BOOT}", "EXPECTED lacks {} PCR {}: read it with the others"
+    changed, lacks = f"sha256 PCR 4 differs: {OTHER_BOOT}", "EXPECTED lacks {} PCR {}: read it with the others"
+    grown = ("PCR 10 has this value after entry 98 of 100: the list grew, or the value is old; read it again, or add --prefix, which leaves out the "
+             "entries after it")
     earlier = "sha256 PCR 10 differs: it was read at another time than LIST, or an entry is missing or was changed"
-    other = "the boot aggregate is another: log and list are of different boots, or one of them was changed"
+    other = AGGREGATES["wrong"]
     yield "all matches", ["verify", "--require=sha256:0-10", *judged], 0, []
     yield "a list that grew", ["verify", "firmware.log", "longer.list", "expected.txt"], 1, [grown]
     yield "a list that grew, in JSON", ["verify", "--json", "--require=sha256:0-10", "firmware.log", "longer.list", "expected.txt"], 1, [grown]
@@ -440,25 +440,25 @@ def hinted_commands():
     yield "a list without its end", ["verify", "firmware.log", "shorter.list", "expected.txt"], 1, [earlier]
     yield "where its value is", ["locate", "firmware.log", "shorter.list", "expected.txt"], 1, [earlier]
     yield "a quoted list without its end", ["attest", *quoted, "--require=sha256:0-10", "firmware.log", "shorter.list", "quote.msg"], 1, [
-        "add EXPECTED, the values read with the quote: its rows show which PCR differs"]
+        NOT_GIVEN]
     yield "the same with EXPECTED", [
         "attest", *quoted, "--require=sha256:0-10", "firmware.log", "shorter.list", "quote.msg", "expected.txt"], 1, [earlier]
     yield "the same with other values", [
         "attest", *quoted, "--require=sha256:0-10", "firmware.log", "shorter.list", "quote.msg", "changed.txt"], 1, [
-        "EXPECTED is not what the TPM signed: give the values read with the quote"]
+        UNCONFIRMED]
     yield "another value", ["verify", "firmware.log", "ima.list", "changed.txt"], 1, [changed]
     yield "a value that is missing", ["verify", "--require=sha256:10-10", "firmware.log", "ima.list", "four.txt"], 1, [lacks.format("sha256", 10)]
-    yield "nothing expected", ["replay", "ima.list", "empty"], 1, ["EXPECTED has no PCR"]
+    yield "nothing expected", ["replay", "ima.list", "empty"], 1, [NO_EXPECTED]
     yield "a value of the log", ["replay", "ima.list", "four.txt"], 1, [
         "sha256 PCR 4 differs: replay reads no log; ima-agent verify does"]
     yield "no bank", ["verify", "firmware.log", "ima.list", "sha1.txt"], 1, [
         "sha1 is no bank of LOG, so its PCRs cannot be judged: LOG is of another machine, or was changed"]
     yield "an empty list", ["verify", "firmware.log", "empty", "expected.txt"], 1, [
-        "LIST is empty: copy the kernel's list with cat, since its size is given as 0"]
+        NO_ENTRIES]
     yield "another boot", ["verify", "firmware.log", "other.list", "empty"], 1, [
-        other, "EXPECTED has no PCR"]
+        other, NO_EXPECTED]
     yield "an entry alone", ["verify", "firmware.log", "end.list", "changed.txt"], 1, [
-        "entry 0 is no boot aggregate: the list lacks its beginning, has another template, or was changed", changed]
+        AGGREGATES["missing"], changed]
     zero, event = changed.replace("PCR 4", "PCR 0"), f"event 1 extends PCR 10, which only the list should: {APART}"
     yield "an event of PCR 10", ["verify", "--require=sha256:10", "ten.log", "ima.list", "expected.txt"], 1, [other, event, zero]
     yield "more than three causes", ["verify", "--require=sha256:10+sha1:9", "ten.log", "ima.list", "expected.txt"], 1, [other, event, zero]
@@ -476,7 +476,7 @@ def hinted_commands():
     yield "a longer list with an entry of PCR 11", ["verify", "firmware.log", "both.list", "expected.txt"], 1, [
         earlier, eleven, changed.replace("PCR 4", "PCR 11")]
     yield "where a value of the log is", ["locate", "firmware.log", "ima.list", "changed.txt"], 1, [
-        f"sha256 PCR 4 never has its value: {BOOT}"]
+        f"sha256 PCR 4 never has its value: {OTHER_BOOT}"]
     yield "a list that is piped", ["verify", "firmware.log", "/dev/stdin", "expected.txt"], 1, []
 
 
@@ -500,6 +500,62 @@ def mistaken_commands():
     ):
         said = [f"{name}: {sentence}"] + ([f"{name}: {mistake}"] if mistake else [])
         yield f"{mistake or 'no mistake'}: {words}", words, f"refused: {refused}\n".encode(), said
+
+
+def piped_commands():
+    """Commands with an input that is a pipe, of which something differs, or that refuse it: what to do next would be said of a file."""
+    differs, quoted = ["firmware.log", "shorter.list", "expected.txt"], ["--nonce", NONCE_GIVEN, "--signature-checked", "--require=sha256:0-10"]
+    attested = [*differs[:2], "quote.msg", "expected.txt"]
+    for piped, words in (
+        *((piped, ["verify", *differs]) for piped in differs),
+        *((piped, ["locate", *differs]) for piped in differs),
+        *((piped, ["replay", *differs[1:]]) for piped in differs[1:]),
+        *((piped, ["attest", *quoted, *attested]) for piped in attested),
+        ("saved", ["verify", "--resume", "saved", "firmware.log", "end.list", "changed.txt"]),
+        ("saved.quoted", ["attest", *quoted, "--resume", "saved.quoted", "firmware.log", "end.list", "quote.msg"]),
+        ("known", ["verify", "--require=sha256:0-10", "--known", "known", "firmware.log", "ima.list", "expected.txt"]),
+        ("known", ["attest", *quoted, "--known", "known", "firmware.log", "ima.list", "quote.msg"]),
+        ("known", ["replay", "--require=sha256:10", "--known", "known", "ima.list", "ten.txt"]),
+    ):
+        yield piped, words, 1
+    for piped, words in (
+        ("L cut", ["verify", "L cut", "ima.list", "expected.txt"]),
+        ("ima.ascii", ["verify", "firmware.log", "ima.ascii", "expected.txt"]),
+        ("ima.list", ["verify", "ima.list", "firmware.log", "expected.txt"]),
+        ("tpm2_pcrread.txt", ["verify", "firmware.log", "ima.list", "tpm2_pcrread.txt"]),
+        ("tpm2_pcrread.txt", ["attest", *quoted, "firmware.log", "ima.list", "quote.msg", "tpm2_pcrread.txt"]),
+    ):
+        yield piped, words, 2
+
+
+def left_with_pipe(words, piped, folder, run):
+    """What `run` leaves of these words, where one of their inputs is a pipe, which is filled once; None for its status if it reads that again."""
+    file, kept = folder / piped, folder / "kept"
+    data = file.read_bytes()
+    file.rename(kept)
+    os.mkfifo(file)
+    filler = subprocess.Popen([sys.executable, "-c", "import sys; open(sys.argv[1], 'wb').write(open(sys.argv[2], 'rb').read())", file, kept],
+                              stderr=subprocess.DEVNULL)
+    try:
+        return run(words, folder)
+    except subprocess.TimeoutExpired:
+        return Ended(None, data[:0], b"(it does not end)")
+    finally:
+        filler.kill()
+        filler.wait()
+        kept.replace(file)
+
+
+def ended_elsewhere(words, folder):
+    ran = subprocess.run([PROGRAM, *words], stdin=subprocess.DEVNULL, capture_output=True, cwd=folder, env={}, timeout=PIPE_SECONDS)
+    return Ended(ran.returncode, ran.stdout, ran.stderr)
+
+
+def ended_on_terminal(words, folder):
+    with tempfile.TemporaryFile() as sink:
+        status, said = run_on_terminal(words, folder, subprocess.DEVNULL, sink, seconds=PIPE_SECONDS)
+        sink.seek(0)
+        return Ended(status, sink.read(), said)
 
 
 def limit_memory():
@@ -556,6 +612,8 @@ def make_samples(folder):
     (folder / "both.list").write_bytes(listed + eleven + listed[-95:])
     (folder / "nine.list").write_bytes(listed[:-95] + b"\x09" + listed[-94:])
     (folder / "ten.log").write_bytes((folder / "L").read_bytes().replace(bytes.fromhex("04000000 04000000"), bytes.fromhex("0a000000 04000000")))
+    (folder / "sha1.ten.txt").write_text(f"sha1 10 {'ab' * 20}\n")
+    shutil.copy(SAMPLES / "known" / "SHA256SUMS", folder / "known")
     (folder / "sha1.txt").write_text(values + f"sha1 10 {'00' * 20}\n")
     (folder / "empty").touch()
     (folder / "L cut").write_bytes((folder / "L").read_bytes()[:40])
@@ -633,6 +691,22 @@ class Further(harness.TestCase):
             self.check(f"{title}, on a terminal", left_on_terminal(command, self.room), plain._replace(said=said))
             self.check(f"{title}, explained", left_elsewhere(explained, self.room), plain._replace(said=said))
             self.check(f"{title}, explained on a terminal", left_on_terminal(explained, self.room), plain._replace(said=said))
+
+    def test_pipes(self):
+        """An input that is a pipe is read once, so that a command ends, and nothing is said of what to do next."""
+        make_samples(self.room)
+        quoted = ["attest", "--nonce", NONCE_GIVEN, "--signature-checked", "--require=sha256:0-10"]
+        for words in (["verify", "--save=saved", "firmware.log", "ima.list", "expected.txt"],
+                      [*quoted, "--save=saved.quoted", "firmware.log", "ima.list", "quote.msg"]):
+            self.check(f"a checkpoint: {words}", ended_elsewhere(words, self.room).status, 0)
+        for piped, words, status in piped_commands():
+            plain = ended_elsewhere(words, self.room)
+            sentence = b"" if status == 1 else sentence_of(words, plain.output[:-1], self.room)
+            self.check(f"{words}, elsewhere", (plain.status, plain.said), (status, b""))
+            wanted, title = plain._replace(said=sentence), f"{words}, {piped} a pipe"
+            explained = [words[0], "--explain", *words[1:]]
+            self.check(f"{title}, explained", left_with_pipe(explained, piped, self.room, ended_elsewhere), wanted)
+            self.check(f"{title}, on a terminal", left_with_pipe(words, piped, self.room, ended_on_terminal), wanted)
 
     def test_mistakes(self):
         """An input that is not what it should be is told on a terminal, and elsewhere only by --explain."""

@@ -13,7 +13,8 @@ A command of each kind (those of `tests/faults/sweep.py`) runs again and again, 
   file fail in turn. The answer must be `failed: write` with its name, and what has that name must stay as it was.
 - Each write fails in turn, or takes no byte. What was written must be a prefix of the output, with nothing after it, and the status 3.
 
-Standard error must be empty; but with `--explain` a file that fails is told there, and what fails in the second look at inputs changes only that.
+Standard error must be empty; but with `--explain` it must have that the file cannot be read or written. If a call fails in the second look at
+inputs, the answer must be the same, and standard error that of an input, or of a prefix of the list, which is not looked at again.
 
 For each command the script prints how many calls failed. It counts commands."""
 
@@ -30,6 +31,7 @@ sys.path[:0] = [str(HERE.parent), str(HERE.parent / "cases"), str(HERE)]
 
 import harness  # noqa: E402
 from answers import answer_of, saved_by  # noqa: E402
+from reference.hints import next_steps  # noqa: E402
 from sweep import check_runs, command_runs, is_explained  # noqa: E402
 
 MOST_CALLS = 10_000
@@ -78,7 +80,7 @@ class Devices:
                     if name is None:
                         break
                     count += 1
-                    if not (is_cut if kind == "write" else is_told)(found, wanted, name, self.run.command):
+                    if not (is_cut if kind == "write" else is_told)(found, wanted, name, self.run):
                         faults.append(f"{kind} {number} of {name!r} fails with error {error}: {found}")
                     if kind != "write" and saved_by(self.run.command, self.run.folder) != before:
                         faults.append(f"{kind} {number} of {name!r} fails with error {error}, and {self.run.command.saved} is another")
@@ -87,11 +89,11 @@ class Devices:
         return count, faults[0] if faults else None
 
 
-def is_told(found, wanted, name, command):
+def is_told(found, wanted, name, run):
     """Whether an answer tells that this file failed, or is the refusal that is wanted in any case, or one that was explained."""
-    if found == wanted and wanted[0] > 1 or found[:2] == wanted[:2] and is_explained(command):
+    command, words, kind = run.command, run.command.words, "read"
+    if found == wanted and wanted[0] > 1 or found[:2] == wanted[:2] and is_explained(command) and found[2] in second_looks(wanted, run):
         return True
-    words, kind = command.words, "read"
     if command.saved and name == f"{command.saved}.0.new".encode():
         kind, name = "write", command.saved.encode()
     line = b"failed: %s %s\n" % (kind.encode(), name)
@@ -100,8 +102,17 @@ def is_told(found, wanted, name, command):
     status, text, errors = found
     before = text.removesuffix(line)
     if is_explained(command):
-        return status == FAILED and name in errors and text == line
+        return status == FAILED and errors == b"cannot %s %s\n" % (kind.encode(), name) and text == line
     return (status, errors) == (FAILED, b"") and text != before and (not before or is_read_before(before, wanted[1], words))
+
+
+def second_looks(wanted, run):
+    """What standard error may have after a second look of which a call failed, if the answer is explained. A refusal keeps its sentence."""
+    status, _, errors = wanted
+    if status == 1:
+        steps = next_steps(run.command.words, run.folder, has_prefix=False)
+        return {errors, b"", "".join(f"{line}\n" for line in steps).encode()}
+    return {errors, b"".join(errors.splitlines(keepends=True)[:1])}
 
 
 def is_read_before(text, wanted, words):
@@ -111,10 +122,10 @@ def is_read_before(text, wanted, words):
     return shows_entries and wanted.splitlines(keepends=True)[: len(lines)] == lines and all(line.startswith(b'{"entry":') for line in lines)
 
 
-def is_cut(found, wanted, _name, command):
+def is_cut(found, wanted, _name, run):
     """Whether an answer is a front of the one wanted, and no more. (Why an input is refused may be explained then, too.)"""
     status, text, errors = found
-    is_due = errors == b"" or is_explained(command) and wanted[2].startswith(errors)
+    is_due = errors == b"" or is_explained(run.command) and errors == wanted[2]
     return status == FAILED and is_due and text != wanted[1] and wanted[1].startswith(text)
 
 
