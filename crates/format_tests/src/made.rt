@@ -1,6 +1,5 @@
 //! Entries that are made, by templates and with signatures, and what is written, hashed, shown and copied of them.
 
-use crate::pieces::repeated;
 use ima_list::{Entry, EntryFault, Sig, Template};
 use pcr_banks::{Alg, hash};
 use std::alloc::{AllocError, Global};
@@ -8,10 +7,10 @@ use std::process::Abort;
 use std::test::Fail;
 use test_kit::books::copied_sig;
 use test_kit::lists::{
-    MEASUREMENT, MEASUREMENT_LINE, OTHER_TEMPLATE, OTHER_TEMPLATE_LINE, SIGNED, THREE_BYTES,
-    VIOLATION, VIOLATION_LINE, list_of, sig_of, spelling_of, spellings,
+    LONGEST_PATH, MEASUREMENT, MEASUREMENT_LINE, OTHER_TEMPLATE, OTHER_TEMPLATE_LINE, SIGNED,
+    THREE_BYTES, VIOLATION, VIOLATION_LINE, list_of, longest_sig, sig_of, spelling_of, spellings,
 };
-use test_kit::{copied, joined, once_more};
+use test_kit::{copied, joined, once_more, repeated};
 
 /// The entry of `/bin/sh`, measured with the SHA-1 of `abc` in the template `ima`.
 const OF_IMA: &[u8] = b"\x0a\x00\x00\x00\
@@ -337,19 +336,10 @@ fn each_allocation_refused_in_copy_of_a_signature(rt: HostRuntime) -> Result<(),
     Ok(())
 }
 
-/// The longest signature, of 65,536 bytes, copied.
-fn longest_sig(alloc: Global) -> Result<Sig, Fail> {
-    let sig = sig_of(alloc, &repeated(alloc, b"\xab", 65_536)?)?;
-    Ok(copied_sig(&sig)?)
-}
-
-/// The longest path of `ima-ng` and of `ima-sig`.
-const LONGEST_PATH: &[u8] = &[b'a'; 4_095];
-
 #[test]
 fn longest_path_and_signature(rt: HostRuntime) -> Result<(), Fail> {
     let alloc = rt.alloc();
-    let sig = longest_sig(alloc)?;
+    let sig = copied_sig(&longest_sig(alloc)?)?;
     let entry = measured(alloc, Template::ImaSig, Alg::Sha512, LONGEST_PATH, &sig)?;
     assert_eq!(rt; spelling_of(alloc, &entry)?.len(), 69_755);
     Ok(())

@@ -7,10 +7,10 @@ use std::alloc::{AllocError, Global};
 use std::process::Abort;
 use std::test::Fail;
 use test_kit::lists::{MEASUREMENT, list_of, spellings};
-use test_kit::{joined, once_more};
+use test_kit::{joined, once_more, repeated};
 
 /// An entry of register 10 with the digest of a violation and the name `ima-xx`, up to the length of its payload.
-const OTHER_HEAD: &[u8] = b"\x0a\x00\x00\x00\
+pub const OTHER_HEAD: &[u8] = b"\x0a\x00\x00\x00\
     \x00\x00\x00\x00\x00\x00\x00\x00\x00\x00\x00\x00\x00\x00\x00\x00\x00\x00\x00\x00\
     \x06\x00\x00\x00ima-xx";
 
@@ -27,11 +27,6 @@ const REGISTER_24: &[u8] = b"\x18\0\0\0";
 /// Feeds a piece; once more where memory was refused.
 fn feed(reader: &mut ListReader, piece: &[u8]) -> Result<(), ListFault> {
     once_more(ListFault::Memory, || reader.feed(piece))
-}
-
-/// The bytes, so many times.
-pub fn repeated(alloc: Global, bytes: &[u8], count: usize) -> Result<Vec<u8>, AllocError> {
-    once_more(AllocError, || bytes.repeat(alloc, count))
 }
 
 /// A reader that took the bytes in pieces of this size.

@@ -1,13 +1,12 @@
 //! What is sent to a sink: where it fails a prefix, and nothing after the failure.
 
 use crate::made::entry_of;
-use crate::pieces::repeated;
 use byte_streams::{Failed, Sink, VecSink, send, send_pieces};
 use ima_list::send_entry;
 use std::test::Fail;
 use test_kit::devices::ShortSink;
 use test_kit::lists::MEASUREMENT;
-use test_kit::once_more;
+use test_kit::{once_more, repeated};
 
 /// How many bytes a sink has room for, and how often it fails.
 const ROOMS: [(usize, u64); 4] = [(0, 1), (2, 1), (5, 1), (6, 0)];

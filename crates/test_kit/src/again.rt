@@ -26,6 +26,11 @@ pub fn copied(alloc: Global, bytes: &[u8]) -> Result<Vec<u8>, AllocError> {
     once_more(AllocError, || Vec::from_slice(alloc, bytes))
 }
 
+/// The bytes, so many times.
+pub fn repeated(alloc: Global, bytes: &[u8], count: usize) -> Result<Vec<u8>, AllocError> {
+    once_more(AllocError, || bytes.repeat(alloc, count))
+}
+
 /// The words of a fault.
 pub fn words_of<D: Display + Drop>(alloc: Global, fault: D) -> Result<String, AllocError> {
     once_more(AllocError, || format!(in alloc; "{fault}"))

@@ -1,6 +1,6 @@
 //! Entries of measurement lists and their lines; lists that are read and written.
 
-use crate::{copied, once_more};
+use crate::{copied, joined, once_more, repeated};
 use ima_list::{Entry, ListFault, Sig, read_list, write_entry};
 use std::alloc::{AllocError, Global};
 use std::test::Fail;
@@ -66,6 +66,22 @@ pub const SIGNED: &[u8] = b"\x0a\x00\x00\x00\
 /// The signature of these bytes.
 pub fn sig_of(alloc: Global, bytes: &[u8]) -> Result<Sig, Fail> {
     Ok(Sig::new(copied(alloc, bytes)?).ok().ok_or("no signature")?)
+}
+
+/// The longest path of `ima-ng` and of `ima-sig`.
+pub const LONGEST_PATH: &[u8] = &[b'a'; 4_095];
+
+/// A path of this length that begins with the number.
+pub fn longest_path(alloc: Global, number: u32) -> Result<Vec<u8>, AllocError> {
+    let name = format!(in alloc; "/{number}/")?;
+    let mut path = joined(alloc, &[name.as_bytes(), LONGEST_PATH])?;
+    path.truncate(LONGEST_PATH.len());
+    Ok(path)
+}
+
+/// The longest signature, of 65,536 bytes.
+pub fn longest_sig(alloc: Global) -> Result<Sig, Fail> {
+    sig_of(alloc, &repeated(alloc, b"\xab", 65_536)?)
 }
 
 /// The list that the bytes are.

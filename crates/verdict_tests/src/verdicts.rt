@@ -1,5 +1,6 @@
 //! Verdicts on lists from sources, texts, and the book of a real boot.
 
+mod ample_memory;
 mod attested;
 mod pieces;
 mod real_boot;

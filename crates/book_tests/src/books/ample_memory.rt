@@ -1,5 +1,5 @@
-//! Calls that want all their memory, each made once: on books of thousands of records, of the least and the greatest limit, and of
-//! each template and algorithm. A body that gives up without reason fails here.
+//! Calls that want all their memory, each made once: on books of thousands of records, of the least and the greatest limit, of the
+//! longest operations, and of each template and algorithm. A body that gives up without reason fails here.
 
 use crate::books::deeds::{Deed, Row, is_book, measured, play, violated};
 use ima_list::Template;
@@ -8,8 +8,8 @@ use pcr_banks::{Alg, AlgSet, Banks, Digest};
 use std::alloc::{AllocError, Global};
 use std::process::Abort;
 use std::test::Fail;
-use test_kit::books::{AFTER_OPENING, origin};
-use test_kit::lists::THREE_BYTES;
+use test_kit::books::{AFTER_OPENING, measure_with, origin};
+use test_kit::lists::{THREE_BYTES, longest_path, longest_sig};
 use test_kit::registers::sha256;
 
 /// Operations by their numbers.
@@ -222,6 +222,30 @@ fn five_thousand_are_run_and_gathered(rt: HostRuntime) -> Result<(), Fail> {
     assert!(rt; groups[0].len() == 5_000 && are_answered(&groups[0], 5_000));
     assert!(rt; is_book(&book, 5_001, 1_251, AFTER_MIXED));
     assert!(rt; gather(alloc, &book, &origin(5_001), &groups).is_ok());
+    Ok(())
+}
+
+/// Operations, so many: each measures a file of the longest path with the longest signature.
+fn longest_ops(alloc: Global, count: u32) -> Result<Vec<Op>, Fail> {
+    let sig = longest_sig(alloc)?;
+    let mut ops = Vec::new(alloc);
+    for number in 0..count {
+        let path = longest_path(alloc, number)?;
+        ops.push(measure_with(alloc, &path, sha256(b"abc"), &sig)?)?;
+    }
+    Ok(ops)
+}
+
+#[test]
+fn longest_are_run_and_gathered(rt: HostRuntime) -> Result<(), Fail> {
+    let alloc = rt.alloc();
+    let mut origin = origin(101);
+    origin.template = Template::ImaSig;
+    let ops = longest_ops(alloc, 100)?;
+    let mut book = Book::open(alloc, origin)?;
+    let groups = [book.run(&ops)?];
+    assert!(rt; book.records().len() == 101 && book.entries().len() == 101);
+    assert!(rt; gather(alloc, &book, &origin, &groups).is_ok());
     Ok(())
 }
 

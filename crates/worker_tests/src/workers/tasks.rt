@@ -13,7 +13,7 @@ use test_kit::copied;
 use test_kit::registers::sha256;
 
 /// How many jobs a batch may have.
-const MOST_JOBS: usize = 0xFFFF_FFFF;
+pub const MOST_JOBS: usize = 0xFFFF_FFFF;
 
 /// A job. A file has a path, a content, and, where it is signed, a signature.
 #[derive(Clone, Copy)]
