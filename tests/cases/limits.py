@@ -25,11 +25,12 @@ from reference.boot_answers import Boot  # noqa: E402
 from reference.event_texts import guid_text  # noqa: E402
 from reference.fields import number  # noqa: E402
 from reference.json_texts import json_text  # noqa: E402
+from reference.known_files import Unknown  # noqa: E402
 from reference.log import Event, Log  # noqa: E402
 from reference.measurement_list import BOOT_AGGREGATE, IMA_NG, Entry, entry_of, list_spelling, list_text, replay  # noqa: E402
 from reference.registers import ALGORITHMS, SHA1, SHA256, Registers, register_line  # noqa: E402
 from reference.texts import Expected, pcrread_text  # noqa: E402
-from reference.verdict import locate, verdict  # noqa: E402
+from reference.verdict import locate, verdict, verdict_report  # noqa: E402
 
 parser = argparse.ArgumentParser(usage="tests/cases/limits.py [--library FILE] [PROGRAM]")
 parser.add_argument("--library", type=Library)
@@ -315,7 +316,8 @@ class Limits(harness.TestCase):
             })
 
     def test_entries(self):
-        """Lists with an entry again and again: one with a payload of a MiB, a measurement, and, for two commands, the shortest violation."""
+        """Lists with an entry again and again: one with a payload of a MiB, a measurement, and, for three commands, the shortest violation, which is
+        no known file's."""
         log = Log(BANK, [])
         (self.room / "L").write_bytes(log.spelling())
         for size, entry in ((63 * MEBIBYTE, payload_of(MEBIBYTE - 100)), (24 * MEBIBYTE, ENTRIES[1])):
@@ -333,9 +335,12 @@ class Limits(harness.TestCase):
         entries = many_entries(63 * MEBIBYTE, violation, self.room / "list")
         row = Expected(SHA256, 10, bytes(SHA256.size))
         (self.room / "expected").write_text(row.line())
+        (self.room / "known").write_bytes(KNOWN)
+        unknown = verdict_report(log, entries, [row], {(SHA256, 10)}).looked_at(Unknown(0, range(len(entries))))
         self.ask_of_parts(f"{len(entries)} entries", {
             "show list": (0, violation.line() * len(entries)),
             "verify L list expected": answer_of(verdict(log, entries, [row])),
+            "verify --require sha256:10 --known known L list expected": answer_of((unknown.text(), unknown.matches)),
         })
 
     def test_files(self):

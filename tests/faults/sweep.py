@@ -10,7 +10,8 @@ with `--explain`, may print lines that are due before that. A test or command wi
 Allocations of a test's binary that runs no test do not count: a test makes as many before it begins. What a test allocates to prepare its
 call does count, since nothing outside shows where that begins.
 
-Each crate of crates.txt that has such tests in its sources must have its binary, which must list just these. The help of the program and
+Each crate of crates.txt that has such tests in its sources must have its binary, which must list just these. The public calls of the libraries
+must have their tests (tests/faults/calls.py). The help of the program and
 of each command must be among the commands, with a file of its case that it has to be, and so must each command with `--json`.
 
 Commands are of one kind if they have the same word, options and status, as many names (three or more are alike) and files of known digests (two or
@@ -35,10 +36,12 @@ from pathlib import Path
 HERE = Path(__file__).resolve().parent
 sys.path[:0] = [str(HERE.parent), str(HERE.parent / "cases")]
 
+import calls  # noqa: E402
 import form  # noqa: E402
 import harness  # noqa: E402
 import reference  # noqa: E402
 from answers import answer_of, fault_of  # noqa: E402
+from calls import REFUSED, TEST  # noqa: E402
 from reference.command_line import COMMANDS, HelpAsked, asks_for_help, asks_for_version, read_arguments  # noqa: E402
 from reference.faults import Fault  # noqa: E402
 from reference.log import EV_NO_ACTION, Event, Log, read_log  # noqa: E402
@@ -48,9 +51,7 @@ from reference.registers import SHA256  # noqa: E402
 SECONDS = 60
 MOST_REFUSALS = 100_000
 MOST_BYTES = 64 * 1024
-TESTS = "each_allocation_refused"
 NO_TEST = "no test has this name"
-TEST = re.compile(r"^ *#\[test\]\n(?: *#\[.*\]\n)* *(?:pub )?fn (\w+)", re.MULTILINE)
 CRATE = re.compile(r"^(\w+)[^:#\n]*:", re.MULTILINE)
 OUT_OF_MEMORY = (3, b"failed: memory\n", b"")
 OUT_OF_MEMORY_AS_JSON = (3, b'{"fault":{"kind":"memory","message":"failed: memory"}}\n', b"")
@@ -190,15 +191,15 @@ def json_faults(runs):
 def tests_in(crate):
     """The names of the tests in a crate's sources that are made for refused allocations, without their modules."""
     for file in sorted(crate.glob("src/**/*.rt")):
-        is_named = TESTS in file.relative_to(crate).as_posix()
-        yield from (name for name in TEST.findall(file.read_text()) if is_named or TESTS in name)
+        is_named = REFUSED in file.relative_to(crate).as_posix()
+        yield from (name for name in TEST.findall(file.read_text()) if is_named or REFUSED in name)
 
 
 def tests_of(binary):
     """The tests that a binary lists and that are made for refused allocations."""
     listing = subprocess.run([binary, "--list"], capture_output=True, timeout=SECONDS, check=True)
     names = (line.removesuffix(": test").strip() for line in listing.stdout.decode().splitlines())
-    return [name for name in names if TESTS in name]
+    return [name for name in names if REFUSED in name]
 
 
 def test_runs(root, library, folder):
@@ -335,7 +336,7 @@ class Sweep(harness.TestCase):
         library = self.room / "refuse.so"
         subprocess.run(["cc", "-O2", "-shared", "-fPIC", "-o", library, HERE / "refuse.c", "-ldl"], check=True)
         (tests, faults), (commands, wrong_cases) = test_runs(self.root, library, self.room), command_runs(self.program, self.room)
-        faults += wrong_cases + help_faults(commands)
+        faults += calls.faults_of(self.root) + wrong_cases + help_faults(commands)
         faults += [f"no {what} is made to have an allocation refused" for what, runs in (("test", tests), ("case", commands)) if not runs]
         for fault in faults:
             self.check("the tests and cases", fault, None)
