@@ -14,6 +14,8 @@ from .variable_values import GLOBAL, OPTION_NAME
 
 EV_S_CRTM_VERSION, EV_EFI_VARIABLE_BOOT = 8, 0x80000002
 FIRMWARE_REGISTER, IMAGES_REGISTER, POLICY_REGISTER = 0, 4, 7
+# How many events of each log are compared after the first in which they differ.
+MOST_COMPARED = 256
 COMMAND_REGISTERS = (COMMANDS_REGISTER, 12)
 SEPARATORS = [number(value) for value in (0, 1, 0xFFFFFFFF)]
 # How options of Linux begin that may set a policy, and what may stand before one; and those that ask to measure, up to a quote or `--`.
@@ -166,7 +168,7 @@ class Boot(NamedTuple):
             yield Line(f"register {register} alike all", {"register": register, "alike": "all"})
             return
         yield Line(f"register {register} {bank.name} alike {alike}", {"register": register, "bank": bank.name, "alike": alike})
-        for name, events in (("now", now[alike:]), ("before", earlier[alike:])):
+        for name, events in zip(("now", "before"), differing(bank, now[alike:], earlier[alike:])):
             yield from (event_line(register, name, bank, *numbered) for numbered in events)
 
 
@@ -238,3 +240,33 @@ def first_difference(bank, events, others):
     shorter = min(len(digests), len(other_digests))
     place = next((place for place, (one, other) in pairs if one is None or one != other), shorter)
     return None if place == len(digests) == len(other_digests) else place
+
+
+def differing(bank, events, others):
+    """The events of both but those of a longest common subsequence of the first that are compared. Of several it is the one that is found from
+    the front, where an event of the log is passed over rather than one of the other log."""
+    digests, other_digests = ([event.digests.get(bank.identifier) for _, event in each[:MOST_COMPARED]] for each in (events, others))
+    common, other_common = set(), set()
+    lengths = lengths_left(digests, other_digests)
+    place = other_place = 0
+    while lengths[place][other_place]:
+        if digests[place] == other_digests[other_place] is not None:
+            common.add(place)
+            other_common.add(other_place)
+            place, other_place = place + 1, other_place + 1
+        elif lengths[place + 1][other_place] == lengths[place][other_place]:
+            place += 1
+        else:
+            other_place += 1
+    return [[event for i, event in enumerate(each) if i not in left_out] for each, left_out in ((events, common), (others, other_common))]
+
+
+def lengths_left(digests, others):
+    """How long a longest common subsequence is of what is left after so many of each."""
+    rows = [[0] * (len(others) + 1)]
+    for digest in reversed(digests):
+        row = [0]
+        for other, without_both, without_first in zip(reversed(others), reversed(rows[-1]), reversed(rows[-1][:-1])):
+            row.append(without_both + 1 if digest == other is not None else max(without_first, row[-1]))
+        rows.append(row[::-1])
+    return rows[::-1]

@@ -1,5 +1,5 @@
 -- Longest common subsequences: how long they are, and how marks grow.
-use Rattle.std.proofs.Common.{◌≡◌, ◌⊎◌, ◌↔◌, ℕ, ◌+◌, ◌*◌, ◌<◌, ◌≤◌, Bool, true, false, List, [], ◌∷◌, ◌++◌, length, map, take, drop, get_or, set, replicate, Option, None, refl, sym, ap, subst, ◌∙◌, inl, inr, append-nil, not-suc-le-zero, arith}
+use Rattle.std.proofs.Common.{◌≡◌, ◌⊎◌, ◌↔◌, ℕ, ◌+◌, ◌*◌, ◌<◌, ◌≤◌, Bool, true, false, List, [], ◌∷◌, ◌++◌, length, map, take, drop, get_or, set, replicate, Option, None, refl, sym, ap, subst, ◌∙◌, inl, inr, not-suc-le-zero, arith}
 use Rattle.std.specs.List.{AllByRecursion}
 use Rattle.std.proofs.lemmas.List.{length-append, drop_more, drop_all, get_or-set_same, get_or-set_other, length-set, get_or-replicate, length-replicate, length-map, map-append, drop-append-le, take_at, take_all, get_or_read, length-drop}
 use Rattle.std.proofs.lemmas.Bool.{cases_eq, cases_lt, cases_order, iff_false}

@@ -4,7 +4,6 @@ ghost use Rattle.std.specs.Prelude.{◌≡◌, ◌≤◌, ◌<◌, ◌*◌, ◌+
 ghost use Rattle.boot_log.specs.declared.header.Row.{Row};
 ghost use Rattle.boot_log.specs.LogViews.{log_bytes};
 ghost use Rattle.boot_log.specs.Spelling.{IsLog, LogEvent};
-ghost use Rattle.pcr_banks.specs.Sets.{digest_for};
 ghost use Rattle.boot_answers.specs.CommonEvents.{IsLongestCommon, compared};
 ghost use Rattle.boot_answers.specs.Differences.{AreOne};
 ghost use Rattle.boot_answers.specs.parts.CommonLengths.{IsFilled, IsNext};

@@ -1,14 +1,15 @@
 -- The lines of a register's events from a place on, one event after another; and those of all registers.
-use Rattle.std.proofs.Common.{◌≡◌, ℕ, ◌+◌, ◌<◌, ◌≤◌, Bool, true, false, cond, List, [], ◌∷◌, ◌++◌, length, take, drop, get_or, suc, sym, ap, ◌∙◌, append_assoc, append-nil, Option, Some, None, Result, Ok, Err, take-append-drop, arith}
+use Rattle.std.proofs.Common.{◌≡◌, ℕ, ◌+◌, ◌-◌, ◌<◌, ◌≤◌, Bool, true, false, cond, List, [], ◌∷◌, ◌++◌, length, take, drop, get_or, suc, refl, sym, ap, ◌∙◌, append_assoc, append-nil, Option, Some, None, Result, Ok, Err, take-append-drop, arith}
 use Rattle.std.specs.Prelude.{flat_map, OnOk}
 use Rattle.std.proofs.Math.Seq.{drop-cons}
-use Rattle.std.proofs.lemmas.List.{drop-append-le, drop_all, length-append}
+use Rattle.std.proofs.lemmas.List.{drop-append-le, drop-drop, drop_all, get_or-drop, length-append, length-drop}
 use Rattle.std.proofs.lemmas.List.Concat.{flat_map-append}
 use Rattle.pcr_banks.specs.declared.alg.Alg.{Alg}
 use Rattle.boot_log.specs.Replaying.{is_extended_into}
 use Rattle.boot_log.specs.Spelling.{LogEvent}
 use Rattle.measured_data.specs.declared.place.Place.{Place}
 use Rattle.measured_data.specs.Confirming.{counts}
+use Rattle.boot_answers.specs.CommonEvents.{unmarked}
 use Rattle.boot_answers.specs.Differences.{IsFirstDifference}
 use Rattle.json_texts.specs.declared.event_form.EventForm.{EventForm}
 use Rattle.json_texts.specs.ItemLines.{numbered_lines}
@@ -52,15 +53,32 @@ numbered_more register number (first ∷ read) event =
 abbrev pub count_of : ℕ → List LogEvent → ℕ
 count_of register read = length (numbered_events register 1 read)
 
-module _ (boot : Boot) (line : EventLine) (place : ℕ) (read : List LogEvent) (event : LogEvent) where
+-- No element is left of none.
+none_unmarked : (marks : List Bool) → unmarked {X = Numbered} marks [] ≡ []
+none_unmarked [] = refl
+none_unmarked (mark ∷ marks) = refl
+
+-- One element more, unless it has a mark.
+unmarked_more : (marks : List Bool) (xs : List Numbered) (x : Numbered)
+    → unmarked marks (xs ++ x ∷ []) ≡ unmarked marks xs ++ cond (get_or marks (length xs) false) [] (x ∷ [])
+unmarked_more [] xs x = refl
+unmarked_more (true ∷ marks) [] x = none_unmarked marks
+unmarked_more (false ∷ marks) [] x = ap (λ (l : List Numbered). x ∷ l) (none_unmarked marks)
+unmarked_more (true ∷ marks) (y ∷ xs) x = unmarked_more marks xs x
+unmarked_more (false ∷ marks) (y ∷ xs) x = ap (λ (l : List Numbered). y ∷ l) (unmarked_more marks xs x)
+
+module _ (boot : Boot) (line : EventLine) (place : ℕ) (marks : List Bool) (read : List LogEvent) (event : LogEvent) where
   abbrev all : List Numbered
   all = numbered_events line.register 1 read
 
   abbrev longer : List Numbered
   longer = numbered_events line.register 1 (read ++ event ∷ [])
 
+  abbrev line_of_one : Numbered → List ℕ
+  line_of_one numbered = event_line boot line numbered.0 numbered.1
+
   abbrev lines : List Numbered → List ℕ
-  lines = flat_map (λ (numbered : Numbered). event_line boot line numbered.0 numbered.1)
+  lines events = flat_map line_of_one (unmarked marks events)
 
   other_is : is_extended_into line.register event ≡ false → longer ≡ all
   other_is other =
@@ -72,7 +90,8 @@ module _ (boot : Boot) (line : EventLine) (place : ℕ) (read : List LogEvent) (
       numbered_more line.register 1 read event
       ∙ ap (λ (b : Bool). all ++ only b (1 + length read) event) own
 
-  pub other_lines : is_extended_into line.register event ≡ false → lines_from boot line place (read ++ event ∷ []) ≡ lines_from boot line place read
+  pub other_lines : is_extended_into line.register event ≡ false
+      → lines_from boot line place marks (read ++ event ∷ []) ≡ lines_from boot line place marks read
   other_lines other = ap (λ (l : List Numbered). lines (drop place l)) (other_is other)
 
   pub other_count : is_extended_into line.register event ≡ false → count_of line.register (read ++ event ∷ []) ≡ count_of line.register read
@@ -83,21 +102,49 @@ module _ (boot : Boot) (line : EventLine) (place : ℕ) (read : List LogEvent) (
 
   -- One before the place.
   pub passed_lines : is_extended_into line.register event ≡ true → count_of line.register read < place
-      → lines_from boot line place (read ++ event ∷ []) ≡ lines_from boot line place read
+      → lines_from boot line place marks (read ++ event ∷ []) ≡ lines_from boot line place marks read
   passed_lines own before =
       ap lines (drop_all place longer (omega (arith, own_count own, before)) ∙ sym (drop_all place all (omega (arith, before))))
+
+  one_line : (mark : Bool) (numbered : Numbered) → flat_map line_of_one (cond mark [] (numbered ∷ [])) ≡ cond mark [] (line_of_one numbered)
+  one_line true numbered = refl
+  one_line false numbered = append-nil (line_of_one numbered)
 
   -- One from the place on.
   pub told_lines : (number : ℕ) → is_extended_into line.register event ≡ true → place ≤ count_of line.register read
       → number ≡ length (read ++ event ∷ [])
-      → lines_from boot line place (read ++ event ∷ []) ≡ lines_from boot line place read ++ event_line boot line number event
+      → lines_from boot line place marks (read ++ event ∷ [])
+      ≡ lines_from boot line place marks read
+      ++ cond (get_or marks (count_of line.register read - place) false) [] (event_line boot line number event)
   told_lines number own within is =
       let count : 1 + length read ≡ number = omega (arith, is, length-append read (event ∷ [])) in
+      let rest = drop place all in
+      let numbered : Numbered = (1 + length read, event) in
+      let mark = get_or marks (length rest) false in
       ap (λ (l : List Numbered). lines (drop place l)) (own_is own)
-      ∙ ap lines (drop-append-le place all ((1 + length read, event) ∷ []) within)
-      ∙ flat_map-append (λ (numbered : Numbered). event_line boot line numbered.0 numbered.1) (drop place all) ((1 + length read, event) ∷ [])
-      ∙ ap (λ (l : List ℕ). lines_from boot line place read ++ l) (append-nil (event_line boot line (1 + length read) event)
-      ∙ ap (λ (n : ℕ). event_line boot line n event) count)
+      ∙ ap lines (drop-append-le place all (numbered ∷ []) within)
+      ∙ ap (flat_map line_of_one) (unmarked_more marks rest numbered)
+      ∙ flat_map-append line_of_one (unmarked marks rest) (cond mark [] (numbered ∷ []))
+      ∙ ap (λ (l : List ℕ). lines rest ++ l) (one_line mark numbered
+      ∙ ap (λ (n : ℕ). cond mark [] (event_line boot line n event)) count
+      ∙ ap (λ (n : ℕ). cond (get_or marks n false) [] (event_line boot line number event)) (length-drop place all))
+
+-- Without events there are no lines.
+pub no_lines : (boot : Boot) (line : EventLine) (place : ℕ) (marks : List Bool) → lines_from boot line place marks [] ≡ []
+no_lines boot line place marks =
+    let none : List Numbered = [] in
+    let few : length none ≤ place = omega arith in
+    ap (flat_map (λ (numbered : Numbered). event_line boot line numbered.0 numbered.1))
+    (ap (λ (events : List Numbered). unmarked marks events) (drop_all place none few) ∙ none_unmarked marks)
+
+-- The first mark of what is left of the marks, and those after it.
+pub first_mark_is : (marks later : List Bool) (place : ℕ) → later ≡ drop place marks → get_or later 0 false ≡ get_or marks place false
+first_mark_is marks later place are =
+    let here : place + 0 ≡ place = omega arith in
+    ap (λ (l : List Bool). get_or l 0 false) are ∙ get_or-drop place marks 0 false ∙ ap (λ (n : ℕ). get_or marks n false) here
+
+pub later_marks : (marks later : List Bool) (place : ℕ) → later ≡ drop place marks → drop 1 later ≡ drop (place + 1) marks
+later_marks marks later place are = ap (λ (l : List Bool). drop 1 l) are ∙ drop-drop 1 place marks
 
 -- ---- banks
 

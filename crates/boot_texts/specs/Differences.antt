@@ -1,4 +1,4 @@
--- How far a boot and an earlier one extended each register alike, and what extended it from there on, as lines. The members and words are this
+-- How far a boot and an earlier one extended each register alike, and which later events differ, as lines. The members and words are this
 -- project's choice.
 use Rattle.std.specs.Prelude.{◌≡◌, ℕ, ◌+◌, ◌||◌, Bool, true, false, if◌then◌else◌, List, [], ◌∷◌, ◌++◌, codes, decimal, drop, flat_map, length, Option, None, Some, option_map}
 use Rattle.std.specs.List.{AllByRecursion}
@@ -11,6 +11,8 @@ use Rattle.boot_log.specs.Replaying.{is_extended_into}
 use Rattle.boot_log.specs.Spelling.{LogEvent}
 use Rattle.measured_data.specs.declared.place.Place.{Place}
 use Rattle.measured_data.specs.Confirming.{counts}
+use Rattle.boot_answers.specs.declared.alike_events.Common.{Common}
+use Rattle.boot_answers.specs.CommonEvents.{IsLongestCommon, compared, unmarked}
 use Rattle.boot_answers.specs.Differences.{IsFirstDifference}
 use Rattle.boot_answers.specs.Extending.{extended_events}
 use Rattle.json_texts.specs.declared.event_form.EventForm.{EventForm}
@@ -50,11 +52,17 @@ pub record IsFirstApart (matched : List Place) (register : ℕ) (events others :
   pub alike : AllByRecursion (IsAlikeIn matched register events others) before
   pub apart : IsApartIn matched register events others alg place
 
+-- Of the events that are compared, from this place on, the marks are those of a longest common subsequence.
+abbrev pub AreCommon : ℕ → List LogEvent → List LogEvent → Alg → ℕ → Common → Type 0
+AreCommon register events others alg place common =
+    IsLongestCommon (compared alg register place events) (compared alg register place others) common.now.items common.before.items
+
 -- How the boots with these events, and the earlier one with the others, extended the register.
 abbrev pub IsDifference : List Place → ℕ → List LogEvent → List LogEvent → Difference → Type 0
 IsDifference matched register events others Unanswered = has_answer matched register ≡ false
 IsDifference matched register events others Alike = (has_answer matched register ≡ true) × ((alg : Alg) → IsAlikeIn matched register events others alg)
-IsDifference matched register events others (Apart alg place) = IsFirstApart matched register events others alg place
+IsDifference matched register events others (Apart alg place common) =
+    IsFirstApart matched register events others alg place × AreCommon register events others alg place common
 
 -- ---- a line on a register
 
@@ -127,10 +135,10 @@ numbered_events register number [] = []
 numbered_events register number (event ∷ events) =
     if is_extended_into register event then (number, event) ∷ numbered_events register (number + 1) events else numbered_events register (number + 1) events
 
--- The lines of the register's events from this place on.
-abbrev pub lines_from : Boot → EventLine → ℕ → List LogEvent → List ℕ
-lines_from boot line place events =
-    flat_map (λ numbered. event_line boot line numbered.0 numbered.1) (drop place (numbered_events line.register 1 events))
+-- The lines of the register's events from this place on that have no mark.
+abbrev pub lines_from : Boot → EventLine → ℕ → List Bool → List LogEvent → List ℕ
+lines_from boot line place marks events =
+    flat_map (λ numbered. event_line boot line numbered.0 numbered.1) (unmarked marks (drop place (numbered_events line.register 1 events)))
 
 abbrev pub is_some_event : List LogEvent → Bool
 is_some_event [] = false
@@ -148,17 +156,19 @@ either_extended register events others = has_events register events || has_event
 abbrev pub where_extended : ℕ → List LogEvent → List LogEvent → List ℕ → List ℕ
 where_extended register events others line = if either_extended register events others then line else []
 
--- The line that the boots differ in the bank after so many events, and those of the events from there on, of this boot and of the earlier one.
-abbrev pub lines_of_both : EventLine → ℕ → List LogEvent → List LogEvent → List ℕ
-lines_of_both line place events others =
-    apart_line line.form line.register line.alg place ++ (lines_from boots.Now line place events ++ lines_from boots.Before line place others)
+-- The line that the boots differ in the bank after so many events, and those of the later events without a mark, of this boot and of the
+-- earlier one.
+abbrev pub lines_of_both : EventLine → ℕ → List Bool → List Bool → List LogEvent → List LogEvent → List ℕ
+lines_of_both line place marks other_marks events others =
+    apart_line line.form line.register line.alg place
+    ++ (lines_from boots.Now line place marks events ++ lines_from boots.Before line place other_marks others)
 
 -- The lines on a register.
 abbrev pub register_lines : EventForm → ℕ → Difference → List LogEvent → List LogEvent → List ℕ
 register_lines form register Unanswered events others = where_extended register events others (alike_line form register (codes "unknown"))
 register_lines form register Alike events others = where_extended register events others (alike_line form register (codes "all"))
-register_lines form register (Apart alg place) events others =
-    lines_of_both (record { form = form; register = register; alg = alg }) place events others
+register_lines form register (Apart alg place common) events others =
+    lines_of_both (record { form = form; register = register; alg = alg }) place common.now.items common.before.items events others
 
 -- ---- all registers
 

@@ -1,6 +1,6 @@
-//! The lines that tell how far two boots extended a register alike, and by what from there on.
+//! The lines that tell how far two boots extended a register alike, and by which other events.
 
-ghost use Rattle.std.specs.Prelude.{◌≡◌, ◌++◌, List, OnOk, codes, option_map};
+ghost use Rattle.std.specs.Prelude.{◌≡◌, ◌++◌, [], drop, false, get_or, if◌then◌else◌, List, OnOk, codes, option_map};
 ghost use Rattle.pcr_banks.specs.Digests.{bytes_of};
 ghost use Rattle.boot_log.specs.declared.header.Row.{Row};
 ghost use Rattle.boot_log.specs.LogViews.{log_bytes};
@@ -148,30 +148,67 @@ fn append_bank(register: u32, alg: Alg, lines: &mut Vec<u8>) -> Written
     lines.extend_from_slice(b" alike ")
 }
 
-/// Appends the lines of the events that are extended into the register, but the first `place` of them. Fails only if memory runs out.
+/// Appends the lines of the events that are extended into the register, but the first `place` of them, and then those with a mark. Fails only if
+/// memory runs out.
 pub(crate) fn append_events(
     alloc: Global,
     log: &LogView<'_>,
     boot: Boot,
     line: EventLine,
     place: usize,
+    marks: &[bool],
     lines: &mut Vec<u8>,
 ) -> Written
     ensures { (table : List Row) (events : List LogEvent) → IsLog (log_bytes log.now) table events
-        → OnOk result (lines.new.items ≡ lines.old.items ++ lines_from boot line place events) }
+        → OnOk result (lines.new.items ≡ lines.old.items ++ lines_from boot line place marks.now events) }
 {
     let mut left = place;
+    let mut later = marks;
     let mut events = log.events();
     while let Some(event) = events.next_event() {
-        if is_extended(&event, line.register) {
-            if left == 0 {
-                append_event(alloc, boot, line, events.count(), &event, lines)?;
-            } else {
-                left -= 1;
-            }
+        if !is_extended(&event, line.register) {
+            continue;
         }
+        if left > 0 {
+            left -= 1;
+            continue;
+        }
+        let (is_common, rest) = first_mark(later);
+        later = rest;
+        let number = events.count();
+        append_unless(alloc, boot, line, is_common, number, &event, lines)?;
     }
     Ok(())
+}
+
+// The first mark, `false` if there is none; and those after it.
+fn first_mark(marks: &[bool]) -> (bool, &[bool])
+    ensures mark { result.0 ≡ get_or marks.now 0 false }
+    ensures rest { result.1.now ≡ drop 1 marks.now }
+{
+    match marks.split_first() {
+        Some((mark, rest)) => (*mark, rest),
+        None => (false, marks),
+    }
+}
+
+// Appends the event's line, unless the boots have it in common.
+fn append_unless(
+    alloc: Global,
+    boot: Boot,
+    line: EventLine,
+    is_common: bool,
+    number: usize,
+    event: &Event<'_>,
+    lines: &mut Vec<u8>,
+) -> Written
+    ensures { OnOk result (lines.new.items ≡ lines.old.items ++ (if is_common then [] else event_line boot line number (log_event_of event.now))) }
+{
+    if is_common {
+        Ok(())
+    } else {
+        append_event(alloc, boot, line, number, event, lines)
+    }
 }
 
 // Whether the event is extended into the register.

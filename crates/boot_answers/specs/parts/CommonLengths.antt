@@ -1,5 +1,5 @@
 -- How long a longest common subsequence is of what is left of two lists, in a table.
-use Rattle.std.specs.Prelude.{◌≡◌, ◌≤◌, ◌⊎◌, ◌+◌, ◌*◌, ℕ, suc, Bool, true, false, List, [], ◌∷◌, length, drop, slice_index_or, Option}
+use Rattle.std.specs.Prelude.{◌≡◌, ◌≤◌, ◌⊎◌, ◌+◌, ◌*◌, ℕ, Bool, true, false, List, [], ◌∷◌, length, drop, slice_index_or, Option}
 use Rattle.pcr_banks.specs.declared.digest.Digest.{Digest}
 use Rattle.boot_answers.specs.Differences.{AreOne}
 

@@ -1,5 +1,4 @@
-use Rattle.std.proofs.Common.{◌≡◌, ◌+◌, ◌-◌, ◌*◌, ◌<◌, ◌≤◌, arith, length, get_or, subst}
-use Rattle.boot_answers.specs.parts.CommonLengths.{IsFilled}
+use Rattle.std.proofs.Common.{◌≡◌, ◌+◌, ◌-◌, ◌*◌, ◌<◌, arith, length}
 use Rattle.boot_answers.proofs.CommonLaws.{cell_read, next_cell, row_begins, small_cell}
 use Rattle.boot_answers.proofs.alike_events.write_row.Goals as goal
 

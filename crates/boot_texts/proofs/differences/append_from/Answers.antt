@@ -8,9 +8,10 @@ pub returns : goal.returns
 returns c = λ table rows events others is is_too.
     let line = c.args.line in
     let place = c.args.place in
-    let now = lines_from Now line place events in
-    let before = lines_from Before line place others in
+    let now = lines_from Now line place c.args.marks.now events in
+    let before = lines_from Before line place c.args.other_marks.now others in
     after_ok c.args.lines.now.items c.append_apart.new.lines.items c.append_events-2.new.lines.items
     (apart_line line.form line.register line.alg place) (now ++ before) c.append_events-2.result c.in_ok-append_apart.ensures
     (after_ok c.append_apart.new.lines.items c.append_events.new.lines.items c.append_events-2.new.lines.items now before c.append_events-2.result
-    (c.in_ok-append_events.ensures table events is) (c.append_events-2.ensures rows others is_too))
+    (c.in_ok-append_events.ensures table events is)
+    (c.append_events-2.ensures rows others is_too))

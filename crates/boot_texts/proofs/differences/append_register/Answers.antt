@@ -10,4 +10,4 @@ returns-in-Alike c = λ table rows events others is is_too.
 
 pub returns-in-Apart : goal.returns-in-Apart
 returns-in-Apart c = λ table rows events others is is_too.
-    rw c.in-Apart.is (c.append_from.ensures table rows events others is is_too)
+    rw c.in-Apart.is (rw (c.deref.ensures.value, c.deref-in-Apart.ensures.value) at (c.append_from.ensures table rows events others is is_too))

@@ -16,13 +16,16 @@ loop-alg-preserved c = λ table rows events others is is_too.
     ((rw c.in_default.is at c.place_in.ensures) table rows events others is is_too)
 
 pub returns-in-Some : goal.returns-in-Some
-returns-in-Some c = λ table rows events others is is_too. record {
-  before = take c.loop-alg.alg-index all_algs;
-  after = drop (suc c.loop-alg.alg-index) all_algs;
-  parts = parted all_algs c.loop-alg.alg-index Sha1 c.loop-alg-test.true;
-  alike = c.loop-alg.invariant table rows events others is is_too;
-  apart = (rw c.in-Some.is at c.place_in.ensures) table rows events others is is_too;
-}
+returns-in-Some c = λ table rows events others is is_too. (
+  record {
+    before = take c.loop-alg.alg-index all_algs;
+    after = drop (suc c.loop-alg.alg-index) all_algs;
+    parts = parted all_algs c.loop-alg.alg-index Sha1 c.loop-alg-test.true;
+    alike = c.loop-alg.invariant table rows events others is is_too;
+    apart = (rw c.in-Some.is at c.place_in.ensures) table rows events others is is_too;
+  },
+  c.in_ok-common.ensures table rows events others is is_too,
+)
 
 pub returns-then-has_answer : goal.returns-then-has_answer
 returns-then-has_answer c = λ table rows events others is is_too. (

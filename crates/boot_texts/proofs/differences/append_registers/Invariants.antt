@@ -4,7 +4,7 @@ use Rattle.boot_log.specs.LogViews.{log_bytes}
 use Rattle.boot_log.specs.Spelling.{IsLog, LogEvent}
 use Rattle.boot_texts.specs.declared.differences.Difference.{Difference}
 use Rattle.boot_texts.specs.Differences.{AreOfRegisters, difference_lines}
-use Rattle.boot_texts.proofs.differences.append_differences.Given as goal
+use Rattle.boot_texts.proofs.differences.append_registers.Given as goal
 
 -- The lines are those of the registers so far.
 abbrev pub invariant-loop-register : goal.invariant-loop-register
