@@ -127,6 +127,7 @@ def test_report(tools):
     test_differences(tools, folder)
     test_failing_program(tools, folder)
     test_planted_program(tools, folder)
+    test_planted_modules(tools, folder)
     test_sent_files(tools, folder)
     test_exchanged_file(tools, folder)
     test_hostile_boot(tools, folder)
@@ -483,6 +484,25 @@ def test_planted_program(tools, folder):
         tools.check(f"a program in the judged folder, and one on PATH, {len(words)} arguments", found, (right, False))
     found = (called(tools, "--program", "./ima-agent", ".", cwd=boot)[0], ran.exists())
     tools.check("a program whose name is given with a slash", found, (0, True))
+
+
+# Calls `ima-report` where Python would load modules from the current folder before all others.
+FROM_HERE = "import sys; del sys.path[0]; from fleet_verify.report import main; sys.path[:0] = ['', '.']; sys.exit(main())"
+
+
+def test_planted_modules(tools, folder):
+    """No module in the folder that is judged is loaded, though that is the current folder, and one where Python looks for modules."""
+    boot, loaded, program = make_boot(folder / "with modules"), folder / "loaded", tools.folder / "program/ima-agent"
+    for name in ("argparse", "ima_verify", "jinja2", "json", "sqlite3", "subprocess", "tempfile"):
+        (boot / f"{name}.py").write_text(f"open({str(loaded)!r}, 'a').write('{name} ')\n")
+    modules = f"{ROOT / 'bindings/python'}:{ROOT / 'fleet'}"
+    for title, call, path in (("a file", [ROOT / "fleet/report.py"], f":{modules}"), ("a module", ["-c", FROM_HERE], modules)):
+        done = subprocess.run(
+            [tools.python, *call, "--program", program, "."], env={**tools.environment, "PYTHONPATH": path}, cwd=boot, capture_output=True,
+            text=True, timeout=SECONDS,
+        )
+        found = (done.returncode, done.stderr, loaded.read_text() if loaded.exists() else "")
+        tools.check(f"modules in the judged folder, by a call of {title}", found, (0, "", ""))
 
 
 def sent_as(kind, target):
