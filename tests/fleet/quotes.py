@@ -16,6 +16,7 @@ from concurrent.futures import ThreadPoolExecutor
 from contextlib import closing, suppress
 from dataclasses import dataclass, field
 from pathlib import Path
+from unittest import mock
 
 from cluster import REQUIRE, ROOT, SECONDS, children_of, until
 from quoted import CLOCK, HEAD, SELECTED, sized
@@ -174,7 +175,9 @@ class Quotes:
 def test_quotes(tools):
     """Machines with quotes, from poll to poll; and what comes of quotes that prove nothing."""
     test_taking(tools)
+    test_taking_alone(tools)
     test_ages(tools)
+    test_nonce_files(tools)
     test_taking_over(tools)
     test_keys(tools)
     tools.needs(*NEEDED)
@@ -261,6 +264,28 @@ def test_taking(tools):
             (("33", True), ("22", True), ("11", True)), (("55", False), ("44", False))))
 
 
+def test_taking_alone(tools):
+    """Nobody else writes between the look at a nonce and its use: no two runs take one quote."""
+    from fleet_verify import quotes
+    from fleet_verify.machines import Machine
+    from fleet_verify.reading import now
+    from fleet_verify.verdicts import Quoting, Verdicts
+
+    path, found = str(tools.folder / "taking alone.db"), []
+
+    def write_beside(*_):
+        try:
+            other.execute("BEGIN IMMEDIATE")
+            other.rollback()
+        except sqlite3.OperationalError as fault:
+            found.append(str(fault))
+
+    with closing(Verdicts(path, REQUIRE, None, Quoting("/keys", 3600))) as table, closing(sqlite3.connect(path, timeout=0)) as other:
+        with mock.patch.object(quotes, "take", write_beside):
+            table.record([(Machine("a", ("/a",), True), {"verdict": "unreadable", "cause": "", "time": now()})], ())
+    tools.check("a nonce is taken while no other writes", found, ["database is locked"])
+
+
 def test_ages(tools):
     """A nonce is kept for half of its age, and none takes the place of one that is to be valid for another time."""
     from fleet_verify.machines import Machine
@@ -282,6 +307,28 @@ def test_ages(tools):
         give_out(connection, machines, 86400)
         ages = [age for (age,) in connection.execute("SELECT max_age FROM nonces ORDER BY max_age")]
         tools.check("nonces: each is forgotten by its own age", ages, [3600.0, 86400.0])
+        used = [("b", "11", ago(90), ago(80)), ("b", "22", ago(80), ago(70))]
+        connection.executemany("INSERT INTO nonces (machine, nonce, given_out, max_age, used) VALUES (?, ?, ?, 60, ?)", used)
+        connection.commit()
+        give_out(connection, machines, 86400)
+        kept = connection.execute("SELECT nonce FROM nonces WHERE machine = 'b'").fetchall()
+        tools.check("nonces: the last that a machine used is kept, as its quote is known by it", kept, [("22",)])
+
+
+def test_nonce_files(tools):
+    """A file of a nonce takes the place of a link, in a folder that this user alone may enter."""
+    from fleet_verify.nonces import write_files
+
+    folder, target, mask = tools.folder / "nonce files", tools.folder / "of another", os.umask(0)
+    try:
+        write_files(folder, {})
+    finally:
+        os.umask(mask)
+    tools.check("nonces: their folder is this user's", folder.stat().st_mode & 0o777, 0o700)
+    target.write_text("untouched")
+    (folder / "a").symlink_to(target)
+    found = (write_files(folder, {"a": "11"}), (folder / "a").is_symlink(), (folder / "a").read_text(), target.read_text())
+    tools.check("nonces: a file in place of a link", found, ([], False, "11\n", "untouched"))
 
 
 def test_taking_over(tools):
