@@ -46,6 +46,7 @@ def test_keeping(tools):
     test_unchanged(tools)
     test_unchanged_quotes(tools)
     test_unchanged_files(tools)
+    test_own_columns(tools)
     test_pruned_beside(tools)
     test_prune(tools)
     test_pruned_polls(tools)
@@ -159,6 +160,16 @@ def test_quoted_report(tools):
     words = [word for log, nonce, _ in rows for word in (Path(log).parent, nonce)]
     said = tools.start(["-c", ATTESTED, REQUIRE, *words]).communicate(timeout=SECONDS)[0]
     tools.check("reports by quotes are those of the library", [report for *_, report in rows], said.splitlines())
+
+
+def test_own_columns(tools):
+    """Whatever a worker answers: whose verdict it is, of which files, and by what, is as the run knows it."""
+    told = {"machine": "b", "log": "/b", "list": "/b", "expected": "/b", "required": "none", "known_sha256": "aa"}
+    with closing(Verdicts(str(tools.folder / "own columns.db"), REQUIRE)) as table:
+        machine = Machine("a", ("/log", "/list", "/expected"))
+        table.record([(machine, {**answer_of(machine), **told})], ())
+        found = table.connection.execute(f"SELECT {', '.join(told)} FROM verdicts").fetchall()
+    tools.check("a worker that answers what only the run knows", found, [("a", "/log", "/list", "/expected", REQUIRE, None)])
 
 
 def test_pruned_beside(tools):
