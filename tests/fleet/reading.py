@@ -80,6 +80,29 @@ LINKED = "it is a symbolic link"
 FOUND = {"circle": LINKED, "file": "b'read'", "link": LINKED, "to a device": LINKED, "to a folder": LINKED, "to nowhere": LINKED}
 LINKS_WANTED = [*(f"{name} {found}" for name, found in FOUND.items() for _ in range(4)), "b'read'"]
 
+# Prints what is read of a file, in whose place a link to another's comes, or a pipe, when it was looked at, and is to be opened.
+SWAPPED = """
+import os, sys
+from fleet_verify.reading import read_file
+path, secret = sys.argv[1:]
+look = os.stat
+def swapping(path, **given):
+    about = look(path, **given)
+    os.unlink(path)
+    make(path)
+    return about
+os.stat = swapping
+for make in (lambda path: os.symlink(secret, path), os.mkfifo):
+    with open(path, "wb"):
+        pass
+    try:
+        print(read_file(path))
+    except OSError as fault:
+        print(fault.strerror or fault)
+    os.unlink(path)
+"""
+SWAPPED_WANTED = ["Too many levels of symbolic links", "it is no regular file"]
+
 # Prints the answers on machines of which nothing, or not enough, comes in time, in batches that are patient, and in those that are not, where
 # the deadline is near, and where it is far; then whether the threads that they left keep this process from its end.
 LATE = STORE + """
@@ -135,6 +158,7 @@ def test_reading(tools):
     for title, script, words, wanted in (
         ("files and objects are read until they end", WHOLE, (fifo, f"file://{fifo}", "/dev/zero", tools.folder, "/proc/self/mem"), WHOLE_WANTED),
         ("no link in a machine's folder is followed", LINKS, (tools.folder / "sent",), LINKS_WANTED),
+        ("a file that becomes another as it is opened", SWAPPED, (tools.folder / "swapped", lists[0]), SWAPPED_WANTED),
         ("a machine of which nothing comes in time", LATE, (), LATE_WANTED),
         ("the age of lists", AGES, [*lists, link], AGES_WANTED),
     ):
