@@ -12,6 +12,7 @@ from contextlib import closing
 
 from cluster import ROOT, SECONDS
 from fleet_verify.machines import Machine
+from fleet_verify.overview import snapshot_of
 from fleet_verify.reading import now
 from fleet_verify.verdicts import Verdicts
 from page_tree import Reader, folded, foreign, hostile_texts, lacks_jinja, rows_below, state_of
@@ -212,6 +213,10 @@ def test_refused_pages(tools, folder):
         tools.check("a page while a run writes: what was recorded before", ("All 1 machines match" in text, is_good), (True, True))
         writer.rollback()
     tools.check("a page leaves the table as it was", hashlib.sha256(table.read_bytes()).hexdigest(), before)
+    with snapshot_of(str(table)) as connection:
+        change(table, "UPDATE found SET verdict = 'differ'")
+        found = connection.execute("SELECT verdict FROM verdicts").fetchall()
+    tools.check("a page has a table as it is at one moment, whatever is recorded meanwhile", found, [("match",)])
 
 
 def processor_seconds():
