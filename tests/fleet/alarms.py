@@ -1,17 +1,20 @@
 """Tests of what people and alarms are told, for tests/fleet/test: exit statuses, --json, --metrics, and how old files may be."""
 
+import io
 import json
 import os
 import re
 import stat
 import subprocess
 import time
+from contextlib import redirect_stderr
 from datetime import datetime, timezone
 from tempfile import NamedTemporaryFile
 from unittest import mock
 
 from cluster import SECONDS
 from fleet_verify import metrics
+from fleet_verify.main import noted
 from fleet_verify.summary import Summary
 from keeping import make_machines
 from tables import change, query
@@ -63,6 +66,7 @@ def test_arguments(tools):
     for title, by, told in (
         ("neither", (), "--keys is missing"), ("both", ("--unquoted", "--keys", folder), "--unquoted takes none"),
         ("two folders of keys", ("--keys", folder, "--keys", folder), "--keys is given twice"),
+        ("two ages", ("--unquoted", "--max-age", "1m", "--max-age", "365d"), "--max-age is given twice"),
     ):
         status, output, errors = tools.verify("--workers", 1, machines, never, by=by)
         tools.check(f"refused: quotes or not, {title}", (status, output, told in errors, never.exists()), (2, "", True, False))
@@ -211,6 +215,7 @@ def test_metrics(tools):
     age = (datetime.now(timezone.utc) - datetime(2026, 1, 1, tzinfo=timezone.utc)).total_seconds()
     tools.check("--metrics of a run that cannot go on: the oldest match", abs(samples["ima_fleet_oldest_match_age_seconds"] - age) < 60, True)
     test_refused_metrics(tools, folder, machines, table, file)
+    test_unwritten(tools, folder)
     test_swapped(tools, folder)
     test_parsed(tools, file)
 
@@ -233,6 +238,16 @@ def test_refused_metrics(tools, folder, machines, table, file):
     tools.verify("--workers", 1, "--metrics", link, machines, TABLE_NAME)
     found = (target.read_text(), link.is_symlink(), samples_of(link)["ima_fleet_status"])
     tools.check("--metrics takes the place of a link", found, ("untouched", False, 4))
+
+
+def test_unwritten(tools, folder):
+    """A run whose metrics cannot be written at its end is no success."""
+    for status, wanted in ((0, 3), (1, 1), (4, 4)):
+        summary, said = Summary(machines=1), io.StringIO()
+        summary.end(status)
+        with redirect_stderr(said):
+            found = noted(str(folder / "gone/fleet.prom"), summary, TABLE_NAME)
+        tools.check(f"--metrics into a folder that is gone, after status {status}", (found, "are not written" in said.getvalue()), (wanted, True))
 
 
 def test_swapped(tools, folder):
