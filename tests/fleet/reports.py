@@ -6,6 +6,7 @@ import hashlib
 import os
 import re
 import shutil
+import signal
 import subprocess
 import sys
 import time
@@ -13,7 +14,7 @@ from concurrent.futures import ThreadPoolExecutor
 from pathlib import Path
 
 import inputs
-from cluster import ROOT, SECONDS
+from cluster import ROOT, SECONDS, until
 from harness import PROGRAM
 from page_tree import Reader, folded, foreign, hostile_texts, lacks_jinja, rows_below, state_of
 from reference.log import Event, read_log
@@ -128,6 +129,7 @@ def test_report(tools):
     test_failing_program(tools, folder)
     test_planted_program(tools, folder)
     test_planted_modules(tools, folder)
+    test_stopped_report(tools, folder)
     test_sent_files(tools, folder)
     test_exchanged_file(tools, folder)
     test_hostile_boot(tools, folder)
@@ -503,6 +505,21 @@ def test_planted_modules(tools, folder):
         )
         found = (done.returncode, done.stderr, loaded.read_text() if loaded.exists() else "")
         tools.check(f"modules in the judged folder, by a call of {title}", found, (0, "", ""))
+
+
+def test_stopped_report(tools, folder):
+    """A signal ends a report with status 3, and no copy of the machine's files is left."""
+    boot, rest, begun = make_boot(folder / "stopped"), folder / "temporary", folder / "begun"
+    rest.mkdir()
+    slow = write_program(folder / "slow", f": >'{begun}'; exec sleep 1000")
+    for number in (signal.SIGTERM, signal.SIGINT):
+        words = [tools.python, ROOT / "fleet/report.py", "--program", slow, boot]
+        process = subprocess.Popen(words, env={**tools.environment, "TMPDIR": str(rest)}, stdout=subprocess.DEVNULL, stderr=subprocess.DEVNULL)
+        until("the program", begun.exists, process)
+        process.send_signal(number)
+        found = (process.wait(SECONDS), list(rest.iterdir()))
+        tools.check(f"a report that is stopped by {number.name}", found, (3, []))
+        begun.unlink()
 
 
 def sent_as(kind, target):
