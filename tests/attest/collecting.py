@@ -34,7 +34,8 @@ class CollectTests(MachineTests):
 
     @property
     def made(self):
-        return sorted(path.name for path in self.home.joinpath("made").iterdir())
+        folder = self.home / "made"
+        return sorted(path.name for path in folder.iterdir()) if folder.is_dir() else []
 
     def hidden(self):
         """What a call that failed left beside its folder."""
@@ -74,11 +75,19 @@ class Collected(CollectTests):
         self.check_failed("no key at the handle", ended, "no key is at the handle 0x8101000a")
         unseen = self.stand_in("tpm2_getcap", '[[ $1 == handles-persistent ]] || exec "$real" "$@"')
         self.check_failed("a handle that was taken meanwhile", self.make("ima-collect --enroll made", **unseen), f"the handle {HANDLE} is taken")
+        unread = self.stand_in("tpm2_getcap", '[[ $1 != handles-nv-index ]] || exit 1; exec "$real" "$@"')
+        ended = self.make("ima-collect --enroll --handle 0x81010008 made", **unread)
+        self.check_failed("a TPM that does not tell of its certificate", ended, "no TPM 2.0 answers")
         self.check("both stay still", self.persistent(), [HANDLE, "0x81010007"])
         for tool in ("tpm2_createek", "tpm2_createak", "tpm2_nvread", "tpm2_evictcontrol", "mv"):
             ended = self.make("ima-collect --enroll --handle 0x81010008 made", **self.stand_in(tool, "exit 1"))
             self.check(f"no key, as {tool} fails", (ended.status, self.home.joinpath("made").exists(), self.hidden()), (3, False, []))
             self.check(f"none stays, as {tool} fails", self.persistent(), [HANDLE, "0x81010007"])
+        lettered = "ima-collect --enroll --handle 0x8101000b made"
+        self.check_made("a handle with a letter", self.make(lettered), ["AK.pub", "EK.der", "EK.pub"])
+        self.check_made("its key signs", self.make(WITH_NONCE.replace("--nonce", "--handle 0x8101000B --nonce")), QUOTED)
+        self.check_failed("a handle with a letter that is taken", self.make(lettered), "the handle 0x8101000b is taken: give another one")
+        self.must("it is taken away", "tpm2_evictcontrol", "-c", "0x8101000b")
 
     def test_evidence(self):
         """A quote, log, list and registers, as they are, whichever of kernel and TPM shows the registers."""
@@ -97,6 +106,7 @@ class Collected(CollectTests):
             folder.mkdir(parents=True, exist_ok=True)
             for _, number, value in wanted:
                 folder.joinpath(number).write_text(f"{value.upper()}\n")
+        self.check_made("a relative name of the kernel's files", self.make(WITHOUT_NONCE, sys="../sys"), EVIDENCE)
         lacking = self.tools_but()
         self.check_made("what the kernel shows, without tpm2-tools", self.make(WITHOUT_NONCE, PATH=lacking), EVIDENCE)
         self.check_failed("a quote without tpm2-tools", self.make(WITH_NONCE, PATH=lacking), "tpm2-tools are not there")

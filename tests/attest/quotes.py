@@ -212,6 +212,7 @@ class Samples(AttestTests):
             ("RSA of 1024 bits", "-algorithm", "RSA", "-pkeyopt", bits(1024)),
             ("RSA with the exponent 3", "-algorithm", "RSA", "-pkeyopt", bits(2048), "-pkeyopt", "rsa_keygen_pubexp:3"),
             ("another curve", "-algorithm", "EC", "-pkeyopt", curve("secp256k1")),
+            ("a short curve", "-algorithm", "EC", "-pkeyopt", curve("P-224")),
             ("an explicit curve", "-algorithm", "EC", "-pkeyopt", curve("P-256"), "-pkeyopt", "ec_param_enc:explicit"),
         ):
             self.check_refused(f"a key: {title}", self.attest(**self.made_key(title.replace(" ", "-"), *options)), words="its key is")
