@@ -15,8 +15,10 @@ use test_kit::{joined, repeated};
 #[test]
 fn log_of_a_hundred_thousand_events(rt: HostRuntime) -> Result<(), Fail> {
     let alloc = rt.alloc();
-    let bytes = joined(alloc, &[HEADER, &repeated(alloc, EVENT, 100_000)?])?;
-    assert_eq!(rt; read_log(alloc, &bytes)?.events().len(), 100_000);
+    let events = repeated(alloc, EVENT, 100_000)?;
+    let bytes = joined(alloc, &[HEADER, &events])?;
+    let log = read_log(alloc, &bytes)?;
+    assert_eq!(rt; log.events().len(), 100_000);
     Ok(())
 }
 
