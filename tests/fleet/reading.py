@@ -33,7 +33,8 @@ class NoMemory(io.BytesIO):
 class Store(AbstractFileSystem):
     def _open(self, path, mode, **given):
         kinds = {"pieces": Pieces, "long pieces": Pieces, "drops": Drops, "stuck": Stuck, "no memory": NoMemory}
-        return kinds.get(path, io.BytesIO)(bytes(MOST_BYTES + 5) if "long" in path else DATA)
+        long = {"most": MOST_BYTES, "long": MOST_BYTES + 5, "long pieces": MOST_BYTES + 5}
+        return kinds.get(path, io.BytesIO)(bytes(long[path]) if path in long else DATA)
 fsspec.register_implementation("store", Store)
 def asked(deadline, is_poll=False):
     return Asked(require="none", is_poll=is_poll, is_quoted=False, deadline=deadline)
@@ -43,7 +44,8 @@ def asked(deadline, is_poll=False):
 WHOLE = STORE + """
 print(read_input("store://pieces", math.inf) == DATA, read_input("store://pieces", math.inf, 1_000_003) == DATA[1_000_003:])
 print(*(len(read_input(f"store://{name}", math.inf)) - MOST_BYTES for name in ("long", "long pieces")))
-print(read_inputs(["store://pieces", "store://long", "store://pieces"], math.inf, 0)[0]["cause"])
+for log in ("pieces", "most"):
+    print(read_inputs([f"store://{log}", "store://long", "store://pieces"], math.inf, 0)[0]["cause"])
 with open("/proc/version", "rb") as file:
     print(read_input("/proc/version", math.inf) == file.read() != b"")
 for path in sys.argv[1:]:
@@ -53,7 +55,7 @@ print(told["verdict"], told["cause"])
 """
 NO_FILE = "log: OSError: it is no regular file"
 WHOLE_WANTED = [
-    "True True", "1 1", "refused: too long list", "True", *[NO_FILE] * 4, "log: OSError: [Errno 5] Input/output error", "troubled MemoryError",
+    "True True", "1 1", *["refused: too long list"] * 2, "True", *[NO_FILE] * 4, "log: OSError: [Errno 5] Input/output error", "troubled MemoryError",
 ]
 
 # Prints what is read of files in a folder, and of links there, by a path, and by a URL: a link is the machine's, and one to the folder not.

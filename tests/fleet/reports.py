@@ -233,6 +233,9 @@ def test_report_by_quote(tools, folder):
         tools.check(f"a quote with {title}", (status, judged(page), marks), (4, ("refused", False), {"claimed"}))
     told = (longer[0], judged(longer[1]), "quoted PCRs" in state_of(longer[1])[0])
     tools.check("a quote of another list", told, (1, ("differ", False), True))
+    weak = [(boot, *asked, nonce, "--require", "sha1:0-10", *words) for words in ((), ("--sha1",))]
+    found = [(status, judged(page)[0]) for status, page, _ in reports_of(tools, weak)]
+    tools.check("a quote of SHA-1 alone is asked for only with --sha1", found, [(64, "failed"), (4, "refused")])
     text, _ = state_of(unasked[1])
     tools.check("a quote that is not looked at", ("Not quoted" in text, "was not looked at" in text), (True, True))
     calls = [(boot, *words) for words in (("--nonce", nonce), tuple(asked[:2]), ("--sha1",), ("--frobnicate",), ("--require", "a", "--require", "b"))]
@@ -454,7 +457,10 @@ def test_failing_program(tools, folder):
     for (title, told, right), (status, page, errors) in zip(wanted, reports_of(tools, calls)):
         text, is_good = state_of(page)
         tools.check(f"a program that fails: {title}", (status, is_good, told in text, errors), (right, False, True, ""))
-    tools.check("a program that does not end is not waited for", time.monotonic() - started < 100, True)
+    tools.check("a program that does not end is not waited for", time.monotonic() - started < 1000, True)
+    lacking = program_that(programs / "it leaves out members", "events", """echo '{"event":1}'""", good)
+    status, text, errors = report_text(tools, boot, "--program", lacking)
+    tools.check("a program that leaves out members: no page", (status, text, errors[:21]), (3, "", "ima-report: no page: "))
 
 
 def program_that(path, command, commands, good):
@@ -497,8 +503,12 @@ def test_planted_modules(tools, folder):
     boot, loaded, program = make_boot(folder / "with modules"), folder / "loaded", tools.folder / "program/ima-agent"
     for name in ("argparse", "ima_verify", "jinja2", "json", "sqlite3", "subprocess", "tempfile"):
         (boot / f"{name}.py").write_text(f"open({str(loaded)!r}, 'a').write('{name} ')\n")
+    (folder / "linked").symlink_to(boot)
     modules = f"{ROOT / 'bindings/python'}:{ROOT / 'fleet'}"
-    for title, call, path in (("a file", [ROOT / "fleet/report.py"], f":{modules}"), ("a module", ["-c", FROM_HERE], modules)):
+    for title, call, path in (
+        ("a file", [ROOT / "fleet/report.py"], f":{modules}"), ("a module", ["-c", FROM_HERE], modules),
+        ("a file, and a link to the folder", [ROOT / "fleet/report.py"], f"{folder / 'linked'}:{modules}"),
+    ):
         done = subprocess.run(
             [tools.python, *call, "--program", program, "."], env={**tools.environment, "PYTHONPATH": path}, cwd=boot, capture_output=True,
             text=True, timeout=SECONDS,
