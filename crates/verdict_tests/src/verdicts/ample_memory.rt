@@ -12,7 +12,8 @@ use test_kit::{joined, repeated};
 #[test]
 fn verdicts_on_many_events_and_entries(rt: HostRuntime) -> Result<(), Fail> {
     let alloc = rt.alloc();
-    let log = joined(alloc, &[HEADER, &repeated(alloc, EVENT, 20_000)?])?;
+    let events = repeated(alloc, EVENT, 20_000)?;
+    let log = joined(alloc, &[HEADER, &events])?;
     let list = repeated(alloc, MEASUREMENT, 20_000)?;
     let expected = read_expected(alloc, EXPECTED)?;
     let report = verify(alloc, &log, &list, &expected)?;
