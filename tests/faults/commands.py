@@ -1,6 +1,6 @@
 #!/usr/bin/env python3
-"""Tries ./ima-agent and ./try with a stand-in for the kit: a copy of the tree in which `rt` proves nothing, counts its builds, and makes
-a program that answers as its arguments ask.
+"""Tries ./ima-agent, ./try and dist/library with a stand-in for the kit: a copy of the tree in which `rt` proves nothing, counts its builds,
+and makes a program that answers as its arguments ask.
 
 tests/faults/commands.py
 
@@ -15,9 +15,10 @@ import tempfile
 import time
 from pathlib import Path
 
-sys.path.insert(0, str(Path(__file__).resolve().parents[1]))
+sys.path[:0] = [str(Path(__file__).resolve().parents[1]), str(Path(__file__).resolve().parents[2] / "dist")]
 import harness  # noqa: E402
 from harness import ROOT  # noqa: E402
+from header import exports_of  # noqa: E402
 
 PROGRAM = Path("crates/ima_agent_program")
 MAIN = PROGRAM / "src/main.rt"
@@ -33,11 +34,15 @@ ci)
     sh -c "${DURING:-:}"
     [ -z "${FAIL:-}" ] || { echo 'the proof of main is open'; exit 1; }
     mkdir -p crates/ima_agent_program/out crates/ima_agent/out/rlib
-    { printf '%s\\n' '#!/bin/sh' 'printf "<%s>\\n" "$@"'; sed 's/^/# /' crates/ima_agent_program/src/main.rt; echo 'exit "$1"'; } \\
+    { printf '%s\\n' '#!/bin/sh' '[ "$1" != --help ] || exit 0' 'printf "<%s>\\n" "$@"'; sed 's/^/# /' crates/ima_agent_program/src/main.rt; echo 'exit "$1"'; } \\
         >crates/ima_agent_program/out/ima_agent_program
     chmod +x crates/ima_agent_program/out/ima_agent_program
     echo 'rt: ima_agent_program proved'
     echo '1 passed, 0 failed'
+    ;;
+lib)
+    echo built >>"$BUILDS"
+    cp "${0%/bin/rt}/archive.a" out/libima_verify_c.a
     ;;
 try)
     shift
@@ -173,6 +178,45 @@ class Commands(harness.TestCase):
         self.check("built while something runs that a build left", self.builds_for(), 1)
         self.check("for which no call waits", time.monotonic() - started < 40)
 
+    def test_left(self):
+        """What another build left in a crate is not in the copy that is built."""
+        left, seen = self.tree.root / "crates/byte_fields/out/left", self.tree.root.parent / "seen"
+        left.parent.mkdir(exist_ok=True)
+        left.touch()
+        edit(self.tree.root / MAIN)
+        self.check("built where a crate has what was left", self.builds_for(DURING=f"find crates -name left >'{seen}'"), 1)
+        self.check("and nothing of it is in the copy", seen.read_text(), "")
+
+    def test_library(self):
+        """The library has an archive that was built of the present sources by the present kit, and no other."""
+        self.needs("cc", "ar", "nm")
+        tree, folder, archive = self.tree, self.folder(), self.tree.root / "crates/ima_verify_c/out/libima_verify_c.a"
+        shutil.copytree(ROOT / "bindings/c", tree.root / "bindings/c")
+        (folder / "verifier.c").write_text("".join(f"int {name}(void) {{ return 0; }}\n" for name in exports_of(ROOT)))
+        (tree.kit / "c").mkdir()
+        (folder / "planted.c").write_text("int planted;\n")
+        for words in (["cc", "-fPIC", "-c", "verifier.c", "planted.c"], ["ar", "rc", tree.kit / "archive.a", "verifier.o"],
+                      ["ar", "rc", tree.kit / "c/liblibc_c.a"]):
+            subprocess.run(words, cwd=folder, check=True)
+
+        def builds():
+            before = len(tree.builds.read_text().splitlines())
+            status = tree.call(folder / "made", command="dist/library")[0]
+            self.check("  and the library is made", (status, (folder / "made/libima_verify.so").exists()), (0, True))
+            return len(tree.builds.read_text().splitlines()) - before
+
+        self.builds_for()
+        changes = {
+            "there is no archive": lambda: None,
+            "a source is edited": lambda: edit(tree.root / "crates/ima_verify_c/src/lib.rt", old_time=True),
+            "the archive is another": lambda: subprocess.run(["ar", "q", archive, folder / "planted.o"], check=True),
+            "what is kept beside it is gone": lambda: archive.with_name("libima_verify_c.a.made").unlink(),
+        }
+        for title, change in changes.items():
+            change()
+            self.check(f"the library is built where {title}", builds(), 1)
+            self.check("  and not again", builds(), 0)
+
     def test_try(self):
         folder = self.tree.root.parent / "inputs"
         (folder / "below").mkdir(parents=True)
@@ -187,7 +231,8 @@ class Commands(harness.TestCase):
             found = tried("show", ended=f"run=ended status={status} runners=1")
             self.check(f"try: status {status} reaches the caller", found[:2], (status, "<-->\n<show>\n"))
         others = (f"run=ended status={status} runners=1" for status in (5, 10, 40))
-        for ended in ("run=no-answer proved=no", *others, "run=none", ""):
+        told = ("run=ended status=0 runners=1\nrun=no-answer proved=no", "no file is named run=ended status=0 runners=1")
+        for ended in ("run=no-answer proved=no", *others, *told, "run=none", ""):
             self.check(f"try: no answer where the kit says {ended!r}", tried("show", ended=ended)[0], NOT_BUILT)
         given = f"<--data>\n<log={folder}/log>\n"
         self.check("try: a file of the caller's folder is given", tried("show", "log")[1], f"{given}<-->\n<show>\n<log>\n")
