@@ -34,7 +34,8 @@ ci)
     sh -c "${DURING:-:}"
     [ -z "${FAIL:-}" ] || { echo 'the proof of main is open'; exit 1; }
     mkdir -p crates/ima_agent_program/out crates/ima_agent/out/rlib
-    { printf '%s\\n' '#!/bin/sh' '[ "$1" != --help ] || exit 0' 'printf "<%s>\\n" "$@"'; sed 's/^/# /' crates/ima_agent_program/src/main.rt; echo 'exit "$1"'; } \\
+    { printf '%s\\n' '#!/bin/sh' '[ "$1" != --help ] || exit 0' 'printf "<%s>\\n" "$@"'
+        sed 's/^/# /' crates/ima_agent_program/src/main.rt; echo 'exit "$1"'; } \\
         >crates/ima_agent_program/out/ima_agent_program
     chmod +x crates/ima_agent_program/out/ima_agent_program
     echo 'rt: ima_agent_program proved'
