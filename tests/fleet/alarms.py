@@ -271,8 +271,7 @@ def test_swapped(tools, folder):
 
 def test_parsed(tools, file):
     """Prometheus's own library reads the same."""
-    has = subprocess.run([tools.python, "-c", "import prometheus_client"], capture_output=True, timeout=SECONDS).returncode == 0
-    tools.lacks(*([] if has else ["prometheus_client"]))
+    tools.needs_modules("prometheus_client")
     for path in (file, file.with_name("link.prom")):
         done = subprocess.run([tools.python, "-c", PARSER, path, TABLE_NAME], capture_output=True, text=True, timeout=SECONDS)
         lines = [line.split(" ") for line in done.stdout.splitlines()]

@@ -20,12 +20,14 @@ UNQUOTED = ("--unquoted",)  # of all runs that say nothing of quotes
 SHARED = ("--progress", "1", "--deadline", str(2 * SECONDS))  # (a machine may wait at a gate)
 
 
+def has(python, module):
+    return subprocess.run([python, "-c", f"import {module}"], capture_output=True, timeout=SECONDS).returncode == 0
+
+
 def python_with(module):
     """A Python that has this module, or None."""
-    for python in (sys.executable, shutil.which("python3"), "/usr/bin/python3"):
-        if python and not subprocess.run([python, "-c", f"import {module}"], capture_output=True, timeout=SECONDS).returncode:
-            return python
-    return None
+    pythons = (sys.executable, shutil.which("python3"), "/usr/bin/python3")
+    return next((python for python in pythons if python and has(python, module)), None)
 
 
 def python_with_dask():
@@ -105,6 +107,15 @@ class Processes:
         """A SIGTERM ends this program as an error does, so that it ends what it started."""
         signal.signal(signal.SIGTERM, lambda *_: sys.exit(1))
 
+    def needs_modules(self, *modules):
+        """Skips the test if this Python lacks one of these modules."""
+        self.lacks(*(f"{module} for Python" for module in modules if not has(self.python, module)))
+
+    def needs_dask(self):
+        """Skips the test, or the rest of it, without Dask."""
+        if not self.has_dask:
+            raise unittest.SkipTest(NO_DASK)
+
     def start(self, words, said="errors", output=subprocess.PIPE, **given):
         """Starts a process of this Python. What it writes to standard error goes to the file of the name `said`, and its output there."""
         with open(self.folder / said, "a") as errors:
@@ -143,8 +154,7 @@ class Processes:
     def cluster(self, name, workers, *words, protocol="tls", **given):
         """A scheduler and workers, by TLS, unless the protocol is another. Gives the scheduler's address, and the processes, of which the
         scheduler's is the last. Without Dask the rest of the test is skipped."""
-        if not self.has_dask:
-            raise unittest.SkipTest(NO_DASK)
+        self.needs_dask()
         file = self.folder / f"{name}.json"
         common = ["--protocol", protocol, "--host", "127.0.0.1", "--no-dashboard"]
         scheduler = ["-m", "distributed.cli.dask_scheduler", *common, "--port", "0", "--scheduler-file", file]

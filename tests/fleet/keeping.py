@@ -4,7 +4,6 @@ are kept."""
 import hashlib
 import json
 import shutil
-import subprocess
 import time
 from contextlib import closing
 from pathlib import Path
@@ -149,8 +148,7 @@ def test_unchanged_quotes(tools):
 
 def test_quoted_report(tools):
     """The report by a quote in the table is that of the library, to the last byte, though its clock is kept apart."""
-    has = subprocess.run([tools.python, "-c", "import cryptography"], capture_output=True, timeout=SECONDS).returncode == 0
-    tools.lacks(*([] if has else ["cryptography"]))
+    tools.needs_modules("cryptography")
     folder = tools.folder / "quoted report"
     machines, table = make_machines(folder, 2), folder / "verdicts.db"
     keys = give_quotes(tools, machines, table, SAMPLE / "expected.txt")

@@ -1,10 +1,7 @@
 """Reads pages for their tests, and has the hostile texts that they must show."""
 
-import subprocess
 from collections import Counter
 from html.parser import HTMLParser
-
-from cluster import SECONDS
 
 LONG = "<b>" + 4092 * "n"
 FOLDED = 400  # characters: a longer text is folded
@@ -121,5 +118,4 @@ def folded(text):
 
 def lacks_jinja(tools):
     """Skips the test where the Python that makes the pages has no Jinja."""
-    lacks = subprocess.run([tools.python, "-c", "import jinja2"], capture_output=True, timeout=SECONDS).returncode
-    tools.lacks(*(["python3-jinja2"] if lacks else []))
+    tools.needs_modules("jinja2")

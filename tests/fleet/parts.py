@@ -394,13 +394,9 @@ def test_types(tools):
     tools.check("mypy --strict", (done.returncode, done.stdout if done.returncode else ""), (0, ""))
 
 
-def has(python, module):
-    return subprocess.run([python, "-c", f"import {module}"], capture_output=True, timeout=SECONDS).returncode == 0
-
-
 def test_wheel(tools):
     """The wheel has the package and its command, which runs."""
-    tools.lacks(*([] if has(tools.python, "hatchling") else ["hatchling"]))
+    tools.needs_modules("hatchling")
     source = shutil.copytree(ROOT / "fleet", tools.folder / "source", ignore=shutil.ignore_patterns("__pycache__"))
     words = [tools.python, "-m", "hatchling", "build", "-t", "wheel", "-d", tools.folder / "wheel"]
     subprocess.run(words, cwd=source, check=True, capture_output=True, timeout=SECONDS)

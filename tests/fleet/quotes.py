@@ -181,6 +181,7 @@ def test_quotes(tools):
     test_taking_over(tools)
     test_keys(tools)
     tools.needs(*NEEDED)
+    tools.needs_modules("cryptography")
     folder = tools.folder / "quotes"
     folder.mkdir()
     machines = [

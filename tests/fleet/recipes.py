@@ -98,6 +98,7 @@ class Reader:
 def test_recipes(tools):
     """The commands of docs/fleet.md"""
     tools.needs("bash", "openssl", "swtpm", "tpm2_quote")
+    tools.needs_modules("cryptography")
     folder = tools.folder / "page"
     folder.mkdir()
     with emulated() as environment:
@@ -107,12 +108,14 @@ def test_recipes(tools):
         collect(reader, "on one computer")
         tools.check("the page: a run", reader.ran(reader.block(RUN)), (0, "match 1", ""))
         tools.check("the page: a run without quotes", reader.ran(reader.block(UNQUOTED)), (0, "match 1", ""))
-        (folder / "verdicts.db").unlink()
-        collect(reader, "on a cluster")
-        test_cluster(reader)
+        if tools.has_dask:
+            (folder / "verdicts.db").unlink()
+            collect(reader, "on a cluster")
+            test_cluster(reader)
     left = [block for block in reader.blocks if sum(mark in block for mark in (*RUN_HERE, OF_SYSTEM)) != 1]
     tools.check("the page: each block is run", (left, len(reader.blocks)), ([], len(RUN_HERE) + 1))
     test_pages_of(reader)
+    tools.needs_dask()
 
 
 def enroll(reader):
@@ -135,6 +138,7 @@ def collect(reader, where):
 
 def test_pages_of(reader):
     """The page of the table, and the one of a machine, for which the program has to be there."""
+    reader.tools.needs_modules("jinja2")
     fleet, machine = reader.block(PAGES).splitlines()
     for line in (fleet, machine):
         reader.tools.lacks(*(["program ima-agent"] if line == machine and not os.access(reader.program, os.X_OK) else []))

@@ -95,19 +95,22 @@ REFUSING = {
 
 def test_records(tools, fleet):
     """By a cluster of its own, with machines that all match."""
-    modules = {"PYTHONPATH": f"{ROOT / 'bindings/python'}:{ROOT / 'fleet'}"}
-    for title, script, wanted in (
-        ("a reader holds up no writer", READER, READER_WANTED), ("an error of a batch is no verdict", ERRORS, ERRORS_WANTED),
-    ):
-        said = tools.start(["-c", script, tools.folder / title], **modules).communicate(timeout=SECONDS)[0]
-        tools.check(title, said.splitlines(), wanted)
+    check_script(tools, "a reader holds up no writer", READER, READER_WANTED)
     with tools.cluster("records", 1, "--preload", ROOT / "tests/fleet/noted_calls.py") as (address, _):
         words = ("--scheduler", address, fleet.table)
+        check_script(tools, "an error of a batch is no verdict", ERRORS, ERRORS_WANTED)
         test_unwritable(tools, fleet, words)
         test_unended(tools, fleet, words)
         test_other_paths(tools, fleet)
     test_nothing_left(tools, fleet)
     test_versions(tools, fleet)
+
+
+def check_script(tools, title, script, wanted):
+    """A script prints these lines, with a file of its own."""
+    modules = {"PYTHONPATH": f"{ROOT / 'bindings/python'}:{ROOT / 'fleet'}"}
+    said = tools.start(["-c", script, tools.folder / title], **modules).communicate(timeout=SECONDS)[0]
+    tools.check(title, said.splitlines(), wanted)
 
 
 def test_unwritable(tools, fleet, words):
