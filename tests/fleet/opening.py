@@ -8,7 +8,7 @@ from concurrent.futures import ThreadPoolExecutor
 from contextlib import closing
 from pathlib import Path
 
-from cluster import REQUIRE, ROOT, SECONDS
+from cluster import REQUIRE, ROOT, SECONDS, has
 from fleet_verify.machines import Machine
 from fleet_verify.opening import open_table
 from fleet_verify.verdicts import Verdicts
@@ -133,7 +133,7 @@ def test_opening(tools):
     machines.write_text("a\t/a\n")
     run = ("--workers", "1", "--unquoted", "--require", REQUIRE)
     commands = {
-        "page": ("page",), "nonces": ("nonces", machines), "run": (*run, machines), "poll": (*run, "--poll", machines),
+        **({"page": ("page",)} if has(tools.python, "jinja2") else {}), "nonces": ("nonces", machines), "run": (*run, machines), "poll": (*run, "--poll", machines),
         "metrics": (*run, "--prune", "--again", "none", "--metrics", folder / "metrics", machines),
     }
     files = list(made_files(folder, good))
@@ -150,5 +150,6 @@ def test_opening(tools):
             status, output, errors = call.result()
             is_told = f"fleet-verify: refused: {path}: " in errors
             tools.check(f"refused by {name}: {title}", (status, output, is_told or errors), (2, "", True))
-        tools.check("the table that these were made of is one", called(("page", good))[0], 0)
     tools.check("what is refused stays as it is", [path for path, data in before.items() if path.read_bytes() != data], [])
+    tools.needs_modules("jinja2")
+    tools.check("the table that these were made of is one", called(("page", good))[0], 0)

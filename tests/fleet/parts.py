@@ -6,7 +6,7 @@ import shutil
 import subprocess
 import zipfile
 
-from cluster import REQUIRE, ROOT, SECONDS, python_with
+from cluster import REQUIRE, ROOT, SECONDS, has, python_with
 
 # Prints how many machines of a batch are answered in so many seconds, for each, and their verdicts.
 BATCHES = """
@@ -388,7 +388,8 @@ def test_types(tools):
     files = sorted((ROOT / "fleet/fleet_verify").glob("*.py"))
     tools.check("functions without types", [name for file in files for name in untyped(file)], [])
     python = python_with("mypy")
-    tools.lacks(*([] if python else ["mypy: whether the types of fleet_verify are right"]))
+    lacking = [name for name in ("jinja2", "cryptography") if python and not has(python, name)]
+    tools.lacks(*([] if python else ["mypy: whether the types of fleet_verify are right"]), *(f"{name} beside mypy" for name in lacking))
     words = [python, "-m", "mypy", "--cache-dir", "/dev/null"]
     done = subprocess.run(words, cwd=ROOT / "fleet", capture_output=True, text=True, timeout=4 * SECONDS)
     tools.check("mypy --strict", (done.returncode, done.stdout if done.returncode else ""), (0, ""))
