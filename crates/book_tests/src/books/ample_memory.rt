@@ -239,12 +239,12 @@ fn longest_ops(alloc: Global, count: u32) -> Result<Vec<Op>, Fail> {
 #[test]
 fn longest_are_run_and_gathered(rt: HostRuntime) -> Result<(), Fail> {
     let alloc = rt.alloc();
-    let mut origin = origin(101);
+    let mut origin = origin(21);
     origin.template = Template::ImaSig;
-    let ops = longest_ops(alloc, 100)?;
+    let ops = longest_ops(alloc, 20)?;
     let mut book = Book::open(alloc, origin)?;
     let groups = [book.run(&ops)?];
-    assert!(rt; book.records().len() == 101 && book.entries().len() == 101);
+    assert!(rt; book.records().len() == 21 && book.entries().len() == 21);
     assert!(rt; gather(alloc, &book, &origin, &groups).is_ok());
     Ok(())
 }

@@ -12,15 +12,15 @@ use test_kit::{joined, repeated};
 #[test]
 fn verdicts_on_many_events_and_entries(rt: HostRuntime) -> Result<(), Fail> {
     let alloc = rt.alloc();
-    let events = repeated(alloc, EVENT, 20_000)?;
+    let events = repeated(alloc, EVENT, 5_000)?;
     let log = joined(alloc, &[HEADER, &events])?;
-    let list = repeated(alloc, MEASUREMENT, 20_000)?;
+    let list = repeated(alloc, MEASUREMENT, 5_000)?;
     let expected = read_expected(alloc, EXPECTED)?;
     let report = verify(alloc, &log, &list, &expected)?;
-    assert_eq!(rt; (report.events, report.entries), (20_000, 20_000));
+    assert_eq!(rt; (report.events, report.entries), (5_000, 5_000));
     let mut source = SliceSource::new(&list);
     let report = verify_from(alloc, &log, &mut source, 2_000_000, &expected)?;
-    assert_eq!(rt; (report.events, report.entries), (20_000, 20_000));
+    assert_eq!(rt; (report.events, report.entries), (5_000, 5_000));
     assert_eq!(rt; locate(alloc, &log, &list, &expected)?.len(), 3);
     Ok(())
 }
