@@ -177,43 +177,7 @@ answers_failed P old mid new fault answer sent reported = record {
 
 -- ---- texts of known files that are named
 
--- A verdict can be asked for with texts of known files, where a text spells what is required.
-verdict_takes : (log : Where) (scope : Scope) (resume : Option Where) (text : List ℕ) (known : List Where)
-    → takes_known (VerdictOf log scope resume) (These text) known ≡ true
-verdict_takes log scope resume text [] = refl
-verdict_takes log scope resume text (place ∷ places) = refl
-
-list_takes : (text : List ℕ) (known : List Where) → takes_known ListVerdictOf (These text) known ≡ true
-list_takes text [] = refl
-list_takes text (place ∷ places) = refl
-
-comparison_out : (inputs : Inputs) (list expected : Where) (judge : Judged) (required : Option (String Global)) (known : Option (Vec (String Global)))
-    → TakesKnown judge required known → (files_of known ≡ [] → ⊥)
-    → IsNoComparison inputs
-    (record {
-      judgement = judgement_by judge;
-      list = list;
-      expected = expected;
-      required = requires_by judge required;
-      known = files_of known;
-    })
-    Memory
-comparison_out inputs list expected judge required None takes some = absurd (some refl)
-comparison_out inputs list expected (judged.Positions log) required (Some names) takes some = absurd takes
-comparison_out inputs list expected (judged.Verdict log scope resume save) None (Some names) takes some = absurd takes
-comparison_out inputs list expected (judged.Verdict log scope resume save) (Some text) (Some names) takes some =
-    inr (verdict_takes (file_of log) scope (option_map file_of resume) (string_bytes text) (files_of (Some names)), inl (inr refl))
-comparison_out inputs list expected judged.ListVerdict None (Some names) takes some = absurd takes
-comparison_out inputs list expected judged.ListVerdict (Some text) (Some names) takes some =
-    inr (list_takes (string_bytes text) (files_of (Some names)), inl (inr refl))
-
 -- Memory may run out for the texts that a question names.
-pub question_out : (inputs : Inputs) (question : Question) (form : Form) → NamesKnown question → (known_by question ≡ [] → ⊥)
+pub question_out : (inputs : Inputs) (question : Question) (form : Form) → (known_by question ≡ [] → ⊥)
     → IsFaultOf inputs (tasks.Answer question) form Memory
-question_out inputs (questions.Judge judge) form takes some =
-    inl (inl (comparison_out inputs (file_of judge.list) (file_of judge.expected) judge.judged judge.required judge.known takes some))
-question_out inputs (questions.Attest attest) form takes some = inl (inl (inr (inr refl)))
-question_out inputs (questions.LogRegisters log) form takes some = absurd (some refl)
-question_out inputs (questions.ListRegisters list) form takes some = absurd (some refl)
-question_out inputs (questions.Expected printed registers) form takes some = absurd (some refl)
-question_out inputs (questions.Key area purpose part) form takes some = absurd (some refl)
+question_out inputs question form some = inr (some, refl)

@@ -137,10 +137,12 @@ IsOutputFor inputs (tasks.Answer question) form old new shown status =
 IsOutputFor inputs task form old new shown status = Shows inputs task form shown status × (new ≡ old)
 
 -- The fault may come of the task in this form, with these inputs. As JSON, any list is shown as far as it goes; and so is a damaged log, unless
--- registers are compared.
+-- registers are compared. Memory may run out for the names of known files, if there are some.
 abbrev pub IsFaultOf : Inputs → Task → Form → RunFault → Type 0
 IsFaultOf inputs tasks.Registers form fault = IsInputFault inputs None fault ⊎ OfInput inputs None (λ text. IsRefusedFor text fault)
-IsFaultOf inputs (tasks.Answer question) form fault = IsOutputFault inputs (requested_by question) (save_by question) fault
+IsFaultOf inputs (tasks.Answer question) form fault =
+    IsOutputFault inputs (requested_by question) (save_by question) fault
+    ⊎ ((known_by question ≡ [] → ⊥) × (fault ≡ runs.Memory))
 IsFaultOf inputs (tasks.Measure request) form fault = IsMeasuringFault inputs request fault
 IsFaultOf inputs (tasks.Events log requested confirmed_by) form fault =
     IsInputFault inputs (Some (string_bytes log)) fault
