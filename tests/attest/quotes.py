@@ -115,8 +115,7 @@ class Samples(AttestTests):
         longer = self.put("longer.list", LIST + LIST[-LAST_ENTRY:])
         self.check_differ("a list that went on after the quote", self.attest(list=longer))
         command, *words = replace(GOOD, list=longer).words()
-        said = ("PCR 10 has this value after entry 98 of 100: the list grew, or the value is old; read it again, or add --prefix, which leaves out "
-                "the entries after it\n")
+        said = ("PCR 10 covers the first 99 of 100 entries: the list grew after it was read; collect again, or add --prefix to judge those 99\n")
         ended = self.call([command, "--explain", *words])
         self.check("the verdict is the last line, and what to do next is said beside it", (ended.output.splitlines()[-1], ended.errors),
                    ("verdict differ", said))

@@ -44,7 +44,9 @@ from reference.hints import (  # noqa: E402
     NO_EXPECTED,
     NOT_GIVEN,
     NOTHING_PRINTED,
+    OLD_AGGREGATE,
     OLD_LOG,
+    OLD_REGISTERS,
     OTHER_BOOT,
     PRINTED_FOR_EXPECTED,
     SEEN_BY,
@@ -56,7 +58,8 @@ from reference.hints import (  # noqa: E402
     next_steps,
 )
 from reference.known_files import read_known  # noqa: E402
-from reference.log import Log  # noqa: E402
+from reference.log import Log, read_log  # noqa: E402
+from reference.measurement_list import BOOT_AGGREGATE, IMA_NG, entry_of, read_front  # noqa: E402
 from reference.quotes import read_quote  # noqa: E402
 from reference.registers import SHA256  # noqa: E402
 from reference.texts import read_requirement  # noqa: E402
@@ -428,9 +431,9 @@ def hinted_commands():
     """Commands of which something differs, or of which an input is not what it should be; their status, and what to do next."""
     judged, quoted = ["firmware.log", "ima.list", "expected.txt"], ["--nonce", NONCE_GIVEN, "--signature-checked"]
     changed, lacks = f"sha256 PCR 4 differs: {OTHER_BOOT}", "EXPECTED lacks {} PCR {}: read it with the others"
-    grown = ("PCR 10 has this value after entry 98 of 100: the list grew, or the value is old; read it again, or add --prefix, which leaves out the "
-             "entries after it")
-    earlier = "sha256 PCR 10 differs: it was read at another time than LIST, or an entry is missing or was changed"
+    grown = ("PCR 10 covers the first 99 of 100 entries: the list grew after it was read; collect again, or add --prefix to judge those 99")
+    earlier = ("sha256 PCR 10 differs: it was read at another time than LIST, a kernel before 5.8 extended it by SHA-1 digests with zeros after them, "
+               "or an entry is missing or was changed")
     other = AGGREGATES["wrong"]
     yield "all matches", ["verify", "--require=sha256:0-10", *judged], 0, []
     yield "a list that grew", ["verify", "firmware.log", "longer.list", "expected.txt"], 1, [grown]
@@ -457,13 +460,16 @@ def hinted_commands():
         NO_ENTRIES]
     yield "another boot", ["verify", "firmware.log", "other.list", "empty"], 1, [
         other, NO_EXPECTED]
+    yield "an aggregate of PCRs 0 to 7", ["verify", "firmware.log", "eight.list", "expected.txt"], 1, [OLD_AGGREGATE]
+    yield "an aggregate of PCRs 0 to 7, by a quote", [
+        "attest", *quoted, "--require=sha256:0-10", "firmware.log", "eight.list", "quote.msg"], 1, [OLD_AGGREGATE, NOT_GIVEN]
     yield "an entry alone", ["verify", "firmware.log", "end.list", "changed.txt"], 1, [
         AGGREGATES["missing"], changed]
     zero, event = changed.replace("PCR 4", "PCR 0"), f"event 1 extends PCR 10, which only the list should: {APART}"
     yield "an event of PCR 10", ["verify", "--require=sha256:10", "ten.log", "ima.list", "expected.txt"], 1, [other, event, zero]
     yield "more than three causes", ["verify", "--require=sha256:10+sha1:9", "ten.log", "ima.list", "expected.txt"], 1, [other, event, zero]
     yield "an entry of another PCR", ["replay", "--require=sha256:10", "nine.list", "ten.txt"], 1, [
-        earlier, f"entry 98 extends PCR 9, which only the log should: {APART}"]
+        earlier, "entry 98 extends PCR 9, as a rule with pcr= in the policy has it; replay takes a list whose entries extend PCR 10 alone"]
     # (its prefix without that entry matches)
     eleven = f"entry 99 extends PCR 11, which only the log should: {APART}"
     yield "a list with an entry of PCR 11", ["verify", "firmware.log", "eleven.list", "expected.txt"], 1, [
@@ -477,6 +483,15 @@ def hinted_commands():
         earlier, eleven, changed.replace("PCR 4", "PCR 11")]
     yield "where a value of the log is", ["locate", "firmware.log", "ima.list", "changed.txt"], 1, [
         f"sha256 PCR 4 never has its value: {OTHER_BOOT}"]
+    sha1 = re.sub("a kernel .* them, ", "", earlier.replace("sha256", "sha1"))
+    yield "another value of SHA-1", ["replay", "ima.list", "sha1.ten.txt"], 1, [sha1]
+    unknown = ("entry 93 is the first that no known file has: ima-agent show names its file; compare that with the file in its package")
+    yield "files that are not known", ["verify", "--require=sha256:0-10", "--known=known", *judged], 1, [unknown]
+    yield "files that are not known, by a quote", [
+        "attest", *quoted, "--require=sha256:0-10", "--known=known", "firmware.log", "ima.list", "quote.msg"], 1, [unknown]
+    yield "files that are not known, in a list alone", ["replay", "--require=sha256:10", "--known=known", "ima.list", "ten.txt"], 1, [unknown]
+    yield "a list that grew by files that are not known", [
+        "verify", "--require=sha256:0-10", "--known=known", "firmware.log", "longer.list", "expected.txt"], 1, [grown, unknown]
     yield "a list that is piped", ["verify", "firmware.log", "/dev/stdin", "expected.txt"], 1, []
 
 
@@ -604,6 +619,10 @@ def make_samples(folder):
     (folder / "longer.list").write_bytes(listed + listed[-95:])
     (folder / "shorter.list").write_bytes(listed[:-95])
     (folder / "end.list").write_bytes(listed[-95:])
+    registers, first = read_log((folder / "firmware.log").read_bytes()).registers(), read_front(listed, 0)[0][0]
+    joined = b"".join(registers.value(SHA256, register) for register in OLD_REGISTERS)
+    of_eight = entry_of(IMA_NG, SHA256, SHA256.hash(joined), BOOT_AGGREGATE)
+    (folder / "eight.list").write_bytes(of_eight.spelling() + listed[len(first.spelling()):])
     (folder / "changed.txt").write_text(re.sub("^sha256 4 .*", f"sha256 4 {'ab' * 32}", values, flags=re.MULTILINE))
     (folder / "four.txt").write_text(re.search("^sha256 4 .*", values, re.MULTILINE)[0])
     (folder / "ten.txt").write_text(re.search("^sha256 10 .*", values, re.MULTILINE)[0])

@@ -6,17 +6,21 @@ from typing import NamedTuple
 
 from .command_line import read_words
 from .faults import Fault
-from .measurement_list import IMA_REGISTER
+from .measurement_list import IMA_REGISTER, read_front, stated_boot_aggregate
 from .program import (
     MOST_BYTES,
     Inputs,
     judged_front,
+    known_by,
     list_of,
     read_boot,
     report_by_quote,
     required_by,
+    unknown_up_to,
 )
+from .known_files import unknown_entries
 from .log import read_log
+from .registers import SHA1
 from .texts import read_expected
 from .verdict import front_that_matches, list_report, places, strays_in
 
@@ -30,15 +34,20 @@ AGGREGATES = {
     "nobank": "LOG has no bank for the boot aggregate, so nothing says that log and list are of one boot",
     "missing": "entry 0 is no boot aggregate: the list lacks its beginning, has another template, or was changed",
 }
+OLD_AGGREGATE = ("the boot aggregate is that of PCRs 0 to 7 alone, as some kernels before 5.8 record it: it does not bind PCRs 8 and 9 to the "
+                 "list")
+OLD_REGISTERS = range(8)
 NO_ENTRIES = "LIST is empty: copy the kernel's list with cat, since its size is given as 0"
-NO_EXPECTED = "EXPECTED has no PCR"
+NO_EXPECTED = "EXPECTED has no PCR, so no PCR was compared: give the values read with LIST"
 NOT_GIVEN = "add EXPECTED, the values read with the quote: its rows show which PCR differs"
 UNCONFIRMED = "EXPECTED is not what the TPM signed: give the values read with the quote"
+PADDED = "a kernel before 5.8 extended it by SHA-1 digests with zeros after them, "
 
 EMPTY = "it is empty: copy the kernel's files with cat, since their size is given as 0"
 NOTHING_PRINTED = "it is empty: the tool printed nothing"
 LIST_FOR_LOG = "it is a measurement list, and no firmware event log"
-OLD_LOG = "it is in the form of TPM 1.2, which is not read: PCRs 0 to 9 cannot be judged; if the machine has a TPM 2.0 it was changed"
+OLD_LOG = ("it is in the SHA-1 form of TPM 1.2, which is not read: kernels before 5.3 and some cloud machines give no other; PCRs 0 to 9 cannot be "
+           "judged")
 LOG_FOR_LIST = "it is a firmware event log, and no measurement list"
 TEXT_FOR_LIST = "it is the list as text: take binary_runtime_measurements, which is beside it"
 PRINTED_FOR_EXPECTED = "it is what tpm2-tools print: ima-agent expected makes EXPECTED of it"
@@ -47,15 +56,17 @@ PRINTED = (b"  sha", b"  sm3", b"pcrs:", b"sha1:", b"sha256:", b"sha384:", b"sha
 
 class Seen(NamedTuple):
     """What a second look finds: how many entries were judged, the states of expected registers, those that are missing, what extends a register
-    that is not its own, how the boot aggregate compares, and what came of the values beside a quote."""
+    that is not its own, the first entry that is not known, how the boot aggregate compares, and what came of the values beside a quote."""
 
     entries: int | None
     rows: list
     missing: list
     strays: list = []
+    unknown: int | None = None
     aggregate: str | None = None
     beside: str | None = None
     is_bare: bool = False
+    is_old: bool = False
 
     def first(self, words, of_list=None):
         """The first expected register in one of these states, of the list or of the log alone."""
@@ -65,21 +76,37 @@ class Seen(NamedTuple):
         return None
 
 
+def first_of(unknown):
+    return unknown.numbers[0] if unknown and unknown.numbers else None
+
+
+def records_old(inputs, log, listed):
+    """Whether the first entry of the list, or of what follows a checkpoint, records the hash of PCRs 0 to 7 after the log."""
+    stated, registers = stated_boot_aggregate(read_front(inputs.load(listed), 0)[0]), log.registers()
+    if stated is None or stated[0] not in registers.banks:
+        return False
+    algorithm, digest = stated
+    return digest == algorithm.hash(b"".join(registers.value(algorithm, register) for register in OLD_REGISTERS))
+
+
 def seen_by_verify(inputs, values, log, listed, expected):
     required = required_by(values)
     log, expected = inputs.load(log), read_expected(inputs.load(expected))
-    log, _, start, entries, fault = read_boot(inputs, values, log, listed)
+    log, known, start, entries, fault = read_boot(inputs, values, log, listed)
     front = front_that_matches(log, start, entries, expected, required) if values["--prefix"] else None
     end, report = judged_front(log, start, entries, fault, front, expected, required)
-    strays, aggregate = strays_in(log.events, end.stray), report.counts["boot_aggregate"]
-    return Seen(end.entries, report.rows, report.missing or [], strays, aggregate, is_bare=not expected), report
+    report = report.looked_at(unknown_up_to(end, known, start, entries))
+    seen = Seen(end.entries, report.rows, report.missing or [], strays_in(log.events, end.stray), first_of(report.unknown),
+                report.counts["boot_aggregate"], is_bare=not expected, is_old=records_old(inputs, log, listed))
+    return seen, report
 
 
 def seen_by_attest(inputs, values, log, listed, message, expected=None):
     told = report_by_quote(inputs, values, lambda: inputs.load(log), listed, message, expected)
     beside = None if told.is_quoted else {None: "not given", True: "confirmed", False: "unconfirmed"}[told.is_confirmed]
-    report = told.report
-    return Seen(told.end.entries, report.rows, [], report.strays, report.counts["boot_aggregate"], beside), report
+    report, is_old = told.report, records_old(inputs, read_log(inputs.load(log)), listed)
+    seen = Seen(told.end.entries, report.rows, [], report.strays, first_of(report.unknown), report.counts["boot_aggregate"], beside, is_old=is_old)
+    return seen, report
 
 
 def seen_by_locate(inputs, values, log, listed, expected):
@@ -91,9 +118,9 @@ def seen_by_locate(inputs, values, log, listed, expected):
 
 def seen_by_replay(inputs, values, listed, expected):
     required, expected = required_by(values), read_expected(inputs.load(expected))
-    entries = list_of(*inputs.opened(listed)())
+    known, entries = known_by(inputs, values), list_of(*inputs.opened(listed)())
     report = list_report(entries, expected, required or set())
-    return Seen(len(entries), report.rows, report.missing, report.strays, is_bare=not expected), report
+    return Seen(len(entries), report.rows, report.missing, report.strays, first_of(unknown_entries(known, entries, 0)), is_bare=not expected), report
 
 
 SEEN_BY = {"verify": seen_by_verify, "attest": seen_by_attest, "locate": seen_by_locate, "replay": seen_by_replay}
@@ -104,7 +131,7 @@ def grown(inputs, asked):
     if asked.command not in ("verify", "attest") or asked.values["--prefix"]:
         return None
     try:
-        _, report = SEEN_BY[asked.command](inputs, {**asked.values, "--prefix": True}, *asked.names)
+        _, report = SEEN_BY[asked.command](inputs, {**asked.values, "--prefix": True, "--known": []}, *asked.names)
     except Fault:
         return None
     return (report.counts["confirmed"], report.counts["entries"]) if report.matches and "confirmed" in report.counts else None
@@ -116,19 +143,25 @@ def lines_on(command, seen, counts):
     of_list = seen.first(differs, True)
     if counts and not seen.strays and (of_list or seen.beside):
         confirmed, entries = counts
-        yield (f"PCR 10 has this value after entry {confirmed - 1} of {entries}: the list grew, or the value is old; read it again, or add --prefix, "
-               "which leaves out the entries after it")
+        yield (f"PCR 10 covers the first {confirmed} of {entries} entries: the list grew after it was read; collect again, or add --prefix to judge "
+               f"those {confirmed}")
     elif seen.entries == 0:
         yield NO_ENTRIES
+    elif seen.aggregate == "wrong" and seen.is_old:
+        yield OLD_AGGREGATE
     elif seen.aggregate in AGGREGATES:
         yield AGGREGATES[seen.aggregate]
     elif of_list:
-        yield f"{of_list.algorithm.name} PCR 10 differs: it was read at another time than LIST, or an entry is missing or was changed"
+        older = "" if of_list.algorithm is SHA1 else PADDED
+        yield f"{of_list.algorithm.name} PCR 10 differs: it was read at another time than LIST, {older}or an entry is missing or was changed"
     if seen.beside == "unconfirmed" or seen.beside == "not given" and not counts:
         yield UNCONFIRMED if seen.beside == "unconfirmed" else NOT_GIVEN
     for word, number, register in seen.strays:
         if word == "event":
             yield f"event {number} extends PCR 10, which only the list should: {APART}"
+        elif command == "replay":
+            yield (f"entry {number} extends PCR {register}, as a rule with pcr= in the policy has it; replay takes a list whose entries extend PCR "
+                   "10 alone")
         else:
             yield f"entry {number} extends PCR {register}, which only the log should: {APART}"
     if row := seen.first(differs, False):
@@ -144,22 +177,20 @@ def lines_on(command, seen, counts):
         yield NO_EXPECTED
     if row := seen.first(("absent",)):
         yield f"{row.algorithm.name} is no bank of LOG, so its PCRs cannot be judged: LOG is of another machine, or was changed"
+    if seen.unknown is not None:
+        yield (f"entry {seen.unknown} is the first that no known file has: ima-agent show names its file; compare that with the file in its "
+               "package")
 
 
 def next_steps(words, folder, standard_input=b"", has_prefix=True):
     """The lines for words whose answer is that something differs; where a prefix of the list cannot be judged, without `has_prefix`."""
-    asked, inputs = without_known(read_words(words)), Inputs(folder, standard_input, MOST_BYTES)
+    asked, inputs = read_words(words), Inputs(folder, standard_input, MOST_BYTES)
     try:
         seen, _ = SEEN_BY[asked.command](inputs, asked.values, *asked.names)
         counts = grown(inputs, asked) if has_prefix else None
     finally:
         inputs.close()
     return list(lines_on(asked.command, seen, counts))[:MOST_LINES]
-
-
-def without_known(asked):
-    """The same words without known files, at which a second look does not look."""
-    return asked._replace(values={**asked.values, "--known": []})
 
 
 def are_regular(words, folder, standard_input=None):

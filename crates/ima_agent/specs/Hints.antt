@@ -1,5 +1,5 @@
 -- Why an answer is that something differs, by which a person is told what to do next.
-use Rattle.std.specs.Prelude.{◌≡◌, ℕ, ◌==◌, ◌&&◌, not, Bool, true, false, if◌then◌else◌, List, length, map, find, Option, None, Some, option_map, option_and_then, is_some, IsSomeAnd}
+use Rattle.std.specs.Prelude.{◌≡◌, ℕ, ◌==◌, ◌&&◌, not, Bool, true, false, if◌then◌else◌, List, length, map, find, Option, None, Some, option_map, option_and_then, is_some, IsSomeAnd, IfSome, ◌⊎◌, slice_get}
 use Rattle.pcr_banks.specs.declared.alg.Alg.{Alg}
 use Rattle.pcr_banks.specs.Hashing.{all_algs}
 use Rattle.boot_verdict.specs.declared.expected.Expected.{Expected}
@@ -21,7 +21,9 @@ use Rattle.agent_plans.specs.declared.plan.Scope.{Scope}
 use Rattle.agent_plans.specs.declared.plan.Scope.TheVariants.{Whole, Prefix}
 use Rattle.judging.specs.declared.request.Answer.{Answer}
 use Rattle.judging.specs.declared.request.Answered.{Answered}
-use Rattle.judging.specs.Answering.{IsAnswer}
+use Rattle.known_files.specs.declared.unknown.Unknown.{Unknown}
+use Rattle.agent_inputs.specs.declared.fault.RunFault.{RunFault}
+use Rattle.judging.specs.Answering.{IsAnswer, IsRefusal}
 use Rattle.judging.specs.Requests.{Attested, Attests, Compares, Judgement, Requested, VerdictOf}
 use Rattle.judging.specs.declared.request.Answer.TheVariants as answers
 use Rattle.ima_agent.specs.declared.causes.Causes.{Causes}
@@ -100,6 +102,7 @@ no_cause = record {
   aggregate = None;
   strays = no_strays;
   values = None;
+  unknown = None;
 }
 
 -- What rows tell, where these registers are required.
@@ -136,18 +139,26 @@ causes_of_quote report = record (causes_of_report None report.report) {
   values = if report.is_quoted then None else Some report.expected;
 }
 
--- Why the answer is that something differs.
-abbrev pub causes_of : Option (List BankRange) → Answer → Causes
-causes_of required (answers.Report report) = causes_of_report required report
-causes_of required (answers.Prefix prefix) = causes_of_report required prefix.report
-causes_of required (answers.Attestation report) = causes_of_quote report
-causes_of required (answers.ListReport report) = record (causes_in required report.rows.items) {
+-- Those that the answer itself tells.
+abbrev pub causes_by : Option (List BankRange) → Answer → Causes
+causes_by required (answers.Report report) = causes_of_report required report
+causes_by required (answers.Prefix prefix) = causes_of_report required prefix.report
+causes_by required (answers.Attestation report) = causes_of_quote report
+causes_by required (answers.ListReport report) = record (causes_in required report.rows.items) {
   is_empty = report.entries == 0;
   judged = ListAlone;
   strays = report.strays;
 }
-causes_of required (answers.Positions positions) = causes_at required positions.items
-causes_of required answer = no_cause
+causes_by required (answers.Positions positions) = causes_at required positions.items
+causes_by required answer = no_cause
+
+-- The first entry that is not known.
+abbrev pub first_unknown : Option Unknown → Option ℕ
+first_unknown unknown = option_and_then (λ unknown. slice_get unknown.numbers.items 0) unknown
+
+-- Why the answer is that something differs.
+abbrev pub causes_of : Answered → Causes
+causes_of given = record (causes_by given.requirement given.answer) { unknown = first_unknown given.unknown }
 
 -- Of which part of the list the values are, by an answer that is on a prefix of it.
 abbrev pub grown_by : Answer → Option Grown
@@ -161,7 +172,12 @@ grown_by answer = None
 -- What is asked for differs still, for these causes.
 abbrev pub IsSeen : Inputs → Requested → Causes → Type 0
 IsSeen inputs request causes =
-    (given : Answered) × IsAnswer inputs request given × (given.is_well ≡ false) × (causes ≡ causes_of given.requirement given.answer)
+    (given : Answered) × IsAnswer inputs request given × (given.is_well ≡ false) × (causes ≡ causes_of given)
+
+-- It differs no longer, or cannot be judged again.
+abbrev pub IsNotSeen : Inputs → Requested → Type 0
+IsNotSeen inputs request =
+    ((given : Answered) × IsAnswer inputs request given × (given.is_well ≡ true)) ⊎ ((fault : RunFault) × IsRefusal inputs request fault)
 
 -- The same asked of the shortest prefix that matches, where it is asked of a whole list.
 abbrev pub compared_on_prefix : Judgement → Option Judgement
@@ -183,3 +199,10 @@ abbrev pub IsGrown : Inputs → Requested → Grown → Type 0
 IsGrown inputs request grown =
     IsSomeAnd (on_prefix request)
     (λ request. (given : Answered) × IsAnswer inputs request given × (given.is_well ≡ true) × (grown_by given.answer ≡ Some grown))
+
+-- All is not well with any prefix, or none can be judged; or it is not asked of a whole list.
+abbrev pub IsNotGrown : Inputs → Requested → Type 0
+IsNotGrown inputs request =
+    IfSome (on_prefix request)
+    (λ request. ((given : Answered) × IsAnswer inputs request given × ((given.is_well ≡ false) ⊎ (grown_by given.answer ≡ None)))
+    ⊎ ((fault : RunFault) × IsRefusal inputs request fault))

@@ -7,6 +7,7 @@ pub mod Hints
 pub mod HintTexts
 pub mod Mistakes
 pub mod Program
+pub mod Refused
 pub mod Saying
 pub use Rattle.agent_inputs.specs.Loading
 pub use Rattle.agent_inputs.specs.Loading

@@ -1,6 +1,8 @@
 -- When a person is told beside the output why a run failed, or what to do next; and what to do next.
-use Rattle.std.specs.Prelude.{◌≡◌, ℕ, ◌⊎◌, ◌++◌, ◌∷◌, Bool, false, ◌||◌, List, [], codes, flat_map, take, Option, IfSome}
-use Rattle.agent_inputs.specs.Loading.{unknown}
+use Rattle.std.specs.Prelude.{◌≡◌, ℕ, ◌⊎◌, ◌++◌, ◌∷◌, Bool, false, ◌||◌, List, [], codes, flat_map, take, Option, None, Some, MatchOption, IfSome, IfNone, IsTrue}
+use Rattle.agent_inputs.specs.declared.fault.RunFault.{RunFault}
+use Rattle.agent_inputs.specs.Loading.{Inputs, OfInput}
+use Rattle.agent_plans.specs.declared.plan.Question.{Question}
 use Rattle.agent_plans.specs.declared.plan.Question.TheVariants as questions
 use Rattle.agent_plans.specs.declared.plan.Task.{Task}
 use Rattle.agent_plans.specs.declared.plan.Task.TheVariants as tasks
@@ -8,10 +10,13 @@ use Rattle.judging.specs.Requests.{Requested}
 use Rattle.ima_agent.specs.declared.causes.Causes.{Causes}
 use Rattle.ima_agent.specs.declared.causes.Grown.{Grown}
 use Rattle.ima_agent.specs.declared.mistakes.Mistake.{Mistake}
+use Rattle.ima_agent.specs.declared.mistakes.Wanted.{Wanted}
 use Rattle.ima_agent.specs.Escaping.{escape}
-use Rattle.ima_agent.specs.Hints.{IsGrown, IsSeen}
+use Rattle.ima_agent.specs.Hints.{IsGrown, IsNotGrown, IsNotSeen, IsSeen}
 use Rattle.ima_agent.specs.HintTexts.{hints_of, mistake_words, shown_hint}
+use Rattle.ima_agent.specs.Mistakes.{mistake_in}
 use Rattle.ima_agent.specs.Program.{requested_by, with_known}
+use Rattle.ima_agent.specs.Refused.{refused_input}
 use Rattle.ima_agent.specs.declared.explanations.Failure.{Failure}
 use Rattle.ima_agent.specs.declared.explanations.Failure.TheVariants as failures
 
@@ -30,25 +35,52 @@ is_asked_for failure = false
 abbrev pub is_said : Bool → Failure → Bool
 is_said is_terminal failure = is_terminal || is_asked_for failure
 
--- Nothing; or three lines at most, on the causes for which what is asked for differs when the inputs are judged once more, without known files, and
--- on a prefix of the list, if all is well with one.
-abbrev pub TellsCauses : Requested → List ℕ → Type 0
-TellsCauses request text =
-    (text ≡ [])
-    ⊎ ((causes : Causes) × (grown : Option Grown) × IsSeen unknown request causes × IfSome grown (IsGrown unknown request)
-    × (text ≡ flat_map shown_hint (take 3 (hints_of causes grown))))
+-- What a question asks, without known files.
+abbrev pub without_known : Question → Requested
+without_known question = with_known [] (requested_by question)
 
--- Nothing; or a line that names an input, and says what it is.
-abbrev pub TellsMistake : List ℕ → Type 0
-TellsMistake text =
-    (text ≡ []) ⊎ ((input : List ℕ) × (mistake : Mistake) × (text ≡ escape (input ++ (codes ": " ++ mistake_words mistake)) ++ 10 ∷ []))
+-- Three lines at most, on the causes for which what is asked for differs when the inputs are judged once more, and on a prefix of the list, if all
+-- is well with one but for files that are not known. Whether a boot aggregate that is another is an older kernel's is left open. Nothing is said
+-- only where it differs no longer, or cannot be judged again.
+abbrev pub TellsCauses : Inputs → Question → List ℕ → Type 0
+TellsCauses inputs question text =
+    (IsNotSeen inputs (requested_by question) × (text ≡ []))
+    ⊎ ((causes : Causes) × (grown : Option Grown) × (is_old : Bool) × IsSeen inputs (requested_by question) causes
+    × IfSome grown (IsGrown inputs (without_known question)) × IfNone grown (IsNotGrown inputs (without_known question))
+    × (text ≡ flat_map shown_hint (take 3 (hints_of causes grown is_old))))
 
-abbrev pub TellsOf : Task → List ℕ → Type 0
-TellsOf (tasks.Answer question) text = TellsCauses (with_known [] (requested_by question)) text
-TellsOf task text = text ≡ []
+-- These bytes begin the others, and are none only where those are none.
+pub record IsHead (head bytes : List ℕ) : Type 0 where
+  pub rest : List ℕ
+  pub whole : bytes ≡ head ++ rest
+  pub some : head ≡ [] → bytes ≡ []
+
+-- The first bytes of the file of this name; none if it may fail.
+abbrev pub IsLookedAt : Inputs → List ℕ → Option (List ℕ) → Type 0
+IsLookedAt inputs name None = IsTrue (inputs.may_fail (Some name))
+IsLookedAt inputs name (Some head) = OfInput inputs (Some name) (IsHead head)
+
+-- The line that names an input, and says what it is; nothing if that cannot be told.
+abbrev pub mistake_line : List ℕ → Option Mistake → List ℕ
+mistake_line input None = []
+mistake_line input (Some mistake) = escape (input ++ (codes ": " ++ mistake_words mistake)) ++ 10 ∷ []
+
+abbrev pub head_line : List ℕ → Wanted → Option (List ℕ) → List ℕ
+head_line input wanted None = []
+head_line input wanted (Some head) = mistake_line input (mistake_in wanted head)
+
+-- What the input that the fault is of is, by its first bytes. Nothing if that cannot be told, it may fail, or the fault is of no such input.
+abbrev pub TellsMistake : Inputs → RunFault → Task → List ℕ → Type 0
+TellsMistake inputs fault task text =
+    MatchOption (refused_input fault task) (text ≡ [])
+    (λ refused. (head : Option (List ℕ)) × IsLookedAt inputs refused.0 head × (text ≡ head_line refused.0 refused.1 head))
+
+abbrev pub TellsOf : Inputs → Task → List ℕ → Type 0
+TellsOf inputs (tasks.Answer question) text = TellsCauses inputs question text
+TellsOf inputs task text = text ≡ []
 
 -- What to do next after this.
-abbrev pub TellsNext : Failure → List ℕ → Type 0
-TellsNext (failures.Differs task) text = TellsOf task.now text
-TellsNext (failures.Fault fault task) text = TellsMistake text
-TellsNext failure text = text ≡ []
+abbrev pub TellsNext : Inputs → Failure → List ℕ → Type 0
+TellsNext inputs (failures.Differs task) text = TellsOf inputs task.now text
+TellsNext inputs (failures.Fault fault task) text = TellsMistake inputs fault.now task.now text
+TellsNext inputs failure text = text ≡ []

@@ -1,7 +1,7 @@
 //! Why an answer is that something differs.
 
 ghost use Rattle.std.specs.Prelude.{◌≡◌, map, option_map};
-ghost use Rattle.ima_agent.specs.Hints.{absent_place, absent_row, causes_at, causes_in, causes_of, causes_of_quote, causes_of_report, first_missing, grown_by, has_none, is_absent, is_nowhere, is_of_list, is_other, list_place, list_row, log_place, log_row, missing_in, missing_of};
+ghost use Rattle.ima_agent.specs.Hints.{absent_place, absent_row, causes_at, causes_by, causes_in, causes_of, causes_of_quote, causes_of_report, first_missing, first_unknown, grown_by, has_none, is_absent, is_nowhere, is_of_list, is_other, list_place, list_row, log_place, log_row, missing_in, missing_of};
 
 use attestations::{AttestReport, ExpectedValues};
 use boot_verdict::{
@@ -54,6 +54,8 @@ pub(crate) struct Causes {
     pub strays: Strays,
     /// What came of the values of expected registers, if log and list are not what a quote is of.
     pub values: Option<ExpectedValues>,
+    /// The first entry that is not known, if files have to be known.
+    pub unknown: Option<usize>,
 }
 
 // Nothing is wrong.
@@ -68,6 +70,7 @@ const NO_CAUSE: Causes = Causes {
     aggregate: None,
     strays: NO_STRAYS,
     values: None,
+    unknown: None,
 };
 
 const NO_STRAYS: Strays = Strays {
@@ -77,10 +80,27 @@ const NO_STRAYS: Strays = Strays {
 
 /// Why this answer is that something differs.
 pub(crate) fn causes_of(given: &Answered) -> Causes
-    ensures { result ≡ causes_of given.now.requirement given.now.answer }
+    ensures { result ≡ causes_of given.now }
 {
-    let required = given.requirement.as_ref();
-    match &given.answer {
+    Causes {
+        unknown: first_unknown(given),
+        ..causes_by(given.requirement.as_ref(), &given.answer)
+    }
+}
+
+// The first entry that is not known.
+fn first_unknown(given: &Answered) -> Option<usize>
+    ensures { result ≡ first_unknown given.now.unknown }
+{
+    let unknown = given.unknown.as_ref()?;
+    unknown.numbers.first().copied()
+}
+
+// Those that the answer itself tells.
+fn causes_by(required: Option<&Requirement>, answer: &Answer) -> Causes
+    ensures { result ≡ causes_by (option_map (λ ranges. ranges.now) required.entry) answer.now }
+{
+    match answer {
         Answer::Report(report) => causes_of_report(required, report),
         Answer::Prefix(prefix) => causes_of_report(required, &prefix.report),
         Answer::Attestation(report) => causes_of_quote(report),

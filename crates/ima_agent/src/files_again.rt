@@ -1,13 +1,17 @@
 //! Files that are read again, after a run.
 
+ghost use Rattle.std.specs.Prelude.{◌≡◌, option_map, IfOk};
+ghost use Rattle.ima_agent.specs.Saying.{IsLookedAt};
+
 use agent_inputs::{AgentFiles, Files, LoadFault, ReadSource, SharedFiles};
-use byte_streams::Failed;
+use byte_streams::{Failed, PieceReader, ReadFault};
 use pcr_banks::{Alg, Digest};
-use std::alloc::Global;
-use std::fs::File;
+use std::alloc::{AllocError, Global};
+use std::fs::{self, File};
 use std::rt::Files as FileSystem;
 
-/// The files of a runtime, which are only read: none is replaced, and none is hashed. There is no standard input.
+/// The files of a runtime, which are only read: none is replaced, and none is hashed. There is no standard input, and no file that is not a
+/// regular one: reading it again might wait for ever, or give other bytes.
 #[derive(Drop)]
 pub(crate) struct FilesAgain<'a, R> {
     runtime: &'a R,
@@ -27,10 +31,21 @@ impl<R: FileSystem> Files for FilesAgain<'_, R> {
         let Some(name) = name else {
             return Err(Failed);
         };
+        if !is_regular(self.runtime, name) {
+            return Err(Failed);
+        }
         match File::open(self.runtime, name) {
             Ok(file) => Ok(ReadSource::new(file)),
             Err(_) => Err(Failed),
         }
+    }
+}
+
+// Whether the file of this name is a regular one.
+fn is_regular<R: FileSystem>(rt: &R, name: &str) -> bool {
+    match fs::metadata(rt, name) {
+        Ok(present) => present.is_file(),
+        Err(_) => false,
     }
 }
 
@@ -58,5 +73,26 @@ impl SharedFiles for NoneShared {
         _limit: u64,
     ) -> Result<Digest, LoadFault> {
         Err(LoadFault::Source)
+    }
+}
+
+/// The first bytes of the file of this name, if it can be read.
+pub(crate) fn head_of<F: AgentFiles>(
+    alloc: Global,
+    files: &mut F,
+    name: &str,
+) -> Result<Option<Vec<u8>>, AllocError>
+    ensures head { IfOk result (λ head. IsLookedAt (F.known files.old) name.now (option_map (λ bytes. bytes.items) head)) }
+    ensures known { F.known files.new ≡ F.known files.old }
+    ensures saved { F.saved files.new ≡ F.saved files.old }
+{
+    let Ok(mut source) = files.source(Some(name)) else {
+        return Ok(None);
+    };
+    let mut head = Vec::new(alloc);
+    match PieceReader::new(alloc).read(&mut source, &mut head) {
+        Ok(_) => Ok(Some(head)),
+        Err(ReadFault::Source) => Ok(None),
+        Err(ReadFault::Memory) => Err(AllocError),
     }
 }

@@ -4,7 +4,7 @@ ghost use Rattle.std.specs.Prelude.{◌≡◌, ◌++◌, ◌∷◌, [], codes, d
 ghost use Rattle.std.specs.List.{list_all};
 ghost use Rattle.pcr_banks.specs.Hashing.{name_of};
 ghost use Rattle.ima_agent.specs.Escaping.{escape, is_shown};
-ghost use Rattle.ima_agent.specs.HintTexts.{absent_hint, entry_hint, event_hint, hint_line, hints_of, is_grown, last_words, list_hint, log_hint, missing_hint, mistake_words, of_option, shown_hint, values_hint};
+ghost use Rattle.ima_agent.specs.HintTexts.{absent_hint, entry_hint, event_hint, hint_line, hints_of, is_grown, last_words, list_hint, log_hint, missing_hint, mistake_words, of_option, shown_hint, unknown_hint, values_hint};
 
 use crate::causes::{Causes, Grown, JudgedBy};
 use crate::escapes::shown_line;
@@ -21,12 +21,14 @@ const MOST_LINES: usize = 3;
 /// What to do next, or where to look. None advises to expect or to require less: whoever changed log and list could wish for that.
 #[derive(Clone, Copy, PartialEq, Eq)]
 pub(crate) enum Hint {
-    /// The values are those after this entry of the list, which has so many.
-    Grown { entry: usize, entries: usize },
+    /// The values are those after so many first entries of the list, which has so many in all.
+    Grown { confirmed: usize, entries: usize },
     /// The list has no entries.
     NoEntries,
     /// The boot aggregate is another.
     OtherAggregate,
+    /// It is that of an older kernel.
+    OldAggregate,
     /// The log has no bank for it.
     NoAggregateBank,
     /// The first entry is none.
@@ -41,6 +43,8 @@ pub(crate) enum Hint {
     EventOfList { event: usize },
     /// An entry extends another.
     EntryOfLog { entry: usize, register: u32 },
+    /// An entry extends another, and there is no log.
+    EntryAside { entry: usize, register: u32 },
     /// A register of the log differs.
     LogDiffers { alg: Alg, register: u32 },
     /// It never has its value.
@@ -53,18 +57,21 @@ pub(crate) enum Hint {
     NothingExpected,
     /// The log has no such bank.
     Absent { alg: Alg },
+    /// This is the first entry that is not known.
+    Unknown { entry: usize },
 }
 
-/// What to do about these causes, or that the list grew, in three lines at most.
+/// What to do about these causes, or that the list grew, in three lines at most. A boot aggregate that is another may be an older kernel's.
 pub(crate) fn hints_on(
     alloc: Global,
     causes: &Causes,
     grown: Option<Grown>,
+    is_old: bool,
 ) -> Result<String, AllocError>
-    ensures lines { IfOk result (λ text. string_bytes text ≡ flat_map shown_hint (take 3 (hints_of causes.now grown))) }
+    ensures lines { IfOk result (λ text. string_bytes text ≡ flat_map shown_hint (take 3 (hints_of causes.now grown is_old))) }
     ensures shown { IfOk result (λ text. list_all is_shown (string_bytes text) ≡ true) }
 {
-    let mut hints = hints_of(alloc, causes, grown)?;
+    let mut hints = hints_of(alloc, causes, grown, is_old)?;
     hints.truncate(MOST_LINES);
     lines_of(alloc, &hints)
 }
@@ -84,17 +91,23 @@ fn lines_of(alloc: Global, hints: &[Hint]) -> Result<String, AllocError>
 }
 
 // All that there is to say of these causes.
-fn hints_of(alloc: Global, causes: &Causes, grown: Option<Grown>) -> Result<Vec<Hint>, AllocError>
-    ensures { IfOk result (λ hints. hints.items ≡ hints_of causes.now grown) }
+fn hints_of(
+    alloc: Global,
+    causes: &Causes,
+    grown: Option<Grown>,
+    is_old: bool,
+) -> Result<Vec<Hint>, AllocError>
+    ensures { IfOk result (λ hints. hints.items ≡ hints_of causes.now grown is_old) }
 {
     let mut hints = Vec::new(alloc);
-    push_if(&mut hints, list_hint(causes, grown))?;
+    push_if(&mut hints, list_hint(causes, grown, is_old))?;
     push_if(&mut hints, values_hint(causes, grown))?;
     push_if(&mut hints, event_hint(causes))?;
     push_if(&mut hints, entry_hint(causes))?;
     push_if(&mut hints, log_hint(causes))?;
     push_if(&mut hints, missing_hint(causes))?;
     push_if(&mut hints, absent_hint(causes))?;
+    push_if(&mut hints, unknown_hint(causes))?;
     Ok(hints)
 }
 
@@ -116,15 +129,14 @@ fn is_grown(causes: &Causes) -> bool
 }
 
 // What is wrong with the list.
-fn list_hint(causes: &Causes, grown: Option<Grown>) -> Option<Hint>
-    ensures { result ≡ list_hint causes.now grown }
+fn list_hint(causes: &Causes, grown: Option<Grown>, is_old: bool) -> Option<Hint>
+    ensures { result ≡ list_hint causes.now grown is_old }
 {
     if let Some(grown) = grown
         && is_grown(causes)
     {
-        // (a prefix that matches has an entry)
         return Some(Hint::Grown {
-            entry: grown.confirmed.saturating_sub(1),
+            confirmed: grown.confirmed,
             entries: grown.entries,
         });
     }
@@ -132,6 +144,7 @@ fn list_hint(causes: &Causes, grown: Option<Grown>) -> Option<Hint>
         return Some(Hint::NoEntries);
     }
     match (causes.aggregate, causes.list) {
+        (Some(Aggregate::Wrong), _) if is_old => Some(Hint::OldAggregate),
         (Some(Aggregate::Wrong), _) => Some(Hint::OtherAggregate),
         (Some(Aggregate::NoBank), _) => Some(Hint::NoAggregateBank),
         (Some(Aggregate::Missing), _) => Some(Hint::NoAggregate),
@@ -166,7 +179,10 @@ fn entry_hint(causes: &Causes) -> Option<Hint>
     ensures { result ≡ entry_hint causes.now }
 {
     let Stray { entry, register } = causes.strays.entry?;
-    Some(Hint::EntryOfLog { entry, register })
+    Some(match causes.judged {
+        JudgedBy::ListAlone => Hint::EntryAside { entry, register },
+        JudgedBy::Values | JudgedBy::Places => Hint::EntryOfLog { entry, register },
+    })
 }
 
 // What is wrong with the log.
@@ -200,17 +216,26 @@ fn absent_hint(causes: &Causes) -> Option<Hint>
     Some(Hint::Absent { alg: expected.alg })
 }
 
+// Which entry is not known.
+fn unknown_hint(causes: &Causes) -> Option<Hint>
+    ensures { result ≡ unknown_hint causes.now }
+{
+    let entry = causes.unknown?;
+    Some(Hint::Unknown { entry })
+}
+
 // The line of a hint, without its line feed.
 fn line_of(alloc: Global, hint: Hint) -> Result<String, AllocError>
     ensures { IfOk result (λ line. string_bytes line ≡ hint_line hint) }
 {
     let words = last_words(hint);
     match hint {
-        Hint::Grown { entry, entries } => {
-            numbers_line(alloc, AFTER_ENTRY, entry, " of ", entries, words)
-        }
+        Hint::Grown { confirmed, entries } => grown_line(alloc, confirmed, entries, words),
         Hint::EventOfList { event } => number_line(alloc, "event ", event, words),
-        Hint::EntryOfLog { entry, register } => entry_line(alloc, entry, register, words),
+        Hint::Unknown { entry } => number_line(alloc, "entry ", entry, words),
+        Hint::EntryOfLog { entry, register } | Hint::EntryAside { entry, register } => {
+            entry_line(alloc, entry, register, words)
+        }
         Hint::ListDiffers { alg } | Hint::Absent { alg } => bank_line(alloc, alg, words),
         Hint::LogDiffers { alg, register }
         | Hint::LogNowhere { alg, register }
@@ -220,6 +245,7 @@ fn line_of(alloc: Global, hint: Hint) -> Result<String, AllocError>
         }
         Hint::NoEntries
         | Hint::OtherAggregate
+        | Hint::OldAggregate
         | Hint::NoAggregateBank
         | Hint::NoAggregate
         | Hint::NotExpected
@@ -236,32 +262,37 @@ fn last_words(hint: Hint) -> &'static str
         Hint::Grown { .. } => GROWN,
         Hint::NoEntries => NO_ENTRIES,
         Hint::OtherAggregate => OTHER_AGGREGATE,
+        Hint::OldAggregate => OLD_AGGREGATE,
         Hint::NoAggregateBank => NO_AGGREGATE_BANK,
         Hint::NoAggregate => NO_AGGREGATE,
-        Hint::ListDiffers { .. } => LIST_DIFFERS,
+        Hint::ListDiffers { alg: Alg::Sha1 } => LIST_DIFFERS,
+        Hint::ListDiffers { .. } => LIST_DIFFERS_OR_PADDED,
         Hint::NotExpected => NOT_EXPECTED,
         Hint::NotQuoted => NOT_QUOTED,
         Hint::EventOfList { .. } => EVENT_OF_LIST,
         Hint::EntryOfLog { .. } => ENTRY_OF_LOG,
+        Hint::EntryAside { .. } => ENTRY_ASIDE,
         Hint::LogDiffers { .. } => LOG_DIFFERS,
         Hint::LogNowhere { .. } => LOG_NOWHERE,
         Hint::WithoutLog { .. } => WITHOUT_LOG,
         Hint::Missing { .. } => ": read it with the others",
-        Hint::NothingExpected => "EXPECTED has no PCR",
+        Hint::NothingExpected => NOTHING_EXPECTED,
         Hint::Absent { .. } => ABSENT,
+        Hint::Unknown { .. } => UNKNOWN,
     }
 }
 
-const AFTER_ENTRY: &str = "PCR 10 has this value after entry ";
-
 const GROWN: &str =
-    ": the list grew, or the value is old; read it again, or add --prefix, which leaves out the entries after it";
+    " entries: the list grew after it was read; collect again, or add --prefix to judge those ";
 
 const NO_ENTRIES: &str =
     "LIST is empty: copy the kernel's list with cat, since its size is given as 0";
 
 const OTHER_AGGREGATE: &str =
     "the boot aggregate is another: log and list are of different boots, or one of them was changed";
+
+const OLD_AGGREGATE: &str =
+    "the boot aggregate is that of PCRs 0 to 7 alone, as some kernels before 5.8 record it: it does not bind PCRs 8 and 9 to the list";
 
 const NO_AGGREGATE_BANK: &str =
     "LOG has no bank for the boot aggregate, so nothing says that log and list are of one boot";
@@ -271,6 +302,9 @@ const NO_AGGREGATE: &str =
 
 const LIST_DIFFERS: &str =
     " PCR 10 differs: it was read at another time than LIST, or an entry is missing or was changed";
+
+const LIST_DIFFERS_OR_PADDED: &str =
+    " PCR 10 differs: it was read at another time than LIST, a kernel before 5.8 extended it by SHA-1 digests with zeros after them, or an entry is missing or was changed";
 
 const NOT_EXPECTED: &str =
     "add EXPECTED, the values read with the quote: its rows show which PCR differs";
@@ -282,6 +316,15 @@ const EVENT_OF_LIST: &str =
 
 const ENTRY_OF_LOG: &str = ", which only the log should: log and list cannot be told apart";
 
+const ENTRY_ASIDE: &str =
+    ", as a rule with pcr= in the policy has it; replay takes a list whose entries extend PCR 10 alone";
+
+const NOTHING_EXPECTED: &str =
+    "EXPECTED has no PCR, so no PCR was compared: give the values read with LIST";
+
+const UNKNOWN: &str =
+    " is the first that no known file has: ima-agent show names its file; compare that with the file in its package";
+
 const LOG_DIFFERS: &str =
     " differs: LOG is of another boot, or was changed; ima-agent events --explain --expected shows its events";
 
@@ -292,6 +335,28 @@ const WITHOUT_LOG: &str = " differs: replay reads no log; ima-agent verify does"
 
 const ABSENT: &str =
     " is no bank of LOG, so its PCRs cannot be judged: LOG is of another machine, or was changed";
+
+// Which entries of a list a register covers, and the number of those once more after the words.
+fn grown_line(
+    alloc: Global,
+    confirmed: usize,
+    entries: usize,
+    words: &str,
+) -> Result<String, AllocError>
+    ensures { IfOk result (λ line. string_bytes line ≡ codes "PCR 10 covers the first " ++ (decimal confirmed ++ (codes " of " ++ (decimal entries ++ (words.now ++ decimal confirmed))))) }
+{
+    let mut digits = Buffer::new();
+    let mut last = String::from_str(alloc, words)?;
+    last.push_str(digits.format(confirmed))?;
+    numbers_line(
+        alloc,
+        "PCR 10 covers the first ",
+        confirmed,
+        " of ",
+        entries,
+        &last,
+    )
+}
 
 // An entry that extends a register, and words after it.
 fn entry_line(alloc: Global, entry: usize, register: u32, words: &str) -> Result<String, AllocError>
@@ -392,7 +457,7 @@ fn mistake_words(mistake: Mistake) -> &'static str
         Mistake::NothingPrinted => "it is empty: the tool printed nothing",
         Mistake::ListForLog => "it is a measurement list, and no firmware event log",
         Mistake::OldLog =>
-            "it is in the form of TPM 1.2, which is not read: PCRs 0 to 9 cannot be judged; if the machine has a TPM 2.0 it was changed",
+            "it is in the SHA-1 form of TPM 1.2, which is not read: kernels before 5.3 and some cloud machines give no other; PCRs 0 to 9 cannot be judged",
         Mistake::LogForList => "it is a firmware event log, and no measurement list",
         Mistake::TextForList =>
             "it is the list as text: take binary_runtime_measurements, which is beside it",

@@ -13,6 +13,7 @@ mod hexadecimal;
 mod hints;
 mod matches;
 mod mistakes;
+mod old_aggregates;
 mod program;
 mod progress;
 mod quoted;
@@ -44,7 +45,7 @@ pub use measuring::FileProgress;
 pub use program::{exit_code, read_words, run, run_with_progress};
 pub use progress::{NoProgress, Progress, SystemProgress, Terminals};
 pub use rendering::{Output, json_fault_line, json_memory_line, status_of, write_fault};
-pub use second_look::hint;
+pub use second_look::{hint, hint_from};
 pub use verdict_texts::{
     EventData, write_events, write_positions, write_report, write_required_positions,
     write_required_report,

@@ -26,7 +26,7 @@ pub(crate) enum Mistake {
     NothingPrinted,
     /// A measurement list, not a log.
     ListForLog,
-    /// A log in the form of TPM 1.2.
+    /// A log in the form of TPM 1.2, with SHA-1 alone.
     OldLog,
     /// A log, not a measurement list.
     LogForList,
@@ -35,9 +35,6 @@ pub(crate) enum Mistake {
     /// What tpm2-tools printed, not expected registers.
     PrintedForExpected,
 }
-
-/// How many of the first bytes are looked at.
-pub(crate) const HEAD: usize = 512;
 
 /// What begins a text that tpm2_pcrread or tpm2_checkquote printed, and no text of expected registers.
 const PRINTED: [&[u8]; 7] = [

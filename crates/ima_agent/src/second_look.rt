@@ -1,74 +1,87 @@
 //! A second look at inputs that differ or are refused, for what a person may do next. The output is written before, and so is the status decided.
 
-ghost use Rattle.std.specs.Prelude.{◌≡◌, [], true, string_bytes, option_map, IfOk, IfSome};
+ghost use Rattle.std.specs.Prelude.{◌≡◌, [], true, string_bytes, option_map, IfOk, IfSome, IfNone};
 ghost use Rattle.std.specs.List.{list_all};
+ghost use Rattle.agent_inputs.specs.Loading.{unknown};
 ghost use Rattle.judging.specs.Requests.{requested_of};
 ghost use Rattle.ima_agent.specs.Escaping.{is_shown};
-ghost use Rattle.ima_agent.specs.Hints.{IsGrown, IsSeen, on_prefix};
-ghost use Rattle.ima_agent.specs.Program.{requested_by, with_known};
-ghost use Rattle.ima_agent.specs.Saying.{TellsCauses, TellsMistake, TellsNext};
+ghost use Rattle.ima_agent.specs.Hints.{IsGrown, IsNotGrown, IsNotSeen, IsSeen, on_prefix};
+ghost use Rattle.ima_agent.specs.Saying.{TellsMistake, TellsNext, TellsOf};
 
 use crate::causes::{Causes, Grown, causes_of, grown_by};
 use crate::explanations::Failure;
-use crate::files_again::FilesAgain;
+use crate::files_again::{FilesAgain, head_of};
 use crate::hints::{hint_on, hints_on};
-use crate::mistakes::{HEAD, Mistake, Wanted as WantedInput, mistake_in};
-use crate::requests::request_of;
-use crate::task_inputs::input_of;
+use crate::mistakes::mistake_in;
+use crate::old_aggregates::is_old_aggregate;
+use crate::requests::{known_inputs, request_of};
+use crate::task_inputs::refused_input;
 use agent_inputs::{AgentFiles, RunFault};
-use agent_plans::{Attest, Judge, Judged, Question, Scope, Task};
+use agent_plans::{Scope, Task};
 use judging::{Attesting, Comparison, Request, Wanted, answer_request};
 use std::alloc::{AllocError, Global};
-use std::fs::{self, File};
-use std::io::Read;
 use std::rt::Files as FileSystem;
 
-/// What a person may do next, in lines: after an answer that something differs, by a second look at the inputs, and where an input is refused
-/// that is not what it should be, by its first bytes. No text where nothing helps, or an input is no regular file or cannot be read again. It
-/// changes no input.
+/// What [`hint_from`] says of the files of a runtime, if they are regular files: others are not read again.
 pub fn hint<R: FileSystem>(
     rt: &R,
     alloc: Global,
     failure: Failure<'_>,
 ) -> Result<String, AllocError>
-    ensures told { IfOk result (λ text. TellsNext failure.entry (string_bytes text)) }
+    ensures told { IfOk result (λ text. TellsNext unknown failure.entry (string_bytes text)) }
     ensures shown { IfOk result (λ text. list_all is_shown (string_bytes text) ≡ true) }
 {
+    hint_from(alloc, &mut FilesAgain::new(rt), failure)
+}
+
+/// What a person may do next, in lines: after an answer that something differs, by a second look at the inputs, and where an input is refused
+/// that is not what it should be, by its first bytes. No text where nothing helps, or the inputs cannot be read again. It changes no input.
+///
+/// Fails if memory runs out.
+pub fn hint_from<F: AgentFiles>(
+    alloc: Global,
+    files: &mut F,
+    failure: Failure<'_>,
+) -> Result<String, AllocError>
+    ensures told { IfOk result (λ text. TellsNext (F.known files.old) failure.entry (string_bytes text)) }
+    ensures shown { IfOk result (λ text. list_all is_shown (string_bytes text) ≡ true) }
+    ensures saved { F.saved files.new ≡ F.saved files.old }
+{
     match failure {
-        Failure::Differs {
-            task: Task::Answer(question),
-        } => on_difference(rt, alloc, question),
-        Failure::Fault { fault, task } => on_fault(rt, alloc, fault, task),
+        Failure::Differs { task } => on_difference(alloc, files, task),
+        Failure::Fault { fault, task } => on_fault(alloc, files, fault, task),
         _ => Ok(String::new(alloc)),
     }
 }
 
-// After the answer to a question is that something differs.
-fn on_difference<R: FileSystem>(
-    rt: &R,
+// After the answer to a task is that something differs.
+fn on_difference<F: AgentFiles>(
     alloc: Global,
-    question: &Question,
+    files: &mut F,
+    task: &Task,
 ) -> Result<String, AllocError>
-    ensures told { IfOk result (λ text. TellsCauses (with_known [] (requested_by question.now)) (string_bytes text)) }
+    ensures told { IfOk result (λ text. TellsOf (F.known files.old) task.now (string_bytes text)) }
     ensures shown { IfOk result (λ text. list_all is_shown (string_bytes text) ≡ true) }
+    ensures saved { F.saved files.new ≡ F.saved files.old }
 {
-    if !are_regular(rt, question) {
+    let Task::Answer(question) = task else {
         return Ok(String::new(alloc));
-    }
-    let mut files = FilesAgain::new(rt);
-    let request = request_of(question, &[]);
-    match causes_seen(alloc, &mut files, request) {
+    };
+    let known = known_inputs(alloc, question)?;
+    match causes_seen(alloc, files, request_of(question, &known)) {
         None => Ok(String::new(alloc)),
         Some(causes) => {
-            let grown = grown_seen(alloc, &mut files, request);
-            hints_on(alloc, &causes, grown)
+            let grown = grown_seen(alloc, files, request_of(question, &[]));
+            let is_old = is_old_aggregate(alloc, files, task);
+            hints_on(alloc, &causes, grown, is_old)
         }
     }
 }
 
-// Why what is asked for differs, if it still does. Known files are not looked at.
+// Why what is asked for differs, if it still does.
 fn causes_seen<F: AgentFiles>(alloc: Global, files: &mut F, request: Request<'_>) -> Option<Causes>
     ensures seen { IfSome result (IsSeen (F.known files.old) (requested_of request.entry)) }
+    ensures unseen { IfNone result (IsNotSeen (F.known files.old) (requested_of request.entry)) }
     ensures known { F.known files.new ≡ F.known files.old }
     ensures saved { F.saved files.new ≡ F.saved files.old }
 {
@@ -81,6 +94,7 @@ fn causes_seen<F: AgentFiles>(alloc: Global, files: &mut F, request: Request<'_>
 // Of which prefix of the list the values are, if what is asked for is on a whole list.
 fn grown_seen<F: AgentFiles>(alloc: Global, files: &mut F, request: Request<'_>) -> Option<Grown>
     ensures grown { IfSome result (IsGrown (F.known files.old) (requested_of request.entry)) }
+    ensures not_grown { IfNone result (IsNotGrown (F.known files.old) (requested_of request.entry)) }
     ensures known { F.known files.new ≡ F.known files.old }
     ensures saved { F.saved files.new ≡ F.saved files.old }
 {
@@ -132,100 +146,25 @@ fn on_prefix(request: Request<'_>) -> Option<Request<'_>>
     }
 }
 
-// Whether each input of a question that compares is a regular file.
-fn are_regular<R: FileSystem>(rt: &R, question: &Question) -> bool {
-    match question {
-        Question::Judge(
-            Judge {
-                judged,
-                list,
-                expected,
-                ..
-            },
-        ) => is_regular(rt, list) && is_regular(rt, expected) && is_judged_again(rt, judged),
-        Question::Attest(
-            Attest {
-                log,
-                quoting,
-                expected,
-                resume,
-                ..
-            },
-        ) => {
-            is_regular(rt, log)
-                && is_regular(rt, &quoting.list)
-                && is_regular(rt, &quoting.quote)
-                && is_regular_if(rt, expected)
-                && is_regular_if(rt, resume)
-        }
-        _ => false,
-    }
-}
-
-// Whether the inputs that only this judgement has are regular files.
-fn is_judged_again<R: FileSystem>(rt: &R, judged: &Judged) -> bool {
-    match judged {
-        Judged::Verdict { log, resume, .. } => is_regular(rt, log) && is_regular_if(rt, resume),
-        Judged::Positions { log } => is_regular(rt, log),
-        Judged::ListVerdict => true,
-    }
-}
-
-fn is_regular_if<R: FileSystem>(rt: &R, name: &Option<String>) -> bool {
-    match name {
-        None => true,
-        Some(name) => is_regular(rt, name),
-    }
-}
-
-// Whether the file of this name is a regular one: reading it again gives its bytes again, and waits for nothing.
-fn is_regular<R: FileSystem>(rt: &R, name: &str) -> bool {
-    match fs::metadata(rt, name) {
-        Ok(present) => present.is_file(),
-        Err(_) => false,
-    }
-}
-
 // Where an input is refused.
-fn on_fault<R: FileSystem>(
-    rt: &R,
+fn on_fault<F: AgentFiles>(
     alloc: Global,
+    files: &mut F,
     fault: &RunFault,
     task: &Task,
 ) -> Result<String, AllocError>
-    ensures told { IfOk result (λ text. TellsMistake (string_bytes text)) }
+    ensures told { IfOk result (λ text. TellsMistake (F.known files.old) fault.now task.now (string_bytes text)) }
     ensures shown { IfOk result (λ text. list_all is_shown (string_bytes text) ≡ true) }
+    ensures saved { F.saved files.new ≡ F.saved files.old }
 {
-    let (Some(input), Some(wanted)) = (input_of(task, fault), wanted_by(task, fault)) else {
+    let Some((input, wanted)) = refused_input(task, fault) else {
         return Ok(String::new(alloc));
     };
-    match mistake_at(rt, input, wanted) {
+    let Some(head) = head_of(alloc, files, input)? else {
+        return Ok(String::new(alloc));
+    };
+    match mistake_in(wanted, &head) {
         None => Ok(String::new(alloc)),
         Some(mistake) => hint_on(alloc, input, mistake),
     }
-}
-
-// What the input should be that has this fault, if it is a file.
-fn wanted_by(task: &Task, fault: &RunFault) -> Option<WantedInput> {
-    match (fault, task) {
-        (_, Task::Registers) => None,
-        (RunFault::Log(_), _) => Some(WantedInput::Log),
-        (RunFault::List(_) | RunFault::Replay(_), _) => Some(WantedInput::List),
-        (RunFault::Expect(_), Task::Answer(Question::Expected { .. })) => {
-            Some(WantedInput::Printed)
-        }
-        (RunFault::Expect(_), _) => Some(WantedInput::Expected),
-        _ => None,
-    }
-}
-
-// What the file of this name is in place of what is wanted.
-fn mistake_at<R: FileSystem>(rt: &R, name: &str, wanted: WantedInput) -> Option<Mistake> {
-    if !is_regular(rt, name) {
-        return None;
-    }
-    let mut head = [0; HEAD];
-    let mut file = File::open(rt, name).ok()?;
-    let count = file.read(&mut head).ok()?;
-    mistake_in(wanted, &head[..count])
 }
