@@ -20,6 +20,7 @@ For each command the script prints how many calls failed. It counts commands."""
 
 import errno
 import json
+import os
 import subprocess
 import sys
 import tempfile
@@ -107,11 +108,15 @@ def is_told(found, wanted, name, run):
 
 
 def second_looks(wanted, run):
-    """What standard error may have after a second look of which a call failed, if the answer is explained. A refusal keeps its sentence."""
+    """What standard error may have after a second look of which a call failed, if the answer is explained. A refusal keeps its sentence. Why a
+    file cannot be read is asked anew."""
     status, _, errors = wanted
     if status == 1:
         steps = next_steps(run.command.words, run.folder, has_prefix=False)
         return {errors, b"", "".join(f"{line}\n" for line in steps).encode()}
+    if status == FAILED:
+        about, _, _ = errors.rpartition(b": ")
+        return {errors, *(b"%s: %s\n" % (about, os.strerror(error).encode()) for _, causes, _ in FAILING for error in causes if error)}
     return {errors, b"".join(errors.splitlines(keepends=True)[:1])}
 
 
