@@ -2,6 +2,7 @@
 library, and clients that signals stop. Whatever comes, a run says why it ends in a line, and never by a traceback."""
 
 import os
+import re
 import signal
 import socket
 import time
@@ -11,6 +12,8 @@ from cluster import REQUIRE, ROOT, SECONDS, UNQUOTED, children_of, preloading, u
 from tables import counted, query, rows_of, times_of
 
 NOTES = Path(__file__).with_name("noted_calls.py")
+# A line beside the counts of a run: a cause, and how many machines have it.
+CAUSE = re.compile(r"fleet-verify: (refused|unreadable|failed) \d+: ")
 
 # Preloaded by workers: each of the first ones, as many as the file DEATHS has bytes, ends at its start.
 DYING = """
@@ -72,9 +75,9 @@ class Ends:
         return self.tools.client(*self.words(name), said=name, **self.preload(module), **given)
 
     def check_said(self, title, name, wanted):
-        """The last line that a client wrote to standard error has these words, and nothing was a traceback."""
+        """The last line that a client wrote to standard error, before causes beside the counts, has these words, and nothing was a traceback."""
         said = (self.tools.folder / name).read_text()
-        *_, last = said.splitlines() or [""]
+        *_, last = ["", *(line for line in said.splitlines() if not CAUSE.match(line))]
         is_right = wanted in last and "Traceback" not in said
         self.check(f"{title}: what is said", said if not is_right else wanted, wanted)
 
