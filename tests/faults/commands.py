@@ -116,15 +116,18 @@ class Commands(harness.TestCase):
             self.check(f"status {status} and the arguments reach the caller", answer[:2], (status, f"<{status}>\n<a b>\n<*>\n"))
         self.check("the program that was built is run again", self.builds_for("again"), 0)
 
-    def test_planted_kit(self):
-        """A program `rt` in the caller's folder, which may be a machine's, is not run."""
+    def test_planted_programs(self):
+        """No program in the caller's folder, which may be a machine's, is run."""
         folder = self.folder()
-        (folder / "rt").write_text(f'#!/bin/sh\n: >"{folder}/ran"\nexec "{self.tree.kit}/bin/rt" "$@"\n')
-        (folder / "rt").chmod(0o755)
+        for name in ("rt", "bash", "env", "python3", "readlink", "git", "sed", "cat", "tail", "grep", "mktemp", "mkdir", "rm", "flock", "cc", "ar"):
+            (folder / name).write_text(f'#!/bin/sh\n: >"{folder}/ran"\nexit 0\n')
+            (folder / name).chmod(0o755)
         path = f".::{self.tree.kit / 'bin'}:{os.environ['PATH']}:"
-        for command, ended in (("ima-agent", ""), ("try", "run=ended status=0 ")):
-            found = self.tree.call("0", command=command, folder=folder, PATH=path, ENDED=ended)[0], (folder / "ran").exists()
-            self.check(f"{command}: a kit in the caller's folder is not run", found, (0, False))
+        calls = (("ima-agent", "", 0), ("try", "run=ended status=0 ", 0), ("dist/make", "", 1), ("dist/library", "", 1))
+        for command, ended, status in calls:
+            words = [folder / "ran/made"] if command.startswith("dist") else ["0"]
+            found = self.tree.call(*words, command=command, folder=folder, PATH=path, ENDED=ended)[0]
+            self.check(f"{command}: only programs of whole paths are run", (found, (folder / "ran").exists()), (status, False))
 
     def test_changes(self):
         """After each change the program is built anew, and once."""
