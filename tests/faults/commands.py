@@ -1,18 +1,22 @@
 #!/usr/bin/env python3
 """Tries ./ima-agent, ./try and dist/library with a stand-in for the kit: a copy of the tree in which `rt` proves nothing, counts its builds,
-and makes a program that answers as its arguments ask.
+and makes a program that answers as its arguments ask; and how ./check counts, with stand-ins for its parts.
 
 tests/faults/commands.py
 
 The program that answers must always be made of the present sources by the present kit. Its status and its output must reach the caller.
 Nothing but a program's own answer may have one of its statuses."""
 
+import io
 import os
 import shutil
 import subprocess
 import sys
 import tempfile
 import time
+from contextlib import redirect_stdout
+from importlib.machinery import SourceFileLoader
+from importlib.util import module_from_spec, spec_from_loader
 from pathlib import Path
 
 sys.path[:0] = [str(Path(__file__).resolve().parents[1]), str(Path(__file__).resolve().parents[2] / "dist")]
@@ -246,6 +250,61 @@ class Commands(harness.TestCase):
         self.check("try: a file above the folder is refused", tried("show", "../inputs/log")[0], NOT_BUILT)
         for words in (("--save", "x"), ("--save=x",)):
             self.check(f"try: {words[0]} is refused", tried("verify", *words)[0], NOT_BUILT)
+
+
+class Gates(harness.TestCase):
+    """How ./check counts its parts, for which scripts stand in."""
+
+    @classmethod
+    def setUpClass(cls):
+        loader = SourceFileLoader("gate", str(ROOT / "check"))
+        cls.gates = sys.modules["gate"] = module_from_spec(spec_from_loader("gate", loader))
+        loader.exec_module(cls.gates)
+
+    def setUp(self):
+        self.room = self.folder()
+        self.gate = self.gates.Gate(str(self.room))
+
+    def part(self, name, *lines, end="exit 0"):
+        """A part that notes that it began, writes these lines, and ends by this command."""
+        script = self.room / name
+        script.write_text("\n".join(["#!/bin/sh", f"cd '{self.room}'", f"echo {name} >>begun", *(f"echo '{line}'" for line in lines), end]))
+        script.chmod(0o755)
+        return f"FOLDER/{name}"
+
+    def check_end(self, title, run, begun, status, last):
+        """Checks which parts began, and what ./check ends with after them."""
+        self.gate.parts.clear()
+        with redirect_stdout(io.StringIO()) as told:
+            run()
+            found = self.gate.close()
+        names = (self.room / "begun").read_text().split()
+        (self.room / "begun").unlink()
+        self.check(f"./check: {title}", (names, found, told.getvalue().splitlines()[-1]), (begun, status, last))
+
+    def test_counts(self):
+        """What a part counts for"""
+        good = "2 passed, 0 failed"
+        for title, lines, end, counts in (
+            ("all passed", [good], "exit 0", (2, 0)), ("one failed", ["2 passed, 1 failed"], "exit 1", (2, 1)),
+            ("one failed, and status 0", ["2 passed, 1 failed"], "exit 0", (2, 1)), ("all passed, and status 1", [good], "exit 1", (2, 1)),
+            ("all passed, and a signal", [good], "kill -KILL $$", (2, 1)), ("counts before another line", [good, "Traceback"], "exit 0", (0, 1)),
+            ("no counts", ["done"], "exit 0", (0, 1)), ("nothing is said", [], "exit 0", (0, 1)),
+        ):
+            ran = self.gate.run(self.part("part", *lines, end=end))
+            self.check(f"./check: {title}", (ran.passed, ran.failed), counts)
+        for status in (0, 1):
+            ran = self.gate.run(self.part("part", "made", end=f"exit {status}"), is_counted=False)
+            self.check(f"./check: a part without counts, and status {status}", (ran.passed, ran.failed), (0, status))
+
+    def test_order(self):
+        """After a failure no part begins, and none without the program that it needs"""
+        self.gates.TRIAL = self.part("made", "1 passed, 0 failed", end="touch program")
+        needing = [f"{self.part('needing', '2 passed, 0 failed', end='test -e program')} PROGRAM", self.gates.TRIAL]
+        self.check_end("a part that needs the program", lambda: self.gate.side_by_side(needing, 2), ["made", "needing"], 0, "3 passed, 0 failed")
+        parts = [self.part("wrong", "4 passed, 1 failed"), self.part("never", "1 passed, 0 failed")]
+        for title, run in (("one by one", self.gate.one_by_one), ("side by side", lambda parts: self.gate.side_by_side(parts, 1))):
+            self.check_end(f"after a failure, {title}", lambda run=run: run(parts), ["wrong"], 1, "4 passed, 1 failed")
 
 
 if __name__ == "__main__":
