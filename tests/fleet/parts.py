@@ -176,6 +176,34 @@ time.sleep(2)
 """
 ENDING_WANTED = ["[0]"]
 
+# Has a worker, which is none, answer two requests one after another. Prints whether it is killed: the first takes nearly as long as it may, then
+# the second as long as both together, and a moment more.
+TURNS = """
+import asyncio, time
+from types import SimpleNamespace
+from fleet_verify import local
+from fleet_verify.worker import FIRST, Message
+killed = []
+process = SimpleNamespace(pid=1, stdin=SimpleNamespace(write=lambda data: None), kill=lambda: killed.append(True))
+async def run():
+    options = SimpleNamespace(require="none", poll=False, unquoted=True, max_age=None, deadline=60)
+    workers, worker = local.LocalWorkers(1, options, None), local.Worker(process, has_begun=True)
+    workers.running.append(worker)
+    for _ in range(2):
+        workers.submit("", False)
+    most = 2 * options.deadline + local.SPARE_SECONDS
+    for seconds in (most - 1, 2 * most - 2, 2 * most):
+        local.time = SimpleNamespace(monotonic=lambda: began + seconds)
+        await workers.look()
+        print(len(killed))
+        if seconds < most:
+            worker.take(Message(FIRST, b""))
+began = time.monotonic()
+local.time = SimpleNamespace(monotonic=lambda: began)
+asyncio.run(run())
+"""
+TURNS_WANTED = ["0", "0", "1"]
+
 # Asks a worker whether it can verify, where this process would load modules from the folder of the call, which has some.
 ELSEWHERE = """
 import sys
@@ -280,6 +308,7 @@ def test_parts(tools):
         ("the files of folders", FOLDERS, (), FOLDERS_WANTED),
         ("what a worker says of itself", FITNESS, (), FITNESS_WANTED),
         ("a run waits for a worker that ends, and asyncio warns of none", ENDING, (), ENDING_WANTED),
+        ("a worker has its whole time for each request", TURNS, (), TURNS_WANTED),
     ):
         said = tools.start(["-c", script, *words], **modules).communicate(timeout=SECONDS)[0]
         tools.check(title, said.splitlines(), wanted)
@@ -322,6 +351,9 @@ def test_version(tools):
 # What the service may not do without a reason: its exposure, as systemd-analyze has it, times ten; and what that does not look at.
 MOST_EXPOSED = 5
 LIMITS = ("MemoryMax=4G", "OOMPolicy=continue", "PrivateNetwork=yes", "RestrictAddressFamilies=none", "ProtectHome=yes", "PrivateUsers=yes")
+# Who reads what it leaves, and for how long that stays; and when a poll begins that a stopped computer missed.
+KEPT = ("StateDirectoryMode=0700", "RuntimeDirectoryPreserve=yes")
+TIMED = ("OnCalendar=*:0/15", "Persistent=yes", "WantedBy=timers.target")
 
 
 def test_units(tools):
@@ -331,7 +363,8 @@ def test_units(tools):
     shutil.copytree(ROOT / "fleet/systemd", folder)
     service, timer = folder / "fleet-poll.service", folder / "fleet-poll.timer"
     text = re.sub(r"^(Exec\w+=)fleet-verify ", r"\1/bin/true ", service.read_text(), flags=re.MULTILINE)
-    tools.check("the service has its limits", [limit for limit in LIMITS if limit not in text.splitlines()], [])
+    for title, settings, said in (("its limits", LIMITS, text), ("what it leaves", KEPT, text), ("its times", TIMED, timer.read_text())):
+        tools.check(f"the service: {title}", [setting for setting in settings if setting not in said.splitlines()], [])
     exposed = ["systemd-analyze", "security", "--offline=true", "--no-pager", f"--threshold={MOST_EXPOSED}", service]
     for title, edited, is_right in (
         ("its units", text, True), ("an unknown setting", text.replace("PrivateNetwork=", "PrivateNetwork2="), False),
