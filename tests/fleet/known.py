@@ -60,6 +60,7 @@ def test_refused(tools, folder, table, first):
     for title, words, told in (
         ("a wrong line", ["--known", wrong], f"{wrong}: line 2: known fault 2"),
         ("a wrong line of a later file", ["--known", first, "--known", first, "--known", wrong], f"{wrong}: line 2: known fault 2"),
+        ("a wrong line at the end of a file, and a later file", ["--known", wrong, "--known", first], f"{wrong}: line 2: known fault 2"),
         ("a digest by SHA-1", ["--known", first, "--known", weak], f"{weak}: line 1: known fault 1"),
         ("no file", ["--known", folder / "none"], "No such file or directory"),
         ("no regular file", ["--known", fifo], "it is no regular file"),

@@ -252,7 +252,10 @@ def test_quoted_table(tools, folder):
     tools.check("quotes: the oldest first", [row[:4] for row in rows], [["b", "50 min", "3", "1"], ["c", "90 s", "3", "1"], ["a", "4 s", "3", "1"]])
     told = [each.text for each in page.all("div") if each.text.startswith("One key signed for 2 machines: b, c")]
     tools.check("quotes: one key of two machines is told", len(told), 1)
-    alike = make_table(folder / "alike.db", {"a": answer_of("match", 7), "b": answer_of("match", 7), "c": answer_of("match", 8)})
+    alike = make_table(folder / "alike.db", {
+        "a": answer_of("match", 7), "b": answer_of("match", 7), "c": answer_of("match", 8),
+        "d": answer_of("match", 8, list_from=95), "e": answer_of("match", 7, list_from=95),  # (of these the rest of a list was read)
+    })
     rows = rows_below(shown_page(tools, alike), "Machines with the same list")
     tools.check("machines with the same list are told", rows, [["2", "a, b", f"{7:064x}"]])
 

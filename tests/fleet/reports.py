@@ -152,7 +152,8 @@ def test_whole_report(tools, folder):
     first = next(row for row in events if "SecureBoot" in row[4])
     tools.check("what an event says, and what of it is confirmed", ("confirmed data" in first[3], "flag0" in first[4]), (True, True))
     tools.check("what is only claimed", {row[3] for row in events if row[2] == "EV_EFI_BOOT_SERVICES_APPLICATION"}, {"claimed"})
-    booted = {row[0]: row[1:3] for row in rows_below(page, "What the machine booted")}
+    answers = rows_below(page, "What the machine booted")
+    booted = {row[0]: row[1:3] for row in answers}
     tools.check("what it booted", (booted["secure boot"][0], booted["ima policy"]), ("off", ["unknown", ""]))
     tools.check("an image's path is claimed", "kernel" in booted["image"][1] and "kernel" not in booted["image"][0], True)
     entries = rows_below(page, "Entries of the measurement list")
@@ -166,6 +167,10 @@ def test_whole_report(tools, folder):
     tools.check("unknown entries", (status, judged(page), unknown), (1, ("differ", False), ["93", "94", "97"]))
     tools.check("unknown entries are shown besides the first ones", [row[0] for row in rows[48:]], ["48", "49", "93", "94", "97"])
     tools.check("how many are not shown", any("46 more entries are not shown" in each.text for each in page.all("p")), True)
+    _, page, _ = report_of(tools, boot, "--most", 5)
+    shown = [len(rows_below(page, title)) for title in ("What the machine booted", "Events of the firmware log")]
+    told = re.findall(r"(\d+) more (?:lines|events) are not shown", " ".join(each.text for each in page.all("p")))
+    tools.check("--most: answers and events, and how many more there are", (shown, told), ([5, 5], [str(len(answers) - 5), str(len(log.events) - 5)]))
 
 
 def test_report_states(tools, folder):
