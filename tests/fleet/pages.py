@@ -78,6 +78,7 @@ def test_pages(tools):
     folder = tools.folder / "pages"
     folder.mkdir()
     test_listed(tools, folder)
+    test_times(tools, folder)
     test_states(tools, folder)
     test_refused_pages(tools, folder)
     test_many(tools, folder)
@@ -152,6 +153,26 @@ def test_changes(tools, table, page):
     change(table, "DELETE FROM changes WHERE poll = 1")
     rows = rows_below(shown_page(tools, table), "Changes over time")
     tools.check("a page: changes that are left when older ones are gone", rows[1][2:], ["0", "2", "0", "0", "0", "1"])
+
+
+def test_times(tools, folder):
+    """Since when a machine has its verdict, which it keeps when it starts anew; the last changes; and ten names of more."""
+    names = [f"m{number:02}" for number in range(12)]
+    polls = [
+        {name: answer_of("differ", 1, others=(4,), resets=resets, restarts=0, time=f"2026-11-0{resets}T10:00:00.000+00:00") for name in names}
+        for resets in (1, 2)
+    ]
+    page = shown_page(tools, make_table(folder / "times.db", polls))
+    first, second = "2026-11-01 10:00:00", "2026-11-02 10:00:00"
+    rows = rows_below(page, "Machines that do not match")
+    tools.check("a page: since when", [row[3:] for row in rows], len(names) * [[first, f"{second}, poll 2"]])
+    tools.check("a page: ten names of more", rows_below(page, "Reasons")[0][3], f"{', '.join(names[:10])} and 2 more")
+    (part,) = [each for each in page.all("details") if next(each.all("summary")).text == "The last 24 changes"]
+    rows = [[cell.text for cell in row.inner if not isinstance(cell, str)] for row in next(part.all("tbody")).all("tr")]
+    tools.check("a page: the last changes, from the last one on", rows, [
+        *([name, "reboot, differ", "resets 2, restarts 0", "2", second] for name in reversed(names)),
+        *([name, "differ", "", "1", first] for name in reversed(names)),
+    ])
 
 
 def test_states(tools, folder):

@@ -204,6 +204,33 @@ asyncio.run(run())
 """
 TURNS_WANTED = ["0", "0", "1"]
 
+# Starts workers: of the first 30 nine of ten cannot be started, and each tenth ends when it has begun; no later one can. Prints how many were tried
+# until there are no workers any longer, and why.
+STARTS = """
+import asyncio, sys
+from types import SimpleNamespace
+from fleet_verify import local
+from fleet_verify.worker import BEGINNING, HEAD
+local.RETRY_SECONDS = 0
+BEGINS = f"import sys; sys.stdout.buffer.write({HEAD.pack(BEGINNING, 4) + b'null'!r})"
+started = []
+async def start():
+    started.append(None)
+    if len(started) % 10 or len(started) > 30:
+        raise OSError
+    pipes = dict.fromkeys(("stdin", "stdout"), asyncio.subprocess.PIPE)
+    return await asyncio.create_subprocess_exec(sys.executable, "-c", BEGINS, **pipes)
+async def run():
+    options = SimpleNamespace(require="none", poll=False, unquoted=True, max_age=None, deadline=60)
+    async with local.LocalWorkers(1, options, None) as workers:
+        while workers.lost() is None:
+            await asyncio.sleep(0.01)
+        print(len(started), workers.lost())
+local.start = start
+asyncio.run(run())
+"""
+STARTS_WANTED = ["40 10 workers, one after another, could not be started: OSError"]
+
 # Asks a worker whether it can verify, where this process would load modules from the folder of the call, which has some.
 ELSEWHERE = """
 import sys
@@ -309,6 +336,7 @@ def test_parts(tools):
         ("what a worker says of itself", FITNESS, (), FITNESS_WANTED),
         ("a run waits for a worker that ends, and asyncio warns of none", ENDING, (), ENDING_WANTED),
         ("a worker has its whole time for each request", TURNS, (), TURNS_WANTED),
+        ("only workers that fail one after another end a run", STARTS, (), STARTS_WANTED),
     ):
         said = tools.start(["-c", script, *words], **modules).communicate(timeout=SECONDS)[0]
         tools.check(title, said.splitlines(), wanted)
