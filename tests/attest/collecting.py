@@ -349,6 +349,9 @@ class CollectCalls(AttestTests):
         ):
             ended = self.call(["ima-collect", *words])
             self.check(f"a wrong call: {title}", (ended.status, ended.output, USAGE in ended.errors or ended.errors), (64, "", True))
+        for size in (16, 64):
+            ended = self.call(["ima-collect", "--nonce", "00" * size, "a"], TPM2TOOLS_TCTI="none")
+            self.check(f"no wrong call: a nonce of {size} bytes, and no TPM", (ended.status, ended.output, USAGE in ended.errors), (3, "", False))
         for asked in (["--help"], ["-h"], ["--enroll", "--help"]):
             ended = self.call(["ima-collect", *asked])
             told = [word in ended.output or word for word in ("--enroll", "--credential", "--nonce", "--handle", "--sys", " 0 ", " 64 ")]

@@ -79,6 +79,7 @@ def test_pages(tools):
     folder.mkdir()
     test_listed(tools, folder)
     test_times(tools, folder)
+    test_bars(tools, folder)
     test_states(tools, folder)
     test_refused_pages(tools, folder)
     test_many(tools, folder)
@@ -173,6 +174,15 @@ def test_times(tools, folder):
         *([name, "reboot, differ", "resets 2, restarts 0", "2", second] for name in reversed(names)),
         *([name, "differ", "", "1", first] for name in reversed(names)),
     ])
+
+
+def test_bars(tools, folder):
+    """Of more polls than the plot has room for several have one bar, with their changes."""
+    match, differ = {"a": answer_of("match", 1)}, {"a": answer_of("differ", 1, others=(4,))}
+    page = shown_page(tools, make_table(folder / "bars.db", [*3 * [match], differ, *57 * [match]]))
+    rows = [[row[0], *row[2:4]] for row in rows_below(page, "Changes over time")]
+    found = (len(rows), rows[:3], rows[-1])
+    tools.check("a page: 61 polls", found, (31, [["polls 1 to 2", "0", "0"], ["polls 3 to 4", "0", "1"], ["polls 5 to 6", "1", "0"]], ["poll 61", "0", "0"]))
 
 
 def test_states(tools, folder):

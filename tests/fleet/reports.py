@@ -25,6 +25,16 @@ SAMPLES = ROOT / "samples"
 REAL, QUOTED = SAMPLES / "real-boot", SAMPLES / "quoted"
 FILES = ("firmware.log", "ima.list", "expected.txt")
 EV_ACTION = 5
+# Takes ten lines of 3 MB, of which the last two are notable. Prints which are kept, and how many there were.
+BOUNDS = """
+import json
+from fleet_verify.program import Output
+output = Output(10, lambda line: line["number"] > 7)
+for number in range(10):
+    output.take(json.dumps({"number": number, "text": "x" * 3_000_000}).encode() + bytes([10]))
+print([line["number"] for line in output.lines], output.total)
+"""
+BOUNDS_WANTED = "[0, 1, 2, 3, 4, 8, 9] 10"
 # Register 10 of samples/real-boot, and after its longer list.
 TEN = "e8ed95b94e8d66f42e5b9be4d794dc0c7701e2360f03537fe59e9ba861a8024f"
 LONGER = "a2bcf779880ae33077f9e7992851299f30cea5f6cffc6512de6cd10aa457a7f3"
@@ -463,6 +473,8 @@ def test_failing_program(tools, folder):
         text, is_good = state_of(page)
         tools.check(f"a program that fails: {title}", (status, is_good, told in text, errors), (right, False, True, ""))
     tools.check("a program that does not end is not waited for", time.monotonic() - started < 1000, True)
+    said = tools.start(["-c", BOUNDS], PYTHONPATH=str(ROOT / "fleet")).communicate(timeout=SECONDS)[0].strip()
+    tools.check("of long lines 16 MiB are kept, and as much of those that are notable", said, BOUNDS_WANTED)
     lacking = program_that(programs / "it leaves out members", "events", """echo '{"event":1}'""", good)
     status, text, errors = report_text(tools, boot, "--program", lacking)
     tools.check("a program that leaves out members: no page", (status, text, errors[:21]), (3, "", "ima-report: no page: "))
