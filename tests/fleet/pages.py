@@ -7,12 +7,13 @@ import re
 import resource
 import sqlite3
 import subprocess
+import sys
 from concurrent.futures import ThreadPoolExecutor
 from contextlib import closing
+from importlib.util import find_spec
 
 from cluster import ROOT, SECONDS
 from fleet_verify.machines import Machine
-from fleet_verify.overview import snapshot_of
 from fleet_verify.reading import now
 from fleet_verify.verdicts import Verdicts
 from page_tree import Reader, folded, foreign, hostile_texts, lacks_jinja, rows_below, state_of
@@ -86,6 +87,7 @@ def test_pages(tools):
     test_quoted_table(tools, folder)
     test_hostile_table(tools, folder)
     test_templates(tools)
+    test_moment(tools, make_table(folder / "moment.db", {"a": answer_of("match")}))
 
 
 def listed_table(path):
@@ -202,7 +204,7 @@ def test_states(tools, folder):
         ("no end", match, "DELETE FROM ends", (), "No run has ended", False),
         ("an old end", match, f"UPDATE ends SET time = '{old}'", (), "did not end within", False),
         ("an end of a moment ago", match, MOMENT_AGO, ("--max-age", "1s"), "did not end within 1 s", False),
-        ("an end of a moment ago, which may be older", match, MOMENT_AGO, ("--max-age", "1m"), "All 2 machines match", True),
+        ("an end of a moment ago, which may be older", match, MOMENT_AGO, ("--max-age", "60m"), "All 2 machines match", True),
         ("an end to come", match, f"UPDATE ends SET time = '{to_come}'", (), "did not end within", False),
         ("a verdict of an earlier poll", [match, match], "UPDATE given SET poll = 1 WHERE rowid = 1", (), earlier, False),
         ("verdicts after the end", match, f"UPDATE given SET time = '{to_come}'", (), "after the last run ended", False),
@@ -244,10 +246,6 @@ def test_refused_pages(tools, folder):
         tools.check("a page while a run writes: what was recorded before", ("All 1 machines match" in text, is_good), (True, True))
         writer.rollback()
     tools.check("a page leaves the table as it was", hashlib.sha256(table.read_bytes()).hexdigest(), before)
-    with snapshot_of(str(table)) as connection:
-        change(table, "UPDATE found SET verdict = 'differ'")
-        found = connection.execute("SELECT verdict FROM verdicts").fetchall()
-    tools.check("a page has a table as it is at one moment, whatever is recorded meanwhile", found, [("match",)])
 
 
 def processor_seconds():
@@ -309,6 +307,17 @@ def test_hostile_table(tools, folder):
     tools.check("a name that is not UTF-8 is shown by its bytes", [name for name in rows if name.startswith("caf")], ["caf\\xe9<b>"])
     tools.check("hostile names: nothing foreign", (status, foreign(page)), (0, []))
     tools.check("hostile names: no character without a glyph is left", sorted({letter for letter in text if not letter.isprintable()}), ["\n"])
+
+
+def test_moment(tools, table):
+    """A page has a table as it is at one moment, whatever is recorded meanwhile. (Here this Python reads it, and not that of the processes.)"""
+    tools.lacks(*([] if find_spec("jinja2") else [f"jinja2 for {sys.executable}"]))
+    from fleet_verify.overview import snapshot_of
+
+    with snapshot_of(str(table)) as connection:
+        change(table, "UPDATE found SET verdict = 'differ'")
+        found = connection.execute("SELECT verdict FROM verdicts").fetchall()
+    tools.check("a page has a table as it is at one moment, whatever is recorded meanwhile", found, [("match",)])
 
 
 def test_templates(tools):
