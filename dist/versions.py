@@ -6,6 +6,7 @@ dist/versions.py [ROOT]. Each difference is printed, and the status is 1 if ther
 import re
 import subprocess
 import sys
+from contextlib import suppress
 from pathlib import Path
 
 NUMBER = r"(\d+\.\d+(?:\.\d+)*)"
@@ -30,11 +31,13 @@ LEFT = re.compile(r"^(?:version\.workspace = true|dynamic = \[.*\"version\".*\])
 
 
 def files_of(root):
-    """The files of the tree, without what is made and never committed."""
-    listed = subprocess.run(["git", "ls-files", "-z", "--cached", "--others", "--exclude-standard"], cwd=root, stdout=subprocess.PIPE,
-                            stderr=subprocess.DEVNULL)
-    if listed.returncode == 0 and listed.stdout:
-        return [root / name for name in listed.stdout.decode().split("\0") if name and (root / name).is_file()]
+    """The files of the tree, without what is made and never committed. (A copy may be no repository, and a machine may have no git.)"""
+    listed = b""
+    with suppress(FileNotFoundError):
+        listed = subprocess.run(["git", "ls-files", "-z", "--cached", "--others", "--exclude-standard"], cwd=root, stdout=subprocess.PIPE,
+                                stderr=subprocess.DEVNULL).stdout
+    if listed:
+        return [root / name for name in listed.decode().split("\0") if name and (root / name).is_file()]
     return [file for file in root.rglob("*") if file.is_file() and "out" not in file.parts]
 
 
