@@ -27,7 +27,7 @@ def has(python, module):
 def python_with(module):
     """A Python that has this module, or None."""
     pythons = (sys.executable, shutil.which("python3"), "/usr/bin/python3")
-    return next((python for python in pythons if python and has(python, module)), None)
+    return next((python for python in pythons if python and shutil.which(python) and has(python, module)), None)
 
 
 def python_with_dask():
