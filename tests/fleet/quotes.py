@@ -415,7 +415,7 @@ def test_nonces(quotes, verdicts):
     again = "UPDATE nonces SET given_out = ? WHERE machine = ?"
     change(verdicts, again, ago(1900), "machine 0")
     change(verdicts, again, ago(3700), "machine 1")
-    change(verdicts, again, ago(-60), "machine 2")
+    change(verdicts, again, ago(-600), "machine 2")
     later = quotes.give_out(verdicts)
     quotes.check("nonces: into files again", quotes.call(*words), (0, "", ""))
     check_files(quotes, folder, later)
@@ -722,11 +722,11 @@ def test_killed(quotes):
         holder.rollback()
     used = "SELECT count(*) FROM nonces WHERE used IS NOT NULL"
     quotes.check("quotes: a run was killed before it recorded", (query(verdicts, used), query(verdicts, "SELECT * FROM verdicts")), ([(0,)], []))
-    change(verdicts, "UPDATE nonces SET given_out = ? WHERE machine = 'machine 3'", ago(100))
+    change(verdicts, "UPDATE nonces SET given_out = ? WHERE machine = 'machine 3'", ago(1500))
     known = "--known", known_files(quotes, unknown=quotes.machines[6])
     wanted = {**quotes.all(), "machine 6": ("differ", None)}
     with quotes.tools.cluster("quotes", 2) as (address, _):
-        words = quotes.run_words(verdicts, "--max-age", "90s", *known, by=("--scheduler", address))
+        words = quotes.run_words(verdicts, "--max-age", "1400s", *known, by=("--scheduler", address))
         quotes.check_run("quotes: the run after it, by a cluster", words, {**wanted, "machine 3": ("unreadable", OLD)})
     unknown = query(verdicts, "SELECT machine, unknown, first_unknown FROM verdicts WHERE unknown > 0")
     quotes.check("quotes: which entry is not known", unknown, [("machine 6", 1, 1)])
