@@ -714,8 +714,8 @@ class EnrollCalls(AttestTests):
         locales = self.folder / "locales"
         locales.mkdir()
         made = self.call(["localedef", "-i", "en_US", "-f", "UTF-8", str(locales / "en_US.UTF-8")])
-        if not locales.joinpath("en_US.UTF-8").is_dir():
-            self.lacks(f"sources of locales ({made.errors.strip()})")
+        if not locales.joinpath("en_US.UTF-8/LC_COLLATE").is_file():
+            self.lacks(f"sources of locales ({made.errors.partition(chr(10))[0]})")
         settings = {"LOCPATH": str(locales), "LC_ALL": "en_US.UTF-8"}
         for name in ("\u00e9", "\u00df", "box-\u00e9"):
             ranged = self.call(["bash", "-c", "[[ $1 =~ ^[A-Za-z0-9][A-Za-z0-9._-]{0,99}$ ]]", "bash", name], **settings)
