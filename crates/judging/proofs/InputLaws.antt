@@ -192,16 +192,15 @@ module _ {inputs : Inputs} {list : Where} {old new : SourceState} (gives : Gives
   list_refused first fault failed is says = (first, refused_after [] (limit_of list) first failed is, says)
 
   pub positions_refused : (evidence : Evidence) (first : VerifyFault) (fault : RunFault) → (first ≡ verdicts.Source → HasFailed old new)
-      → IsVerifyFaultFrom evidence.log old.remaining new.remaining (limit_of list) first → IsFaultAt list first fault
-      → (HasLogFault evidence.log fault ⊎ (IsSomeLog evidence.log × IsRefusedList inputs list fault)) ⊎ (fault ≡ runs.Memory)
-  positions_refused evidence (verdicts.Log first) fault failed is says = inl (inl (record { first = first; first_is = is.0; says = says }))
-  positions_refused evidence (verdicts.List first) fault failed is says =
-      inl (inr (is.0, list_refused (verdicts.List first) fault failed is.1 says))
-  positions_refused evidence (verdicts.Replay first) fault failed is says =
-      inl (inr (is.0, list_refused (verdicts.Replay first) fault failed is.1 says))
-  positions_refused evidence verdicts.Source fault failed is says = inl (inr (is.0, list_refused verdicts.Source fault failed is.1 says))
-  positions_refused evidence verdicts.TooLong fault failed is says = inl (inr (is.0, list_refused verdicts.TooLong fault failed is.1 says))
-  positions_refused evidence verdicts.Memory fault failed is says = inr says
+      → IsVerifyFaultFrom evidence.log old.remaining new.remaining (limit_of list) first → (first ≡ verdicts.Memory → IsSomeLog evidence.log)
+      → IsFaultAt list first fault
+      → HasLogFault evidence.log fault ⊎ (IsSomeLog evidence.log × IsRefusedList inputs list fault)
+  positions_refused evidence (verdicts.Log first) fault failed is memory says = inl (record { first = first; first_is = is.0; says = says })
+  positions_refused evidence (verdicts.List first) fault failed is memory says = inr (is.0, list_refused (verdicts.List first) fault failed is.1 says)
+  positions_refused evidence (verdicts.Replay first) fault failed is memory says = inr (is.0, list_refused (verdicts.Replay first) fault failed is.1 says)
+  positions_refused evidence verdicts.Source fault failed is memory says = inr (is.0, list_refused verdicts.Source fault failed is.1 says)
+  positions_refused evidence verdicts.TooLong fault failed is memory says = inr (is.0, list_refused verdicts.TooLong fault failed is.1 says)
+  positions_refused evidence verdicts.Memory fault failed is memory says = inr (memory refl, (verdicts.Memory, tt, says))
 
   -- ---- a verdict
 
@@ -304,7 +303,7 @@ module _ {inputs : Inputs} {list : Where} {old new : SourceState} (gives : Gives
         → IsUnconfirmedFault log taken old.remaining new.remaining (most_after before.known (limit_of list)) (aim_in evidence)
         before.known.entries first) → IsFaultAt list first fault → IsNotFound inputs (VerdictOf place scope resume) list evidence fault
     not_found first fault failed is unconfirmed says =
-        inr (inl (inr (record {
+        inr (inr (record {
           first = first;
           log_is = started.valid;
           boot = started.boot;
@@ -313,4 +312,15 @@ module _ {inputs : Inputs} {list : Where} {old new : SourceState} (gives : Gives
               (refused_after taken _ first failed (is evidence.log taken (started.takes taken take)));
           unconfirmed = λ sought. unconfirmed_in first (unconfirmed sought);
           says = says;
-        })))
+        }))
+
+    -- Memory may run out once the session was started.
+    pub memory_out : (fault : RunFault) → fault ≡ runs.Memory → IsNotFound inputs (VerdictOf place scope resume) list evidence fault
+    memory_out fault says = inr (inr (record {
+      first = verdicts.Memory;
+      log_is = started.valid;
+      boot = started.boot;
+      first_is = λ taken take. tt;
+      unconfirmed = λ sought. tt;
+      says = says;
+    }))

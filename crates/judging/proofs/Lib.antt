@@ -4,3 +4,4 @@ pub mod KnownLaws
 pub mod SessionLaws
 pub mod RegisterLaws
 pub mod LogLaws
+pub mod TextLaws

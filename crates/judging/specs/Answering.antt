@@ -29,7 +29,7 @@ use Rattle.known_files.specs.declared.listed.ListedFiles.{ListedFiles}
 use Rattle.known_files.specs.declared.unknown.Unknown.{Unknown}
 use Rattle.known_files.specs.declared.unknown.UnknownEntries.{UnknownEntries}
 use Rattle.known_files.specs.Known.{HoldsAll, Knows}
-use Rattle.known_files.specs.Listing.{HasFaultOfFirst, IsGoodText}
+use Rattle.known_files.specs.Listing.{BeginsWithGood, HasFaultOfFirst, IsGoodText}
 use Rattle.known_files.specs.Unknown.{AreUnknown, IsLookedAfter, none_unknown}
 use Rattle.tpm_quotes.specs.Quoting.{confirms}
 use Rattle.tpm_quotes.specs.Spelling.{IsQuote, TpmQuote, quote_of}
@@ -69,13 +69,13 @@ use Rattle.judging.specs.declared.request.Found.{Found}
 use Rattle.judging.specs.declared.request.Judged.{Judged}
 use Rattle.judging.specs.declared.request.Judged.TheVariants as judged
 use Rattle.judging.specs.Requests.{Attested, Attests, Judgement, ListVerdictOf, PositionsOf, VerdictOf, Requested, Compared, Compares, ExpectedOf, KeyOf, ListRegistersOf, LogRegistersOf, Nothing, Requires, These, held_bytes, log_of, resume_of, takes_known}
-use Rattle.judging.specs.Inputs.{IsFaultAt, IsReadFailure, MayFail, OfInput, Where, held_in, limit_of, Holds, IsInputFault}
+use Rattle.judging.specs.Inputs.{IsFaultAt, IsNotOpened, MayFail, OfInput, Where, held_in, limit_of, Holds, IsInputFault}
 use Rattle.pcr_banks.specs.declared.banks.Banks.{Banks}
 use Rattle.pcr_banks.specs.Registers.{IsReset, value_at}
 use Rattle.boot_log.specs.Replaying.{IsFirmware, startup_locality}
 use Rattle.boot_verdict.specs.declared.expected.ExpectFault.{ExpectFault}
 use Rattle.boot_verdict.specs.declared.expected.ExpectFault.TheVariants.{NoRegister}
-use Rattle.boot_verdict.specs.ExpectedTexts.{HasFirstFault, IsExpectedText}
+use Rattle.boot_verdict.specs.ExpectedTexts.{BeginsWithRegister, HasFirstFault, IsExpectedText}
 use Rattle.boot_verdict.specs.PrintedTexts.{HasPrintedFault, IsPrintedText, PrintsRegister}
 use Rattle.boot_verdict.specs.Replays.{IsListStart}
 use Rattle.boot_verdict.specs.Selections.{BeginsWithBankRange, SpellsRanges, those_selected}
@@ -294,10 +294,9 @@ IsNotJudged inputs (PositionsOf place) list evidence fault =
     HasLogFault evidence.log fault ⊎ (IsSomeLog evidence.log × IsRefusedList inputs list fault)
 IsNotJudged inputs ListVerdictOf list evidence fault = IsRefusedList inputs list fault
 
--- Why nothing is found in the list of this input: it could not be opened; there is no answer; or memory ran out.
+-- Why nothing is found in the list of this input: it could not be opened; or there is no answer.
 abbrev pub IsNotFound : Inputs → Judgement → Where → Evidence → RunFault → Type 0
-IsNotFound inputs judgement list evidence fault =
-    IsReadFailure inputs list fault ⊎ IsNotJudged inputs judgement list evidence fault ⊎ (fault ≡ runs.Memory)
+IsNotFound inputs judgement list evidence fault = IsNotOpened inputs list fault ⊎ IsNotJudged inputs judgement list evidence fault
 
 -- ---- a list from one source
 
@@ -420,19 +419,30 @@ evidence_of held = record {
   files = held.files;
 }
 
--- Why a text is not read as a checkpoint: it is of another version; or it is not, and no possible checkpoint's text; or memory ran out.
+-- Why a text is not read as a checkpoint: it is of another version; or it is not, and no possible checkpoint's text, or memory ran out.
 abbrev pub IsNoCheckpoint : List ℕ → RunFault → Type 0
 IsNoCheckpoint text fault =
     ((fault ≡ runs.Checkpoint Version) × IsOfOtherVersion text)
     ⊎ ((fault ≡ runs.Checkpoint Damaged) × (IsOfOtherVersion text → ⊥)
     × ((state : SavedState) → IsPossibleState state → text ≡ checkpoint_text state → ⊥))
-    ⊎ (fault ≡ runs.Memory)
+    ⊎ ((fault ≡ runs.Memory) × (IsOfOtherVersion text → ⊥))
 
--- Why the input, the file of this number, gives no text of known files: it was not loaded, or the fault is that of its first wrong line.
+-- Why a text does not state expected registers: the fault is that of its first wrong line; or its first lines state one, and memory ran out.
+abbrev pub IsNotExpected : List ℕ → RunFault → Type 0
+IsNotExpected text fault =
+    ((first : ExpectFault) × HasFirstFault text first × (fault ≡ fault_of_expected first))
+    ⊎ ((fault ≡ runs.Memory) × BeginsWithRegister text)
+
+-- Why a text, the file of this number, is none of known files: the fault is that of its first wrong line; or its first line is good, and memory
+-- ran out.
+abbrev pub IsNoKnownText : List ℕ → ℕ → RunFault → Type 0
+IsNoKnownText text file fault =
+    ((first : KnownFault) × HasFaultOfFirst text first × (fault ≡ fault_of_known file first))
+    ⊎ ((fault ≡ runs.Memory) × BeginsWithGood text)
+
+-- Why the input, the file of this number, gives no text of known files: it was not loaded, or its text is none.
 abbrev pub IsTextRefused : Inputs → Where → ℕ → RunFault → Type 0
-IsTextRefused inputs place file fault =
-    IsInputFault inputs place fault
-    ⊎ ((first : KnownFault) × OfInput inputs place (λ text. HasFaultOfFirst text first) × (fault ≡ fault_of_known file first))
+IsTextRefused inputs place file fault = IsInputFault inputs place fault ⊎ OfInput inputs place (λ text. IsNoKnownText text file fault)
 
 -- The first of these inputs that gives no text of known files, and why. Files are counted from 1.
 pub record IsFirstNotKnown (inputs : Inputs) (places : List Where) (fault : RunFault) : Type 0 where
@@ -445,18 +455,17 @@ pub record IsFirstNotKnown (inputs : Inputs) (places : List Where) (fault : RunF
   pub why : IsTextRefused inputs place (length before + 1) fault
 
 -- Why there is no evidence, where a text that is given spells registers: an input was not loaded; the text does not state expected
--- registers, and the fault is that of its first wrong line; it does, and the input to go on from has no checkpoint; that has one, or there is no
--- such input, and an input gives no text of known files; or memory ran out.
+-- registers; it does, and the input to go on from has no checkpoint; or that has one, or there is no such input, and an input gives no text of
+-- known files.
 abbrev pub HasNoEvidence : Inputs → Compared → RunFault → Type 0
 HasNoEvidence inputs request fault =
     IsSomeAnd (log_of request.judgement) (λ place. IsInputFault inputs place fault)
     ⊎ IsInputFault inputs request.expected fault
-    ⊎ ((first : ExpectFault) × OfInput inputs request.expected (λ text. HasFirstFault text first) × (fault ≡ fault_of_expected first))
+    ⊎ OfInput inputs request.expected (λ text. IsNotExpected text fault)
     ⊎ (((expected : List Expected) × OfInput inputs request.expected (λ text. IsExpectedText text expected))
     × IsSomeAnd (resume_of request.judgement) (λ place. IsInputFault inputs place fault ⊎ OfInput inputs place (λ text. IsNoCheckpoint text fault)))
     ⊎ (((expected : List Expected) × OfInput inputs request.expected (λ text. IsExpectedText text expected))
     × ((state : Option SavedState) × IsKnown inputs (resume_of request.judgement) state) × IsFirstNotKnown inputs request.known fault)
-    ⊎ (fault ≡ runs.Memory)
 
 -- ---- what is compared
 
@@ -598,11 +607,10 @@ abbrev pub IsNotKnown : Inputs → TpmQuote → Option Where → RunFault → Ty
 IsNotKnown inputs quote resume fault =
     IsSomeAnd resume (λ place. IsInputFault inputs place fault ⊎ IsNotOfQuote inputs quote place fault)
 
--- Why the input of expected registers states none: it is not read; or its text is none of them, and the fault is that of its first wrong line.
+-- Why the input of expected registers states none: it is not read, or its text does not.
 abbrev pub IsNotStated : Inputs → Option Where → RunFault → Type 0
 IsNotStated inputs expected fault =
-    IsSomeAnd expected (λ place. IsInputFault inputs place fault
-    ⊎ ((first : ExpectFault) × OfInput inputs place (λ text. HasFirstFault text first) × (fault ≡ fault_of_expected first)))
+    IsSomeAnd expected (λ place. IsInputFault inputs place fault ⊎ OfInput inputs place (λ text. IsNotExpected text fault))
 
 -- Why there is no judgement by this quote: the log is not read; the expected registers are not; what is to be gone on from is not read, or is not
 -- of the quote's boot; it is, or there is none, and an input gives no text of known files; or all are, and nothing is found in the list.
@@ -621,17 +629,16 @@ IsNotJudgedBy inputs asked quote fault =
     × IsNotFound inputs (VerdictOf asked.log asked.scope asked.resume) asked.list
     (quoted_evidence log quote asked.is_signed values counted (checkpoint_of state) files) fault)
 
--- Why nothing comes of it: the text spells no registers, or with them a match would say too little; or the message is not read, or not the
--- quote that is asked for; or the log, the expected registers or the checkpoint are not read; or there is no judgement on them and the list; or
--- memory ran out.
+-- Why nothing comes of it: the text spells no registers, or with them a match would say too little; its first part spells some, and memory ran
+-- out; the message is not read, or not the quote that is asked for; or there is no judgement by the quote.
 abbrev pub IsNoAttestation : Inputs → Attested → RunFault → Type 0
 IsNoAttestation inputs asked fault =
     ((fault ≡ runs.Usage) × ((ranges : List BankRange) → AreTaken asked ranges → ⊥))
-    ⊎ (((ranges : List BankRange) × AreTaken asked ranges
+    ⊎ ((fault ≡ runs.Memory) × BeginsWithBankRange asked.required)
+    ⊎ ((ranges : List BankRange) × AreTaken asked ranges
     × (IsInputFault inputs asked.message fault
     ⊎ OfInput inputs asked.message (λ message. (first : QuoteRefusal) × IsQuoteRefusal message (terms_with asked ranges) first × (fault ≡ runs.Quote first))
     ⊎ ((quote : TpmQuote) × IsAskedFor inputs asked ranges quote × IsNotJudgedBy inputs asked quote fault)))
-    ⊎ (fault ≡ runs.Memory))
 
 -- ---- registers
 
@@ -708,14 +715,14 @@ IsAnswer inputs (Attests asked) given = IsAttestation inputs asked given
 IsAnswer inputs (Compares compare) given = IsComparison inputs compare given
 IsAnswer inputs request given = (answer : Answer) × IsAlone inputs request answer × (given ≡ alone answer)
 
--- Why there is no answer: an input was not loaded or read; the bytes are no log; the list is refused; the text selects no registers, or
--- the other states none of them, as tpm2-tools prints them; the bytes are no key for the purpose; or memory ran out.
+-- Why there is no answer: an input was not loaded; the bytes are no log; the list could not be opened, or is refused; the text selects no
+-- registers, or the other states none of them, as tpm2-tools prints them; or the bytes are no key for the purpose.
 abbrev pub IsRefusal : Inputs → Requested → RunFault → Type 0
 IsRefusal inputs (Attests asked) fault = IsNoAttestation inputs asked fault
 IsRefusal inputs (Compares compare) fault = IsNoComparison inputs compare fault
 IsRefusal inputs (LogRegistersOf log) fault =
     IsInputFault inputs log fault ⊎ OfInput inputs log (λ content. HasLogFault content fault)
-IsRefusal inputs (ListRegistersOf list) fault = IsReadFailure inputs list fault ⊎ IsRefusedList inputs list fault ⊎ (fault ≡ runs.Memory)
+IsRefusal inputs (ListRegistersOf list) fault = IsNotOpened inputs list fault ⊎ IsRefusedList inputs list fault
 IsRefusal inputs (ExpectedOf printed text) fault =
     IsSelectionFault text fault
     ⊎ ((selection : Option (List BankRange)) × IsSelected text selection

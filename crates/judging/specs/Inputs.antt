@@ -6,7 +6,7 @@ use Rattle.agent_inputs.specs.declared.fault.RunFault.{RunFault}
 use Rattle.agent_inputs.specs.declared.fault.RunFault.TheVariants as runs
 use Rattle.agent_inputs.specs.Faults.{fault_of_list, fault_of_log}
 use Rattle.agent_inputs.specs.Loading.{Inputs, IsNotRead, IsTooLong, input_limit}
-use Rattle.agent_inputs.specs.Loading.{IsInputFault as IsFileFault, IsReadFailure as IsFileFailure}
+use Rattle.agent_inputs.specs.Loading.{IsInputFault as IsFileFault}
 
 -- Where an input is: in the file of this name, or in memory, where these bytes are all of it.
 pub data Where : Type 0 where
@@ -36,11 +36,6 @@ abbrev pub MayFail : Inputs → Where → Type 0
 MayFail inputs (FileOf name) = IsTrue (inputs.may_fail (Some name))
 MayFail inputs (BytesOf all) = ⊥
 
--- The fault says that the input could not be opened, or failed while it was read; and it may fail.
-abbrev pub IsReadFailure : Inputs → Where → RunFault → Type 0
-IsReadFailure inputs (FileOf name) fault = IsFileFailure inputs (Some name) fault
-IsReadFailure inputs (BytesOf all) fault = ⊥
-
 -- Why the input was not loaded: as a file is not; bytes in memory always are.
 abbrev pub IsInputFault : Inputs → Where → RunFault → Type 0
 IsInputFault inputs (FileOf name) fault = IsFileFault inputs (Some name) fault
@@ -55,3 +50,7 @@ IsFaultAt place (verdicts.Replay first) fault = fault ≡ runs.Replay first
 IsFaultAt (FileOf name) verdicts.Source fault = IsNotRead name fault ⊎ (fault ≡ runs.Memory)
 IsFaultAt (FileOf name) verdicts.TooLong fault = IsTooLong name fault ⊎ (fault ≡ runs.Memory)
 IsFaultAt place first fault = fault ≡ runs.Memory
+
+-- Why the input could not be opened: it may fail, and the fault names it, or memory ran out for the name.
+abbrev pub IsNotOpened : Inputs → Where → RunFault → Type 0
+IsNotOpened inputs place fault = MayFail inputs place × IsFaultAt place verdicts.Source fault

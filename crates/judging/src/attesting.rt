@@ -3,6 +3,7 @@
 ghost use Rattle.std.specs.Prelude.{◌≡◌, ◌↔◌, ◌⊎◌, List, None, option_map, IfOk, IfErr, IfSome, IsTrue};
 ghost use Rattle.boot_verdict.specs.declared.selection.BankRange.{BankRange};
 ghost use Rattle.boot_verdict.specs.Requirements.{IsRequirementText};
+ghost use Rattle.boot_verdict.specs.Selections.{BeginsWithBankRange};
 ghost use Rattle.tpm_quotes.specs.Spelling.{IsQuote, quote_of};
 ghost use Rattle.attestations.specs.declared.refusal.QuoteRefusal.{QuoteRefusal};
 ghost use Rattle.attestations.specs.Attesting.{IsQuoteRefusal};
@@ -57,7 +58,7 @@ pub(crate) fn attest<F: AgentFiles>(
 fn required_by(alloc: Global, text: &[u8]) -> Result<Requirement, RunFault>
     ensures found { IfOk result (IsRequirementText text.now) }
     ensures fault { IfErr result (λ fault. ((fault ≡ runs.Usage) × ((ranges : List BankRange) → IsRequirementText text.now ranges → ⊥))
-        ⊎ (fault ≡ runs.Memory)) }
+        ⊎ ((fault ≡ runs.Memory) × BeginsWithBankRange text.now)) }
 {
     match Requirement::from_text(alloc, text) {
         Ok(requirement) => Ok(requirement),
@@ -88,8 +89,7 @@ fn judge_by<F: AgentFiles>(
     ensures answer { IfOk result (λ given. (ranges : List BankRange) → AreTaken (attested_of request.entry) ranges
         → IsAskedFor (F.known files.old) (attested_of request.entry) ranges (quote_of quote.now)
         → IsAttestation (F.known files.old) (attested_of request.entry) given) }
-    ensures fault { IfErr result (λ fault. IsNotJudgedBy (F.known files.old) (attested_of request.entry) (quote_of quote.now) fault
-        ⊎ (fault ≡ runs.Memory)) }
+    ensures fault { IfErr result (IsNotJudgedBy (F.known files.old) (attested_of request.entry) (quote_of quote.now)) }
     ensures known { F.known files.new ≡ F.known files.old }
     ensures saved { F.saved files.new ≡ F.saved files.old }
 {
@@ -122,7 +122,7 @@ fn counted_in<F: AgentFiles>(
 ) -> Result<(ExpectedValues, Vec<Expected>), RunFault>
     ensures counted { IfOk result (λ found. AreCounted (F.known files.old) (option_map place_of input.entry) (quote_of quote.now)
         found.0 found.1.items) }
-    ensures fault { IfErr result (λ fault. IsNotStated (F.known files.old) (option_map place_of input.entry) fault ⊎ (fault ≡ runs.Memory)) }
+    ensures fault { IfErr result (IsNotStated (F.known files.old) (option_map place_of input.entry)) }
     ensures known { F.known files.new ≡ F.known files.old }
     ensures saved { F.saved files.new ≡ F.saved files.old }
 {

@@ -1,8 +1,7 @@
 //! The files that are known, by texts of their digests.
 
-ghost use Rattle.std.specs.Prelude.{◌≡◌, ◌⊎◌, List, ℕ, map, IfOk, IfErr, OnOk};
+ghost use Rattle.std.specs.Prelude.{◌≡◌, List, ℕ, map, IfOk, IfErr, OnOk};
 ghost use Rattle.known_files.specs.declared.listed.ListedFiles.{ListedFiles};
-ghost use Rattle.agent_inputs.specs.declared.fault.RunFault.TheVariants as runs;
 ghost use Rattle.judging.specs.Answering.{AreKnownFiles, IsFirstNotKnown, IsTextRefused, ListsAlso};
 ghost use Rattle.judging.specs.Requests.{place_of};
 
@@ -18,7 +17,7 @@ pub(crate) fn known_in<F: AgentFiles>(
     inputs: &[Input<'_>],
 ) -> Result<Option<KnownFiles>, RunFault>
     ensures found { IfOk result (AreKnownFiles (F.known files.old) (map place_of inputs.now)) }
-    ensures fault { IfErr result (λ fault. IsFirstNotKnown (F.known files.old) (map place_of inputs.now) fault ⊎ (fault ≡ runs.Memory)) }
+    ensures fault { IfErr result (IsFirstNotKnown (F.known files.old) (map place_of inputs.now)) }
     ensures known { F.known files.new ≡ F.known files.old }
     ensures saved { F.saved files.new ≡ F.saved files.old }
 {
@@ -41,7 +40,7 @@ fn add_text<F: AgentFiles>(
     listed: &mut ListedFiles,
 ) -> Result<(), RunFault>
     ensures added { OnOk result (ListsAlso (F.known files.old) (place_of input.entry) listed.old listed.new) }
-    ensures fault { IfErr result (λ fault. IsTextRefused (F.known files.old) (place_of input.entry) file fault ⊎ (fault ≡ runs.Memory)) }
+    ensures fault { IfErr result (IsTextRefused (F.known files.old) (place_of input.entry) file) }
     ensures known { F.known files.new ≡ F.known files.old }
     ensures saved { F.saved files.new ≡ F.saved files.old }
 {

@@ -1,6 +1,14 @@
-use Rattle.std.proofs.Common.{inl, inr}
+use Rattle.std.proofs.Common.{Err, ap, inl, inr}
 use Rattle.std.proofs.lemmas.Result.{err_from_is_err_and}
+use Rattle.boot_verdict.specs.declared.expected.ExpectFault.{ExpectFault}
+use Rattle.judging.proofs.TextLaws.{not_expected}
 use Rattle.judging.proofs.answers.evidence_of.Goals as goal
+
+pub returns-in_err-expected-clause-fault : goal.returns-in_err-expected-clause-fault
+returns-in_err-expected-clause-fault g c =
+    let p = err_from_is_err_and c.from_residual-in_err-expected.result c.from_residual-in_err-expected.ensures.1 in
+    let why = not_expected _ _ _ c.in_err-expected.ensures.fault (λ same. c.in_err-expected.ensures.memory (ap (λ (f : ExpectFault). Err f) same)) p.2 in
+    rw p.1 (inr (inr (inl (_, rw c.in_ok-log.ensures.known at c.in_ok-text.ensures.all, rw c.bytes.ensures at why))))
 
 pub returns-in_err-state-clause-fault : goal.returns-in_err-state-clause-fault
 returns-in_err-state-clause-fault g c =
@@ -15,11 +23,9 @@ pub returns-in_err-known-clause-fault : goal.returns-in_err-known-clause-fault
 returns-in_err-known-clause-fault g c =
     let p = err_from_is_err_and c.from_residual-in_err-known.result c.from_residual-in_err-known.ensures.1 in
     let why = rw (c.in_ok-state.ensures.known, c.in_ok-text.ensures.known, c.in_ok-log.ensures.known) at c.in_err-known.ensures.fault in
-    rw (p.1, p.2) (elim why [
-      | inl refused ↦ inr (inr (inr (inr (inl (
-        (_, (_, rw c.in_ok-log.ensures.known at c.in_ok-text.ensures.all, rw c.bytes.ensures at c.in_ok-expected.ensures.found)),
-        (c.in_ok-state.state, rw (c.in_ok-text.ensures.known, c.in_ok-log.ensures.known) at c.in_ok-state.ensures.state),
-        refused,
-      )))))
-      | inr memory ↦ inr (inr (inr (inr (inr memory))))
-    ])
+    rw (p.1, p.2)
+    (inr (inr (inr (inr (
+      (_, (_, rw c.in_ok-log.ensures.known at c.in_ok-text.ensures.all, rw c.bytes.ensures at c.in_ok-expected.ensures.found)),
+      (c.in_ok-state.state, rw (c.in_ok-text.ensures.known, c.in_ok-log.ensures.known) at c.in_ok-state.ensures.state),
+      why,
+    )))))

@@ -26,12 +26,9 @@ returns-clause-fault g c =
     let none = none_when _ (rw c.fault.ensures at (sym c.is_some.ensures ∙ c.if-is_some.false)) in
     let found = rw c.bytes.ensures at c.in_ok-quote.ensures.found in
     of_fault c.judge_by.result _ _
-    (λ fault is. elim is [
-      | inl why ↦ inr (inl (
-        c.in_ok-required.required,
-        (c.in_ok-required.ensures.found, none),
-        inr (inr (quote_of c.in_ok-quote.quote, ((held_bytes c.in_ok-message.message, c.in_ok-message.ensures.all, found), c.in_ok-quote.ensures.asked), why)),
-      ))
-      | inr memory ↦ inr (inr memory)
-    ])
+    (λ fault why. inr (inr (
+      c.in_ok-required.required,
+      (c.in_ok-required.ensures.found, none),
+      inr (inr (quote_of c.in_ok-quote.quote, ((held_bytes c.in_ok-message.message, c.in_ok-message.ensures.all, found), c.in_ok-quote.ensures.asked), why)),
+    )))
     (rw c.in_ok-message.ensures.known at c.judge_by.ensures.fault)

@@ -9,16 +9,13 @@ returns-in_err-state-clause-fault g c =
     let p = err_from_is_err_and c.from_residual-in_err-state.result c.from_residual-in_err-state.ensures.1 in
     let why = rw (c.in_ok-values.ensures.known, c.in_ok-log.ensures.known, c.comparison_of-comparison.ensures.wanted) at c.in_err-state.ensures.fault in
     let counted = rw c.in_ok-log.ensures.known at c.in_ok-values.ensures.counted in
-    rw (p.1, p.2) (inl (inr (inr (inl ((counted.stated, counted.stated_is), why)))))
+    rw (p.1, p.2) (inr (inr (inl ((counted.stated, counted.stated_is), why))))
 
 pub returns-in_err-values-clause-fault : goal.returns-in_err-values-clause-fault
 returns-in_err-values-clause-fault g c =
     let p = err_from_is_err_and c.from_residual-in_err-values.result c.from_residual-in_err-values.ensures.1 in
     let why = rw c.in_ok-log.ensures.known at c.in_err-values.ensures.fault in
-    rw (p.1, p.2) (elim why [
-      | inl stated ↦ inl (inr (inl stated))
-      | inr memory ↦ inr memory
-    ])
+    rw (p.1, p.2) (inr (inl why))
 
 pub returns-in_err-found-clause-fault : goal.returns-in_err-found-clause-fault
 returns-in_err-found-clause-fault g c =
@@ -35,7 +32,7 @@ returns-in_err-found-clause-fault g c =
       c.checkpoint_of.ensures,
     ) at c.in_err-found.ensures.found in
     rw (p.1, p.2)
-    (inl (inr (inr (inr (inr (
+    (inr (inr (inr (inr (
       held_bytes c.in_ok-log.log,
       c.in_ok-values.values,
       c.in_ok-values.expected.items,
@@ -47,7 +44,7 @@ returns-in_err-found-clause-fault g c =
       c.in_ok-state.ensures.boot,
       files,
       why,
-    ))))))
+    )))))
 
 pub returns-in_err-known-clause-fault : goal.returns-in_err-known-clause-fault
 returns-in_err-known-clause-fault g c =
@@ -55,14 +52,8 @@ returns-in_err-known-clause-fault g c =
     let counted = rw c.in_ok-log.ensures.known at c.in_ok-values.ensures.counted in
     let state = rw (c.in_ok-values.ensures.known, c.in_ok-log.ensures.known, c.comparison_of-comparison.ensures.wanted) at c.in_ok-state.ensures.state in
     let why = rw (c.in_ok-state.ensures.known, c.in_ok-values.ensures.known, c.in_ok-log.ensures.known) at c.in_err-known.ensures.fault in
-    rw (p.1, p.2) (elim why [
-      | inl refused ↦ inl (inr (inr (inr (inl (
-        (counted.stated, counted.stated_is),
-        (c.in_ok-state.state, state, c.in_ok-state.ensures.boot),
-        refused,
-      )))))
-      | inr memory ↦ inr memory
-    ])
+    rw (p.1, p.2)
+    (inr (inr (inr (inl ((counted.stated, counted.stated_is), (c.in_ok-state.state, state, c.in_ok-state.ensures.boot), why)))))
 
 pub returns-clause-answer : goal.returns-clause-answer
 returns-clause-answer g c =

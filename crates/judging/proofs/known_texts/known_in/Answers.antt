@@ -1,4 +1,4 @@
-use Rattle.std.proofs.Common.{inl, inr, refl, arith, ◌∙◌}
+use Rattle.std.proofs.Common.{refl, arith, ◌∙◌}
 use Rattle.std.proofs.lemmas.Result.{err_from_is_err_and}
 use Rattle.std.proofs.lemmas.List.{length-map}
 use Rattle.judging.specs.Requests.{place_of}
@@ -25,8 +25,5 @@ pub returns-in_err-add_text-clause-fault : goal.returns-in_err-add_text-clause-f
 returns-in_err-add_text-clause-fault g c =
     let p = err_from_is_err_and c.from_residual.result c.from_residual.ensures.1 in
     let why = rw c.loop-index.invariant.known at c.in_err-add_text.ensures.fault in
-    rw (p.1, p.2) (elim why [
-      | inl refused ↦ inl (not_listed _ c.args.inputs.now c.loop-index.index _ (omega (arith, c.loop-index-test.true)) c.loop-index.listed _
-          c.loop-index.invariant.listed refused)
-      | inr memory ↦ inr memory
-    ])
+    rw (p.1, p.2)
+    (not_listed _ c.args.inputs.now c.loop-index.index _ (omega (arith, c.loop-index-test.true)) c.loop-index.listed _ c.loop-index.invariant.listed why)

@@ -1,4 +1,4 @@
-use Rattle.std.proofs.Common.{inl, inr}
+use Rattle.std.proofs.Common.{inr}
 use Rattle.judging.specs.declared.request.Answer.TheVariants as answers
 use Rattle.agent_inputs.proofs.LoadingLemmas.{source_failed}
 use Rattle.judging.proofs.InputLaws.{held, list_refused}
@@ -18,8 +18,8 @@ returns-in-Ok-clause-answer g c =
 pub returns-in-Err-clause-fault : goal.returns-in-Err-clause-fault
 returns-in-Err-clause-fault g c =
     λ inputs gives.
-    inr (inl (
+    inr (
     list_refused gives c.in-Err.fault _
     (source_failed c.replay_from.result c.in-Err.fault _ _ c.in-Err.is c.replay_from.ensures.counts c.replay_from.ensures.telling)
     (rw c.limit_of.ensures at c.in-Err.ensures.fault) c.refusal.ensures
-    ))
+    )

@@ -1,6 +1,7 @@
-use Rattle.std.proofs.Common.{ℕ, List, Option, sym, ◌∙◌}
+use Rattle.std.proofs.Common.{ℕ, List, Option, refl, sym, ◌∙◌}
 use Rattle.std.proofs.Math.Seq.{take-length}
 use Rattle.std.proofs.lemmas.Bool.{false≢true}
+use Rattle.std.proofs.lemmas.Result.{err_from_is_err_and}
 use Rattle.agent_inputs.proofs.LoadingLemmas.{source_failed}
 use Rattle.boot_verdict.specs.declared.checkpoint.Checkpoint.{Checkpoint}
 use Rattle.boot_verdict.specs.ListReplays.{AreTracked}
@@ -9,13 +10,31 @@ use Rattle.growing_lists.specs.Sessions.{HasTaken}
 use Rattle.known_files.specs.declared.unknown.UnknownEntries.{UnknownEntries}
 use Rattle.known_files.specs.Unknown.{IsLookedAfter}
 use Rattle.judging.specs.Answering.{BeginsAfter, HasWatched, IsStarted, evidence_of}
-use Rattle.judging.proofs.InputLaws.{prefix_found, not_found, whole_found}
+use Rattle.judging.proofs.InputLaws.{memory_out, not_found, prefix_found, whole_found}
 use Rattle.judging.proofs.answers.Evidence.judge_from.Goals as goal
 
 -- A watch that begins where a session goes on has looked at what that has taken as at nothing.
 begun : {log other taken : List ℕ} {known : Option Checkpoint} {session : Session} {start : UnknownEntries} → IsStarted log known session
     → BeginsAfter known start → (is : HasTaken other taken session) → AreTracked IsLookedAfter start is.checkpoint.entries start
 begun started begins is = begins is.checkpoint.entries (sym is.checkpoint.count ∙ started.count)
+
+pub returns-in_err-report-in-Ok-Some-default : goal.returns-in_err-report-in-Ok-Some-default
+returns-in_err-report-in-Ok-Some-default g c =
+    λ inputs log resume gives started begins.
+    let p = err_from_is_err_and c.from_residual.result c.from_residual.ensures.1 in
+    rw (p.1, p.2) (memory_out gives log resume c.args.scope (evidence_of c.args.self.now) started _ refl)
+
+pub returns-in_err-whole-in-Ok-None-default : goal.returns-in_err-whole-in-Ok-None-default
+returns-in_err-whole-in-Ok-None-default g c =
+    λ inputs log resume gives started begins.
+    let p = err_from_is_err_and c.from_residual-in_err-whole-in-Ok-None-default.result c.from_residual-in_err-whole-in-Ok-None-default.ensures.1 in
+    rw (p.1, p.2) (memory_out gives log resume c.args.scope (evidence_of c.args.self.now) started _ refl)
+
+pub returns-in_err-whole-in-Ok : goal.returns-in_err-whole-in-Ok
+returns-in_err-whole-in-Ok g c =
+    λ inputs log resume gives started begins.
+    let p = err_from_is_err_and c.from_residual-in_err-whole-in-Ok.result c.from_residual-in_err-whole-in-Ok.ensures.1 in
+    rw (p.1, p.2) (memory_out gives log resume c.args.scope (evidence_of c.args.self.now) started _ refl)
 
 pub returns-in_ok-report-in-Ok-Some-default : goal.returns-in_ok-report-in-Ok-Some-default
 returns-in_ok-report-in-Ok-Some-default g c =

@@ -1,11 +1,11 @@
-use Rattle.std.proofs.Common.{◌≡◌, ℕ, Option, ap, arith, inr, refl, subst, ◌∙◌}
+use Rattle.std.proofs.Common.{◌≡◌, ℕ, Option, ap, arith, refl, subst, ◌∙◌}
 use Rattle.std.proofs.lemmas.Result.{err_from_is_err_and}
 use Rattle.boot_verdict.specs.declared.checkpoint.Checkpoint.{Checkpoint}
 use Rattle.known_files.specs.declared.known.KnownFiles.{KnownFiles}
 use Rattle.known_files.specs.Unknown.{IsFresh}
 use Rattle.judging.specs.Answering.{entries_taken, evidence_of}
 use Rattle.judging.specs.Requests.{place_of}
-use Rattle.judging.proofs.InputLaws.{tells_of}
+use Rattle.judging.proofs.InputLaws.{memory_out, tells_of}
 use Rattle.judging.proofs.KnownLaws.{told_within}
 use Rattle.judging.proofs.answers.Evidence.verdict_from.Goals as goal
 
@@ -21,19 +21,22 @@ pub returns-in_err-next : goal.returns-in_err-next
 returns-in_err-next g c =
     λ log resume inputs gives.
     let p = err_from_is_err_and c.from_residual-in_err-next.result c.from_residual-in_err-next.ensures.1 in
-    rw (p.1, p.2) (inr (inr c.in_err-next.ensures.fault))
+    let started = rw c.bytes.ensures at c.in_ok-session.ensures.started in
+    rw (p.1, p.2) (memory_out gives log resume c.args.scope (evidence_of c.args.self.now) started _ c.in_err-next.ensures.fault)
 
 pub returns-in_err-unknown : goal.returns-in_err-unknown
 returns-in_err-unknown g c =
     λ log resume inputs gives.
     let p = err_from_is_err_and c.from_residual-in_err-unknown.result c.from_residual-in_err-unknown.ensures.1 in
-    rw (p.1, p.2) (inr (inr refl))
+    let started = rw c.bytes.ensures at c.in_ok-session.ensures.started in
+    rw (p.1, p.2) (memory_out gives log resume c.args.scope (evidence_of c.args.self.now) started _ refl)
 
 pub returns-in_err-answer : goal.returns-in_err-answer
 returns-in_err-answer g c =
     λ log resume inputs gives.
     let p = err_from_is_err_and c.from_residual-in_err-answer.result c.from_residual-in_err-answer.ensures.1 in
-    rw (p.1, p.2) (inr (inr c.in_err-answer.ensures.fault))
+    let started = rw c.bytes.ensures at c.in_ok-session.ensures.started in
+    rw (p.1, p.2) (memory_out gives log resume c.args.scope (evidence_of c.args.self.now) started _ c.in_err-answer.ensures.fault)
 
 pub returns : goal.returns
 returns g c =
