@@ -58,6 +58,12 @@ pub shows_none : (list text rest : List ℕ) (number : ℕ) (fault : ListFault) 
 shows_none list text rest number fault shown some read =
     inl (fault, read list shown.entries shown.begins (sym shown.count) some, refl)
 
+-- Memory may run out once an entry was read.
+pub shows_less : (list text rest after : List ℕ) (number : ℕ) (entry : ListEntry) → HasShown list text rest number
+    → ((list : List ℕ) (before : List ListEntry) → BeginsWith list before rest → BeginsWith list (before ++ entry ∷ []) after) → IsNoListFor list Memory
+shows_less list text rest after number entry shown read =
+    inr (refl, (shown.entries ++ entry ∷ [], after, read list shown.entries shown.begins, omega (arith, length-append shown.entries (entry ∷ []))))
+
 -- ---- what is left
 
 pub none_left : (is_empty : Bool) (rest : List ℕ) → is_empty ≡ eqb (length rest) 0 → is_empty ≡ true → rest ≡ []

@@ -12,8 +12,7 @@ use Rattle.tpm_quotes.specs.Spelling.{BankSelection, all_registers, is_selected}
 use Rattle.attestations.specs.Quoted.{stated_of}
 use Rattle.boot_log.specs.declared.header.Row.{Row}
 use Rattle.boot_log.specs.Spelling.{IsLog, LogEvent, algs_in}
-use Rattle.boot_verdict.specs.declared.expected.ExpectFault.{ExpectFault}
-use Rattle.boot_verdict.specs.ExpectedTexts.{HasFirstFault, IsExpectedText}
+use Rattle.boot_verdict.specs.ExpectedTexts.{IsExpectedText}
 use Rattle.boot_verdict.specs.declared.expected.Expected.{Expected}
 use Rattle.boot_verdict.specs.Isolation.{list_register}
 use Rattle.boot_verdict.specs.Verdicts.{is_value, IsSomeLog, pcr_after_log}
@@ -27,14 +26,14 @@ use Rattle.agent_plans.specs.declared.plan.Scope.TheVariants.{Whole}
 use Rattle.judging.specs.declared.request.Answer.{Answer}
 use Rattle.judging.specs.declared.request.Answer.TheVariants as answers
 use Rattle.judging.specs.declared.request.Answered.{Answered}
-use Rattle.judging.specs.Answering.{IsAttestation, IsNoAttestation}
+use Rattle.judging.specs.Answering.{IsAttestation, IsNotExpected}
 use Rattle.judging.specs.Inputs.{BytesOf, FileOf, Where}
-use Rattle.judging.specs.Requests.{Attested}
-use Rattle.rendering.specs.Rendering.{answer_status}
+use Rattle.judging.specs.Requests.{Attested, Attests}
+use Rattle.rendering.specs.Rendering.{IsRefusalOn, answer_status}
 use Rattle.agent_inputs.specs.declared.fault.RunFault.{RunFault}
-use Rattle.agent_inputs.specs.declared.fault.RunFault.TheVariants as runs
-use Rattle.agent_inputs.specs.Faults.{HasLogFault, fault_of_expected}
+use Rattle.agent_inputs.specs.Faults.{HasLogFault}
 use Rattle.agent_inputs.specs.Loading.{Inputs, IsInputFault, OfInput}
+use Rattle.ima_agent.specs.Showing.{IsNoLogFor}
 
 -- The register that is expected to have a value.
 abbrev pub place_of : Expected → Place
@@ -146,20 +145,19 @@ AreMatched inputs (confirmed.Expected name) log matched status =
 AreMatched inputs (confirmed.Quote quoting) log matched status =
     IsSomeAnd matched (λ places. AreMatchedByQuote inputs (attested_with (BytesOf log) quoting) places status)
 
--- Why the file of this name tells of none: it is not loaded; or its first wrong line; or its text is right, and the bytes are no log; or memory
--- ran out.
+-- Why the file of this name tells of none: it is not loaded; its text states no expected registers; or it does, and the bytes are no log, or are
+-- one and memory ran out.
 abbrev pub AreNotExpected : Inputs → Option (List ℕ) → List ℕ → RunFault → Type 0
 AreNotExpected inputs name log fault =
     IsInputFault inputs name fault
-    ⊎ ((first : ExpectFault) × OfInput inputs name (λ text. HasFirstFault text first) × (fault ≡ fault_of_expected first))
-    ⊎ (((expected : List Expected) × OfInput inputs name (λ text. IsExpectedText text expected)) × HasLogFault log fault)
-    ⊎ (fault ≡ runs.Memory)
+    ⊎ OfInput inputs name (λ text. IsNotExpected text fault)
+    ⊎ (((expected : List Expected) × OfInput inputs name (λ text. IsExpectedText text expected)) × IsNoLogFor log fault)
 
 -- Why they are not known.
 abbrev pub AreNotMatched : Inputs → ConfirmedBy → List ℕ → RunFault → Type 0
 AreNotMatched inputs confirmed.Nothing log fault = ⊥
 AreNotMatched inputs (confirmed.Expected name) log fault = AreNotExpected inputs (Some (string_bytes name)) log fault
-AreNotMatched inputs (confirmed.Quote quoting) log fault = IsNoAttestation inputs (attested_with (BytesOf log) quoting) fault
+AreNotMatched inputs (confirmed.Quote quoting) log fault = IsRefusalOn inputs (Attests (attested_with (BytesOf log) quoting)) fault
 
 -- ---- before a line is told
 

@@ -1,9 +1,10 @@
 -- What the tasks show that ask no question: the registers and the events of a log, the entries of a list, the version.
-use Rattle.std.specs.Prelude.{◌≡◌, ℕ, ◌⊎◌, ◌==◌, ◌||◌, not, Bool, List, ◌++◌, codes, filter, length, Some, Ok, Err, IsErr}
+use Rattle.std.specs.Prelude.{◌≡◌, ℕ, ◌<◌, ◌⊎◌, ◌==◌, ◌||◌, not, Bool, List, ◌++◌, codes, filter, length, Some, Ok, Err, IsErr}
 use Rattle.hex.specs.Hex.{decode_of}
 use Rattle.ima_list.specs.declared.fault.ListFault.{ListFault}
 use Rattle.ima_list.specs.ListEntry.{ListEntry}
 use Rattle.ima_list.specs.Spelling.{BeginsWith, IsReading}
+use Rattle.boot_verdict.specs.Verdicts.{IsSomeLog}
 pub use Rattle.json_texts.specs.ItemLines.{entry_lines, list_lines, numbered_lines, AreAllEntries, EndsWithFault, FailsAfterEntries}
 use Rattle.json_texts.specs.SentEntries.{AreAllIn}
 use Rattle.agent_plans.specs.declared.plan.Form.{Form}
@@ -47,13 +48,15 @@ IsRefusedFor text fault =
 
 -- ---- events and entries as text
 
--- Why nothing of a log is shown: the bytes are no log, or memory ran out.
+-- Why nothing of a log is shown: the bytes are no log; or they are one, and memory ran out.
 abbrev pub IsNoLogFor : List ℕ → RunFault → Type 0
-IsNoLogFor log fault = HasLogFault log fault ⊎ (fault ≡ runs.Memory)
+IsNoLogFor log fault = HasLogFault log fault ⊎ ((fault ≡ runs.Memory) × IsSomeLog log)
 
--- Why no list is shown: the bytes are no list, and the fault is that of their reading; or memory ran out.
+-- Why no list is shown: the bytes are no list, and the fault is that of their reading; or they begin with entries, and memory ran out.
 abbrev pub IsNoListFor : List ℕ → RunFault → Type 0
-IsNoListFor list fault = ((first : ListFault) × IsReading list (Err first) × (fault ≡ fault_of_list first)) ⊎ (fault ≡ runs.Memory)
+IsNoListFor list fault =
+    ((first : ListFault) × IsReading list (Err first) × (fault ≡ fault_of_list first))
+    ⊎ ((fault ≡ runs.Memory) × ((entries : List ListEntry) × (rest : List ℕ) × BeginsWith list entries rest × (0 < length entries)))
 
 -- All is shown, with this status; or what comes before a fault, and then the line of the fault, with its status.
 abbrev pub ShowsToFault : ℕ → (List ℕ → Type 0) → (List ℕ → RunFault → Type 0) → (RunFault → List ℕ → ℕ → Type 0) → List ℕ → ℕ → Type 0

@@ -55,8 +55,8 @@ IsNoEarlierLog inputs None fault = ⊥
 IsNoEarlierLog inputs (Some name) fault =
     IsInputFault inputs (Some name) fault ⊎ OfInput inputs (Some name) (λ earlier. HasLogFault earlier fault)
 
--- Why there is no answer: the registers that match are not known; or the bytes are no log; or there is no log of an earlier boot; or memory ran
--- out.
+-- Why there is no answer: the registers that match are not known; the bytes are no log, or are one and memory ran out; or there is no log of an
+-- earlier boot.
 abbrev pub IsNoBootFor : Inputs → ConfirmedBy → Option (List ℕ) → List ℕ → RunFault → Type 0
 IsNoBootFor inputs confirmed_by before log fault =
     AreNotMatched inputs confirmed_by log fault ⊎ (IsNoLogFor log fault ⊎ IsNoEarlierLog inputs before fault)

@@ -17,13 +17,13 @@ use Rattle.agent_plans.specs.declared.plan.Form.{Form}
 use Rattle.agent_plans.specs.declared.plan.Form.TheVariants as forms
 use Rattle.agent_inputs.specs.declared.fault.RunFault.{RunFault}
 use Rattle.agent_inputs.specs.declared.fault.RunFault.TheVariants as runs
-use Rattle.agent_inputs.specs.Faults.{fault_of_log}
+use Rattle.agent_inputs.specs.Faults.{HasLogFault, fault_of_log}
 use Rattle.agent_inputs.specs.Loading.{Inputs}
 use Rattle.rendering.specs.FaultTexts.{fault_line, fault_status, IsFailure, IsReportedAsJson}
 use Rattle.ima_agent.specs.declared.events.EventLines.{EventLines}
 use Rattle.ima_agent.specs.declared.events.EventLines.TheVariants as lines
 use Rattle.ima_agent.specs.Matching.{AreMatched, IsKnownFor, IsNotTold}
-use Rattle.ima_agent.specs.Showing.{IsNoLogFor, ShowsToFault}
+use Rattle.ima_agent.specs.Showing.{ShowsToFault}
 
 -- How events are shown in this form, where this is requested of their data: in JSON with what it says in any case.
 abbrev pub lines_for : Form → DataShown → EventLines
@@ -61,9 +61,9 @@ ShowsEvents inputs form (lines.Told events) confirmed_by log text status =
     × ((matched : Option (List Place)) × (done : ℕ) × AreMatched inputs confirmed_by log matched done
     × ShowsTold form events matched done log text status)
 
--- Why no line of it is shown: the bytes are no log, or memory ran out; or else what is to be known before is not.
+-- Why no line of it is shown: the bytes are no log; or what is to be known before is not.
 abbrev pub IsNoneShownFor : Inputs → EventLines → ConfirmedBy → List ℕ → RunFault → Type 0
-IsNoneShownFor inputs (lines.Plain shown) confirmed_by log fault = IsNoLogFor log fault
+IsNoneShownFor inputs (lines.Plain shown) confirmed_by log fault = HasLogFault log fault
 IsNoneShownFor inputs (lines.Told events) confirmed_by log fault = IsNotTold inputs events confirmed_by log fault
 
 -- Memory ran out after the lines of some of its events.
@@ -80,7 +80,7 @@ BreaksOffAfterEvents inputs form (lines.Told events) confirmed_by log text statu
 abbrev pub ShowsPlainEventsIn : Form → EventData → List ℕ → List ℕ → ℕ → Type 0
 ShowsPlainEventsIn form shown log text status =
     (AreAllEvents (events_text shown) log text × (status ≡ 0))
-    ⊎ ((fault : RunFault) × IsNoLogFor log fault × IsFailure form fault text status)
+    ⊎ ((fault : RunFault) × HasLogFault log fault × IsFailure form fault text status)
 
 -- Why no more of the log in these bytes is shown than this text: it fails; or memory ran out, after some events or before the first line.
 abbrev pub StopsInLog : EventForm → Option (List Place) → List ℕ → List ℕ → RunFault → Type 0

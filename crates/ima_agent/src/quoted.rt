@@ -4,8 +4,9 @@ ghost use Rattle.std.specs.Prelude.{◌≡◌, ◌++◌, map, option_map, IfErr,
 ghost use Rattle.agent_plans.specs.declared.plan.ConfirmedBy.TheVariants as confirmed;
 ghost use Rattle.attestations.specs.Quoted.{bank_selection_of};
 ghost use Rattle.boot_verdict.specs.Verdicts.{IsSomeLog};
-ghost use Rattle.judging.specs.Answering.{IsNoAttestation};
 ghost use Rattle.judging.specs.Inputs.{BytesOf};
+ghost use Rattle.judging.specs.Requests.{Attests};
+ghost use Rattle.rendering.specs.Rendering.{IsRefusalOn};
 ghost use Rattle.ima_agent.specs.Matching.{AreMatched, attested_with, is_of_log, places_by, places_in, quoted_places};
 
 use crate::matches::Matched;
@@ -31,7 +32,7 @@ pub(crate) fn quoted_in<F: AgentFiles>(
     ensures matched { IfOk result (λ matched. AreMatched (F.known files.old) (confirmed.Quote quoting.now) log.now
         (option_map (λ places. places.items) matched.places) matched.status) }
     ensures known { IfOk result (λ _. IsSomeLog log.now) }
-    ensures fault { IfErr result (IsNoAttestation (F.known files.old) (attested_with (BytesOf log.now) quoting.now)) }
+    ensures fault { IfErr result (IsRefusalOn (F.known files.old) (Attests (attested_with (BytesOf log.now) quoting.now))) }
     ensures inputs { F.known files.new ≡ F.known files.old }
     ensures saved { F.saved files.new ≡ F.saved files.old }
 {

@@ -1,4 +1,4 @@
-use Rattle.std.proofs.Common.{Bor, List, ℕ, Option, Vec, Global, ap, subst, sym, ◌++◌, ◌∙◌}
+use Rattle.std.proofs.Common.{Bor, List, ℕ, Option, Vec, Global, ap, inl, inr, refl, subst, sym, ◌++◌, ◌∙◌}
 use Rattle.std.specs.Prelude.{option_map}
 use Rattle.std.proofs.lemmas.Result.{err_from_is_err_and}
 use Rattle.boot_log.specs.Spelling.{IsLog}
@@ -15,6 +15,22 @@ returns-in_err-matched-clause-fault g c =
     rw (p.1, p.2)
     (not_told (g.F.Files.known c.args.files.now) c.told_in-told.result c.args.confirmed_by.now (name_in c.args.before) c.args.log.now
     c.in_err-matched.field-0.0 c.in_err-matched.ensures.fault)
+
+pub returns-in_err-append_boot-clause-fault : goal.returns-in_err-append_boot-clause-fault
+returns-in_err-append_boot-clause-fault g c =
+    let p = err_from_is_err_and c.from_residual-in_err-append_boot.result c.from_residual-in_err-append_boot.ensures.1 in
+    let (table, events, is) = c.in_ok-view.ensures.sound in
+    rw (p.1, p.2) (inr (inl (inr (refl, record { table = table; events = events; log_is = is }))))
+
+pub returns-in_err-append_compared-clause-fault : goal.returns-in_err-append_compared-clause-fault
+returns-in_err-append_compared-clause-fault g c =
+    let p = err_from_is_err_and c.from_residual-in_err-append_compared.result c.from_residual-in_err-append_compared.ensures.1 in
+    let (table, events, is) = c.in_ok-view.ensures.sound in
+    let why = rw c.in_ok-matched.ensures.inputs at c.in_err-append_compared.ensures.fault in
+    rw (p.1, p.2) (inr (elim why [
+      | inl earlier ↦ inr earlier
+      | inr memory ↦ inl (inr (memory, record { table = table; events = events; log_is = is }))
+    ]))
 
 pub returns-clause-shown : goal.returns-clause-shown
 returns-clause-shown g c =

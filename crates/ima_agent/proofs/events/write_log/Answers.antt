@@ -11,11 +11,11 @@ returns-in-Err g c = λ form. record {
   sends = Sends-none (g.S.Sink.state c.args.sink.now) tt;
   goes_on = λ last status failure. inr (
     c.into.result,
-    inl (record {
+    record {
       first = c.in-Err.fault;
       first_is = c.in-Err.ensures.fault;
       says = c.into.ensures;
-    }),
+    },
     failure,
   );
 }

@@ -1,4 +1,4 @@
-use Rattle.std.proofs.Common.{refl, subst}
+use Rattle.std.proofs.Common.{inl, inr, refl, subst}
 use Rattle.std.proofs.lemmas.Result.{err_from_is_err_and}
 use Rattle.boot_verdict.specs.Verdicts.{IsSomeLog}
 use Rattle.judging.proofs.LogLaws.{log_attested}
@@ -12,8 +12,15 @@ pub returns-in_err-given-clause-fault : goal.returns-in_err-given-clause-fault
 returns-in_err-given-clause-fault g c =
     let p = err_from_is_err_and c.from_residual.result c.from_residual.ensures.1 in
     rw (p.1, p.2)
-    (subst (λ (asked : Attested). IsNoAttestation (g.F.Files.known c.args.files.now) asked c.in_err-given.field-0.0) c.attesting_by-asked.ensures
-    c.in_err-given.ensures.fault)
+    (inl (subst (λ (asked : Attested). IsNoAttestation (g.F.Files.known c.args.files.now) asked c.in_err-given.field-0.0) c.attesting_by-asked.ensures
+    c.in_err-given.ensures.fault))
+
+pub returns-in_err-places_by-clause-fault : goal.returns-in_err-places_by-clause-fault
+returns-in_err-places_by-clause-fault g c =
+    let p = err_from_is_err_and c.from_residual-in_err-places_by.result c.from_residual-in_err-places_by.ensures.1 in
+    let inputs = g.F.Files.known c.args.files.now in
+    let is = subst (λ (asked : Attested). IsAttestation inputs asked c.in_ok-given.given) c.attesting_by-asked.ensures c.in_ok-given.ensures.answer in
+    rw (p.1, p.2) (inr (refl, (c.in_ok-given.given, is)))
 
 pub returns-clause-known : goal.returns-clause-known
 returns-clause-known g c =
