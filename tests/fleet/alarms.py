@@ -57,6 +57,7 @@ def test_alarms(tools):
     test_statuses(tools)
     test_json(tools)
     test_ages(tools)
+    test_keys(tools)
 
 
 def test_arguments(tools):
@@ -70,6 +71,13 @@ def test_arguments(tools):
     ):
         status, output, errors = tools.verify("--workers", 1, machines, never, by=by)
         tools.check(f"refused: quotes or not, {title}", (status, output, told in errors, never.exists()), (2, "", True, False))
+
+
+def test_keys(tools):
+    """A run that takes quotes, of a machine that has neither a quote nor a key."""
+    tools.needs_modules("cryptography")
+    folder = tools.folder / "quotes or not"
+    machines, never = make_machines(folder, 1), folder / "never.db"
     status, output, errors = tools.verify("--workers", 1, machines, never, by=("--keys", folder), require="none")
     found = (status, output, "--require 'none'" in errors, never.exists())
     tools.check("refused: quotes that need not cover anything", found, (2, "", True, False))

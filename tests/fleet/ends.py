@@ -9,6 +9,7 @@ import time
 from pathlib import Path
 
 from cluster import REQUIRE, ROOT, SECONDS, UNQUOTED, children_of, preloading, until
+from fleet_verify.versions import FIRST
 from tables import counted, query, rows_of, times_of
 
 NOTES = Path(__file__).with_name("noted_calls.py")
@@ -283,6 +284,8 @@ def test_no_dask(ends):
     for name in ("dask", "distributed"):
         (lacking / name).mkdir(parents=True)
         (lacking / name / "__init__.py").write_text("raise ImportError('it is not there')\n")
+    (lacking / f"distributed-{FIRST}.dist-info").mkdir()  # (of a version that fits, which may be the only one)
+    (lacking / f"distributed-{FIRST}.dist-info/METADATA").write_text(f"Metadata-Version: 2.1\nName: distributed\nVersion: {FIRST}\n")
     given = {"PYTHONPATH": f"{lacking}:{ends.tools.environment['PYTHONPATH']}"}
     status, output, errors = ends.tools.verify("--scheduler", "tls://127.0.0.1:1", ends.fleet.table, table, **given)
     found = (status, output, "--scheduler needs the package distributed: it is not there" in errors, "the same command" in errors)
