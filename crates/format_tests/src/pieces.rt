@@ -14,13 +14,6 @@ pub const OTHER_HEAD: &[u8] = b"\x0a\x00\x00\x00\
     \x00\x00\x00\x00\x00\x00\x00\x00\x00\x00\x00\x00\x00\x00\x00\x00\x00\x00\x00\x00\
     \x06\x00\x00\x00ima-xx";
 
-/// An entry of register 10 of the template `ima`, up to the last byte of its path's length, 256.
-const LONG_PATH_FRONT: &[u8] = b"\x0a\x00\x00\x00\
-    \x00\x00\x00\x00\x00\x00\x00\x00\x00\x00\x00\x00\x00\x00\x00\x00\x00\x00\x00\x00\
-    \x03\x00\x00\x00ima\
-    \x01\x01\x01\x01\x01\x01\x01\x01\x01\x01\x01\x01\x01\x01\x01\x01\x01\x01\x01\x01\
-    \x00\x01\x00";
-
 /// A register that there is not.
 const REGISTER_24: &[u8] = b"\x18\0\0\0";
 
@@ -76,15 +69,24 @@ fn assert_nothing_taken(rt: &impl Abort, alloc: Global) -> Result<(), Fail> {
     Ok(())
 }
 
-#[test]
-fn pieces_limits_and_faults(rt: HostRuntime) -> Result<(), Fail> {
-    assert_eq!(rt; ListReader::new(rt.alloc()).finish()?.len(), 0);
-    assert_nothing_taken(&rt, rt.alloc())
+/// A fault within an entry that is cut short leaves the reader as it was, whatever follows it in its piece.
+fn assert_fault_within(rt: &impl Abort, alloc: Global) -> Result<(), ListFault> {
+    let mut reader = fed(alloc, MEASUREMENT, 7)?;
+    feed(&mut reader, &REGISTER_24[..3])?;
+    let fault = ListFault::BadRegister { entry: 1 };
+    assert_eq!(rt; feed(&mut reader, b"\0and more"), Err(fault));
+    assert_eq!(rt; reader.entries().len(), 1);
+    let truncated = ListFault::Truncated { entry: 1 };
+    assert_eq!(rt; reader.finish().err(), Some(truncated));
+    Ok(())
 }
 
 #[test]
 fn each_allocation_refused_in_feed_of_a_fault(rt: HostRuntime) -> Result<(), Fail> {
-    assert_nothing_taken(&rt, rt.alloc())
+    assert_nothing_taken(&rt, rt.alloc())?;
+    assert_fault_within(&rt, rt.alloc())?;
+    assert_eq!(rt; ListReader::new(rt.alloc()).finish()?.len(), 0);
+    Ok(())
 }
 
 /// Two entries with no name and no payload.
@@ -101,62 +103,13 @@ fn each_allocation_refused_in_feed(rt: HostRuntime) -> Result<(), Fail> {
     assert_read(&rt, rt.alloc(), TWO_ENTRIES, 50)
 }
 
-/// After an entry and these bytes, byte by byte, `last` has the fault, whatever follows its first byte, and leaves the reader as it was.
-fn assert_fault_at_the_end(
-    rt: &impl Abort,
-    alloc: Global,
-    prefix: &[u8],
-    last: &[u8],
-    fault: ListFault,
-) -> Result<(), ListFault> {
-    let mut reader = fed(alloc, MEASUREMENT, 7)?;
-    for byte in prefix {
-        feed(&mut reader, &[*byte])?;
-    }
-    assert_eq!(rt; feed(&mut reader, last), Err(fault));
-    assert_eq!(rt; reader.entries().len(), 1);
-    let truncated = ListFault::Truncated { entry: 1 };
-    assert_eq!(rt; reader.finish().err(), Some(truncated));
-    Ok(())
-}
-
+/// Twelve thousand, in pieces and as a whole.
 #[test]
-fn faults_within_a_truncated_entry(rt: HostRuntime) -> Result<(), ListFault> {
-    let fault = ListFault::BadRegister { entry: 1 };
-    assert_fault_at_the_end(&rt, rt.alloc(), b"\x18\0\0", b"\0", fault)?;
-    assert_fault_at_the_end(&rt, rt.alloc(), b"\x18\0\0", b"\0and more", fault)?;
-    let fault = ListFault::NameTooLong { entry: 1 };
-    assert_fault_at_the_end(&rt, rt.alloc(), LONG_PATH_FRONT, b"\0", fault)?;
-    assert_fault_at_the_end(&rt, rt.alloc(), LONG_PATH_FRONT, b"\0and more", fault)
-}
-
-/// Twelve thousand entries in pieces of this size.
-fn assert_many_read(rt: &impl Abort, alloc: Global, size: usize) -> Result<(), Fail>
-    requires { 0 < size }
-{
+fn many_entries(rt: HostRuntime) -> Result<(), Fail> {
+    let alloc = rt.alloc();
     let bytes = repeated(alloc, MEASUREMENT, 12_000)?;
-    assert_read(rt, alloc, &bytes, size)
-}
-
-#[test]
-fn many_entries_byte_by_byte(rt: HostRuntime) -> Result<(), Fail> {
-    assert_many_read(&rt, rt.alloc(), 1)
-}
-
-#[test]
-fn many_entries_in_pieces_of_seven_bytes(rt: HostRuntime) -> Result<(), Fail> {
-    assert_many_read(&rt, rt.alloc(), 7)
-}
-
-#[test]
-fn many_entries_in_pieces_of_four_kibibytes(rt: HostRuntime) -> Result<(), Fail> {
-    assert_many_read(&rt, rt.alloc(), 4_096)
-}
-
-#[test]
-fn many_entries_as_a_whole(rt: HostRuntime) -> Result<(), Fail> {
-    let bytes = repeated(rt.alloc(), MEASUREMENT, 12_000)?;
-    assert_eq!(rt; list_of(rt.alloc(), &bytes)?.len(), 12_000);
+    assert_read(&rt, alloc, &bytes, 7)?;
+    assert_eq!(rt; list_of(alloc, &bytes)?.len(), 12_000);
     Ok(())
 }
 
@@ -197,10 +150,4 @@ fn large_payload_cut_anywhere(rt: HostRuntime) -> Result<(), Fail> {
         assert_read_in_two(&rt, alloc, &bytes, cut, 1)?;
     }
     Ok(())
-}
-
-#[test]
-fn large_payload_byte_by_byte(rt: HostRuntime) -> Result<(), Fail> {
-    let bytes = large_and_small(rt.alloc())?;
-    assert_read(&rt, rt.alloc(), &bytes, 1)
 }
