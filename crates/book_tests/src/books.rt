@@ -5,4 +5,3 @@ mod ample_memory;
 mod deeds;
 mod each_allocation_refused;
 mod threads;
-mod words;

@@ -1,7 +1,6 @@
 //! Calls that are made once more where an allocation was refused.
 
 use std::alloc::{AllocError, Global};
-use std::fmt::Display;
 
 /// What a call returns; where that is the fault of a refused allocation, what the same call returns once more.
 pub fn once_more<T: Drop, E: Copy + PartialEq, F: FnMut() -> Result<T, E>>(
@@ -29,9 +28,4 @@ pub fn copied(alloc: Global, bytes: &[u8]) -> Result<Vec<u8>, AllocError> {
 /// The bytes, so many times.
 pub fn repeated(alloc: Global, bytes: &[u8], count: usize) -> Result<Vec<u8>, AllocError> {
     once_more(AllocError, || bytes.repeat(alloc, count))
-}
-
-/// The words of a fault.
-pub fn words_of<D: Display + Drop>(alloc: Global, fault: D) -> Result<String, AllocError> {
-    once_more(AllocError, || format!(in alloc; "{fault}"))
 }

@@ -11,4 +11,4 @@ pub mod registers;
 pub mod samples;
 pub mod sinks;
 
-pub use again::{copied, joined, once_more, repeated, words_of};
+pub use again::{copied, joined, once_more, repeated};
