@@ -210,9 +210,12 @@ STARTS = """
 import asyncio, sys
 from types import SimpleNamespace
 from fleet_verify import local
-from fleet_verify.worker import BEGINNING, HEAD
 local.RETRY_SECONDS = 0
-BEGINS = f"import sys; sys.stdout.buffer.write({HEAD.pack(BEGINNING, 4) + b'null'!r})"
+BEGINS = '''import sys
+from fleet_verify.worker import BEGINNING, HEAD, messages
+told = messages(sys.stdin.buffer)
+next(told), next(told)
+sys.stdout.buffer.write(HEAD.pack(BEGINNING, 4) + b"null")'''
 started = []
 async def start():
     started.append(None)
