@@ -393,7 +393,6 @@ class Enrolled(EnrollTests):
 
     def test_other_names(self):
         """A TPM that is enrolled gets no other name, until its own is removed."""
-        (self.keys / "a folder without keys").mkdir()  # (which comes before all others)
         for first, second in (("m", "n"), ("m.ek", "m"), ("m", "m.ek")):
             title = f"{first}, and then {second}"
             for name in (first, second):
@@ -418,7 +417,6 @@ class Enrolled(EnrollTests):
             self.check_quiet(f"{title}: after it was removed, the answer", self.answer(self.opened(title), second))
             self.check_kept(f"{title}: the second is kept", second, self.good["AK.pub"])
             self.forget(second)
-        (self.keys / "a folder without keys").rmdir()
         self.keys.joinpath("x/x.ek.pem").mkdir(parents=True)
         self.check_not("an endorsement key that cannot be read", self.challenge(), 3, "x/x.ek.pem")
         shutil.rmtree(self.keys / "x")
