@@ -1,0 +1,44 @@
+-- Values of JSON (RFC 8259), by their members and items.
+use Rattle.std.specs.Prelude.{ℕ, List, [], ◌∷◌, ◌++◌, codes, decimal}
+use Rattle.hex.specs.Hex.{encode_lower}
+use Rattle.json.specs.Token.{Token, key}
+use Rattle.json.specs.Json.{Json, Items, Members}
+use Rattle.json.specs.Json as json
+use Rattle.json.specs.Print.{print}
+use Rattle.json.specs.Tree.{json_tokens}
+
+-- A member of an object: its name, and its value.
+abbrev pub Member : Type 0
+Member = List ℕ × Json
+
+abbrev pub members_of : List Member → Members
+members_of [] = json.no_members
+members_of (first ∷ members) = json.member first.0 first.1 (members_of members)
+
+-- The object with these members, in order.
+abbrev pub object_of : List Member → Json
+object_of members = json.object (members_of members)
+
+abbrev pub items_of : List Json → Items
+items_of [] = json.no_items
+items_of (first ∷ values) = json.item first (items_of values)
+
+-- The array of these values, in order.
+abbrev pub array_of : List Json → Json
+array_of values = json.array (items_of values)
+
+-- A number, in decimal.
+abbrev pub number_json : ℕ → Json
+number_json number = json.number (decimal number)
+
+-- Bytes, as a string of lower case hexadecimal digits.
+abbrev pub hex_json : List ℕ → Json
+hex_json bytes = json.string (encode_lower bytes)
+
+-- A member's tokens: its name as a key, and its value.
+abbrev pub member_tokens : Member → List Token
+member_tokens member = key member.0 ∷ json_tokens member.1
+
+-- The value's line: its text, without spaces between tokens, and a line feed.
+abbrev pub line_of : Json → List ℕ
+line_of value = print (json_tokens value) ++ codes "\n"

@@ -1,0 +1,6 @@
+//! Cells: parts of a result, each described once for text and for JSON. What shows a cell writes either form ([`CellWriter`]).
+#![tactic(auto)]
+
+mod writer;
+
+pub use writer::{CellWriter, Form, Written};
