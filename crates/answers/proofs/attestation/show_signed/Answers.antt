@@ -1,0 +1,6 @@
+use Rattle.cells.proofs.CellLaws.{joined}
+use Rattle.answers.proofs.attestation.show_signed.Goals as goal
+
+pub returns : goal.returns
+returns c =
+    joined c.in_ok-word_member.ensures (joined (rw c.verdict_word.ensures at c.in_ok-word.ensures) c.text.ensures)

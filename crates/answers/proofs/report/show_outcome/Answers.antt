@@ -1,0 +1,10 @@
+use Rattle.std.proofs.Common.{◌≡◌, length, arith}
+use Rattle.cells.proofs.CellLaws.{joined}
+use Rattle.answers.proofs.report.show_outcome.Goals as goal
+
+pub returns : goal.returns
+returns c =
+    let many : c.len.result ≡ length c.args.report.now.rows.items = omega (arith, c.len.ensures) in
+    let rows = rw c.deref.ensures.value at c.in_ok-show_report_rows.ensures in
+    joined (rw many at c.in_ok-show_compared.ensures) (joined c.in_ok-show_aggregate.ensures (joined rows
+    (joined c.in_ok-show_strays.ensures (joined c.in_ok-show_unknown.ensures c.show_verdict.ensures))))

@@ -1,0 +1,6 @@
+pub mod AttestationCells
+pub mod KeyCells
+pub mod PositionCells
+pub mod RegisterCells
+pub mod ReportCells
+pub mod RowCells

@@ -1,0 +1,165 @@
+//! The report on a log and a list by a quote.
+
+ghost use Rattle.std.specs.Prelude.{◌≡◌, ◌&&◌, option_copied, IfOk};
+ghost use Rattle.std.specs.Str.{IsUtf8};
+ghost use Rattle.boot_verdict.specs.Verdicts.{verdict_of};
+ghost use Rattle.known_files.specs.Unknown.{none_unknown};
+ghost use Rattle.attestations.specs.declared.expected.ExpectedValues.TheVariants.{Confirmed};
+ghost use Rattle.attestations.specs.Reports.{attest_verdict_of, is_attested};
+ghost use Rattle.cells.specs.Cells.{ShowsItems, ShowsMembers, object, rendered};
+ghost use Rattle.cells.specs.declared.writer.Form.TheVariants.{Json};
+ghost use Rattle.answers.specs.AttestationCells.{attestation_cell, attestation_counts, comparison_cell, conclusion_cell, confirmed_word, quote_cell, signed_cell, unsigned_cell, values_cell};
+
+use crate::prefix::show_prefix_counts;
+use crate::quoted::show_stated;
+use crate::report::{show_aggregate, show_counts, show_report_rows, verdict_word};
+use crate::strays::show_extends;
+use crate::unknown::show_unknown;
+use attestations::{AttestReport, ExpectedValues, Whole};
+use boot_verdict::{Report, Row};
+use cells::{CellWriter, Form, Written};
+use known_files::{Unknown, none_unknown};
+use std::alloc::{AllocError, Global};
+
+/// The report on a log and a list by a quote, in this form.
+///
+/// Fails only if memory runs out.
+pub fn render_attestation(
+    alloc: Global,
+    form: Form,
+    report: &AttestReport,
+    unknown: Option<&Unknown>,
+) -> Result<Vec<u8>, AllocError>
+    ensures bytes { IfOk result (λ bytes. bytes.items
+        ≡ rendered form (attestation_cell (option_copied unknown.entry) (attest_verdict_of report.now))) }
+    ensures utf8 { IfOk result (λ bytes. form ≡ Json → IsUtf8 bytes.items) }
+{
+    let mut out = CellWriter::new(alloc, form);
+    show_object(alloc, report, unknown, &mut out)?;
+    out.into_bytes()
+}
+
+fn show_object(
+    alloc: Global,
+    report: &AttestReport,
+    unknown: Option<&Unknown>,
+    out: &mut CellWriter,
+) -> Written
+    ensures { ShowsItems result out.old out.new
+        (object (attestation_cell (option_copied unknown.entry) (attest_verdict_of report.now))) }
+{
+    out.begin()?;
+    show_members(alloc, report, unknown, out)?;
+    out.end()
+}
+
+fn show_members(
+    alloc: Global,
+    report: &AttestReport,
+    unknown: Option<&Unknown>,
+    out: &mut CellWriter,
+) -> Written
+    ensures { ShowsMembers result out.old out.new (attestation_cell (option_copied unknown.entry) (attest_verdict_of report.now)) }
+{
+    show_stated(alloc, &report.quoted, out)?;
+    show_list_counts(alloc, &report.report, report.prefix, out)?;
+    show_comparison(alloc, report, out)?;
+    show_unknown(unknown, out)?;
+    show_quote(report.is_quoted, out)?;
+    show_conclusion(report.is_signed, is_attested(report, unknown), out)
+}
+
+// Whether log and list are what the quote is of, and no entry is unknown.
+fn is_attested(report: &AttestReport, unknown: Option<&Unknown>) -> bool
+    ensures { result ≡ none_unknown (option_copied unknown.entry) && is_attested (attest_verdict_of report.now) }
+{
+    none_unknown(unknown) && report.is_attested()
+}
+
+// Shows the counts of the list, and if the report is on a prefix how much of it is confirmed.
+fn show_list_counts(
+    alloc: Global,
+    report: &Report,
+    prefix: Option<Whole>,
+    out: &mut CellWriter,
+) -> Written
+    ensures { ShowsMembers result out.old out.new (attestation_counts (verdict_of report.now) prefix) }
+{
+    match prefix {
+        None => show_counts(report.events, report.locality, report.entries, out),
+        Some(whole) => show_prefix_counts(alloc, report, whole.entries, whole.unconfirmed, out),
+    }
+}
+
+// Shows the boot aggregate, what came of expected values, and what extends a register that is not its own.
+fn show_comparison(alloc: Global, report: &AttestReport, out: &mut CellWriter) -> Written
+    ensures { ShowsMembers result out.old out.new (comparison_cell (attest_verdict_of report.now)) }
+{
+    show_aggregate(report.report.aggregate, out)?;
+    show_values(alloc, report.expected, &report.report.rows, out)?;
+    show_extends(report.report.strays, out)
+}
+
+// Shows what came of expected values, if some were given.
+fn show_values(
+    alloc: Global,
+    expected: ExpectedValues,
+    rows: &[Row],
+    out: &mut CellWriter,
+) -> Written
+    ensures { ShowsMembers result out.old out.new (values_cell expected rows.now) }
+{
+    match expected {
+        ExpectedValues::NotGiven => Ok(()),
+        ExpectedValues::Confirmed => show_confirmed(alloc, rows, out),
+        ExpectedValues::Unconfirmed => show_word("unconfirmed", out),
+    }
+}
+
+// Shows that expected values are confirmed, and how their registers compare.
+fn show_confirmed(alloc: Global, rows: &[Row], out: &mut CellWriter) -> Written
+    ensures { ShowsMembers result out.old out.new (values_cell Confirmed rows.now) }
+{
+    show_word("confirmed", out)?;
+    show_report_rows(alloc, rows, None, out)
+}
+
+fn show_word(word: &str, out: &mut CellWriter) -> Written
+    ensures { ShowsMembers result out.old out.new (confirmed_word word.now) }
+{
+    out.word("expected ", "expected", word)?;
+    out.text("\n")
+}
+
+fn show_quote(is_quoted: bool, out: &mut CellWriter) -> Written
+    ensures { ShowsMembers result out.old out.new (quote_cell is_quoted) }
+{
+    out.word("quote ", "quote", verdict_word(is_quoted))?;
+    out.text("\n")
+}
+
+// Shows whether the signature was verified, and the verdict.
+fn show_conclusion(is_signed: bool, is_match: bool, out: &mut CellWriter) -> Written
+    ensures { ShowsMembers result out.old out.new (conclusion_cell is_signed is_match) }
+{
+    match is_signed {
+        true => show_signed(is_match, out),
+        false => show_unsigned(out),
+    }
+}
+
+fn show_signed(is_match: bool, out: &mut CellWriter) -> Written
+    ensures { ShowsMembers result out.old out.new (signed_cell is_match) }
+{
+    out.word_member("signature", "checked")?;
+    out.word("verdict ", "verdict", verdict_word(is_match))?;
+    out.text("\n")
+}
+
+fn show_unsigned(out: &mut CellWriter) -> Written
+    ensures { ShowsMembers result out.old out.new unsigned_cell }
+{
+    out.word("signature ", "signature", "not checked")?;
+    out.word_member("verdict", "signature not checked")?;
+    out.text("\n")
+}

@@ -1,0 +1,110 @@
+//! The report on a confirmed prefix.
+
+ghost use Rattle.std.specs.Prelude.{◌≡◌, codes, option_copied, IfOk};
+ghost use Rattle.std.specs.Str.{IsUtf8};
+ghost use Rattle.boot_verdict.specs.Verdicts.{verdict_of};
+ghost use Rattle.cells.specs.Cells as cells;
+ghost use Rattle.cells.specs.Cells.{ShowsItems, ShowsMembers, if_some, object, rendered};
+ghost use Rattle.cells.specs.declared.writer.Form.TheVariants.{Json};
+ghost use Rattle.answers.specs.ReportCells.{confirmed_cell, prefix_cell, prefix_counts_cell, unconfirmed_cell};
+
+use crate::report::{meets, show_counts, show_outcome};
+use boot_verdict::{PrefixReport, Report, Requirement, Unconfirmed};
+use cells::{CellWriter, Form, Written};
+use known_files::Unknown;
+use std::alloc::{AllocError, Global};
+
+/// The report on a confirmed prefix in this form. Fails only if memory runs out.
+pub fn render_prefix(
+    alloc: Global,
+    form: Form,
+    prefix: &PrefixReport,
+    requirement: Option<&Requirement>,
+    unknown: Option<&Unknown>,
+) -> Result<Vec<u8>, AllocError>
+    ensures bytes { IfOk result (λ bytes. bytes.items ≡ rendered form (prefix_cell (option_copied requirement.entry) (option_copied unknown.entry)
+        (verdict_of prefix.now.report) prefix.now.entries prefix.now.unconfirmed)) }
+    ensures utf8 { IfOk result (λ bytes. form ≡ Json → IsUtf8 bytes.items) }
+{
+    let mut out = CellWriter::new(alloc, form);
+    show_object(alloc, prefix, requirement, unknown, &mut out)?;
+    out.into_bytes()
+}
+
+fn show_object(
+    alloc: Global,
+    prefix: &PrefixReport,
+    requirement: Option<&Requirement>,
+    unknown: Option<&Unknown>,
+    out: &mut CellWriter,
+) -> Written
+    ensures { ShowsItems result out.old out.new (object (prefix_cell (option_copied requirement.entry) (option_copied unknown.entry)
+        (verdict_of prefix.now.report) prefix.now.entries prefix.now.unconfirmed)) }
+{
+    let report = &prefix.report;
+    let is_met = meets(report, requirement);
+    out.begin()?;
+    show_prefix_counts(alloc, report, prefix.entries, prefix.unconfirmed, out)?;
+    show_outcome(alloc, report, requirement, unknown, is_met, out)?;
+    out.end()
+}
+
+/// Shows the counts of the whole list, how many of its entries the prefix has on which the report is, and what is wrong after it.
+pub(crate) fn show_prefix_counts(
+    alloc: Global,
+    report: &Report,
+    entries: usize,
+    unconfirmed: Option<Unconfirmed>,
+    out: &mut CellWriter,
+) -> Written
+    ensures { ShowsMembers result out.old out.new (prefix_counts_cell (verdict_of report.now) entries unconfirmed) }
+{
+    show_counts(report.events, report.locality, entries, out)?;
+    show_confirmed(report.entries, entries, out)?;
+    show_unconfirmed(alloc, unconfirmed, out)
+}
+
+fn show_confirmed(prefix: usize, entries: usize, out: &mut CellWriter) -> Written
+    ensures { ShowsMembers result out.old out.new (confirmed_cell prefix entries) }
+{
+    out.number("confirmed ", "confirmed", prefix as u64)?;
+    out.count(" of ", entries)?;
+    out.text(" entries\n")
+}
+
+// Shows what is wrong after the prefix, if anything.
+fn show_unconfirmed(
+    alloc: Global,
+    unconfirmed: Option<Unconfirmed>,
+    out: &mut CellWriter,
+) -> Written
+    ensures { ShowsMembers result out.old out.new (if_some unconfirmed unconfirmed_cell) }
+{
+    match unconfirmed {
+        None => Ok(()),
+        Some(fault) => show_fault(alloc, fault, out),
+    }
+}
+
+fn show_fault(alloc: Global, fault: Unconfirmed, out: &mut CellWriter) -> Written
+    ensures { ShowsMembers result out.old out.new (unconfirmed_cell fault) }
+{
+    let message = fault.message(alloc)?;
+    out.object("unconfirmed")?;
+    out.word_member("kind", fault.kind())?;
+    out.number_member("number", fault.number() as u64)?;
+    show_entry(fault.entry(), out)?;
+    out.word("", "message", &message)?;
+    out.end()?;
+    out.text("\n")
+}
+
+// Shows the entry that a fault names, if it names one.
+fn show_entry(entry: Option<usize>, out: &mut CellWriter) -> Written
+    ensures { ShowsMembers result out.old out.new (if_some entry (λ number. cells.number_member (codes "entry") number)) }
+{
+    match entry {
+        None => Ok(()),
+        Some(entry) => out.number_member("entry", entry as u64),
+    }
+}

@@ -1,0 +1,150 @@
+//! Registers: those that differ from a start, and expected ones.
+
+ghost use Rattle.std.specs.Prelude.{◌≡◌, ℕ, List, Option, option_map, IfOk};
+ghost use Rattle.std.specs.Str.{IsUtf8};
+ghost use Rattle.pcr_banks.specs.declared.alg.Alg.{Alg};
+ghost use Rattle.pcr_banks.specs.Digests.{bytes_of, digest_of};
+ghost use Rattle.boot_verdict.specs.RegisterTexts.{every_register};
+ghost use Rattle.cells.specs.Cells.{ShowsItems, ShowsMembers, each, object, rendered};
+ghost use Rattle.cells.specs.declared.writer.Form.TheVariants.{Json};
+ghost use Rattle.answers.specs.RegisterCells.{change_cell, changed_value, expected_cell, register_cell, registers_cell, value_cell};
+
+use boot_verdict::{ALL_REGISTERS, Expected, register_numbered};
+use cells::{CellWriter, Form, Written};
+use pcr_banks::{Alg, Banks, Digest};
+use std::alloc::{AllocError, Global};
+
+/// The registers whose value in `now` differs from that in `start`, or whose bank `start` lacks, in this form.
+///
+/// Fails only if memory runs out.
+pub fn render_registers(
+    alloc: Global,
+    form: Form,
+    now: &Banks,
+    start: &Banks,
+) -> Result<Vec<u8>, AllocError>
+    ensures bytes { IfOk result (λ bytes. bytes.items ≡ rendered form (registers_cell now.now start.now)) }
+    ensures utf8 { IfOk result (λ bytes. form ≡ Json → IsUtf8 bytes.items) }
+{
+    let mut out = CellWriter::new(alloc, form);
+    show_changed_object(alloc, now, start, &mut out)?;
+    out.into_bytes()
+}
+
+/// These expected registers, in order, in this form.
+///
+/// Fails only if memory runs out.
+pub fn render_expected(
+    alloc: Global,
+    form: Form,
+    expected: &[Expected],
+) -> Result<Vec<u8>, AllocError>
+    ensures bytes { IfOk result (λ bytes. bytes.items ≡ rendered form (expected_cell expected.now)) }
+    ensures utf8 { IfOk result (λ bytes. form ≡ Json → IsUtf8 bytes.items) }
+{
+    let mut out = CellWriter::new(alloc, form);
+    show_expected_object(alloc, expected, &mut out)?;
+    out.into_bytes()
+}
+
+fn show_changed_object(alloc: Global, now: &Banks, start: &Banks, out: &mut CellWriter) -> Written
+    ensures { ShowsItems result out.old out.new (object (registers_cell now.now start.now)) }
+{
+    out.begin()?;
+    out.list("registers")?;
+    show_changed(alloc, now, start, out)?;
+    out.end_list()?;
+    out.end()
+}
+
+fn show_changed(alloc: Global, now: &Banks, start: &Banks, out: &mut CellWriter) -> Written
+    ensures { ShowsItems result out.old out.new (each (λ register. change_cell now.now start.now register.0 register.1) every_register) }
+{
+    for number in 0..ALL_REGISTERS {
+        let (alg, register) = register_numbered(number);
+        show_change(alloc, now, start, alg, register, out)?;
+    }
+    Ok(())
+}
+
+// Shows the register if its value differs from that at the start.
+fn show_change(
+    alloc: Global,
+    now: &Banks,
+    start: &Banks,
+    alg: Alg,
+    register: u32,
+    out: &mut CellWriter,
+) -> Written
+    ensures { ShowsItems result out.old out.new (change_cell now.now start.now alg register) }
+{
+    let value = changed_value(start.read(alg, register), now.read(alg, register));
+    match value {
+        None => Ok(()),
+        Some(value) => show_value(alloc, alg, register, &value, out),
+    }
+}
+
+// The value, if it differs from the one before. Both must be values of one bank.
+fn changed_value(before: Option<Digest>, now: Option<Digest>) -> Option<Digest>
+    ensures { (alg : Alg) (old new : Option (List ℕ)) → before ≡ option_map (digest_of alg) old → now ≡ option_map (digest_of alg) new
+        → result ≡ option_map (digest_of alg) (changed_value old new) }
+{
+    match (now, before) {
+        (None, _) => None,
+        (Some(value), Some(before)) if value == before => None,
+        (Some(value), _) => Some(value),
+    }
+}
+
+fn show_expected_object(alloc: Global, expected: &[Expected], out: &mut CellWriter) -> Written
+    ensures { ShowsItems result out.old out.new (object (expected_cell expected.now)) }
+{
+    out.begin()?;
+    out.list("registers")?;
+    show_all(alloc, expected, out)?;
+    out.end_list()?;
+    out.end()
+}
+
+fn show_all(alloc: Global, expected: &[Expected], out: &mut CellWriter) -> Written
+    ensures { ShowsItems result out.old out.new
+        (each (λ expected. value_cell expected.alg expected.register (bytes_of expected.value)) expected.now) }
+{
+    for register in expected {
+        show_one(alloc, register, out)?;
+    }
+    Ok(())
+}
+
+fn show_one(alloc: Global, expected: &Expected, out: &mut CellWriter) -> Written
+    ensures { ShowsItems result out.old out.new
+        (value_cell expected.now.alg expected.now.register (bytes_of expected.now.value)) }
+{
+    show_value(alloc, expected.alg, expected.register, &expected.value, out)
+}
+
+// Shows a register and its value.
+fn show_value(
+    alloc: Global,
+    alg: Alg,
+    register: u32,
+    value: &Digest,
+    out: &mut CellWriter,
+) -> Written
+    ensures { ShowsItems result out.old out.new (value_cell alg register (bytes_of value.now)) }
+{
+    out.begin()?;
+    show_register(alg, register, out)?;
+    out.hex(alloc, " ", "value", value.bytes())?;
+    out.text("\n")?;
+    out.end()
+}
+
+/// Shows which register it is.
+pub(crate) fn show_register(alg: Alg, register: u32, out: &mut CellWriter) -> Written
+    ensures { ShowsMembers result out.old out.new (register_cell alg register) }
+{
+    out.word("", "bank", alg.name())?;
+    out.number(" ", "register", register as u64)
+}
