@@ -1,24 +1,19 @@
 -- Answers as text or JSON, and their exit statuses.
-use Rattle.std.specs.Prelude.{ℕ, Bool, true, false, List, ◌++◌, Option, Some, None, flat_map, ◌≡◌, ◌⊎◌, if◌then◌else◌, []}
+use Rattle.std.specs.Prelude.{ℕ, Bool, true, false, List, Option, Some, None, flat_map, ◌≡◌, ◌⊎◌, if◌then◌else◌, []}
 use Rattle.boot_verdict.specs.declared.selection.BankRange.{BankRange}
 use Rattle.boot_verdict.specs.ListVerdicts.{list_verdict_of}
 use Rattle.known_files.specs.declared.unknown.Unknown.{Unknown}
 use Rattle.attestations.specs.Reports.{attest_verdict_of}
-use Rattle.verdict_texts.specs.AttestTexts.{attest_text}
-use Rattle.verdict_texts.specs.ListReportTexts.{list_report_text, required_list_report_text}
-use Rattle.verdict_texts.specs.PositionTexts.{positions_text}
-use Rattle.boot_verdict.specs.RegisterTexts.{registers_text}
-use Rattle.verdict_texts.specs.ReportTexts.{counts_text, outcome_text}
-use Rattle.verdict_texts.specs.RequiredTexts.{required_positions_text, required_report_text}
+use Rattle.cells.specs.Cells.{Cell, rendered}
+use Rattle.cells.specs.Values.{Member}
+use Rattle.cells.specs.declared.writer.Form.{Form as CellForm}
+use Rattle.cells.specs.declared.writer.Form.TheVariants as cells
+use Rattle.answers.specs.AttestationCells.{attestation_cell}
+use Rattle.answers.specs.KeyCells.{key_cell}
+use Rattle.answers.specs.PositionCells.{positions_cell}
+use Rattle.answers.specs.RegisterCells.{expected_cell, registers_cell}
+use Rattle.answers.specs.ReportCells.{list_report_cell, prefix_cell, report_cell}
 use Rattle.boot_verdict.specs.Verdicts.{verdict_of}
-use Rattle.boot_verdict.specs.WrittenTexts.{expected_text}
-use Rattle.verdict_texts.specs.PrefixTexts.{prefix_report_text, required_prefix_report_text}
-use Rattle.tpm_keys.specs.Reports.{key_text}
-use Rattle.json.specs.Json.{Json}
-use Rattle.json_texts.specs.AttestJson.{attest_json}
-use Rattle.json_texts.specs.JsonValues.{line_of}
-use Rattle.json_texts.specs.KeyJson.{key_json}
-use Rattle.json_texts.specs.ReportJson.{positions_json, expected_json, registers_json, prefix_report_json, list_report_json, report_json}
 use Rattle.judging.specs.declared.request.Answer.{Answer}
 use Rattle.judging.specs.declared.request.Answer.TheVariants.{Attestation, Report, Prefix, Positions, ListReport, Registers, Expected, Key}
 use Rattle.judging.specs.declared.request.Answered.{Answered}
@@ -38,50 +33,35 @@ use Rattle.agent_inputs.specs.Loading.{HasReplaced, Inputs, IsNotWritten, Saved}
 use Rattle.judging.specs.Answering.{IsAnswer, IsRefusal}
 use Rattle.judging.specs.Requests.{Requested}
 
--- The lines of an answer, with whether all is well, where these registers are required, and with the entries that are not known. (Files are
--- known only beside required registers, or a quote.)
-abbrev pub lines_of : Bool → Option (List BankRange) → Option Unknown → Answer → List ℕ
-lines_of well required unknown (Attestation report) = attest_text unknown (attest_verdict_of report)
-lines_of well None unknown (Report report) =
-    counts_text (verdict_of report).events (verdict_of report).locality (verdict_of report).entries ++ outcome_text (verdict_of report) well
-lines_of well (Some ranges) unknown (Report report) = required_report_text ranges unknown (verdict_of report)
-lines_of well None unknown (Prefix prefix) = prefix_report_text (verdict_of prefix.report) prefix.entries prefix.unconfirmed
-lines_of well (Some ranges) unknown (Prefix prefix) =
-    required_prefix_report_text ranges unknown (verdict_of prefix.report) prefix.entries prefix.unconfirmed
-lines_of well None unknown (Positions positions) = positions_text positions.items
-lines_of well (Some ranges) unknown (Positions positions) = required_positions_text ranges positions.items
-lines_of well None unknown (ListReport report) = list_report_text (list_verdict_of report)
-lines_of well (Some ranges) unknown (ListReport report) = required_list_report_text ranges unknown (list_verdict_of report)
-lines_of well required unknown (Registers registers) = registers_text registers.now registers.start
-lines_of well required unknown (Expected expected) = expected_text expected.items
-lines_of well required unknown (Key report part) = key_text part report
+-- The cell of an answer, with whether all is well, the registers that are required, and the entries that are not known.
+abbrev pub answer_cell : Bool → Option (List BankRange) → Option Unknown → Answer → Cell Member
+answer_cell well required unknown (Attestation report) = attestation_cell unknown (attest_verdict_of report)
+answer_cell well required unknown (Report report) = report_cell required unknown well (verdict_of report)
+answer_cell well required unknown (Prefix prefix) =
+    prefix_cell required unknown (verdict_of prefix.report) prefix.entries prefix.unconfirmed
+answer_cell well required unknown (Positions positions) = positions_cell required positions.items
+answer_cell well required unknown (ListReport report) = list_report_cell required unknown (list_verdict_of report)
+answer_cell well required unknown (Registers registers) = registers_cell registers.now registers.start
+answer_cell well required unknown (Expected expected) = expected_cell expected.items
+answer_cell well required unknown (Key report part) = key_cell part report
 
--- An answer as JSON.
-abbrev pub json_of : Bool → Option (List BankRange) → Option Unknown → Answer → Json
-json_of well required unknown (Attestation report) = attest_json unknown (attest_verdict_of report)
-json_of well required unknown (Report report) = report_json required unknown well (verdict_of report)
-json_of well required unknown (Prefix prefix) =
-    prefix_report_json required unknown (verdict_of prefix.report) prefix.entries prefix.unconfirmed
-json_of well required unknown (Positions positions) = positions_json required positions.items
-json_of well required unknown (ListReport report) = list_report_json required unknown (list_verdict_of report)
-json_of well required unknown (Registers registers) = registers_json registers.now registers.start
-json_of well required unknown (Expected expected) = expected_json expected.items
-json_of well required unknown (Key report part) = key_json part report
+-- The form in which cells are written.
+abbrev pub cell_form : Form → CellForm
+cell_form forms.Text = cells.Text
+cell_form forms.Json = cells.Json
 
 -- The answer in this form.
 abbrev pub render : Form → Answered → List ℕ
-render forms.Text given = lines_of given.is_well given.requirement given.unknown given.answer
-render forms.Json given = line_of (json_of given.is_well given.requirement given.unknown given.answer)
+render form given = rendered (cell_form form) (answer_cell given.is_well given.requirement given.unknown given.answer)
 
 -- ---- a measurement
 
 -- What is printed of a measurement in this form: the list as text or binary, or its registers that differ from their reset values. As JSON
 -- the list is the lines of its entries.
 abbrev pub print_measured : Form → Print → Measured → List ℕ
+print_measured form prints.Registers given = rendered (cell_form form) (registers_cell given.book.banks given.reset)
 print_measured forms.Text prints.Ascii given = flat_map entry_text given.book.entries
 print_measured forms.Text prints.Binary given = exported given.book
-print_measured forms.Text prints.Registers given = registers_text given.book.banks given.reset
-print_measured forms.Json prints.Registers given = line_of (registers_json given.book.banks given.reset)
 print_measured forms.Json print given = entry_lines given.book.entries
 
 -- ---- outputs

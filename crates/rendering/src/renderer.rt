@@ -1,26 +1,17 @@
 //! Answers as text or JSON, and what the program writes if nothing is refused.
 
-ghost use Rattle.std.specs.Prelude.{◌≡◌, ◌++◌, None, IfOk, OnOk};
-ghost use Rattle.byte_streams.specs.Streams.{Sends};
-ghost use Rattle.json_texts.specs.JsonValues.{line_of};
-ghost use Rattle.judging.specs.declared.request.Answer.TheVariants as answers;
-ghost use Rattle.rendering.specs.Rendering.{answer_status, json_of, lines_of, render};
+ghost use Rattle.std.specs.Prelude.{◌≡◌, IfOk};
+ghost use Rattle.cells.specs.Cells.{rendered};
+ghost use Rattle.rendering.specs.Rendering.{answer_cell, answer_status, cell_form, render};
 
 use agent_plans::Form;
-use boot_verdict::{Report, write_expected, write_registers};
-use byte_streams::{Failed, Sink, VecSink};
-use json_texts::{
-    append_attestation, append_expected, append_key, append_list_report, append_positions,
-    append_prefix_report, append_registers, append_report,
+use answers::{
+    render_attestation, render_expected, render_key, render_list_report, render_positions,
+    render_prefix, render_registers, render_report,
 };
+use cells::Form as CellForm;
 use judging::{Answer, Answered};
 use std::alloc::{AllocError, Global};
-use tpm_keys::write_key;
-use verdict_texts::{
-    write_attestation, write_counts, write_list_report, write_outcome, write_positions,
-    write_prefix_report, write_required_list_report, write_required_positions,
-    write_required_prefix_report, write_required_report,
-};
 
 /// A whole output, before its first byte is written.
 #[derive(Drop)]
@@ -55,12 +46,8 @@ pub fn render(alloc: Global, given: &Answered, form: Form) -> Result<Output, All
     ensures text { IfOk result (λ output. output.text.items ≡ render form given.now) }
     ensures status { IfOk result (λ output. output.status ≡ answer_status given.now.is_well given.now.answer) }
 {
-    let text = match form {
-        Form::Text => lines(alloc, given)?,
-        Form::Json => line(alloc, given)?,
-    };
     Ok(Output {
-        text,
+        text: answer_bytes(alloc, given, cell_form(form))?,
         status: status_of_answer(given),
     })
 }
@@ -76,82 +63,35 @@ pub fn status_of_answer(given: &Answered) -> u8
     }
 }
 
-// The lines of an answer.
-fn lines(alloc: Global, given: &Answered) -> Result<Vec<u8>, AllocError>
-    ensures { IfOk result (λ text. text.items ≡ lines_of given.now.is_well given.now.requirement given.now.unknown given.now.answer) }
-{
-    let mut text = VecSink::new(Vec::new(alloc));
-    write_lines(given, &mut text).map_err(|_| AllocError)?;
-    Ok(text.into_bytes())
-}
-
-// Writes the lines of an answer.
-fn write_lines<S: Sink>(given: &Answered, sink: &mut S) -> Result<(), Failed>
-    ensures { Sends (S.state sink.old) (S.state sink.new) result
-        (lines_of given.now.is_well given.now.requirement given.now.unknown given.now.answer) }
-{
-    let unknown = given.unknown.as_ref();
-    match (&given.answer, given.requirement.as_ref()) {
-        (Answer::Attestation(report), _) => write_attestation(report, unknown, sink),
-        (Answer::Report(report), None) => write_report(report, given.is_well, sink),
-        (Answer::Report(report), Some(ranges)) => write_required_report(
-            report, ranges, unknown, sink,
-        ),
-        (Answer::Prefix(prefix), None) => write_prefix_report(prefix, sink),
-        (Answer::Prefix(prefix), Some(ranges)) => write_required_prefix_report(
-            prefix, ranges, unknown, sink,
-        ),
-        (Answer::Positions(positions), None) => write_positions(positions, sink),
-        (Answer::Positions(positions), Some(ranges)) => write_required_positions(
-            positions, ranges, sink,
-        ),
-        (Answer::ListReport(list), None) => write_list_report(list, sink),
-        (Answer::ListReport(list), Some(ranges)) => write_required_list_report(
-            list, ranges, unknown, sink,
-        ),
-        (Answer::Registers(banks), _) => write_registers(&banks.now, &banks.start, sink),
-        (Answer::Expected(expected), _) => write_expected(expected, sink),
-        (Answer::Key { report, part }, _) => write_key(report, *part, sink),
-    }
-}
-
-// Writes a report where no registers are required.
-fn write_report<S: Sink>(report: &Report, is_match: bool, sink: &mut S) -> Result<(), Failed>
-    ensures { Sends (S.state sink.old) (S.state sink.new) result (lines_of is_match None None (answers.Report report.now)) }
-{
-    write_counts(report.events, report.locality, report.entries, sink)?;
-    write_outcome(report, is_match, sink)
-}
-
-// The line of JSON of an answer.
-fn line(alloc: Global, given: &Answered) -> Result<Vec<u8>, AllocError>
-    ensures { IfOk result (λ line. line.items
-        ≡ line_of (json_of given.now.is_well given.now.requirement given.now.unknown given.now.answer)) }
-{
-    let mut line = Vec::new(alloc);
-    append_line(alloc, given, &mut line)?;
-    Ok(line)
-}
-
-// Appends it.
-fn append_line(alloc: Global, given: &Answered, line: &mut Vec<u8>) -> Result<(), AllocError>
-    ensures { OnOk result (line.new.items ≡ line.old.items
-        ++ line_of (json_of given.now.is_well given.now.requirement given.now.unknown given.now.answer)) }
+// The answer in this form.
+fn answer_bytes(alloc: Global, given: &Answered, form: CellForm) -> Result<Vec<u8>, AllocError>
+    ensures { IfOk result (λ bytes. bytes.items
+        ≡ rendered form (answer_cell given.now.is_well given.now.requirement given.now.unknown given.now.answer)) }
 {
     let requirement = given.requirement.as_ref();
     let unknown = given.unknown.as_ref();
     match &given.answer {
-        Answer::Attestation(report) => append_attestation(alloc, report, unknown, line),
+        Answer::Attestation(report) => render_attestation(alloc, form, report, unknown),
         Answer::Report(report) => {
-            append_report(alloc, report, requirement, unknown, given.is_well, line)
+            render_report(alloc, form, report, requirement, unknown, given.is_well)
         }
-        Answer::Prefix(prefix) => append_prefix_report(alloc, prefix, requirement, unknown, line),
-        Answer::Positions(positions) => append_positions(alloc, positions, requirement, line),
+        Answer::Prefix(prefix) => render_prefix(alloc, form, prefix, requirement, unknown),
+        Answer::Positions(positions) => render_positions(alloc, form, positions, requirement),
         Answer::ListReport(report) => {
-            append_list_report(alloc, report, requirement, unknown, line)
+            render_list_report(alloc, form, report, requirement, unknown)
         }
-        Answer::Registers(banks) => append_registers(alloc, &banks.now, &banks.start, line),
-        Answer::Expected(expected) => append_expected(alloc, expected, line),
-        Answer::Key { report, part } => append_key(alloc, report, *part, line),
+        Answer::Registers(banks) => render_registers(alloc, form, &banks.now, &banks.start),
+        Answer::Expected(expected) => render_expected(alloc, form, expected),
+        Answer::Key { report, part } => render_key(alloc, form, report, *part),
+    }
+}
+
+// The form in which cells are written.
+fn cell_form(form: Form) -> CellForm
+    ensures { result ≡ cell_form form }
+{
+    match form {
+        Form::Text => CellForm::Text,
+        Form::Json => CellForm::Json,
     }
 }
