@@ -81,6 +81,11 @@ seal_line body = codes "sha256 " ++ (encode_lower (hash_of Sha256 body) ++ codes
 abbrev pub checkpoint_text : SavedState → List ℕ
 checkpoint_text state = checkpoint_body state ++ seal_line (checkpoint_body state)
 
+-- The text begins as that of a checkpoint of this version does.
+pub record IsOfThisVersion (text : List ℕ) : Type 0 where
+  pub rest : List ℕ
+  pub begins : text ≡ codes "ima-agent checkpoint " ++ (codes "3\n" ++ rest)
+
 -- The text begins as that of a checkpoint does, but then does not have this version.
 pub record IsOfOtherVersion (text : List ℕ) : Type 0 where
   pub version : List ℕ

@@ -12,7 +12,7 @@ ghost use Rattle.boot_verdict.specs.declared.checkpoint.Checkpoint.{Checkpoint};
 ghost use Rattle.boot_verdict.specs.declared.isolation.Stray.{Stray};
 ghost use Rattle.boot_verdict.specs.RegisterTexts.{all_registers, register_line};
 ghost use Rattle.growing_lists.specs.CheckpointData.{HasTakenNothing, HaveValues, IsBoot, IsCounted, IsHash, IsPossible, IsPossibleState, IsSameState, IsStrayOf, SameData, SameValues};
-ghost use Rattle.growing_lists.specs.CheckpointTexts.{IsOfOtherVersion, bank_lines, banks_lines, boot_lines, checkpoint_text, data_lines, state_lines, number_line, recorded_line, recorded_words, stray_entry, stray_lines, stray_register, value_line};
+ghost use Rattle.growing_lists.specs.CheckpointTexts.{IsOfOtherVersion, IsOfThisVersion, bank_lines, banks_lines, boot_lines, checkpoint_text, data_lines, state_lines, number_line, recorded_line, recorded_words, stray_entry, stray_lines, stray_register, value_line};
 ghost use Rattle.growing_lists.specs.declared.saved_state.Boot.{Boot};
 ghost use Rattle.growing_lists.specs.declared.saved_state.SavedState.{SavedState};
 ghost use Rattle.growing_lists.specs.parts.CheckpointParts.{HasBank, Sets, TakesBank};
@@ -33,7 +33,7 @@ use std::alloc::{AllocError, Global};
 ///
 /// Fails with [`CheckpointFault::Version`] if the text begins as that of a checkpoint does, but has another version; with
 /// [`CheckpointFault::Damaged`] if it is not the text of a checkpoint, or of one whose data do not fit together; or with
-/// [`CheckpointFault::Memory`].
+/// [`CheckpointFault::Memory`], which is possible only if it begins as that of a checkpoint of this version does.
 pub fn read_checkpoint(alloc: Global, text: &[u8]) -> Result<SavedState, CheckpointFault>
     // The text is that of the result, which is possible.
     ensures found { IfOk result (λ found. IsPossibleState found × (text.now ≡ checkpoint_text found)) }
@@ -44,6 +44,7 @@ pub fn read_checkpoint(alloc: Global, text: &[u8]) -> Result<SavedState, Checkpo
     ensures one { (first second : SavedState) → IsPossibleState first → IsPossibleState second → text.now ≡ checkpoint_text first
         → text.now ≡ checkpoint_text second → IsSameState first second }
     ensures version { IsErrOf result CheckpointFault.Version ↔ IsOfOtherVersion text.now }
+    ensures memory { IsErrOf result CheckpointFault.Memory → IsOfThisVersion text.now }
 {
     let Some(version) = after_prefix(b"ima-agent checkpoint ", text) else {
         return Err(CheckpointFault::Damaged);

@@ -79,7 +79,7 @@ use Rattle.boot_verdict.specs.ExpectedTexts.{BeginsWithRegister, HasFirstFault, 
 use Rattle.boot_verdict.specs.PrintedTexts.{HasPrintedFault, IsPrintedText, PrintsRegister}
 use Rattle.boot_verdict.specs.Replays.{IsListStart}
 use Rattle.boot_verdict.specs.Selections.{BeginsWithBankRange, SpellsRanges, those_selected}
-use Rattle.growing_lists.specs.CheckpointTexts.{IsOfOtherVersion, checkpoint_text}
+use Rattle.growing_lists.specs.CheckpointTexts.{IsOfOtherVersion, IsOfThisVersion, checkpoint_text}
 use Rattle.judging.specs.declared.request.Answered.{Answered}
 use Rattle.judging.specs.declared.answers.Evidence.{Evidence as HeldEvidence}
 
@@ -419,13 +419,14 @@ evidence_of held = record {
   files = held.files;
 }
 
--- Why a text is not read as a checkpoint: it is of another version; or it is not, and no possible checkpoint's text, or memory ran out.
+-- Why a text is not read as a checkpoint: it is of another version; or it is not, and no possible checkpoint's text; or it begins as one of this
+-- version does, and memory ran out.
 abbrev pub IsNoCheckpoint : List ℕ → RunFault → Type 0
 IsNoCheckpoint text fault =
     ((fault ≡ runs.Checkpoint Version) × IsOfOtherVersion text)
     ⊎ ((fault ≡ runs.Checkpoint Damaged) × (IsOfOtherVersion text → ⊥)
     × ((state : SavedState) → IsPossibleState state → text ≡ checkpoint_text state → ⊥))
-    ⊎ ((fault ≡ runs.Memory) × (IsOfOtherVersion text → ⊥))
+    ⊎ ((fault ≡ runs.Memory) × IsOfThisVersion text)
 
 -- Why a text does not state expected registers: the fault is that of its first wrong line; or its first lines state one, and memory ran out.
 abbrev pub IsNotExpected : List ℕ → RunFault → Type 0

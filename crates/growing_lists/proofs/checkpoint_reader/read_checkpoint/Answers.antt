@@ -1,4 +1,4 @@
-use Rattle.std.proofs.Common.{◌++◌, ◌∙◌, codes, sym, subst, ◌≡◌}
+use Rattle.std.proofs.Common.{◌++◌, ◌∙◌, List, ap, codes, sym, subst, ◌≡◌, ℕ}
 use Rattle.growing_lists.specs.declared.saved_state.SavedState.{SavedState}
 use Rattle.growing_lists.specs.CheckpointData.{IsSameState}
 use Rattle.growing_lists.specs.CheckpointTexts.{checkpoint_body, checkpoint_text, state_lines, seal_line}
@@ -72,3 +72,10 @@ returns-clause-one c =
     same_both c.in-Some-state_at.state first second
     (c.in-Some-state_at.ensures first (seal_line (checkpoint_body first)) possible (lines first is))
     (c.in-Some-state_at.ensures second (seal_line (checkpoint_body second)) other (lines second also))
+
+pub returns-clause-memory : goal.returns-clause-memory
+returns-clause-memory c =
+    λ memory. record {
+      rest = c.in-Some-after_prefix.lines.now;
+      begins = c.in-Some.ensures.found ∙ ap (λ (version : List ℕ). codes "ima-agent checkpoint " ++ version) c.in-Some-after_prefix.ensures.found;
+    }
