@@ -6,3 +6,4 @@ pub mod MatchingLaws
 pub mod BootLaws
 pub mod QuotedLaws
 pub mod HintLaws
+pub mod OldLaws

@@ -3,9 +3,11 @@ pub mod Showing
 pub mod Matching
 pub mod ShowingEvents
 pub mod ShowingBoot
+pub mod Heads
 pub mod Hints
 pub mod HintTexts
 pub mod Mistakes
+pub mod OldAggregates
 pub mod Program
 pub mod Refused
 pub mod Saying

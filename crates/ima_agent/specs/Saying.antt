@@ -1,7 +1,7 @@
 -- When a person is told beside the output why a run failed, or what to do next; and what to do next.
-use Rattle.std.specs.Prelude.{◌≡◌, ℕ, ◌⊎◌, ◌++◌, ◌∷◌, Bool, false, ◌||◌, List, [], codes, flat_map, take, Option, None, Some, MatchOption, IfSome, IfNone, IsTrue}
+use Rattle.std.specs.Prelude.{◌≡◌, ℕ, ◌⊎◌, ◌++◌, ◌∷◌, Bool, false, ◌||◌, List, [], codes, flat_map, take, Option, None, Some, MatchOption, IfSome, IfNone}
 use Rattle.agent_inputs.specs.declared.fault.RunFault.{RunFault}
-use Rattle.agent_inputs.specs.Loading.{Inputs, OfInput}
+use Rattle.agent_inputs.specs.Loading.{Inputs}
 use Rattle.agent_plans.specs.declared.plan.Question.{Question}
 use Rattle.agent_plans.specs.declared.plan.Question.TheVariants as questions
 use Rattle.agent_plans.specs.declared.plan.Task.{Task}
@@ -12,11 +12,13 @@ use Rattle.ima_agent.specs.declared.causes.Grown.{Grown}
 use Rattle.ima_agent.specs.declared.mistakes.Mistake.{Mistake}
 use Rattle.ima_agent.specs.declared.mistakes.Wanted.{Wanted}
 use Rattle.ima_agent.specs.Escaping.{escape}
+use Rattle.ima_agent.specs.Heads.{IsLookedAt}
 use Rattle.ima_agent.specs.Hints.{IsGrown, IsNotGrown, IsNotSeen, IsSeen}
 use Rattle.ima_agent.specs.HintTexts.{hints_of, mistake_words, shown_hint}
 use Rattle.ima_agent.specs.Mistakes.{mistake_in}
+use Rattle.ima_agent.specs.OldAggregates.{IsSaidOld}
 use Rattle.ima_agent.specs.Program.{requested_by, with_known}
-use Rattle.ima_agent.specs.Refused.{refused_input}
+use Rattle.ima_agent.specs.Refused.{list_of, log_of, refused_input}
 use Rattle.ima_agent.specs.declared.explanations.Failure.{Failure}
 use Rattle.ima_agent.specs.declared.explanations.Failure.TheVariants as failures
 
@@ -40,25 +42,15 @@ abbrev pub without_known : Question → Requested
 without_known question = with_known [] (requested_by question)
 
 -- Three lines at most, on the causes for which what is asked for differs when the inputs are judged once more, and on a prefix of the list, if all
--- is well with one but for files that are not known. Whether a boot aggregate that is another is an older kernel's is left open. Nothing is said
--- only where it differs no longer, or cannot be judged again.
+-- is well with one but for files that are not known; and whether the question's list records an older kernel's aggregate. Nothing is said only
+-- where it differs no longer, or cannot be judged again.
 abbrev pub TellsCauses : Inputs → Question → List ℕ → Type 0
 TellsCauses inputs question text =
     (IsNotSeen inputs (requested_by question) × (text ≡ []))
     ⊎ ((causes : Causes) × (grown : Option Grown) × (is_old : Bool) × IsSeen inputs (requested_by question) causes
     × IfSome grown (IsGrown inputs (without_known question)) × IfNone grown (IsNotGrown inputs (without_known question))
+    × IsSaidOld inputs (log_of (tasks.Answer question)) (list_of (tasks.Answer question)) is_old
     × (text ≡ flat_map shown_hint (take 3 (hints_of causes grown is_old))))
-
--- These bytes begin the others, and are none only where those are none.
-pub record IsHead (head bytes : List ℕ) : Type 0 where
-  pub rest : List ℕ
-  pub whole : bytes ≡ head ++ rest
-  pub some : head ≡ [] → bytes ≡ []
-
--- The first bytes of the file of this name; none if it may fail.
-abbrev pub IsLookedAt : Inputs → List ℕ → Option (List ℕ) → Type 0
-IsLookedAt inputs name None = IsTrue (inputs.may_fail (Some name))
-IsLookedAt inputs name (Some head) = OfInput inputs (Some name) (IsHead head)
 
 -- The line that names an input, and says what it is; nothing if that cannot be told.
 abbrev pub mistake_line : List ℕ → Option Mistake → List ℕ

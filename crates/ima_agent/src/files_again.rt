@@ -1,10 +1,12 @@
 //! Files that are read again, after a run.
 
-ghost use Rattle.std.specs.Prelude.{◌≡◌, option_map, IfOk};
-ghost use Rattle.ima_agent.specs.Saying.{IsLookedAt};
+ghost use Rattle.std.specs.Prelude.{◌≡◌, option_map, IfOk, IfSome, IsErrOf};
+ghost use Rattle.byte_streams.specs.declared.pieces.ReadFault.{ReadFault};
+ghost use Rattle.agent_inputs.specs.Loading.{HasFailed};
+ghost use Rattle.ima_agent.specs.Heads.{IsHead, IsLookedAt};
 
 use agent_inputs::{AgentFiles, Files, LoadFault, ReadSource, SharedFiles};
-use byte_streams::{Failed, PieceReader, ReadFault};
+use byte_streams::{Failed, PieceReader, ReadFault, Source};
 use pcr_banks::{Alg, Digest};
 use std::alloc::{AllocError, Global};
 use std::fs::{self, File};
@@ -76,6 +78,9 @@ impl SharedFiles for NoneShared {
     }
 }
 
+/// As many bytes of a file are looked at, unless it has fewer.
+const HEAD_SIZE: usize = 4096;
+
 /// The first bytes of the file of this name, if it can be read.
 pub(crate) fn head_of<F: AgentFiles>(
     alloc: Global,
@@ -89,10 +94,25 @@ pub(crate) fn head_of<F: AgentFiles>(
     let Ok(mut source) = files.source(Some(name)) else {
         return Ok(None);
     };
-    let mut head = Vec::new(alloc);
-    match PieceReader::new(alloc).read(&mut source, &mut head) {
-        Ok(_) => Ok(Some(head)),
+    match first_bytes(alloc, &mut source) {
+        Ok(head) => Ok(Some(head)),
         Err(ReadFault::Source) => Ok(None),
         Err(ReadFault::Memory) => Err(AllocError),
     }
+}
+
+// The first bytes that a source gives.
+fn first_bytes<R: Source>(alloc: Global, source: &mut R) -> Result<Vec<u8>, ReadFault>
+    ensures head { IfOk result (λ bytes. IfSome (R.state source.old).remaining (IsHead bytes.items)) }
+    ensures failing { IsErrOf result ReadFault.Source → HasFailed (R.state source.old) (R.state source.new) }
+{
+    let mut pieces = PieceReader::new(alloc);
+    let mut bytes = Vec::new(alloc);
+    while bytes.len() < HEAD_SIZE {
+        let count = pieces.read(source, &mut bytes)?;
+        if count == 0 {
+            return Ok(bytes);
+        }
+    }
+    Ok(bytes)
 }

@@ -72,7 +72,7 @@ fn on_difference<F: AgentFiles>(
         None => Ok(String::new(alloc)),
         Some(causes) => {
             let grown = grown_seen(alloc, files, request_of(question, &[]));
-            let is_old = is_old_aggregate(alloc, files, task);
+            let is_old = is_old_aggregate(alloc, files, task)?;
             hints_on(alloc, &causes, grown, is_old)
         }
     }

@@ -1,5 +1,5 @@
 use Rattle.ima_agent.proofs.HintLaws.{head_given}
 use Rattle.ima_agent.proofs.files_again.head_of.Goals as goal
 
-pub returns-in-Ok-read-clause-head : goal.returns-in-Ok-read-clause-head
-returns-in-Ok-read-clause-head g c = head_given _ _ _ _ _ _ c.new-head.ensures.items c.in-Ok.ensures.gives c.in-Ok-read.ensures.gives
+pub returns-in-Ok-first_bytes-clause-head : goal.returns-in-Ok-first_bytes-clause-head
+returns-in-Ok-first_bytes-clause-head g c = head_given _ _ _ c.in-Ok.ensures.gives c.in-Ok-first_bytes.ensures.head
