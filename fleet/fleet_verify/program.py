@@ -136,8 +136,8 @@ def _running(words: Sequence[str], folder: Path, seconds: float, told: IO[bytes]
             os.killpg(process.pid, signal.SIGKILL)
 
     watch = threading.Timer(seconds, end)
-    watch.start()
     try:
+        watch.start()  # (a signal may come meanwhile)
         yield process
         process.wait()
     finally:

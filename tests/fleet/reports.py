@@ -35,6 +35,12 @@ for number in range(10):
 print([line["number"] for line in output.lines], output.total)
 """
 BOUNDS_WANTED = "[0, 1, 2, 3, 4, 8, 9] 10"
+# Has a process be slow where it begins to watch the time of a program.
+LINGERING = """
+import threading, time
+start = threading.Timer.start
+threading.Timer.start = lambda watch: (start(watch), time.sleep(5))
+"""
 # Register 10 of samples/real-boot, and after its longer list.
 TEN = "e8ed95b94e8d66f42e5b9be4d794dc0c7701e2360f03537fe59e9ba861a8024f"
 LONGER = "a2bcf779880ae33077f9e7992851299f30cea5f6cffc6512de6cd10aa457a7f3"
@@ -539,13 +545,17 @@ def test_stopped_report(tools, folder):
     boot, rest, begun = make_boot(folder / "stopped"), folder / "temporary", folder / "begun"
     rest.mkdir()
     slow = write_program(folder / "slow", f": >'{begun}'; exec sleep 1000")
-    for number in (signal.SIGTERM, signal.SIGINT):
-        words = [tools.python, ROOT / "fleet/report.py", "--program", slow, boot]
-        process = subprocess.Popen(words, env={**tools.environment, "TMPDIR": str(rest)}, stdout=subprocess.DEVNULL, stderr=subprocess.DEVNULL)
+    (folder / "sitecustomize.py").write_text(LINGERING)
+    for number, title, path in (
+        (signal.SIGTERM, "", ""), (signal.SIGINT, "", ""), (signal.SIGTERM, ", as the program starts", f"{folder}:"),
+    ):
+        words, given = [tools.python, ROOT / "fleet/report.py", "--program", slow, boot], {**tools.environment, "TMPDIR": str(rest)}
+        given["PYTHONPATH"] = path + given["PYTHONPATH"]
+        process = subprocess.Popen(words, env=given, stdout=subprocess.DEVNULL, stderr=subprocess.DEVNULL)
         until("the program", begun.exists, process)
         process.send_signal(number)
         found = (process.wait(SECONDS), list(rest.iterdir()))
-        tools.check(f"a report that is stopped by {number.name}", found, (3, []))
+        tools.check(f"a report that is stopped by {number.name}{title}", found, (3, []))
         begun.unlink()
 
 
