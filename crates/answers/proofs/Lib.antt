@@ -1,1 +1,6 @@
+pub mod AttestationLaws
 pub mod ChangeLaws
+pub mod KeyLaws
+pub mod LineLaws
+pub mod MemberLaws
+pub mod TextLaws

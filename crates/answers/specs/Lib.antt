@@ -1,4 +1,5 @@
 pub mod AttestationCells
+pub mod Counted
 pub mod KeyCells
 pub mod PositionCells
 pub mod RegisterCells

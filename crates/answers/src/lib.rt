@@ -3,6 +3,7 @@
 
 mod attestation;
 mod keys;
+pub mod laws;
 mod list_report;
 mod positions;
 mod prefix;

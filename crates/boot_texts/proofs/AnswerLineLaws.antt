@@ -16,7 +16,7 @@ use Rattle.json_texts.specs.ContentTexts.{text_or_hex}
 use Rattle.json_texts.specs.JsonValues.{IsCount, IsOneLine, hex_json, optional}
 use Rattle.json_texts.proofs.ContentLaws.{content_plain}
 use Rattle.json_texts.proofs.CountLaws.{content_counted}
-use Rattle.json_texts.proofs.LineLaws.{ArePlain, IsPlain, line_within, members_joined}
+use Rattle.cells.proofs.LineLaws.{ArePlain, IsPlain, line_within, members_joined}
 use Rattle.json_texts.proofs.ValueLaws.{text_plain}
 use Rattle.boot_texts.specs.AnswerLines.{answered_digest, boot_variable_type, command_json, image_json, kind_members, text_json, text_member, unanswered_json, untold_json, variable_json, version_json, word_json}
 use Rattle.boot_texts.specs.Policies.{asking_json}

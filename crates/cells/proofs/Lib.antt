@@ -1,1 +1,3 @@
 pub mod CellLaws
+pub mod FaultMemberLaws
+pub mod LineLaws

@@ -1,11 +1,14 @@
--- Values of JSON (RFC 8259), by their members and items.
-use Rattle.std.specs.Prelude.{ℕ, List, [], ◌∷◌, ◌++◌, codes, decimal}
+-- Values of JSON (RFC 8259), by their members and items, and their lines.
+use Rattle.std.specs.Prelude.{◌≡◌, ℕ, ◌^◌, ◌<◌, nat_le, Bool, true, List, [], ◌∷◌, ◌++◌, codes, decimal, Some}
+use Rattle.std.specs.List.{list_all}
 use Rattle.hex.specs.Hex.{encode_lower}
 use Rattle.json.specs.Token.{Token, key}
-use Rattle.json.specs.Json.{Json, Items, Members}
+use Rattle.json.specs.Json.{Json, Items, Members, document}
 use Rattle.json.specs.Json as json
 use Rattle.json.specs.Print.{print}
 use Rattle.json.specs.Tree.{json_tokens}
+
+-- ---- values
 
 -- A member of an object: its name, and its value.
 abbrev pub Member : Type 0
@@ -27,6 +30,10 @@ items_of (first ∷ values) = json.item first (items_of values)
 abbrev pub array_of : List Json → Json
 array_of values = json.array (items_of values)
 
+-- A number as code holds it fits in 64 bits.
+abbrev pub IsCount : ℕ → Type 0
+IsCount number = number < 2 ^ 64
+
 -- A number, in decimal.
 abbrev pub number_json : ℕ → Json
 number_json number = json.number (decimal number)
@@ -39,6 +46,17 @@ hex_json bytes = json.string (encode_lower bytes)
 abbrev pub member_tokens : Member → List Token
 member_tokens member = key member.0 ∷ json_tokens member.1
 
+-- ---- lines
+
 -- The value's line: its text, without spaces between tokens, and a line feed.
 abbrev pub line_of : Json → List ℕ
 line_of value = print (json_tokens value) ++ codes "\n"
+
+-- No byte is a control character, such as a line feed.
+abbrev pub has_no_control : List ℕ → Bool
+has_no_control bytes = list_all (λ byte. nat_le 32 byte) bytes
+
+-- The value's text reads back as the value, and has no control character: so each line feed of a stream of lines ends a line.
+pub record IsOneLine (value : Json) : Type 0 where
+  pub reads_back : document (print (json_tokens value)) ≡ Some value
+  pub in_line : has_no_control (print (json_tokens value)) ≡ true

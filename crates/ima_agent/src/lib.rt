@@ -46,7 +46,4 @@ pub use program::{exit_code, read_words, run, run_with_progress};
 pub use progress::{NoProgress, Progress, SystemProgress, Terminals};
 pub use rendering::{Output, json_fault_line, json_memory_line, status_of, write_fault};
 pub use second_look::{hint, hint_from};
-pub use verdict_texts::{
-    EventData, write_events, write_positions, write_report, write_required_positions,
-    write_required_report,
-};
+pub use verdict_texts::{EventData, write_events, write_positions, write_report};

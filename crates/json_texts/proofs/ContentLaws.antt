@@ -20,8 +20,7 @@ use Rattle.json_texts.specs.ContentTexts.{guid_json, text_or_hex}
 use Rattle.json_texts.specs.JsonValues.{IsCount, items_of}
 use Rattle.json_texts.specs.ValueJson.{IsCountedValue, list_json, load_option_json, option_number_json, owner_values, owners_after, value_members}
 use Rattle.json_texts.specs.VariableJson.{variable_json}
-use Rattle.json_texts.proofs.LineLaws.{ArePlain, IsPlain, ItemsArePlain, members_joined}
-use Rattle.json_texts.proofs.ValueLaws.{values_joined}
+use Rattle.cells.proofs.LineLaws.{ArePlain, IsPlain, ItemsArePlain, members_joined, values_joined}
 
 -- ---- parts
 

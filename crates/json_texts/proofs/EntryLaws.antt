@@ -13,7 +13,7 @@ use Rattle.ima_list.specs.Templates.{template_named}
 use Rattle.json_texts.specs.JsonValues.{IsOneLine}
 use Rattle.json_texts.specs.EntryJson.{content_members, entry_json, signature_members}
 use Rattle.json_texts.proofs.KernelFieldLaws.{fields_plain}
-use Rattle.json_texts.proofs.LineLaws.{ArePlain, one_line}
+use Rattle.cells.proofs.LineLaws.{ArePlain, one_line}
 
 pub not_utf8 : (bytes : List ℕ) → (IsUtf8 bytes → ⊥) → is_utf8 bytes ≡ false
 not_utf8 bytes other = false_from_ne_true (is_utf8 bytes) (λ is. other (IsUtf8-from_is_utf8 bytes is))

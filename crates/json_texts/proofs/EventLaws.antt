@@ -19,8 +19,8 @@ use Rattle.json_texts.specs.EventJson.{confirmed_members, confirmed_word, conten
 use Rattle.json_texts.specs.JsonValues.{IsCount, IsOneLine, members_of, optional}
 use Rattle.json_texts.proofs.ContentLaws.{content_plain}
 use Rattle.json_texts.proofs.CountLaws.{content_counted}
-use Rattle.json_texts.proofs.FaultMemberLaws.{AreOther, lacks, others_joined}
-use Rattle.json_texts.proofs.LineLaws.{ArePlain, IsPlain, line_within, members_joined}
+use Rattle.cells.proofs.FaultMemberLaws.{AreOther, lacks, others_joined}
+use Rattle.cells.proofs.LineLaws.{ArePlain, IsPlain, line_within, members_joined}
 use Rattle.json_texts.proofs.ValueLaws.{digests_plain, text_plain}
 
 -- ---- one line

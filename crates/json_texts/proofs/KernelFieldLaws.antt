@@ -12,7 +12,7 @@ use Rattle.ima_list.specs.FieldKinds.{digest_in_field}
 use Rattle.ima_list.specs.KernelFields.{FieldData, typed_digest_in}
 use Rattle.json_texts.specs.JsonValues.{items_of, number_json}
 use Rattle.json_texts.specs.KernelFieldJson.{digest_members, field_members, fields_json, fields_members, number16_members, number32_members, numbers_in, small_json, typed_members}
-use Rattle.json_texts.proofs.LineLaws.{ArePlain, IsPlain, ItemsArePlain, members_joined}
+use Rattle.cells.proofs.LineLaws.{ArePlain, IsPlain, ItemsArePlain, members_joined}
 
 small_by : (n most : ℕ) (b : Bool) → nat_lt n (2 ^ 32) ≡ b → IsPlain (cond b (number_json n) null) most
 small_by n most true e = (n, omega (arith, ltb-true n (2 ^ 32) e), refl)

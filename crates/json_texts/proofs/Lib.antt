@@ -1,12 +1,9 @@
-pub mod LineLaws
 pub mod WrittenLaws
 pub mod KernelFieldLaws
 pub mod EntryLaws
 pub mod SameEntryLaws
 pub mod ValueLaws
-pub mod FaultMemberLaws
-pub mod AttestLaws
-pub mod KeyLaws
+pub mod EntryMemberLaws
 pub mod ContentLaws
 pub mod CountLaws
 pub mod EventLaws

@@ -15,7 +15,7 @@ use Rattle.ima_list.specs.Rows.{row_spelling, row_told}
 use Rattle.ima_list.specs.Templates.{template_name, template_named, template_row}
 use Rattle.json_texts.specs.JsonValues.{line_of, members_of, shown_name, shown_text}
 use Rattle.json_texts.specs.EntryJson.{HasBytes, IsKnown, content_members, entry_json, signature_members}
-use Rattle.json_texts.proofs.LineLaws.{same_line}
+use Rattle.cells.proofs.LineLaws.{same_line}
 use Rattle.json_texts.proofs.EntryLaws.{entry_line}
 
 -- ---- bytes

@@ -2,7 +2,6 @@ pub mod JsonValues
 pub mod EntryJson
 pub mod KernelFieldJson
 pub mod FaultJson
-pub mod ReportJson
 pub mod SteeringTexts
 pub mod ContentTexts
 pub mod ValueJson
@@ -13,6 +12,4 @@ pub mod ExplainedTexts
 pub mod ItemLines
 pub mod SentEntries
 pub mod SentEvents
-pub mod AttestJson
-pub mod KeyJson
 pub mod parts

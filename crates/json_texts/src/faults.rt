@@ -55,8 +55,8 @@ fn write_fault(fault: &FaultText<'_>, writer: &mut Writer) -> Written
     Ok(())
 }
 
-/// Writes a member that tells a fault.
-pub(crate) fn write_fault_member(name: &str, fault: &FaultText<'_>, writer: &mut Writer) -> Written
+// Writes a member that tells a fault.
+fn write_fault_member(name: &str, fault: &FaultText<'_>, writer: &mut Writer) -> Written
     ensures { WritesMembers result writer.old writer.new
         ((name.now, object_of (fault_members fault.now.kind.now fault.now.number fault.now.place fault.now.message.now)) ∷ []) }
 {

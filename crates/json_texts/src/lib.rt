@@ -1,5 +1,4 @@
-//! What this project tells, as lines of JSON (RFC 8259): reports, also by a quote, positions, registers, a log's events, a list's entries, keys,
-//! and faults.
+//! Lines of JSON (RFC 8259): a log's events, a list's entries, and faults. Those of other answers are in `answers`.
 //!
 //! Each value is an object on one line, in UTF-8. Its members have a fixed order. Numbers are JSON numbers; digests and data are strings
 //! of lower case hexadecimal digits. A line is appended to a vector of the caller's; [`send_entries`] sends the lines of a list to a sink,
@@ -7,7 +6,6 @@
 //! For other lines there are the writers of their parts, as [`write_text`]: a line is begun ([`begin_line`]), written and ended ([`end_line`]).
 #![tactic(auto)]
 
-mod attestation;
 mod content_texts;
 mod contents;
 mod entries;
@@ -18,23 +16,16 @@ mod events;
 mod explained;
 mod faults;
 mod kernel_fields;
-mod keys;
 pub mod laws;
 mod lines;
 mod marks;
 mod measured;
 mod members;
 mod partitions;
-mod positions;
-mod registers;
-mod reports;
-mod rows;
 mod steering;
-mod unknown;
 mod values;
 mod variables;
 
-pub use attestation::append_attestation;
 pub use content_texts::write_wide;
 pub use contents::{command_word, write_content, write_form};
 pub use entries::{append_entry, append_entry_count};
@@ -44,10 +35,6 @@ pub use event_lines::{EventsFault, send_events};
 pub use events::{append_event, append_header};
 pub use explained::append_content;
 pub use faults::{FaultPlace, FaultText, append_fault};
-pub use keys::append_key;
 pub use lines::{Written, begin_line, end_line};
 pub use members::{write_hex, write_number, write_shown, write_text};
-pub use positions::{append_positions, finds};
-pub use registers::{append_expected, append_registers};
-pub use reports::{append_list_report, append_prefix_report, append_report, list_meets, meets};
 pub use steering::append_unsteered;

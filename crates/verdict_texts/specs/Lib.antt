@@ -2,8 +2,3 @@ pub mod EventTexts
 pub mod Gathering
 pub mod ReportTexts
 pub mod PositionTexts
-pub mod UnknownTexts
-pub mod RequiredTexts
-pub mod PrefixTexts
-pub mod ListReportTexts
-pub mod AttestTexts

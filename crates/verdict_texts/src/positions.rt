@@ -22,7 +22,7 @@ pub fn write_positions<S: Sink>(located: &[Located], sink: &mut S) -> Result<(),
     send(found_line(all_found(located)), sink)
 }
 
-pub(crate) fn write_all<S: Sink>(located: &[Located], sink: &mut S) -> Result<(), Failed>
+fn write_all<S: Sink>(located: &[Located], sink: &mut S) -> Result<(), Failed>
     ensures { Sends (S.state sink.old) (S.state sink.new) result (flat_map located_text located.now) }
 {
     for row in located {
@@ -61,7 +61,7 @@ fn position_digits<'a>(position: Position, room: &'a mut Buffer) -> &'a [u8]
     }
 }
 
-pub(crate) fn found_line(all_found: bool) -> &'static [u8]
+fn found_line(all_found: bool) -> &'static [u8]
     ensures { result.now ≡ found_text all_found }
 {
     if all_found {

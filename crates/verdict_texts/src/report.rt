@@ -24,8 +24,8 @@ pub fn write_report<S: Sink>(report: &Report, sink: &mut S) -> Result<(), Failed
     write_outcome(report, report.matches(), sink)
 }
 
-/// Writes the lines of events and locality, and of entries. After `Err` the sink has taken a prefix of them.
-pub fn write_counts<S: Sink>(
+// Writes the lines of events and locality, and of entries.
+fn write_counts<S: Sink>(
     events: usize,
     locality: u8,
     entries: usize,
@@ -48,9 +48,8 @@ pub fn write_counts<S: Sink>(
     send_pieces(&pieces, sink)
 }
 
-/// Writes what comes after the counts: the boot aggregate, the expected registers, and the verdict, which is `match` if the caller says so.
-/// After `Err` the sink has taken a prefix of it.
-pub fn write_outcome<S: Sink>(report: &Report, is_match: bool, sink: &mut S) -> Result<(), Failed>
+// Writes what comes after the counts: the boot aggregate, the expected registers, and the verdict, which is `match` if the caller says so.
+fn write_outcome<S: Sink>(report: &Report, is_match: bool, sink: &mut S) -> Result<(), Failed>
     ensures { Sends (S.state sink.old) (S.state sink.new) result (outcome_text (verdict_of report.now) is_match) }
 {
     write_aggregate(report.aggregate, sink)?;
@@ -58,14 +57,14 @@ pub fn write_outcome<S: Sink>(report: &Report, is_match: bool, sink: &mut S) -> 
     send(verdict_line(is_match), sink)
 }
 
-pub(crate) fn write_aggregate<S: Sink>(aggregate: Aggregate, sink: &mut S) -> Result<(), Failed>
+fn write_aggregate<S: Sink>(aggregate: Aggregate, sink: &mut S) -> Result<(), Failed>
     ensures { Sends (S.state sink.old) (S.state sink.new) result (aggregate_text aggregate) }
 {
     let word = aggregate_word(aggregate).as_bytes();
     send_pieces(&[b"boot_aggregate ", word, b"\n"], sink)
 }
 
-pub(crate) fn write_rows<S: Sink>(rows: &[Row], sink: &mut S) -> Result<(), Failed>
+fn write_rows<S: Sink>(rows: &[Row], sink: &mut S) -> Result<(), Failed>
     ensures { Sends (S.state sink.old) (S.state sink.new) result (flat_map row_text rows.now) }
 {
     for row in rows {
@@ -110,7 +109,7 @@ fn write_register_words<S: Sink>(expected: &Expected, sink: &mut S) -> Result<()
     send_pieces(&[name, b" ", register, b" "], sink)
 }
 
-pub(crate) fn verdict_line(is_match: bool) -> &'static [u8]
+fn verdict_line(is_match: bool) -> &'static [u8]
     ensures { result.now ≡ verdict_text is_match }
 {
     if is_match {

@@ -1,17 +1,9 @@
-use Rattle.json_texts.proofs.AttestLaws.{attest_lacks}
+use Rattle.json_texts.proofs.EntryMemberLaws.{entry_lacks}
 use Rattle.json_texts.proofs.EventLaws.{event_lacks, header_lacks}
-use Rattle.json_texts.proofs.FaultMemberLaws.{entry_lacks}
-use Rattle.json_texts.proofs.KeyLaws.{key_lacks}
 use Rattle.json_texts.proofs.laws.only_faults_have_a_fault.Goals as goal
 
 pub returns-clause-entry : goal.returns-clause-entry
 returns-clause-entry c = entry_lacks
-
-pub returns-clause-attestation : goal.returns-clause-attestation
-returns-clause-attestation c = attest_lacks
-
-pub returns-clause-key : goal.returns-clause-key
-returns-clause-key c = key_lacks
 
 pub returns-clause-header : goal.returns-clause-header
 returns-clause-header c = header_lacks

@@ -1,0 +1,90 @@
+//! Laws: consequences of the definitions, each the contract of a function that does nothing.
+
+ghost use Rattle.std.specs.Prelude.{◌≡◌, ℕ, Bool, List, codes, Option, None, IfSome};
+ghost use Rattle.std.specs.List.{AllByRecursion};
+ghost use Rattle.json.specs.Find.{get};
+ghost use Rattle.pcr_banks.specs.declared.banks.Banks.{Banks};
+ghost use Rattle.boot_verdict.specs.declared.expected.Expected.{Expected};
+ghost use Rattle.boot_verdict.specs.declared.positions.Located.{Located};
+ghost use Rattle.boot_verdict.specs.declared.prefix_report.Unconfirmed.{Unconfirmed};
+ghost use Rattle.boot_verdict.specs.declared.selection.BankRange.{BankRange};
+ghost use Rattle.boot_verdict.specs.ListVerdicts.{ListVerdict};
+ghost use Rattle.boot_verdict.specs.RegisterTexts.{registers_text};
+ghost use Rattle.boot_verdict.specs.Verdicts.{Verdict, matches};
+ghost use Rattle.boot_verdict.specs.Words.{unconfirmed_entry};
+ghost use Rattle.boot_verdict.specs.WrittenTexts.{expected_text};
+ghost use Rattle.known_files.specs.declared.unknown.Unknown.{Unknown};
+ghost use Rattle.attestations.specs.Reports.{AttestVerdict};
+ghost use Rattle.tpm_keys.specs.declared.kinds.KeyPart.{KeyPart};
+ghost use Rattle.tpm_keys.specs.declared.report.KeyReport.{KeyReport};
+ghost use Rattle.tpm_keys.specs.Reports.{key_text, kind_bits};
+ghost use Rattle.verdict_texts.specs.PositionTexts.{positions_text};
+ghost use Rattle.verdict_texts.specs.ReportTexts.{report_text};
+ghost use Rattle.cells.specs.Cells.{rendered};
+ghost use Rattle.cells.specs.Values.{IsCount, IsOneLine, object_of};
+ghost use Rattle.cells.specs.declared.writer.Form.TheVariants.{Text};
+ghost use Rattle.answers.specs.AttestationCells.{attestation_cell};
+ghost use Rattle.answers.specs.Counted.{AreCounted, IsCountedClock, IsCountedPosition, IsCountedUnknown, IsCountedWhole};
+ghost use Rattle.answers.specs.KeyCells.{key_cell};
+ghost use Rattle.answers.specs.PositionCells.{positions_cell};
+ghost use Rattle.answers.specs.RegisterCells.{expected_cell, registers_cell};
+ghost use Rattle.answers.specs.ReportCells.{list_report_cell, prefix_cell, report_cell};
+
+/// The JSON of each answer is one line: its text reads back as the value, and has no line feed. Its numbers are such as code holds.
+pub fn each_answer_is_one_line()
+    ensures registers { (now start : Banks) → IsOneLine (object_of (registers_cell now start).json) }
+    ensures expected { (expected : List Expected) → AllByRecursion (λ e. IsCount e.register) expected
+        → IsOneLine (object_of (expected_cell expected).json) }
+    ensures report { (required : Option (List BankRange)) (unknown : Option Unknown) (is_match : Bool) (verdict : Verdict)
+        → IsCount verdict.events → IsCount verdict.locality → IsCount verdict.entries → AreCounted verdict.strays
+        → IfSome unknown IsCountedUnknown → AllByRecursion (λ row. IsCount row.expected.register) verdict.rows
+        → IsOneLine (object_of (report_cell required unknown is_match verdict).json) }
+    ensures prefix_report { (required : Option (List BankRange)) (unknown : Option Unknown) (prefix : Verdict) (entries : ℕ)
+        (unconfirmed : Option Unconfirmed)
+        → IsCount prefix.events → IsCount prefix.locality → IsCount prefix.entries → IsCount entries
+        → IfSome unconfirmed (λ fault. IfSome (unconfirmed_entry fault) IsCount) → AreCounted prefix.strays
+        → IfSome unknown IsCountedUnknown → AllByRecursion (λ row. IsCount row.expected.register) prefix.rows
+        → IsOneLine (object_of (prefix_cell required unknown prefix entries unconfirmed).json) }
+    ensures list_report { (required : Option (List BankRange)) (unknown : Option Unknown) (verdict : ListVerdict)
+        → IsCount verdict.entries → AreCounted verdict.strays
+        → IfSome unknown IsCountedUnknown → AllByRecursion (λ row. IsCount row.expected.register) verdict.rows
+        → IsOneLine (object_of (list_report_cell required unknown verdict).json) }
+    ensures attestation { (unknown : Option Unknown) (report : AttestVerdict)
+        → IsCountedClock report.quoted.clock → IsCount report.quoted.firmware
+        → IsCount report.verdict.events → IsCount report.verdict.locality → IsCount report.verdict.entries
+        → IfSome report.prefix IsCountedWhole → AreCounted report.verdict.strays → IfSome unknown IsCountedUnknown
+        → AllByRecursion (λ row. IsCount row.expected.register) report.verdict.rows
+        → IsOneLine (object_of (attestation_cell unknown report).json) }
+    ensures key { (part : KeyPart) (report : KeyReport) → IsCount (kind_bits report.kind)
+        → IsOneLine (object_of (key_cell part report).json) }
+    ensures positions { (required : Option (List BankRange)) (located : List Located)
+        → AllByRecursion (λ row. IsCount row.expected.register × IsCountedPosition row.position) located
+        → IsOneLine (object_of (positions_cell required located).json) }
+{}
+
+/// No answer has a member `fault`: only faults have one (`json_texts::laws`).
+pub fn no_answer_has_a_fault()
+    ensures registers { (now start : Banks) → get (codes "fault") (object_of (registers_cell now start).json) ≡ None }
+    ensures expected { (expected : List Expected) → get (codes "fault") (object_of (expected_cell expected).json) ≡ None }
+    ensures report { (required : Option (List BankRange)) (unknown : Option Unknown) (is_match : Bool) (verdict : Verdict)
+        → get (codes "fault") (object_of (report_cell required unknown is_match verdict).json) ≡ None }
+    ensures prefix_report { (required : Option (List BankRange)) (unknown : Option Unknown) (prefix : Verdict) (entries : ℕ)
+        (unconfirmed : Option Unconfirmed)
+        → get (codes "fault") (object_of (prefix_cell required unknown prefix entries unconfirmed).json) ≡ None }
+    ensures list_report { (required : Option (List BankRange)) (unknown : Option Unknown) (verdict : ListVerdict)
+        → get (codes "fault") (object_of (list_report_cell required unknown verdict).json) ≡ None }
+    ensures attestation { (unknown : Option Unknown) (report : AttestVerdict)
+        → get (codes "fault") (object_of (attestation_cell unknown report).json) ≡ None }
+    ensures key { (part : KeyPart) (report : KeyReport) → get (codes "fault") (object_of (key_cell part report).json) ≡ None }
+    ensures positions { (required : Option (List BankRange)) (located : List Located)
+        → get (codes "fault") (object_of (positions_cell required located).json) ≡ None }
+{}
+
+/// The texts that are sent without memory, as by `verdict_texts::write_report`, are those of the cells.
+pub fn sent_texts_are_of_cells()
+    ensures report { (verdict : Verdict) → report_text verdict ≡ rendered Text (report_cell None None (matches verdict) verdict) }
+    ensures positions { (located : List Located) → positions_text located ≡ rendered Text (positions_cell None located) }
+    ensures registers { (now start : Banks) → registers_text now start ≡ rendered Text (registers_cell now start) }
+    ensures expected { (expected : List Expected) → expected_text expected ≡ rendered Text (expected_cell expected) }
+    ensures key { (part : KeyPart) (report : KeyReport) → key_text part report ≡ rendered Text (key_cell part report) }
+{}

@@ -1,7 +1,0 @@
-use Rattle.json_texts.proofs.reports.meets.Goals as goal
-
-pub returns-in-Some : goal.returns-in-Some
-returns-in-Some c = rw c.in-Some.is c.meets.ensures
-
-pub returns-in-None : goal.returns-in-None
-returns-in-None c = rw c.in-None.is c.matches.ensures
