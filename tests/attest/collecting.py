@@ -60,6 +60,7 @@ class Collected(CollectTests):
     def test_keys(self):
         """Keys are made, each at its handle, and stay there."""
         without = "ima-collect: the TPM has no certificate of its endorsement key: without one the verifier enrolls it only with --in-hand\n"
+        self.must("a certificate of a key on a curve", "tpm2_nvdefine", "0x1c0000a", "-C", "p", "-s", "4", "-a", "ownerread|ppwrite|platformcreate")
         self.check_made("a TPM without a certificate", self.make("ima-collect --enroll --handle 0x81010007 made"), ["AK.pub", "EK.pub"], without)
         self.give_certificate()
         self.check_made("a key is made", self.make("ima-collect --enroll made"), ["AK.pub", "EK.der", "EK.pub"])
@@ -206,9 +207,9 @@ class Collected(CollectTests):
             path.parent.mkdir(parents=True, exist_ok=True)
             path.write_text(f"{number:064X}\n")
         self.check_failed("a kernel without one of the registers", self.make(WITHOUT_NONCE, sys=other), said)
-        for title, body in (("fails", '"$real" "$@" | head -n 4; exit 1'), ("is killed", '"$real" "$@"; kill -KILL $$')):
-            ended = self.make(WITHOUT_NONCE, **self.stand_in("tpm2_pcrread", body))
-            self.check_failed(f"tpm2_pcrread shows some registers, and {title}", ended, said)
+        for title, body in (("shows some registers, and fails", '"$real" "$@" | head -n 4; exit 1'),
+                            ("shows some registers, and is killed", '"$real" "$@"; kill -KILL $$'), ("shows a bank without any", "echo '  sha256:'")):
+            self.check_failed(f"tpm2_pcrread {title}", self.make(WITHOUT_NONCE, **self.stand_in("tpm2_pcrread", body)), said)
 
     def test_folders(self):
         """A folder that is there is left as it is."""
@@ -220,7 +221,7 @@ class Collected(CollectTests):
                 ended = self.make(block.replace("made", "there"))
                 self.check(f"{title} is there: {block}", (ended.status, "is there already" in ended.errors, there.lstat().st_ino), (3, True, before))
             there.rmdir() if there.is_dir() else there.unlink()
-        for name in ("-x", "a b", "$(touch called)", "deep/", str(self.home / "absolute")):
+        for name in ("-x", "a b", "$(touch called)", "deep/", "deep//", str(self.home / "absolute")):
             quoted = f"'{name}'"
             self.check_quiet(f"the folder {name}", self.make(WITHOUT_NONCE.replace("made", f"-- {quoted}")))
             made = self.home / name
@@ -267,8 +268,9 @@ class Collected(CollectTests):
         self.check_failed("no credential", self.make("ima-collect --credential none made"), "cannot read")
         self.check_failed("a folder for one", self.make("ima-collect --credential . made"), "cannot read")
         for tool in ("tpm2_createek", "tpm2_startauthsession", "tpm2_policysecret", "tpm2_activatecredential"):
-            ended = self.make("ima-collect --credential credential made", **self.stand_in(tool, "echo 'ERROR: a sentence' >&2; exit 1"))
-            self.check_failed(f"{tool} fails", ended, f"{tool} failed: ERROR: a sentence")
+            failing = self.stand_in(tool, "printf '%s\\n' 'WARN: a word' 'ERROR: a sentence' 'ERROR: another' >&2; exit 1")
+            ended = self.make("ima-collect --credential credential made", **failing)
+            self.check_failed(f"{tool} fails", ended, f"{tool} failed: ERROR: a sentence\n")
 
     def test_stopped(self):
         """A call that is stopped leaves no folder, key or session."""
@@ -306,6 +308,9 @@ class Collected(CollectTests):
         self.check_failed("no TPM", self.make(WITH_NONCE, TPM2TOOLS_TCTI="swtpm:host=127.0.0.1,port=1"), "no TPM 2.0 answers")
         ended = self.make("ima-collect --enroll --handle 0x81010009 made", TPM2TOOLS_TCTI="device:/dev/none")
         self.check_failed("no TPM for a key", ended, "no TPM 2.0 answers")
+        for kind in ("transient", "persistent"):
+            failing = self.stand_in("tpm2_getcap", f'[[ $1 != handles-{kind} ]] || exit 1; exec "$real" "$@"')
+            self.check_failed(f"a TPM that does not tell of its {kind} objects", self.make(WITH_NONCE, **failing), "no TPM 2.0 answers")
         self.must("the key's name", "tpm2_readpublic", "-c", HANDLE, "-n", "name")
         self.must("the endorsement key", "tpm2_createek", "-c", "ek.ctx", "-G", "rsa", "-u", "EK.pub")
         name = self.home.joinpath("name").read_bytes().hex()
@@ -343,7 +348,8 @@ class CollectCalls(AttestTests):
             ("a nonce of two lines", ["--nonce", f"{NONCE}\n", "a"]), ("an empty nonce", ["--nonce=", "a"]),
             ("a handle that is none", ["--enroll", "--handle", "owner", "a"]),
             ("a handle of what does not stay", ["--enroll", "--handle", "0x80000000", "a"]),
-            ("a handle of nine digits", ["--enroll", "--handle", "0x810100022", "a"]), ("a handle without a key", ["--handle", HANDLE, "a"]),
+            ("a handle of nine digits", ["--enroll", "--handle", "0x810100022", "a"]),
+            ("a handle of seven digits", ["--enroll", "--handle", "0x8101000", "a"]), ("a handle without a key", ["--handle", HANDLE, "a"]),
             ("a kernel for a key", ["--enroll", "--sys", "b", "a"]), ("--nonce without a value", ["a", "--nonce"]),
             ("--credential without a value", ["a", "--credential"]),
         ):
@@ -352,6 +358,9 @@ class CollectCalls(AttestTests):
         for size in (16, 64):
             ended = self.call(["ima-collect", "--nonce", "00" * size, "a"], TPM2TOOLS_TCTI="none")
             self.check(f"no wrong call: a nonce of {size} bytes, and no TPM", (ended.status, ended.output, USAGE in ended.errors), (3, "", False))
+        options = (f"--nonce={NONCE}", f"--handle={HANDLE}", "--credential=b", "--sys=c")
+        ended = self.call(["ima-collect", *options, "a"], TPM2TOOLS_TCTI="none")
+        self.check("no wrong call: options as one word each", (ended.status, ended.output, USAGE in ended.errors), (3, "", False))
         for asked in (["--help"], ["-h"], ["--enroll", "--help"]):
             ended = self.call(["ima-collect", *asked])
             told = [word in ended.output or word for word in ("--enroll", "--credential", "--nonce", "--handle", "--sys", " 0 ", " 64 ")]
