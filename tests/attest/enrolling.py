@@ -277,8 +277,8 @@ class Enrolled(EnrollTests):
         root = Authority(folder, "root")
         middle, weak = Authority(folder, "middle", root), Authority(folder, "weak", bits=1024)
 
-        def by(name, *authorities):
-            path = self.put(f"{name}.pem", b"".join(each.certificate.read_bytes() for each in authorities))
+        def by(name, *authorities, first=b""):
+            path = self.put(f"{name}.pem", first + b"".join(each.certificate.read_bytes() for each in authorities))
             return ["--ca", str(path)]
 
         own, no_issuer = {"EK_der": stranger.certify(public)}, "unable to get local issuer certificate"
@@ -309,6 +309,7 @@ class Enrolled(EnrollTests):
         self.check("a certificate's name that a terminal obeys", (shown.status, is_one_line or shown.errors), (4, True))
         for title, files, given in (
             ("a file with several authorities", {}, by("several", stranger, middle, self.vendor, root)),
+            ("an authority after 100 KB of others", {}, by("long", self.vendor, first=stranger.certificate.read_bytes() * 100)),
             ("an intermediate authority and its root", {"EK_der": middle.certify(public)}, by("chain", middle, root)),
             ("a certificate with zeros after it, as TPMs keep it", {"EK_der": self.good["EK.der"] + bytes(500)}, None),
             ("in hand, without a certificate", {"EK_der": None}, ["--in-hand"]),
@@ -639,7 +640,8 @@ class Enrolled(EnrollTests):
             ("a credential is not there", "tpm2_makecredential", "exit 0"),
             ("a credential is empty", "tpm2_makecredential", "true >credential"),
             ("an error with status 0", "tpm2_makecredential", 'echo ERROR: no cipher >&2; exec "$real" "$@"'),
-            ("no copy is made", "dd", "exit 1"), ("no folder is made", "mktemp", "exit 1"), ("nothing is moved", "mv", "exit 1"),
+            ("KEYS cannot be locked", "flock", "exit 1"), ("no copy is made", "dd", "exit 1"), ("no folder is made", "mktemp", "exit 1"),
+            ("nothing is moved", "mv", "exit 1"),
             ("no hash is made", "sha256sum", "exit 1"), ("the credential is not written", "cp", '[[ $1 != --remove* ]] || exit 1; exec "$real" "$@"'),
         ):
             ended = self.challenge(settings=self.stand_in(tool, body))
@@ -659,9 +661,9 @@ class Enrolled(EnrollTests):
             self.check(f"ima-agent {title}", (ended.status, self.waiting), (status, []))
         self.check_challenged("a challenge", self.challenge())
         right = self.opened("a challenge")
-        for tool in ("dd", "mktemp"):
+        for tool in ("dd", "mktemp", "flock"):
             words = ["ima-enroll", "--keys", str(self.keys), "--answer", str(self.put("answer", right)), "m"]
-            self.check(f"an answer, and {tool} fails", self.call(words, **self.stand_in(tool, "exit 1")).status, 3)
+            self.check(f"an answer, and {tool} fails", (self.call(words, **self.stand_in(tool, "exit 1")).status, self.waiting), (3, [".m"]))
         for tool in ("sha256sum", "mv"):
             self.check_challenged(f"a challenge: {tool}", self.challenge())
             words = ["ima-enroll", "--keys", str(self.keys), "--answer", str(self.put("answer", self.opened(tool))), "m"]
@@ -701,6 +703,9 @@ class EnrollCalls(AttestTests):
         ):
             ended = self.call(["ima-enroll", *words])
             self.check(f"a wrong call: {title}", (ended.status, ended.output, USAGE in ended.errors or ended.errors), (64, "", True))
+        for title, words in (("a challenge", ["--keys=none", "--ca=a", NAME, "b"]), ("an answer", ["--keys=none", "--answer=a", NAME])):
+            ended = self.call(["ima-enroll", *words])
+            self.check(f"no wrong call: {title}, with options as one word each", (ended.status, ended.output, USAGE in ended.errors), (3, "", False))
         for asked in (["--help"], ["-h"], [*good, "--help"]):
             ended = self.call(["ima-enroll", *asked])
             told = [word in ended.output or word for word in ("--keys", "--ca", "--in-hand", "--answer", "credential", " 0 ", " 64 ")]
