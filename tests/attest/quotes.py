@@ -209,6 +209,8 @@ class Samples(AttestTests):
             self.check_match(name, self.attest(**self.made_key(name, "-algorithm", "EC", "-pkeyopt", curve(name))))
         for title, *options in (
             ("RSA of 1024 bits", "-algorithm", "RSA", "-pkeyopt", bits(1024)),
+            ("RSA of 2047 bits", "-algorithm", "RSA", "-pkeyopt", bits(2047)),
+            ("RSA with the exponent 65535", "-algorithm", "RSA", "-pkeyopt", bits(2048), "-pkeyopt", "rsa_keygen_pubexp:65535"),
             ("RSA with the exponent 3", "-algorithm", "RSA", "-pkeyopt", bits(2048), "-pkeyopt", "rsa_keygen_pubexp:3"),
             ("another curve", "-algorithm", "EC", "-pkeyopt", curve("secp256k1")),
             ("a short curve", "-algorithm", "EC", "-pkeyopt", curve("P-224")),
