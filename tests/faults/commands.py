@@ -1,6 +1,6 @@
 #!/usr/bin/env python3
 """Tries ./ima-agent, ./try and dist/library with a stand-in for the kit: a copy of the tree in which `rt` proves nothing, counts its builds,
-and makes a program that answers as its arguments ask; and how ./check counts, with stand-ins for its parts.
+and makes a program that answers as its arguments ask; how ./check counts, with stand-ins for its parts; and which edits tools/edits refuses.
 
 tests/faults/commands.py
 
@@ -9,6 +9,7 @@ Nothing but a program's own answer may have one of its statuses."""
 
 import io
 import os
+import re
 import shutil
 import subprocess
 import sys
@@ -18,15 +19,19 @@ from contextlib import redirect_stdout
 from importlib.machinery import SourceFileLoader
 from importlib.util import module_from_spec, spec_from_loader
 from pathlib import Path
+from unittest import mock
 
 sys.path[:0] = [str(Path(__file__).resolve().parents[1]), str(Path(__file__).resolve().parents[2] / "dist")]
 import harness  # noqa: E402
 from harness import ROOT  # noqa: E402
 from header import exports_of  # noqa: E402
+from sources import crates_below  # noqa: E402
 
 PROGRAM = Path("crates/ima_agent_program")
 MAIN = PROGRAM / "src/main.rt"
 NOT_BUILT = 125
+# Scripts in tests/ that try nothing by themselves.
+NO_PARTS = {"tests/attest/emulated.py", "tests/fleet/quoted.py"}
 
 # What stands in for rt. `ci` works in the copy that ./ima-agent makes, whose program writes its source and its arguments, and ends with
 # the status that its first argument names. FAIL has it fail; DURING is a command that it runs meanwhile; `try` says that a run ended so.
@@ -42,7 +47,7 @@ ci)
         sed 's/^/# /' crates/ima_agent_program/src/main.rt; echo 'exit "$1"'; } \\
         >crates/ima_agent_program/out/ima_agent_program
     chmod +x crates/ima_agent_program/out/ima_agent_program
-    echo 'rt: ima_agent_program proved'
+    printf '%s\\n' 'rt: byte_fields is kept: as it was' 'rt: byte_fields tested' 'rt: ima_agent_program proved'
     echo '1 passed, 0 failed'
     ;;
 lib)
@@ -186,6 +191,21 @@ class Commands(harness.TestCase):
         self.check("built while something runs that a build left", self.builds_for(), 1)
         self.check("for which no call waits", time.monotonic() - started < 40)
 
+    def test_ends(self):
+        """Of a build stay the program and the libraries below it, and of one that fails nothing."""
+        scratch, jobs, old = self.folder(), self.tree.root.parent / "jobs", self.tree.root / "crates/ima_agent/out/rlib/old"
+        old.parent.mkdir(parents=True, exist_ok=True)
+        old.touch()
+        edit(self.tree.root / MAIN)
+        for title, settings, status in (("a failed build", {"FAIL": "1"}, NOT_BUILT), ("a build", {"DURING": f"echo $RT_JOBS >'{jobs}'"}, 0)):
+            ended, _, said = self.tree.call("0", TMPDIR=str(scratch), RT_JOBS="", **settings)
+            self.check(f"{title} leaves no copy", (ended, [*scratch.iterdir()]), (status, []))
+        self.check("its libraries take the place of earlier ones", [*old.parent.iterdir()], [])
+        self.check("rt is told how many proofs to make at once", jobs.read_text().strip().isdigit())
+        count = str(len(crates_below("ima_agent_program", self.tree.root)))
+        told = re.findall(r"^ima-agent: (\d+) of (\d+) crates proved after 0 min \d+ s: (\w+)$", said, re.MULTILINE)
+        self.check("each crate that is proved is told", told, [("1", count, "byte_fields"), ("2", count, "ima_agent_program")])
+
     def test_left(self):
         """What another build left in a crate is not in the copy that is built."""
         left, seen = self.tree.root / "crates/byte_fields/out/left", self.tree.root.parent / "seen"
@@ -247,6 +267,19 @@ class Commands(harness.TestCase):
         listed = f"<--data>\n<below/file={folder}/below/file>\n"
         named = tried("measure", "--files-from", "names")[1]
         self.check("try: and those that a text of names has", listed in named and f"<names={folder}/names>\n" in named)
+        (folder / "zeros").write_text("below/file\0log")
+        data = "".join(f"<--data>\n<{name}={folder}/{name}>\n" for name in ("zeros", "below/file", "log"))
+        self.check("try: names that end in zeros, and the last in nothing", tried("measure", "--files-from=zeros")[1],
+                   f"{data}<-->\n<measure>\n<--files-from=zeros>\n")
+        for title, words in (("a file that is named twice, and in one word with its option", ("log", "--list=log")),
+                             ("a folder, and a file of a whole path", ("below", f"{folder}/log", "log"))):
+            wanted = "".join(f"<{word}>\n" for word in ("--", "show", *words))
+            self.check(f"try: {title}", tried("show", *words)[1], given + wanted)
+        scratch = self.folder()
+        status, _, said = self.tree.call("show", command="try", folder=folder, ENDED="run=none", TMPDIR=str(scratch))
+        self.check("try: why there is no answer, and that nothing is proved", [line in said for line in (
+            "run=none\n", "try: there is no answer\n", "try: nothing is proved of the program that answers now")], [True] * 3)
+        self.check("try: nothing is left", [*scratch.iterdir()], [])
         self.check("try: a file above the folder is refused", tried("show", "../inputs/log")[0], NOT_BUILT)
         for words in (("--save", "x"), ("--save=x",)):
             self.check(f"try: {words[0]} is refused", tried("verify", *words)[0], NOT_BUILT)
@@ -305,6 +338,153 @@ class Gates(harness.TestCase):
         parts = [self.part("wrong", "4 passed, 1 failed"), self.part("never", "1 passed, 0 failed")]
         for title, run in (("one by one", self.gate.one_by_one), ("side by side", lambda parts: self.gate.side_by_side(parts, 1))):
             self.check_end(f"after a failure, {title}", lambda run=run: run(parts), ["wrong"], 1, "4 passed, 1 failed")
+
+    def test_parts(self):
+        """Each script of tests/ is a part, and each part is there"""
+        named = {part.split()[0] for parts in (self.gates.ALONE, self.gates.BESIDE, self.gates.QUICK, self.gates.EVERY_EDIT) for part in parts}
+        there = {str(path.relative_to(ROOT)) for path in (ROOT / "tests").rglob("*") if path.is_file() and os.access(path, os.X_OK)}
+        self.check("./check: its parts are the scripts of tests/, and tools/edits", named, there - NO_PARTS | {"tools/edits"})
+
+    def test_stages(self):
+        """What comes after what, and whose program it is that the proofs left"""
+        good, jobs, program = "2 passed, 0 failed", self.room / "jobs", self.room / "program"
+        made = Path(f"{program}.made")
+
+        def check(title, begun, status, last, every_edit=False, lanes="4", after="sources", **ends):
+            """A run of which some parts end otherwise, and after whose proofs the sources are these."""
+            parts = {name: self.part(name, good, end=ends.get(name, "exit 0")) for name in ("alone", "proofs", "beside", "edits")}
+            library, said = self.part("library", "made", end=ends.get("library", "exit 0")), iter([lanes, "sources", after, "both"])
+            settings = {"ALONE": [parts["alone"]], "PROOFS": [parts["proofs"]], "BESIDE": [parts["beside"]], "EVERY_EDIT": [parts["edits"]],
+                        "LIBRARY": library, "PROGRAM": str(program), "said_by": lambda *words: next(said)}
+            made.unlink(missing_ok=True)
+            with mock.patch.multiple(self.gates, **settings), mock.patch.dict(os.environ):
+                self.check_end(title, lambda: self.gates.check(self.gate, every_edit), begun, status, last)
+
+        stages = ["alone", "proofs", "library", "beside"]
+        check("all parts", stages, 0, "6 passed, 0 failed", proofs="echo $RT_JOBS >jobs")
+        self.check("./check: the program is that of the sources", (made.read_text(), jobs.read_text()), ("both", "3\n"))
+        check("every edit, on one processor", [*stages, "edits"], 0, "8 passed, 0 failed", every_edit=True, lanes="1", proofs="echo $RT_JOBS >jobs")
+        self.check("./check: one proof at once", jobs.read_text(), "1\n")
+        check("a source was edited", stages, 0, "6 passed, 0 failed", after="others")
+        self.check("./check: the program is not that of the sources", made.exists(), False)
+        check("no proofs", ["alone", "proofs"], 1, "4 passed, 1 failed", proofs="exit 1")
+        self.check("./check: there is no program of a failed proof", made.exists(), False)
+        check("no library", stages[:3], 1, "4 passed, 1 failed", library="exit 1", every_edit=True)
+
+    def test_statuses(self):
+        """./check ends as its parts do, and what it is asked for is what it does"""
+        self.addCleanup(os.chdir, os.getcwd())
+        for status, line in ((0, "1 passed, 0 failed"), (1, "1 passed, 1 failed")):
+            quick = [self.part("quick", line).replace("FOLDER", str(self.room))]
+            with mock.patch.multiple(self.gates, QUICK=quick, check=None), mock.patch.dict(os.environ), \
+                    mock.patch.object(sys, "argv", ["check", "--quick"]), redirect_stdout(io.StringIO()) as told:
+                found = self.gates.main()
+            self.check(f"./check --quick: status {status}", (found, told.getvalue().splitlines()[-1]), (status, line))
+            self.check("  and it says that nothing was proved", "\nNothing was proved. " in told.getvalue())
+        for words, every_edit in (([], False), (["--every-edit"], True)):
+            with mock.patch.object(self.gates, "check") as asked, mock.patch.dict(os.environ), mock.patch.object(sys, "argv", ["check", *words]), \
+                    redirect_stdout(io.StringIO()):
+                self.gates.main()
+            self.check(f"./check {' '.join(words)}: whether every edit is refused", [call.args[1] for call in asked.call_args_list], [every_edit])
+
+
+CODE = """//! Numbers.
+
+/// One.
+pub fn first() -> u8 {
+    1
+}
+
+/// Two.
+pub fn second() -> u8 {
+    2
+}
+"""
+GOOD = ["Turns `first` to three.", "everyday: first", "file: src/lib.rt", "old:     1", "new:     3"]
+GOAL, NAMED = "note: src/lib.rt:4:1: the result is 1", "proofs/first/One.antt:1:1: `one` is not in scope"
+
+
+class Edits(harness.TestCase):
+    """Which edits tools/edits refuses, of a crate of its own, and which verdicts of the prover, for which a script stands in."""
+
+    @classmethod
+    def setUpClass(cls):
+        loader = SourceFileLoader("edits", str(ROOT / "tools/edits"))
+        cls.edits = sys.modules["edits"] = module_from_spec(spec_from_loader("edits", loader))
+        loader.exec_module(cls.edits)
+
+    def setUp(self):
+        self.room = self.folder()
+        for name in ("crates/a/src", "crates/a/specs", "crates/a/further-edits", "bin"):
+            (self.room / name).mkdir(parents=True)
+        (self.room / "crates/a/src/lib.rt").write_text(CODE)
+        (self.room / "crates/a/specs/A.antt").write_text("1")
+        for name, text in (("crates.txt", "a:\n"), ("HANDLES", "")):
+            (self.room / name).write_text(text)
+        patched = mock.patch.multiple(self.edits, ROOT=self.room, kit_folder=lambda: self.room)
+        patched.start()
+        self.addCleanup(patched.stop)
+
+    def told_of(self, *words, name="one.edit", lines=GOOD):
+        """What tools/edits ends with and says of an edit of these lines."""
+        path = self.room / "crates/a/further-edits" / name
+        path.write_text("".join(f"{line}\n" for line in lines))
+        with mock.patch.object(sys, "argv", ["edits", *words]), redirect_stdout(io.StringIO()) as told:
+            status = self.edits.main()
+        path.unlink()
+        return status, told.getvalue().splitlines()
+
+    def test_unfit(self):
+        """Edits that do not apply"""
+        self.check("tools/edits: an edit that applies", self.told_of(), (0, ["1 passed, 0 failed"]))
+        first, _, file, old, new = GOOD
+        for title, lines, said in (
+            ("no first line", GOOD[1:], "it does not begin with a line"), ("an empty first line", ["", *GOOD], "it does not begin with a line"),
+            ("no item", ["Three for one.", *GOOD[1:]], "its first line has no"), ("no file", [first, old, new], "a new text stands before a file"),
+            ("no old text", [first, file, new], "a new text stands before a file or an old text"),
+            ("two new texts of one old", [*GOOD, "new:     4"], "a new text stands before a file or an old text"),
+            ("no new text", [first, file, old], "it has no old and new text"), ("another file", [first, "file: src/no.rt", old, new], "there is no file"),
+            ("a file of specs/", [first, "file: specs/A.antt", "old: 1", "new: 2"], "there is no file specs/A.antt of src/"),
+            ("an old text that is there twice", [first, file, "old: pub fn", "new: fn"], "its old text stands 2 times in src/lib.rt"),
+            ("an old text that is not there", [first, file, "old:     3", "new:     1"], "its old text stands 0 times in src/lib.rt"),
+            ("no change", [first, file, old, "new:     1"], "it changes nothing"),
+            ("another item", ["Turns `second` to three.", *GOOD[1:]], "it says that it turns second, and turns first"),
+        ):
+            status, told = self.told_of(lines=lines)
+            self.check(f"tools/edits: {title}", (status, told[0].startswith(f"a/one: {said}") or told, told[-1]), (1, True, "0 passed, 1 failed"))
+        self.check("tools/edits: a file of another name", self.told_of(name="one.txt")[1][0], "a/one: it is no file NAME.edit")
+        with mock.patch.object(sys, "argv", ["edits"]), redirect_stdout(io.StringIO()) as told:
+            self.check("tools/edits: no edits", (self.edits.main(), told.getvalue()), (1, "0 passed, 1 failed\n"))
+
+    def stand_in(self, name, lines, status):
+        script = self.room / "bin" / name
+        script.write_text("\n".join(["#!/bin/sh", *(f"echo '{line}'" for line in lines), f"exit {status}"]))
+        script.chmod(0o755)
+
+    def test_everyday(self):
+        """What counts as an edit that its function refuses"""
+        for title, lines, status, said in (
+            ("refused", [GOAL, "fn a::first: no proof"], 1, None), ("refused in other words", [GOAL, "fn a::first: not proved"], 1, None),
+            ("refused in its own file of proofs/", ["proofs/first/One.antt:1:1: the result is 1", "fn a::first: no proof"], 1, None),
+            ("proved", [GOAL, "fn a::first: proved"], 0, "first is proved with it"),
+            ("refused for a name", [NAMED, "fn a::first: no proof"], 1, "first refuses it for a name alone"),
+            ("refused by another", [GOAL, "fn a::second: no proof", "fn a::first: no proof"], 1, "first refuses it for a name alone"),
+            ("refused by another alone", [GOAL, "fn a::second: no proof"], 1, "there is no verdict on first"),
+            ("not ended", [GOAL, "fn a::first: no proof"], 2, "there is no verdict on first"),
+            ("nothing said", [], 1, "there is no verdict on first: the prover said nothing"),
+        ):
+            self.stand_in("rattle", lines, status)
+            found, told = self.told_of("--everyday")
+            self.check(f"tools/edits --everyday: {title}", (found, said is None or said in told[0] or told), (int(said is not None), True))
+
+    def test_proved(self):
+        """What counts as an edit that `rt must-fail` refuses"""
+        path = f"{self.room / 'bin'}{os.pathsep}{os.environ['PATH']}"
+        for result, status in (("refused, as it must be", 0), ("refused, as it must be (only a name is gone)", 1), ("proved", 1), (None, 1)):
+            self.stand_in("rt", [f"rt: must-fail a/one.edit: {result}"] if result else [], 0)
+            with mock.patch.dict(os.environ, PATH=path):
+                found, told = self.told_of("--prove")
+            self.check(f"tools/edits --prove: {result}", (found, told[-1]), (status, f"{1 - status} passed, {status} failed"))
 
 
 if __name__ == "__main__":
