@@ -3,11 +3,46 @@
 import re
 import shlex
 
-from installed import FOLDER, run
+from installed import FOLDER, MULTIARCH, run
 
 TOOLS, CALLS = FOLDER / "tools", FOLDER / "calls"
 # What all packages need of a system, and what the fleet's does.
 BASE, FLEET = ("libc6", "python3"), ("python3-cryptography", "python3-jinja2")
+
+# What dpkg and apt read of each package. VERSION is that of the release, and GLIBC the least that has what it is linked with.
+AMD64, ALL, SAME = {"Architecture": "amd64"}, {"Architecture": "all"}, {"Architecture": "amd64", "Multi-Arch": "same"}
+FIELDS = {
+    "ima-agent": {**AMD64, "Section": "admin", "Depends": "libc6 (>= GLIBC)", "Recommends": "openssl, tpm2-tools (>= 5)", "Suggests": "jq"},
+    "ima-collect": {**ALL, "Section": "admin", "Recommends": "tpm2-tools (>= 5)"},
+    "libima-verify1": {**SAME, "Section": "libs", "Depends": "libc6 (>= GLIBC)"},
+    "libima-verify-dev": {**SAME, "Section": "libdevel", "Depends": "libima-verify1 (= VERSION)", "Suggests": "pkgconf | pkg-config"},
+    "python3-ima-verify": {**ALL, "Section": "python", "Depends": "python3 (>= 3.8), libima-verify1 (>= VERSION)",
+                           "Suggests": "python3-cryptography (>= 37)"},
+    "fleet-verify": {**ALL, "Section": "admin", "Suggests": "python3-distributed (<< 2023), python3-distributed (>= 2022.12.1), "
+                     "python3-fsspec (>= 2022.11)", "Depends": "python3 (>= 3.9), python3-cryptography (>= 37), python3-ima-verify (<< 2), "
+                     "python3-ima-verify (>= 1.0), python3-jinja2 (>= 3.0), ima-agent (>= VERSION)"},
+}
+RELATIONS = ("Architecture", "Multi-Arch", "Section", "Depends", "Pre-Depends", "Recommends", "Suggests", "Maintainer", "Version")
+# Where other programs look for files.
+PLACES = {
+    "ima-agent": ["/usr/share/bash-completion/completions/ima-agent", "/usr/share/fish/vendor_completions.d/ima-agent.fish",
+                  "/usr/share/zsh/vendor-completions/_ima-agent"],
+    "libima-verify1": [f"{MULTIARCH}/libima_verify.so.1"],
+    "libima-verify-dev": [f"{MULTIARCH}/libima_verify.so", f"{MULTIARCH}/pkgconfig/ima_verify.pc"],
+    "fleet-verify": ["/lib/systemd/system/fleet-poll.service", "/lib/systemd/system/fleet-poll.timer", "/usr/lib/sysusers.d/fleet-verify.conf"],
+}
+
+
+def flaws(package, maker, version):
+    """What dpkg, apt or another program finds otherwise in a package of this maker than the tables above say."""
+    rows = dict(re.findall(r"^([\w-]+): (.*)$", run("dpkg-deb", "--field", package).output.decode(), re.MULTILINE))
+    name = rows["Package"]
+    told = {field: re.sub(r"libc6 \(>= 2\.\d+\)", "libc6 (>= GLIBC)", rows[field]) for field in RELATIONS if field in rows}
+    wanted = {**FIELDS[name], "Maintainer": maker, "Version": version}
+    wanted = {field: text.replace("VERSION", version) for field, text in wanted.items()}
+    yield from (f"{name}: {field} is {told.get(field)}" for field in sorted({*told, *wanted}) if told.get(field) != wanted.get(field))
+    files = [line.split()[5][1:] for line in run("dpkg-deb", "--contents", package).output.decode().splitlines()]
+    yield from (f"{name}: there is no {file}" for file in PLACES.get(name, []) if file not in files)
 
 
 def begin(system):
