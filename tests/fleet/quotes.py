@@ -318,7 +318,9 @@ def test_ages(tools):
 
 def test_nonce_files(tools):
     """A file of a nonce takes the place of a link, in a folder that this user alone may enter."""
-    from fleet_verify.nonces import write_files
+    from fleet_verify.ending import NotStarted
+    from fleet_verify.machines import Machine
+    from fleet_verify.nonces import require_files, write_files
 
     folder, target, mask = tools.folder / "nonce files", tools.folder / "of another", os.umask(0)
     try:
@@ -330,6 +332,15 @@ def test_nonce_files(tools):
     (folder / "a").symlink_to(target)
     found = (write_files(folder, {"a": "11"}), (folder / "a").is_symlink(), (folder / "a").read_text(), target.read_text())
     tools.check("nonces: a file in place of a link", found, ([], False, "11\n", "untouched"))
+    longest, refused = "b" * 255, []
+    for name in (longest, "\u00fc" * 127, "b" * 256, "\u00fc" * 128, ".", "..", "b/c", "..."):
+        try:
+            require_files([Machine("a", ("/",), True), Machine(name, ("/",), True)])
+        except NotStarted:
+            refused.append(name)
+    tools.check("nonces: which names are none of files", refused, ["b" * 256, "\u00fc" * 128, ".", "..", "b/c"])
+    found = (write_files(folder, {longest: "22"}), (folder / longest).read_text(), len(list(folder.iterdir())))
+    tools.check("nonces: a file with the longest name", found, ([], "22\n", 2))
 
 
 def test_taking_over(tools):
@@ -384,6 +395,7 @@ def test_keys(tools):
     os.mkfifo(folder / "c.pem")
     (folder / "d.pem").symlink_to("d.pem")
     (folder / "e.pem").write_bytes(bytes(16 * 1024 + 1))
+    (folder / "j.pem").write_bytes(16 * 1024 * b"j")  # (the longest)
     (tools.folder / "out.pem").write_text("out")
     for name in ("h.pem", "h"):  # (the folder of one machine has the name of the other's file)
         (folder / name).mkdir()
@@ -394,7 +406,7 @@ def test_keys(tools):
         "a": ("a", None), "b": ("b in a folder", None), "c": (None, "no key: NAME.pem cannot be read: OSError: it is no regular file"),
         "d": (None, "no key: NAME.pem cannot be read: OSError: [Errno 40] Too many levels of symbolic links"),
         "e": (None, "no key: NAME.pem has more than 16384 bytes"), "h": (None, "no key: NAME.pem cannot be read: OSError: it is no regular file"),
-        "h.pem": ("h.pem", None), "i": ("a", None), **dict.fromkeys(("f", "../out", "..", ".", "", "a.pem", "h/h", "i/i", "x" * 251), (None, None)),
+        "h.pem": ("h.pem", None), "i": ("a", None), "j": (16 * 1024 * "j", None), **dict.fromkeys(("f", "../out", "..", ".", "", "a.pem", "h/h", "i/i", "x" * 251), (None, None)),
         "x" * 255: (None, "no key: NAME.pem cannot be read: OSError: [Errno 36] File name too long"),
     }
     tools.check("keys that are found: none in place of one that cannot be read", {name: key_of(str(folder), name) for name in wanted}, wanted)
