@@ -5,14 +5,18 @@ import hashlib
 import json
 import shutil
 import time
-from contextlib import closing
+from contextlib import closing, redirect_stderr
+from io import StringIO
 from pathlib import Path
+from types import SimpleNamespace
 
 from cluster import REQUIRE, ROOT, SECONDS
 from fleet_verify.machines import Machine
 from fleet_verify.nonces import give_out
 from fleet_verify.reading import now
+from fleet_verify.summary import Summary
 from fleet_verify.verdicts import BadVerdicts, Quoting, Verdicts
+from fleet_verify.verifying import recorded_in
 from quoted import give_quotes
 from tables import change, query, rows_of
 
@@ -239,6 +243,18 @@ def test_prune(tools):
     tools.check("--prune: the rows of what is retired are kept", kept, wanted_rows)
     status, _, errors = tools.verify("--prune", *words)
     tools.check("--prune with nothing to retire", (status, "retired" in errors, len(query(table, "SELECT 1 FROM retired"))), (0, False, 2))
+    test_named(tools, folder)
+
+
+def test_named(tools, folder):
+    """Ten of the machines that are retired are named, and that there are more."""
+    names, options = [f"machine {number:02}" for number in range(11)], SimpleNamespace(poll=False, prune=True, again=())
+    for count, end in ((10, ""), (11, ", ..")):
+        with closing(Verdicts(str(folder / f"{count}.db"), REQUIRE)) as table, redirect_stderr(StringIO()) as said:
+            table.record([(Machine(name, (f"/{name}",)), {"verdict": "failed", "time": "now"}) for name in names[:count]], ())
+            recorded_in(table, [], options, Summary())
+        wanted = f"fleet-verify: {count} retired, as MACHINES lacks them or has other paths: {', '.join(names[:10])}{end}\n"
+        tools.check(f"--prune of {count} machines: who is named", said.getvalue(), wanted)
 
 
 def test_pruned_polls(tools):
@@ -282,6 +298,6 @@ def test_retention(tools):
     tools.verify(*words, "--keep", "1s", machines, old)
     tools.check("--keep for a second", query(old, counts), [(0, 1, 1, 0)])
     tools.check("then another poll", tools.verify(*words, machines, old)[0], 4)
-    for text in ("0", "1w", "", "-1", "1.5h", "9999999999d", "h"):
+    for text in ("0", "1w", "", "-1", "1.5h", "36501d", "9999999999d", "h"):
         status, output, _ = tools.verify(*words, f"--keep={text}", machines, table)
         tools.check(f"refused: --keep {text!r}", (status, output), (2, ""))
