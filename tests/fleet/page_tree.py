@@ -96,13 +96,18 @@ def every(element):
 
 
 def foreign(page):
-    """What a page may not have: elements that load or run something besides its one script and one style, and attributes that do."""
+    """What a page may not have: elements that load or run something besides its one script and one style, and attributes that do; nor an id
+    twice, or one that is named and not there."""
     elements = list(every(page))
     tags = Counter(each.tag for each in elements)
     found = [tag for tag in ("img", "link", "iframe", "object", "embed", "base", "audio", "video", "source", "b") if tags[tag]]
     found += [tag for tag in ("script", "style", "h1", "main", "head", "body") if tags[tag] != 1]
     names = {name for each in elements for name in each.attributes}
     found += sorted(name for name in names if name.startswith("on") or name in ("style", "src", "srcdoc", "action", "formaction"))
+    ids = Counter(each.attributes["id"] for each in elements if "id" in each.attributes)
+    found += [name for name, count in ids.items() if count > 1]
+    named = {name for each in elements for name in (each.attributes.get("aria-labelledby"), each.attributes.get("href", "")[1:]) if name}
+    found += sorted(named - set(ids))
     return found + [each.attributes["href"] for each in page.all("a") if not each.attributes["href"].startswith("#")]
 
 

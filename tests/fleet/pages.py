@@ -14,8 +14,9 @@ from importlib.util import find_spec
 
 from cluster import ROOT, SECONDS
 from fleet_verify.machines import Machine
+from fleet_verify.plot import bars_of, plot_of
 from fleet_verify.reading import now
-from fleet_verify.verdicts import Verdicts
+from fleet_verify.verdicts import VERDICTS, Verdicts
 from page_tree import Reader, folded, foreign, hostile_texts, lacks_jinja, rows_below, state_of
 from tables import change
 
@@ -23,6 +24,8 @@ TEMPLATES = ROOT / "fleet/fleet_verify/templates"
 GOOD = "e8ed95b94e8d66f42e5b9be4d794dc0c7701e2360f03537fe59e9ba861a8024f"
 OTHER = "a2bcf779880ae33077f9e7992851299f30cea5f6cffc6512de6cd10aa457a7f3"
 MOMENT_AGO = "UPDATE ends SET time = strftime('%Y-%m-%dT%H:%M:%f+00:00', 'now', '-5 seconds')"
+
+AHEAD = "UPDATE {} SET time = strftime('%Y-%m-%dT%H:%M:%f+00:00', 'now', '+30 seconds')"
 
 
 def registers_of(others=()):
@@ -81,6 +84,8 @@ def test_pages(tools):
     test_listed(tools, folder)
     test_times(tools, folder)
     test_bars(tools, folder)
+    test_plot(tools)
+    test_bounds(tools, folder)
     test_states(tools, folder)
     test_refused_pages(tools, folder)
     test_many(tools, folder)
@@ -118,10 +123,14 @@ def test_listed(tools, folder):
     text, is_good = state_of(page)
     told = [each in text for each in ("2 of 10 machines match", "poll 2, ended at", "sha256:0-10")]
     tools.check("a page: its head", (told, is_good), ([True] * 3, False))
+    titles = [each.text for page_ in (page, shown_page(tools, table)) for each in page_.all("h1")]
+    tools.check("a page: its title", titles, ["Fleet: a title", f"Fleet: {table}"])
     counts = [each.text.split() for each in next(page.all("ul")).all("li")]
     tools.check("a page: counts", counts, [
         ["2", "match"], ["5", "differ"], ["2", "refused"], ["1", "unreadable"], ["0", "failed"], ["1", "retired"],
     ])
+    kinds = {(row.attributes["data-kind"], cell.text) for row in page.all("tr") for cell in row.all("td") if cell.text in VERDICTS}
+    tools.check("a page: each row can be found by its verdict", kinds, {(kind, kind) for kind in ("differ", "refused", "unreadable")})
     rows = {row[0]: row[1:] for row in rows_below(page, "Machines that do not match")}
     tools.check("a page: who does not match", list(rows), ["late", "moved", "strange", "ten", "two", "cut", "cut too", "gone"])
     tools.check("a page: registers with their values", rows["two"][1], "".join(f"sha256 {number} differ {OTHER}, expected {GOOD}" for number in (0, 10)))
@@ -187,6 +196,45 @@ def test_bars(tools, folder):
     tools.check("a page: 61 polls", found, (31, [["polls 1 to 2", "0", "0"], ["polls 3 to 4", "0", "1"], ["polls 5 to 6", "1", "0"]], ["poll 61", "0", "0"]))
 
 
+def test_plot(tools):
+    """How many bars polls have, each beside the next one; and the scale up to the next of 2, 5 and 10, or these times 10, 100 and so on."""
+    for count, bars, last in ((1, 1, (1, 1)), (60, 60, (60, 60)), (120, 60, (119, 120)), (121, 41, (121, 121))):
+        made = bars_of([(number, "") for number in range(1, count + 1)], ())
+        places = plot_of(made).bars
+        beside = [one.left + one.width <= other.left for one, other in zip(places, places[1:])]
+        found = (len(made), made[-1][:2], all(beside), places[-1].left + places[-1].width <= plot_of(made).width)
+        tools.check(f"a plot of {count} polls", found, (bars, last, True, True))
+    for most, marks in (
+        (0, [0, 1, 2]), (2, [0, 1, 2]), (3, [0, 2, 5]), (5, [0, 2, 5]), (6, [0, 5, 10]), (11, [0, 10, 20]), (21, [0, 25, 50]), (101, [0, 100, 200]),
+    ):
+        plot = plot_of(bars_of([(1, ""), (2, "")], [(1, "differ", most), (2, "match", 1)]))
+        highest = min(piece.top for place in plot.bars for piece in place.pieces)
+        found = ([mark for mark, _ in plot.scale], plot.scale[0][1], plot.scale[-1][1] <= highest)
+        tools.check(f"a plot of {most} changes in a poll", found, (marks, plot.bottom, True))
+
+
+def test_bounds(tools, folder):
+    """The last 500 changes, the 50 largest groups of a value, and as many reasons and lists as machines are listed."""
+    def of_value(value):
+        row = {"bank": "sha256", "register": 10, "expected": GOOD, "state": "differ", "value": f"{value:064x}"}
+        return answer_of("differ", value, told={"registers": [row]})
+
+    answers = {f"m{number:03}": of_value(min(number, 50)) for number in range(52)}  # (the last two have the same value)
+    answers.update({f"n{number:03}": answer_of("match", 99) for number in range(449)})
+    answers.update(a=answer_of("match", 98), b=answer_of("match", 98), c=answer_of("refused", cause="x"))
+    table = make_table(folder / "bounds.db", [answers])
+    page = shown_page(tools, table)
+    rows = rows_below(page, "PCRs that do not match")
+    tools.check("a page: how many values are listed, the most frequent first", (len(rows), rows[0][0], rows[0][2]), (50, "2", "m050, m051"))
+    (part,) = [each for each in page.all("details") if next(each.all("summary")).text.startswith("The last")]
+    rows = [[cell.text for cell in row.inner if not isinstance(cell, str)] for row in next(part.all("tbody")).all("tr")]
+    found = (next(part.all("summary")).text, len(rows), rows[0][0], rows[-1][0])
+    tools.check("a page: how many changes are listed", found, ("The last 500 changes", 500, "c", "m004"))
+    page = shown_page(tools, "--most", 1, table)
+    found = [len(rows_below(page, title)) for title in ("Reasons", "Machines that do not match", "Machines with the same list")]
+    tools.check("a page: --most", found, [1, 1, 1])
+
+
 def test_states(tools, folder):
     """Only a table of which the last run has ended lately, and every verdict is a match of it, has the colour of a match."""
     match = {"a": answer_of("match", 1), "b": answer_of("match", 2)}
@@ -205,6 +253,8 @@ def test_states(tools, folder):
         ("an old end", match, f"UPDATE ends SET time = '{old}'", (), "did not end within", False),
         ("an end of a moment ago", match, MOMENT_AGO, ("--max-age", "1s"), "did not end within 1 s", False),
         ("an end of a moment ago, which may be older", match, MOMENT_AGO, ("--max-age", "60m"), "All 2 machines match", True),
+        ("an end by a clock that is 30 s ahead", match, AHEAD.format("ends"), (), "All 2 machines match", True),
+        ("verdicts by a clock that is 30 s ahead", match, AHEAD.format("given"), (), "All 2 machines match", True),
         ("an end to come", match, f"UPDATE ends SET time = '{to_come}'", (), "did not end within", False),
         ("a verdict of an earlier poll", [match, match], "UPDATE given SET poll = 1 WHERE rowid = 1", (), earlier, False),
         ("verdicts after the end", match, f"UPDATE given SET time = '{to_come}'", (), "after the last run ended", False),
@@ -234,9 +284,10 @@ def test_refused_pages(tools, folder):
         ("no file", folder / "none.db", "unable to open"), ("a folder", folder, f"refused: {folder}: "),
         ("another file", other, "no table of verdicts"), ("a text", folder / "text.db", "file is not a database"),
         ("a verdict that is none", damaged, "it is damaged"), ("another version", folder / "form.db", "another version"),
+        ("a name with control characters", folder / "no\x1b[31m\n.db", "/no?[31m?.db: "),
     ):
         status, output, errors = page_of(tools, path)
-        tools.check(f"no page: {title}", (status, output, told in errors, "Traceback" in errors), (2, "", True, False))
+        tools.check(f"no page: {title}", (status, output, told in errors, errors.count("\n"), "Traceback" in errors), (2, "", True, 1, False))
     tools.check("no page: no file was made", (folder / "none.db").exists(), False)
     before = hashlib.sha256(table.read_bytes()).hexdigest()
     with closing(sqlite3.connect(table)) as writer:
@@ -281,12 +332,32 @@ def test_quoted_table(tools, folder):
     tools.check("quotes: the oldest first", [row[:4] for row in rows], [["b", "50 min", "3", "1"], ["c", "90 s", "3", "1"], ["a", "4 s", "3", "1"]])
     told = [each.text for each in page.all("div") if each.text.startswith("One key signed for 2 machines: b, c")]
     tools.check("quotes: one key of two machines is told", len(told), 1)
+    test_quote_ages(tools, folder, quote)
     alike = make_table(folder / "alike.db", {
         "a": answer_of("match", 7), "b": answer_of("match", 7), "c": answer_of("match", 8),
         "d": answer_of("match", 8, list_from=95), "e": answer_of("match", 7, list_from=95),  # (of these the rest of a list was read)
     })
     rows = rows_below(shown_page(tools, alike), "Machines with the same list")
     tools.check("machines with the same list are told", rows, [["2", "a, b", f"{7:064x}"]])
+
+
+def test_quote_ages(tools, folder, quote):
+    """How many quotes are how old, and the ten oldest, each with its age in the unit of which it has two or more."""
+    ages = (0, 59.5, 60, 119, 120, 599, 600, 3599, 3600, 7199, 7200, 86399, 86400, 172800)
+    answers = {
+        f"m{number:02}": answer_of("match", number, signer=f"{number:064x}", quote_age=age, nonce=f"{number:040x}", **quote)
+        for number, age in enumerate(ages)
+    }
+    page = shown_page(tools, make_table(folder / "quote ages.db", answers))
+    oldest = [[row[0], row[1]] for row in rows_below(page, "Quotes")]
+    tools.check("quotes: the ten oldest", oldest, [
+        ["m13", "2 days"], ["m12", "24 h"], ["m11", "24 h"], ["m10", "2 h"], ["m09", "120 min"], ["m08", "60 min"], ["m07", "60 min"], ["m06", "10 min"],
+        ["m05", "10 min"], ["m04", "2 min"],
+    ])
+    (part,) = page.all("dl")
+    tools.check("quotes: how many are how old", [each.text for each in part.inner if not isinstance(each, str)], [
+        "a day or more", "2", "less than a day", "4", "less than an hour", "2", "less than 10 minutes", "4", "less than a minute", "2",
+    ])
 
 
 def hostile_table(folder, port):
