@@ -9,10 +9,11 @@ import subprocess
 import tempfile
 import threading
 import time
-from contextlib import contextmanager, suppress
+from contextlib import ExitStack, contextmanager, suppress
 from pathlib import Path
 from typing import IO, Any, Callable, Dict, Iterator, List, NamedTuple, Optional, Sequence
 
+from .ending import SIGNALS
 from .rendering import text_of_bytes
 
 REFUSED, STOPPED = 2, 3
@@ -125,26 +126,44 @@ def ask(words: Sequence[str], folder: Path, seconds: float, output: Output, stat
 
 @contextmanager
 def _running(words: Sequence[str], folder: Path, seconds: float, told: IO[bytes]) -> Iterator["subprocess.Popen[bytes]"]:
-    """A process, which is ended with all that it started after so many seconds, or where this is left early."""
-    process = subprocess.Popen(
-        words, cwd=folder, env={**os.environ, "PATH": search_path()}, stdin=subprocess.DEVNULL, stdout=subprocess.PIPE, stderr=told,
-        start_new_session=True,
-    )
-
-    def end() -> None:
-        with suppress(ProcessLookupError):
-            os.killpg(process.pid, signal.SIGKILL)
-
-    watch = threading.Timer(seconds, end)
-    try:
-        watch.start()  # (a signal may come meanwhile)
+    """A process, which is ended with all that it started after so many seconds, or where this is left early, be it as it starts."""
+    with ExitStack() as ending:
+        with _without_signals():
+            process = subprocess.Popen(
+                words, cwd=folder, env={**os.environ, "PATH": search_path()}, stdin=subprocess.DEVNULL, stdout=subprocess.PIPE, stderr=told,
+                start_new_session=True,
+            )
+            ending.callback(_end, process)
+        watch = threading.Timer(seconds, _kill, [process])
+        ending.callback(watch.cancel)
+        watch.start()
         yield process
         process.wait()
+
+
+@contextmanager
+def _without_signals() -> Iterator[None]:
+    """Has signals that come meanwhile come at the end. (To block them would do so for the process that is started, too.)"""
+    came: List[int] = []
+    handlers = {number: signal.signal(number, lambda number, _: came.append(number)) for number in SIGNALS}
+    try:
+        yield
     finally:
-        watch.cancel()
-        if process.returncode is None:
-            end()
-        process.communicate()
+        for number, handler in handlers.items():
+            signal.signal(number, handler)
+    for each in came:
+        signal.raise_signal(each)
+
+
+def _kill(process: "subprocess.Popen[bytes]") -> None:
+    with suppress(ProcessLookupError):
+        os.killpg(process.pid, signal.SIGKILL)
+
+
+def _end(process: "subprocess.Popen[bytes]") -> None:
+    if process.returncode is None:
+        _kill(process)
+    process.communicate()
 
 
 def _line(text: bytes) -> Line:

@@ -130,7 +130,7 @@ def test_listed(tools, folder):
         ["2", "match"], ["5", "differ"], ["2", "refused"], ["1", "unreadable"], ["0", "failed"], ["1", "retired"],
     ])
     kinds = {(row.attributes["data-kind"], cell.text) for row in page.all("tr") for cell in row.all("td") if cell.text in VERDICTS}
-    tools.check("a page: each row can be found by its verdict", kinds, {(kind, kind) for kind in ("differ", "refused", "unreadable")})
+    tools.check("a page: each row can be found by its verdict", kinds, {(kind, kind) for kind in VERDICTS[:4]})
     rows = {row[0]: row[1:] for row in rows_below(page, "Machines that do not match")}
     tools.check("a page: who does not match", list(rows), ["late", "moved", "strange", "ten", "two", "cut", "cut too", "gone"])
     tools.check("a page: registers with their values", rows["two"][1], "".join(f"sha256 {number} differ {OTHER}, expected {GOOD}" for number in (0, 10)))

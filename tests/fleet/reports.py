@@ -11,6 +11,7 @@ import subprocess
 import sys
 import time
 from concurrent.futures import ThreadPoolExecutor
+from contextlib import suppress
 from pathlib import Path
 
 import inputs
@@ -35,12 +36,19 @@ for number in range(10):
 print([line["number"] for line in output.lines], output.total)
 """
 BOUNDS_WANTED = "[0, 1, 2, 3, 4, 8, 9] 10"
-# Has a process be slow where it begins to watch the time of a program.
-LINGERING = """
+# Have a process be slow where it starts a program, and where it begins to watch its time.
+LINGERING = {
+    ", as the program starts": """
+import subprocess, time
+execute = subprocess.Popen._execute_child
+subprocess.Popen._execute_child = lambda *words: (execute(*words), time.sleep(2))
+""",
+    ", as its time begins": """
 import threading, time
 start = threading.Timer.start
 threading.Timer.start = lambda watch: (start(watch), time.sleep(5))
-"""
+""",
+}
 # Register 10 of samples/real-boot, and after its longer list.
 TEN = "e8ed95b94e8d66f42e5b9be4d794dc0c7701e2360f03537fe59e9ba861a8024f"
 LONGER = "a2bcf779880ae33077f9e7992851299f30cea5f6cffc6512de6cd10aa457a7f3"
@@ -156,6 +164,8 @@ def test_whole_report(tools, folder):
     boot = make_boot(folder / "whole")
     status, page, errors = report_of(tools, boot)
     tools.check("a boot that matches", (status, judged(page), errors), (0, ("match", True), ""))
+    found = (next(page.all("h1")).text, "Required: sha256:0-10." in state_of(page)[0])
+    tools.check("a boot: the title, and what is required, by default", found, (f"Boot: {boot}", True))
     log, measurements = read_log((boot / "firmware.log").read_bytes()), read_list((boot / "ima.list").read_bytes())
     rows, values = rows_below(page, "PCRs"), [line.split() for line in (boot / "expected.txt").read_text().splitlines()]
     tools.check("its registers, with their values", [[*row[:2], row[3]] for row in rows], values)
@@ -181,12 +191,27 @@ def test_whole_report(tools, folder):
     rows = rows_below(page, "Entries of the measurement list")
     unknown = [row[0] for row in rows if "unknown" in row[2]]
     tools.check("unknown entries", (status, judged(page), unknown), (1, ("differ", False), ["93", "94", "97"]))
+    test_two_known(tools, folder, boot)
     tools.check("unknown entries are shown besides the first ones", [row[0] for row in rows[48:]], ["48", "49", "93", "94", "97"])
     tools.check("how many are not shown", any("46 more entries are not shown" in each.text for each in page.all("p")), True)
     _, page, _ = report_of(tools, boot, "--most", 5)
     shown = [len(rows_below(page, title)) for title in ("What the machine booted", "Events of the firmware log")]
     told = re.findall(r"(\d+) more (?:lines|events) are not shown", " ".join(each.text for each in page.all("p")))
     tools.check("--most: answers and events, and how many more there are", (shown, told), ([5, 5], [str(len(answers) - 5), str(len(log.events) - 5)]))
+
+
+def test_two_known(tools, folder, boot):
+    """Each of two files of known digests counts. (The first entries are of the first file, and the others of the second.)"""
+    lines, paths = (SAMPLES / "known/SHA256SUMS").read_bytes().splitlines(keepends=True), []
+    for number, part in enumerate((lines[::2], lines[1::2])):
+        paths.append(folder / f"known {number}")
+        paths[-1].write_bytes(b"".join(part))
+    _, page, _ = report_of(tools, boot, "--known", paths[0], "--known", paths[1], "--title", "a title")
+    unknown = [row[0] for row in rows_below(page, "Entries of the measurement list") if "unknown" in row[2]]
+    tools.check("unknown entries, by two files", unknown, ["93", "94", "97"])
+    files = [row[0] for row in rows_below(page, "The verdict")]
+    tools.check("the files that were read", files, [*FILES, "known 0", "known 1"])
+    tools.check("the title of a report", [each.text for each in page.all("h1")], ["Boot: a title"])
 
 
 def test_report_states(tools, folder):
@@ -509,6 +534,8 @@ def test_planted_program(tools, folder):
         for words in ((), quoted):
             found = (*called(tools, *words, ".", cwd=boot, PATH=path), ran.exists())
             tools.check(f"a program in the judged folder, with PATH={path!r}, {len(words)} arguments", found, (3, "", told, False))
+    found = called(tools, "--program", "no\x1b[31m", ".", cwd=boot)
+    tools.check("a program whose name has control characters", found, (3, "", told.replace("ima-agent", r"no\x1b[31m")))
     good = f".::{tools.folder / 'program'}:{os.environ['PATH']}:."
     for words, right in (((), 2), (quoted, 4)):
         found = (called(tools, *words, ".", cwd=boot, PATH=good)[0], ran.exists())
@@ -541,21 +568,24 @@ def test_planted_modules(tools, folder):
 
 
 def test_stopped_report(tools, folder):
-    """A signal ends a report with status 3, and no copy of the machine's files is left."""
+    """A signal ends a report with status 3, and its program; and no copy of the machine's files is left."""
     boot, rest, begun = make_boot(folder / "stopped"), folder / "temporary", folder / "begun"
     rest.mkdir()
-    slow = write_program(folder / "slow", f": >'{begun}'; exec sleep 1000")
-    (folder / "sitecustomize.py").write_text(LINGERING)
-    for number, title, path in (
-        (signal.SIGTERM, "", ""), (signal.SIGINT, "", ""), (signal.SIGTERM, ", as the program starts", f"{folder}:"),
-    ):
+    slow = write_program(folder / "slow", f"echo $$ >'{begun} too early'; mv '{begun} too early' '{begun}'; exec sleep 1000")
+    for number, title in ((signal.SIGTERM, ""), (signal.SIGINT, ""), *((signal.SIGTERM, title) for title in LINGERING)):
         words, given = [tools.python, ROOT / "fleet/report.py", "--program", slow, boot], {**tools.environment, "TMPDIR": str(rest)}
-        given["PYTHONPATH"] = path + given["PYTHONPATH"]
+        if title:
+            (folder / title).mkdir()
+            (folder / title / "sitecustomize.py").write_text(LINGERING[title])
+            given["PYTHONPATH"] = f"{folder / title}:{given['PYTHONPATH']}"
         process = subprocess.Popen(words, env=given, stdout=subprocess.DEVNULL, stderr=subprocess.DEVNULL)
         until("the program", begun.exists, process)
         process.send_signal(number)
-        found = (process.wait(SECONDS), list(rest.iterdir()))
-        tools.check(f"a report that is stopped by {number.name}{title}", found, (3, []))
+        status, program = process.wait(SECONDS), int(begun.read_text())
+        with suppress(ProcessLookupError):
+            os.kill(program, signal.SIGKILL)
+            status = "its program is left"
+        tools.check(f"a report that is stopped by {number.name}{title}", (status, list(rest.iterdir())), (3, []))
         begun.unlink()
 
 
