@@ -5,6 +5,7 @@ import re
 import shutil
 import subprocess
 import zipfile
+from pathlib import Path
 
 from cluster import REQUIRE, ROOT, SECONDS, has, python_with
 
@@ -267,11 +268,12 @@ print(cause_of(RuntimeError("s3://bucket/x is gone"), "simplecache::s3://bucket/
 print(cause_of(RuntimeError("no answer"), "file:///"))
 print(cause_of(RuntimeError("no answer"), "/"))
 print(cause_of(RuntimeError(chr(27) + "]0;x" + chr(7) + chr(10) + chr(0xdc80))))
+print(len(cause_of(RuntimeError(2000 * "x"))))
 """
 CAUSES_WANTED = [
     "FileNotFoundError: ..", "FileNotFoundError: ..", "PermissionError: [Errno 13] Permission denied",
     "RuntimeError: no answer from ..?", "MemoryError", "OSError: [Errno 22] Bad request: ..", "RuntimeError: the key .. does not exist",
-    "RuntimeError: .. is gone", "RuntimeError: no answer", "RuntimeError: no answer", "RuntimeError: ?]0;x???",
+    "RuntimeError: .. is gone", "RuntimeError: no answer", "RuntimeError: no answer", "RuntimeError: ?]0;x???", "1000",
 ]
 
 # Prints the paths of machines in folders, and what is said of the last, which has no such file.
@@ -327,8 +329,65 @@ FITNESS_WANTED = [
     "Nothing.NOTHING sha256:0-10 ''", *2 * ["builtins ImportError False"], f"ImportError {BARE}",
 ]
 
+# Prints the defaults of the options of commands, those that say otherwise in their help, and those that may be given once alone.
+DEFAULTS = """
+import argparse, re, sys
+from importlib import import_module
+from fleet_verify.options import Once
+class Made(Exception):
+    pass
+def stop(parser, *_):
+    raise Made(parser)
+argparse.ArgumentParser.parse_args = stop
+for name in sys.argv[1:]:
+    module = import_module(f"fleet_verify.{name}")
+    try:
+        (module.main if name == "page" else module.options_of)([])
+    except Made as made:
+        (parser,) = made.args
+    options = [each for each in parser._actions if each.option_strings and each.nargs != 0]
+    given = [each for each in options if each.default is not None]
+    told = [(each, re.search("default: ([^,);]+)", each.help)) for each in given]
+    others = [each.dest for each, found in told if found and (each.type or str)(found[1]) != each.default]
+    print(name, *(f"{each.dest}={each.default}" for each in given), *others)
+    print(name, *(each.dest for each in options if isinstance(each, Once)))
+"""
+DEFAULTS_WANTED = [
+    f"options in_flight=16000 deadline=60 patience=600 progress=10 keep={400 * 24 * 60 * 60}", "options require keys max_age again metrics",
+    "nonces", "nonces folder max_age", f"page most=2000 max_age={24 * 60 * 60}", "page", "reporting known=[] most=10000 seconds=600 program=ima-agent",
+    "reporting require before key nonce title",
+]
+
+# Prints times, and the progress of a run with verdicts from before, and how many lines of it come, by a clock that this script turns.
+PROGRESS = """
+import io, time
+from fleet_verify.progress import Progress, clock
+from fleet_verify.verdicts import VERDICTS
+print(*map(clock, (0, 0.4, 59.4, 59.6, 3599.4, 3599.6, 3725, 360000)))
+time.monotonic = lambda: now
+now, stream = 100, io.StringIO()
+progress = Progress(12, ["match", "match", "failed"], VERDICTS, stream, 10)
+print(progress.line(10, 1))
+now = 150
+progress.begin()
+now = 152
+progress.count("match")
+progress.count("differ")
+progress.count("match", "failed")
+print(progress.line(7, 2))
+for now, is_last in ((152, False), (161.9, False), (162, False), (163, False), (163, True)):
+    progress.show(7, 2, is_last)
+    print(stream.getvalue().count(chr(10)), end=" ")
+"""
+PROGRESS_WANTED = [
+    "0:00 0:00 0:59 1:00 59:59 1:00:00 1:02:05 100:00:00",
+    "2 of 12 done: match 2, differ 0, refused 0, unreadable 0, failed 1; workers 1, 0.0 a second, time left unknown",
+    "5 of 12 done: match 4, differ 1, refused 0, unreadable 0, failed 0; workers 2, 1.5 a second, time left 0:05", "1 1 2 2 3 ",
+]
+
 
 def test_parts(tools):
+    commands = ("options", "nonces", *(("page", "reporting") if has(tools.python, "jinja2") else ()))
     modules = {"PYTHONPATH": f"{ROOT / 'bindings/python'}:{ROOT / 'fleet'}"}
     for title, script, words, wanted in (
         ("a batch ends at its time, after one machine at least", BATCHES, (ROOT / "samples/real-boot", REQUIRE), BATCHES_WANTED),
@@ -337,6 +396,8 @@ def test_parts(tools):
         ("causes without the paths", CAUSES, (), CAUSES_WANTED),
         ("the files of folders", FOLDERS, (), FOLDERS_WANTED),
         ("what a worker says of itself", FITNESS, (), FITNESS_WANTED),
+        ("the defaults of options, and which are given once", DEFAULTS, commands, DEFAULTS_WANTED[:2 * len(commands)]),
+        ("progress", PROGRESS, (), PROGRESS_WANTED),
         ("a run waits for a worker that ends, and asyncio warns of none", ENDING, (), ENDING_WANTED),
         ("a worker has its whole time for each request", TURNS, (), TURNS_WANTED),
         ("only workers that fail one after another end a run", STARTS, (), STARTS_WANTED),
@@ -382,9 +443,10 @@ def test_version(tools):
 # What the service may not do without a reason: its exposure, as systemd-analyze has it, times ten; and what that does not look at.
 MOST_EXPOSED = 5
 LIMITS = ("MemoryMax=4G", "OOMPolicy=continue", "PrivateNetwork=yes", "RestrictAddressFamilies=none", "ProtectHome=yes", "PrivateUsers=yes")
-# Who reads what it leaves, and for how long that stays; and when a poll begins that a stopped computer missed.
-KEPT = ("StateDirectoryMode=0700", "RuntimeDirectoryPreserve=yes")
-TIMED = ("OnCalendar=*:0/15", "Persistent=yes", "WantedBy=timers.target")
+# Where its settings are, how it ends, who reads what it leaves, and for how long that stays; and when a poll begins that a stopped computer missed.
+SET = ("Type=oneshot", "EnvironmentFile=/etc/fleet-verify/poll.conf", "TimeoutStartSec=1h", "KillMode=mixed", "User=fleet-verify", "UMask=0077")
+KEPT = ("StateDirectory=fleet-verify", "StateDirectoryMode=0700", "RuntimeDirectory=fleet-verify", "RuntimeDirectoryPreserve=yes")
+TIMED = ("OnCalendar=*:0/15", "RandomizedDelaySec=1min", "Persistent=yes", "WantedBy=timers.target")
 
 
 def test_units(tools):
@@ -394,7 +456,7 @@ def test_units(tools):
     shutil.copytree(ROOT / "fleet/systemd", folder)
     service, timer = folder / "fleet-poll.service", folder / "fleet-poll.timer"
     text = re.sub(r"^(Exec\w+=)fleet-verify ", r"\1/bin/true ", service.read_text(), flags=re.MULTILINE)
-    for title, settings, said in (("its limits", LIMITS, text), ("what it leaves", KEPT, text), ("its times", TIMED, timer.read_text())):
+    for title, settings, said in (("its limits", LIMITS, text), ("its settings", SET, text), ("what it leaves", KEPT, text), ("its times", TIMED, timer.read_text())):
         tools.check(f"the service: {title}", [setting for setting in settings if setting not in said.splitlines()], [])
     exposed = ["systemd-analyze", "security", "--offline=true", "--no-pager", f"--threshold={MOST_EXPOSED}", service]
     for title, edited, is_right in (
@@ -406,6 +468,19 @@ def test_units(tools):
         tools.check(f"systemd-analyze verify: {title}", (done.returncode, "fleet-poll" in done.stdout + done.stderr), (0, not is_right))
         done = subprocess.run(exposed, capture_output=True, text=True, timeout=SECONDS)
         tools.check(f"systemd-analyze security: {title}", done.returncode == 0, is_right)
+
+
+def test_unit_user(tools):
+    """The user of the service, as systemd-sysusers makes it, has its home where the service has its state."""
+    tools.needs("systemd-sysusers")
+    file = ROOT / "fleet/systemd/fleet-verify.conf"
+    root = tools.folder / "of users"
+    (root / "etc").mkdir(parents=True)
+    done = subprocess.run(["systemd-sysusers", f"--root={root}", file], capture_output=True, text=True, timeout=SECONDS)
+    tools.check("systemd-sysusers makes the service's user", (done.returncode, done.stderr if done.returncode else ""), (0, ""))
+    users = [line.split(":") for line in (root / "etc/passwd").read_text().splitlines()]
+    found = [(name, home, Path(shell).name) for name, *_, home, shell in users]
+    tools.check("the service's user", found, [("fleet-verify", "/var/lib/fleet-verify", "nologin")])
 
 
 def unit_words(setting, values):
