@@ -418,7 +418,7 @@ class Answers(unittest.TestCase):
     def test_wrong_answers_are_no_places(self):
         self.check_changes(_answers.read_places, 0, PLACES, (
             (b'"reset"', b'"event"'), (b',"number":18', b""), (b'"number":18', b'"number":"18"'),
-            (b'"entry"', b'"line"'), (b'"sha256"', b'"sha257"'), (b":4,", b":44,"), (b"}\n", b"}"), (b"true", b"false"),
+            (b'"entry"', b'"line"'), (b'"sha256"', b'"sha257"'), (b":4,", b":24,"), (b"}\n", b"}"), (b"true", b"false"),
             (b"true", b"1"), (b"true", b'"true"'), (b',"located":true', b""), (b'"reset"', b'"nowhere"'), (WANTED, b""), (b"ee", b"e"), (PLACES, b""),
         ))
         missing = b'{"bank":"sha1","register":4,"place":"missing"}'

@@ -1,14 +1,17 @@
-"""The wheel, where a Python of the machine has hatchling.
+"""The wheel, and its making where a Python of the machine has hatchling.
 
 From bindings/python: IMA_VERIFY_LIBRARY=/path/to/libima_verify.so python3 -m unittest discover tests"""
 
 import os
 import re
+import runpy
 import shutil
 import subprocess
 import sys
 import tempfile
+import types
 import unittest
+import unittest.mock
 import zipfile
 from pathlib import Path
 
@@ -28,6 +31,50 @@ def can_build(python):
 
 
 PYTHON = next(filter(can_build, filter(None, PYTHONS)), None)
+
+
+class Hook(unittest.TestCase):
+    """What is packed, and for which machines, as it is told without a build: hatchling has no part in that."""
+
+    ELF = b"\x7fELF\x02\x01\x01" + bytes(9) + b"\x03\x00\x3e\x00"
+
+    @classmethod
+    def setUpClass(cls):
+        interface = "hatchling.builders.hooks.plugin.interface"
+        with unittest.mock.patch.dict(sys.modules, {interface: types.SimpleNamespace(BuildHookInterface=object)}):
+            cls.hook = runpy.run_path(str(PACKAGE / "hatch_build.py"))
+
+    def test_platform_has_the_latest_glibc_that_is_asked_for(self):
+        for versions, wanted in (
+            (["2.2.5"], "manylinux_2_5"), (["2.2.5", "2.5"], "manylinux_2_5"), (["2.6"], "manylinux_2_6"),
+            (["2.17", "2.9", "2.2.5"], "manylinux_2_17"), (["2.9", "2.17"], "manylinux_2_17"), (["3.1", "2.40"], "manylinux_3_1"),
+            ([], "linux"), (["2.36", "PRIVATE"], "linux"), (["ABI_DT_RELR", "2.36"], "linux"),
+        ):
+            strings = b"\0".join([b"", b"libc.so.6", *(b"GLIBC_" + version.encode() for version in versions), b""])
+            self.assertEqual(self.hook["platform_of"](strings), f"{wanted}_x86_64", versions)
+
+    def test_library_of_another_kind_is_not_packed(self):
+        with tempfile.TemporaryDirectory() as folder:
+            file = Path(folder, "libima_verify.so")
+            with unittest.mock.patch.dict(os.environ, {"IMA_VERIFY_LIBRARY": str(file)}):
+                file.write_bytes(self.ELF)
+                self.assertEqual(self.hook["library_in"]("/nowhere"), (file.resolve(), self.ELF))
+                for place, byte in ((0, 0), (4, 1), (5, 2), (16, 2), (18, 0xb7), (19, 1)):  # (such as 32 bits, a program, and a machine of ARM)
+                    file.write_bytes(self.ELF[:place] + bytes([byte]) + self.ELF[place + 1:])
+                    self.assertRaisesRegex(SystemExit, "no shared library for x86-64", self.hook["library_in"], "/nowhere")
+
+    def test_library_is_that_of_a_path_or_of_the_package(self):
+        with tempfile.TemporaryDirectory() as folder:
+            file = Path(folder, "ima_verify/libima_verify.so")
+            file.parent.mkdir()
+            file.write_bytes(self.ELF)
+            for named in (None, ""):
+                with unittest.mock.patch.dict(os.environ):
+                    os.environ.pop("IMA_VERIFY_LIBRARY", None)
+                    os.environ.update({} if named is None else {"IMA_VERIFY_LIBRARY": named})
+                    self.assertEqual(self.hook["library_in"](folder), (file, self.ELF))
+            with unittest.mock.patch.dict(os.environ, {"IMA_VERIFY_LIBRARY": "libima_verify.so"}):
+                self.assertRaisesRegex(SystemExit, "is not a path", self.hook["library_in"], folder)
 
 
 @unittest.skipUnless(PYTHON, "no Python has hatchling")
