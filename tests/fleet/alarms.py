@@ -7,15 +7,17 @@ import re
 import stat
 import subprocess
 import time
-from contextlib import redirect_stderr
+from contextlib import closing, redirect_stderr
 from datetime import datetime, timezone
 from tempfile import NamedTemporaryFile
 from unittest import mock
 
-from cluster import SECONDS
+from cluster import REQUIRE, SECONDS
 from fleet_verify import metrics
+from fleet_verify.machines import Machine
 from fleet_verify.main import noted
 from fleet_verify.summary import Summary
+from fleet_verify.verdicts import Verdicts
 from keeping import make_machines
 from tables import change, query
 
@@ -140,7 +142,30 @@ def test_json(tools):
     tools.check("--json: why", reasons, {("match", None, 1), ("differ", None, 1), ("refused", nothing, 1), ("unreadable", gone, 1)})
     status, output, _ = tools.verify("--workers", 1, "--json", machines, table)
     tools.check("--json of a run that is refused: nothing", (status, output), (2, ""))
+    test_told(tools)
     test_bound(tools)
+
+
+def test_told(tools):
+    """Those that do not match are told in the order of their verdicts, with all that a report says; and the three most frequent causes."""
+    row, strays = {"bank": "sha256", "register": 4, "state": "missing"}, [{"entry": 7, "register": 9}]
+    report = {"registers": [{**row, "register": 3, "state": "match"}, row], "extends": strays, "quote": "differ", "verdict": "differ"}
+    answers = {
+        "g": {"verdict": "differ", "boot_aggregate": "wrong", "unknown": 2, "first_unknown": 7, "report": json.dumps(report)},
+        "a": {"verdict": "match"}, "b": {"verdict": "unreadable", "cause": "w"}, "c": {"verdict": "failed", "cause": "x"},
+        "d": {"verdict": "failed", "cause": "x"}, "f": {"verdict": "refused", "cause": "z"}, "e": {"verdict": "refused", "cause": "y"},
+    }
+    with closing(Verdicts(str(tools.folder / "told.db"), REQUIRE)) as table:
+        table.record([(Machine(name, (f"/{name}",)), {**answer, "time": "now"}) for name, answer in answers.items()], ())
+        summary = Summary()
+        summary.look(table)
+    first, *others = summary.named
+    tools.check("--json: what a report says", first, {
+        "machine": "g", "verdict": "differ", "cause": None, "boot_aggregate": "wrong", "registers": [row], "extends": strays, "quote": "differ",
+        "unknown": 2, "first_unknown": 7,
+    })
+    tools.check("--json: the order of those without a report", [each["machine"] for each in others], ["e", "f", "c", "d", "b"])
+    tools.check("the most frequent causes", summary.causes, ["failed 2: x", "refused 1: y", "refused 1: z"])
 
 
 def test_bound(tools):

@@ -327,9 +327,15 @@ def test_quoted_table(tools, folder):
         name: answer_of("match", number, signer=signer, quote_age=age, nonce=f"{number:040x}", **quote)
         for number, (name, signer, age) in enumerate((("a", "d" * 64, 4.0), ("b", "e" * 64, 3000.0), ("c", "e" * 64, 90.5)))
     }
+    told = {"quote": "differ", "extends": [{"event": 25, "register": 10}, {"entry": 7, "register": 9}]}
+    answers["d"] = answer_of("differ", 3, signer="f" * 64, quote_age=1.0, nonce="ff", told=told, **quote)
     page = shown_page(tools, make_table(folder / "quoted.db", answers))
     rows = rows_below(page, "Quotes")
-    tools.check("quotes: the oldest first", [row[:4] for row in rows], [["b", "50 min", "3", "1"], ["c", "90 s", "3", "1"], ["a", "4 s", "3", "1"]])
+    wanted = [["b", "50 min", "3", "1"], ["c", "90 s", "3", "1"], ["a", "4 s", "3", "1"], ["d", "1 s", "3", "1"]]
+    tools.check("quotes: the oldest first", [row[:4] for row in rows], wanted)
+    facts = [each.text for each in next(page.all("main")).all("li") if "PCR" in each.text]
+    wanted = ["log and list do not make the quoted PCRs", "an event extends PCR 10: event 25", "an entry extends PCR 9: entry 7"]
+    tools.check("quotes: why a machine differs", facts, wanted)
     told = [each.text for each in page.all("div") if each.text.startswith("One key signed for 2 machines: b, c")]
     tools.check("quotes: one key of two machines is told", len(told), 1)
     test_quote_ages(tools, folder, quote)

@@ -36,6 +36,25 @@ for number in range(10):
 print([line["number"] for line in output.lines], output.total)
 """
 BOUNDS_WANTED = "[0, 1, 2, 3, 4, 8, 9] 10"
+# Prints how much of a list is said to be covered.
+COVERED = """
+from fleet_verify.boot import covered
+for count, total in ((0, 1), (1, 1), (0, 2), (1, 2), (2, 2), (2, 99), (98, 99)):
+    print(covered(count, total))
+"""
+COVERED_WANTED = [
+    "none of 1 entries", "the only entry", "none of 2 entries", "the first of 2 entries", "all 2 entries", "the first 2 of 99 entries",
+    "the first 98 of 99 entries",
+]
+# Prints of texts whether they are folded, how much of them a page has, and whether they are cut.
+FOLDS = """
+from fleet_verify.rendering import _environment
+text = _environment().get_template("parts.html").module.text
+for size in (400, 401, 16384, 16385):
+    shown = str(text(size * "n"))
+    print(size, "<details>" in shown, shown.rpartition(">n")[2].count("n") + 1, "cut here" in shown)
+"""
+FOLDS_WANTED = ["400 False 400 False", "401 True 401 False", "16384 True 16384 False", "16385 True 16384 True"]
 # Have a process be slow where it starts a program, and where it begins to watch its time.
 LINGERING = {
     ", as the program starts": """
@@ -341,7 +360,7 @@ def test_unknown_and_unconfirmed(tools, folder, boot, known):
     log, entries = read_log((REAL / "firmware.log").read_bytes()), read_list((REAL / "ima.list").read_bytes())
     quoted, good, again = quoted_by_nonce(), tools.folder / "program/ima-agent", entries[5]
     hiding = log._replace(events=[*log.events, Event(10, EV_ACTION, {SHA256.identifier: bytes(32)}, b"")])
-    grown = list_spelling([*entries, again])
+    grown, first = list_spelling([*entries, again]), entry_of(IMA_NG, SHA256, bytes(32), b"boot_aggregate")
 
     def of_its_own(name, log, entries):
         return make_boot(folder / name, firmware=log.spelling(), ima=list_spelling(entries),
@@ -357,10 +376,18 @@ def test_unknown_and_unconfirmed(tools, folder, boot, known):
         ("an entry of another register", (of_its_own("moved", log, [*entries, again._replace(register=9)]),), 1, "differ", slice(2, 3)),
         ("an event of register 10", (of_its_own("hiding", hiding, entries),), 1, "differ", slice(2, 3)),
         ("a program that fails without known files", (boot, "--program", failing), 1, "differ", slice(2, 3)),
+        ("another boot aggregate", (of_its_own("aggregate", log, [first, *entries[1:]]),), 1, "differ", slice(2, 3)),
     )
+    reasons = {
+        "a quote of another list": "Log and list do not make the quoted PCRs.", "another boot aggregate": "The boot aggregate is wrong.",
+        "an entry of another register": "Log and list are not apart: entry 99 extends PCR 9.",
+        "an event of register 10": "Log and list are not apart: event 25 extends PCR 10.",
+    }
     for (title, _, status, word, parts), (found, page, _) in zip(cases, reports_of(tools, [(*call, *known) for _, call, *_ in cases])):
         tools.check(f"unknown entries, and {title}", (found, judged(page)), (status, (word, False)))
         tools.check(f"unknown entries, and {title}: nothing is confirmed", confirmed_in(page)[parts], NOTHING[parts])
+        told = [each.text for each in page.all("p") if each.text in reasons.values()]
+        tools.check(f"unknown entries, and {title}: the reasons", told, [reasons[title]] if title in reasons else [])
 
 
 def list_fault(number):
@@ -430,6 +457,9 @@ def test_prefixes(tools, folder):
         tools.check(f"{title}: confirmed", confirmed_in(page)[:3], (booted, events, entries) if is_confirming else ([], [], entries))
         denied = [each for each in paragraphs if each.startswith("No event is confirmed")]
         tools.check(f"{title}: why no event is", [first in each for each in denied], [] if is_confirming else [True])
+    for title, script, wanted in (("how much of a list is covered", COVERED, COVERED_WANTED), ("long texts", FOLDS, FOLDS_WANTED)):
+        said = tools.start(["-c", script], PYTHONPATH=str(ROOT / "fleet")).communicate(timeout=SECONDS)[0]
+        tools.check(title, said.splitlines(), wanted)
     for page in (found[0][1], differing):
         tools.check("where PCR 10 is reached", [row[4] for row in rows_below(page, "PCRs") if row[1] == "10"], [f"after {first}"])
 
