@@ -370,7 +370,9 @@ class Answers(unittest.TestCase):
             self.check_wrong(read, 0, with_unknown(report, b"").replace(b'"match"}', b'"differ"}'))
         # (no files had to be known)
         for report, read in ((REPORT, _answers.read_verdict), (REPORT, _answers.read_report), (LIST_REPORT, _answers.read_list_verdict)):
-            self.check_wrong(read, 0, with_unknown(report, b""))
+            told = with_unknown(report, b"")
+            for text in (told, told.replace(b'"unknown":[],', b""), told.replace(b'"known_from":0,', b"")):
+                self.check_wrong(read, 0, text)
             self.check_wrong(read, 1, with_unknown(report.replace(b'"verdict":"match"', b'"verdict":"differ"'), b"1"))
 
     def test_report_of_no_registers_is_no_match(self):
@@ -418,8 +420,9 @@ class Answers(unittest.TestCase):
     def test_wrong_answers_are_no_places(self):
         self.check_changes(_answers.read_places, 0, PLACES, (
             (b'"reset"', b'"event"'), (b',"number":18', b""), (b'"number":18', b'"number":"18"'),
-            (b'"entry"', b'"line"'), (b'"sha256"', b'"sha257"'), (b":4,", b":24,"), (b"}\n", b"}"), (b"true", b"false"),
-            (b"true", b"1"), (b"true", b'"true"'), (b',"located":true', b""), (b'"reset"', b'"nowhere"'), (WANTED, b""), (b"ee", b"e"), (PLACES, b""),
+            (b'"entry"', b'"line"'), (b'"sha256"', b'"sha257"'), (b":4,", b":24,"), (b":4,", b":44,"), (b"}\n", b"}"),
+            (b"true", b"false"), (b"true", b"1"), (b"true", b'"true"'), (b',"located":true', b""), (b'"reset"', b'"nowhere"'), (WANTED, b""),
+            (b"ee", b"e"), (PLACES, b""),
         ))
         missing = b'{"bank":"sha1","register":4,"place":"missing"}'
         both = b'"expected":"%b",%%b:"missing"' % (40 * b"e")
@@ -728,13 +731,14 @@ class Listings(unittest.TestCase):
         for text in (EVENT, ALGORITHMS[:-1], FAULT, b"\n"):
             self.check_wrong("events", [text])
             self.check_wrong("events", [text], fake.fault_of(Kind.LOG, 1, 2))
-        for old, new in ((b'"algorithms"', b'"banks"'), (b'"size":20', b'"size":"20"'), (b'"id":4', b'"id":65536'), (b'"id":18,', b""),
-                         (b'"sha1"', b"1"), (b"[", b"[1,")):
+        for old, new in ((b'"algorithms"', b'"banks"'), (b'"size":20', b'"size":"20"'), (b'"size":20', b'"size":65536'),
+                         (b'"id":4', b'"id":65536'), (b'"id":18,', b""), (b'"sha1"', b"1"), (b"[", b"[1,")):
             self.check_wrong("events", [ALGORITHMS.replace(old, new, 1) + EVENT])
         for old, new in (
             (b'"event":1', b'"event":0'), (b'"event":1', b'"event":2'), (b'"event":1,', b""), (b'"register":0', b'"register":4294967296'),
-            (b'"EV_SEPARATOR"', b"4"), (b'"type_number":4,', b""), (b'"digests":', b'"digest":'), (b'"sha1"', b'"sm3"'), (b"aa", b"a"),
-            (b'"aa', b'"'), (b',"data":"00"', b""), (b'"data":"00"', b'"data":"0"'), (b"}\n", b"\n"), (b"}\n", b"}"),
+            (b'"EV_SEPARATOR"', b"4"), (b'"type_number":4,', b""), (b'"type_number":4', b'"type_number":4294967296'),
+            (b'"digests":', b'"digest":'), (b'"sha1"', b'"sm3"'), (b"aa", b"a"), (b'"aa', b'"'), (b',"data":"00"', b""),
+            (b'"data":"00"', b'"data":"0"'), (b"}\n", b"\n"), (b"}\n", b"}"),
             (b'"measured":{"sha1":"data"},', b""), (b'{"sha1":"data"}', b'{"sha256":"data"}'), (b'"sha1":"data"', b'"sha1":"value"'),
             (b'"sha1":"data"', b'"sha1":"command"'), (b'"sha1":"data"', b'"sha1":"none"'), (b'"measured":{"sha1":"data"}', b'"measured":[]'),
             (b',"content":{"unknown":true}', b""), (b'{"unknown":true}', b"{}"), (b'{"unknown":true}', b'{"unknown":true,"text":""}'),
@@ -815,7 +819,7 @@ class Failures(unittest.TestCase):
             for result in (DONE, DIFFERS, MORE):
                 self.check_wrong(result, fault)
                 self.check_wrong(result, fault, "x")
-        for fault in (in_list, argument, fake.NO_FAULT):
+        for fault in (in_list, argument, (99, 0, NONE), fake.NO_FAULT):
             self.check_wrong(OUT_OF_MEMORY, fault)
             self.check_wrong(OUT_OF_MEMORY, fault, "x")
         self.check_wrong(REFUSED, memory, "x")

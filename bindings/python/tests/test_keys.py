@@ -187,11 +187,12 @@ class Answers(unittest.TestCase):
         for is_endorsement in (False, True):
             self.check_changes(RSA, (
                 (b"}\n", b"}"), (b'"name"', b'"names"'), (b"000b", b"0004"), (b"000b", b"0b"), (b"000b", b"000c"), (b"aa", b"AA"), (b"aa", b""),
-                (NAME, b""), (b'"rsa"', b'"ecc"'), (b'"rsa"', b'"dsa"'), (b'"rsa"', b"1"), (b"2048", b"2047"), (b"2048", b"2040"), (b"2048", b"0"),
-                (b"2048", b"-2048"), (b"2048", b'"2048"'), (b"2048", b"2048.0"), (b"2048", b"true"), (b"2048", b"65536"), (b"2048", b"521"),
-                (b'"rsassa"', b'"ecdsa"'), (b'"rsassa"', b'"none"'), (b'"rsassa"', b'"x"'), (b'"rsassa"', b"null"), (b'"sha256"', b'"md5"'),
-                (b'"sha256"', b"null"), (b'"hash":"sha256",', b""), (PEM, b""), (b"PUBLIC", b"PRIVATE"), (rb'-----\n"', b'-----"'),
-                (b"AAA=", b"AA.="), (rb"\nAAA=", b"AAA="), (b'"pem"', b'"key"'), (RSA, b""), (RSA, b"name 000b\n"),
+                (NAME, b""), (NAME, NAME + b"aa"), (b'"rsa"', b'"ecc"'), (b'"rsa"', b'"dsa"'), (b'"rsa"', b"1"), (b"2048", b"2047"),
+                (b"2048", b"2040"), (b"2048", b"0"),
+                (b"2048", b"2049"), (b"2048", b"-2048"), (b"2048", b'"2048"'), (b"2048", b"2048.0"), (b"2048", b"true"), (b"2048", b"65536"),
+                (b"2048", b"521"), (b'"rsassa"', b'"ecdsa"'), (b'"rsassa"', b'"none"'), (b'"rsassa"', b'"x"'), (b'"rsassa"', b"null"),
+                (b'"sha256"', b'"md5"'), (b'"sha256"', b"null"), (b'"hash":"sha256",', b""), (PEM, b""), (b"PUBLIC", b"PRIVATE"),
+                (rb'-----\n"', b'-----"'), (b"AAA=", b"AA.="), (rb"\nAAA=", b"AAA="), (b'"pem"', b'"key"'), (RSA, b""), (RSA, b"name 000b\n"),
             ), is_endorsement)
             self.check_changes(CURVE, ((b"521", b"520"), (b"521", b"2048"), (b'"ecc"', b'"rsa"'), (b'"ecdsa"', b'"rsassa"')), is_endorsement)
             for fault in (b'"fault":null,', b'"fault":{"kind":"key","number":1,"message":"refused: key fault 1"},'):

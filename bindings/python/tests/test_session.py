@@ -460,6 +460,8 @@ class States(Refusing):
                          (b"entries 50", b"entries 18446744073709551616"), (b"bytes ", b"bytes 0"), (b"entries 50", b"entries ")):
             self.assertIn(old, state)
             self.check_no_state(sealed(state.replace(old, new, 1)), 1)
+        longest = state.replace(b"bytes %d" % ENDS[50], b"bytes %d" % (2**63 - 1), 1)
+        self.assertEqual(ima_verify.Session(LOG, EXPECTED, require=NOTHING, state=longest).offset, 2**63 - 1)
 
     def test_state_of_another_boot_is_refused(self):
         self.check_no_state(state_after(99, OTHER_LOG), 3)
@@ -724,6 +726,7 @@ class Answers(unittest.TestCase):
         # Of a replay fault the entry is one after the front; no other fault is told.
         early = FRONT_WITH_FAULT.replace(b'"entry":4', b'"entry":2').replace(b"y 4", b"y 2")
         self.check_wrong(0, early, True)
+        self.check_wrong(0, FRONT_WITH_FAULT.replace(b'"number":1', b'"number":4294967296').replace(b" 1 at", b" 4294967296 at"), True)
         for members in (
             b'"kind":"checkpoint","number":3,"message":"unconfirmed: checkpoint fault 3"',
             b'"kind":"log","number":1,"event":4,"message":"unconfirmed: log fault 1 at event 4"',
