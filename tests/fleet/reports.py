@@ -36,6 +36,15 @@ for number in range(10):
 print([line["number"] for line in output.lines], output.total)
 """
 BOUNDS_WANTED = "[0, 1, 2, 3, 4, 8, 9] 10"
+# Prints how much is kept of what a program says on standard error, and of a line that is none.
+SAID = """
+from pathlib import Path
+from fleet_verify.program import Output, ask
+for command in ("printf %05000d 0 >&2; exit 3", "printf %05000d 0"):
+    reply = ask(["sh", "-c", command], Path("."), 60, Output())
+    print(reply.status, len(reply.said), reply.fault.count("0" * 2000), reply.fault.count("0" * 2001))
+"""
+SAID_WANTED = ["3 2000 1 0", "3 0 1 0"]
 # Prints how much of a list is said to be covered.
 COVERED = """
 from fleet_verify.boot import covered
@@ -536,6 +545,8 @@ def test_failing_program(tools, folder):
     tools.check("a program that does not end is not waited for", time.monotonic() - started < 1000, True)
     said = tools.start(["-c", BOUNDS], PYTHONPATH=str(ROOT / "fleet")).communicate(timeout=SECONDS)[0].strip()
     tools.check("of long lines 16 MiB are kept, and as much of those that are notable", said, BOUNDS_WANTED)
+    said = tools.start(["-c", SAID], PYTHONPATH=str(ROOT / "fleet")).communicate(timeout=SECONDS)[0]
+    tools.check("of what a program says 2000 bytes are kept", said.splitlines(), SAID_WANTED)
     lacking = program_that(programs / "it leaves out members", "events", """echo '{"event":1}'""", good)
     status, text, errors = report_text(tools, boot, "--program", lacking)
     tools.check("a program that leaves out members: no page", (status, text, errors[:21]), (3, "", "ima-report: no page: "))
