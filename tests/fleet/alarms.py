@@ -2,6 +2,7 @@
 
 import io
 import json
+import math
 import os
 import re
 import stat
@@ -253,6 +254,7 @@ def test_metrics(tools):
     age = (datetime.now(timezone.utc) - datetime(2026, 1, 1, tzinfo=timezone.utc)).total_seconds()
     tools.check("--metrics of a run that cannot go on: the oldest match", abs(samples["ima_fleet_oldest_match_age_seconds"] - age) < 60, True)
     test_refused_metrics(tools, folder, machines, table, file)
+    test_labels(tools)
     test_unwritten(tools, folder)
     test_swapped(tools, folder)
     test_parsed(tools, file)
@@ -276,6 +278,16 @@ def test_refused_metrics(tools, folder, machines, table, file):
     tools.verify("--workers", 1, "--metrics", link, machines, TABLE_NAME)
     found = (target.read_text(), link.is_symlink(), samples_of(link)["ima_fleet_status"])
     tools.check("--metrics takes the place of a link", found, ("untouched", False, 4))
+
+
+def test_labels(tools):
+    """A name of a table with what the format gives a meaning, and one that is not UTF-8; and an age of which nothing is known."""
+    summary = Summary(machines=3, counts={"match": 1}, oldest_match=math.inf)
+    summary.end(4)
+    label, names = r'table="a\n\"b\"\\?"', ("ima_fleet_status{", "ima_fleet_oldest_match_age_seconds{", "ima_fleet_machines{")
+    found = [line for line in metrics.metrics_of(summary, 'a\n"b"\\\udcff').splitlines() if line.startswith(names)]
+    machines = [f'{names[2]}{label},verdict="{verdict}"}} {count}' for verdict, count in (("match", 1), ("none", 2))]
+    tools.check("--metrics: labels, and what is infinite", found, [f"{names[0]}{label}}} 4", f"{names[1]}{label}}} +Inf", *machines])
 
 
 def test_unwritten(tools, folder):

@@ -5,8 +5,10 @@ the first of these."""
 
 import os
 import shutil
+from unittest import mock
 
 from cluster import ROOT, SECONDS, until
+from fleet_verify import known
 from tables import query
 
 from reference.measurement_list import list_spelling, read_list
@@ -47,6 +49,7 @@ def test_known(tools):
     head, line, tail = sums.partition(b"\n")
     first.write_bytes(head), rest.write_bytes(tail)  # (the first file lacks its last line feed)
     test_refused(tools, folder, table, first)
+    test_texts(tools, folder)
     test_runs(tools, table, first, rest)
     test_changes(tools, table, size, first, rest)
 
@@ -71,6 +74,24 @@ def test_refused(tools, folder, table, first):
     status, output, errors = tools.verify("--workers", 1, "--known", first, table, verdicts, require="none")
     told = "--known needs required registers" in errors
     tools.check("refused known files: nothing is required", (status, output, told, verdicts.exists()), (2, "", True, False))
+
+
+def test_texts(tools, folder):
+    """The longest file, whose last line has no end, and an empty one, and how many bytes are too many."""
+    texts, paths = (b"0123456789", b"", b"x\ny\n", b"0123456789\n"), []
+    for number, text in enumerate(texts):
+        paths.append(str(folder / f"text {number}"))
+        (folder / f"text {number}").write_bytes(text)
+    with mock.patch.object(known, "MOST_BYTES", 10):
+        found = known.read_known(paths[:3])
+        places = [found.place(line) for line in (1, 2, 3)]
+        try:
+            said = known.read_known(paths)
+        except known.BadKnown as fault:
+            said = str(fault)
+    wanted = [f"{paths[0]}: line 1", f"{paths[2]}: line 1", f"{paths[2]}: line 2"]
+    tools.check("known files: their text, and the places of its lines", (found.text, places), (b"0123456789\nx\ny\n", wanted))
+    tools.check("known files: one that is too long", said, f"{paths[3]}: it has more than 10 bytes")
 
 
 def test_runs(tools, table, first, rest):
