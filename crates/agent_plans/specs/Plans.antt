@@ -6,8 +6,8 @@ use Rattle.agent_plans.specs.declared.plan.ConfirmedBy.{ConfirmedBy}
 use Rattle.agent_plans.specs.declared.plan.ConfirmedBy.TheVariants.{Nothing}
 pub use Rattle.agent_plans.specs.declared.plan.DataShown.{DataShown}
 use Rattle.agent_plans.specs.declared.plan.DataShown.TheVariants.{Size, Bytes, Meaning}
-pub use Rattle.agent_plans.specs.declared.plan.Form.{Form}
-use Rattle.agent_plans.specs.declared.plan.Form.TheVariants as forms
+pub use Rattle.cells.specs.declared.writer.Form.{Form}
+use Rattle.cells.specs.declared.writer.Form.TheVariants as forms
 pub use Rattle.agent_plans.specs.declared.plan.Judged.{Judged}
 use Rattle.agent_plans.specs.declared.plan.Judged.TheVariants as judged
 pub use Rattle.agent_plans.specs.declared.plan.Measurement.{Measurement}

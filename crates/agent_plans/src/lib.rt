@@ -4,8 +4,9 @@
 mod fault;
 mod plan;
 
+pub use cells::Form;
 pub use fault::ArgumentsFault;
 pub use plan::{
-    Attest, ConfirmedBy, DataShown, Form, Judge, Judged, Measurement, NameEnd, Names, Plan, Print,
+    Attest, ConfirmedBy, DataShown, Judge, Judged, Measurement, NameEnd, Names, Plan, Print,
     Question, Quoting, Scope, Task,
 };

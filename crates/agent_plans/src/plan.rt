@@ -2,10 +2,11 @@
 
 ghost use Rattle.std.specs.Prelude.{◌≡◌};
 ghost use Rattle.agent_plans.specs.Plans.{IsOneOf, task_of};
-ghost use Rattle.agent_plans.specs.declared.plan.Form.TheVariants.{Text};
+ghost use Rattle.cells.specs.declared.writer.Form.TheVariants.{Text};
 ghost use Rattle.agent_plans.specs.declared.plan.Question.TheVariants as questions;
 ghost use Rattle.agent_plans.specs.declared.plan.Task.TheVariants as tasks;
 
+use cells::Form;
 use ima_list::Template;
 use pcr_banks::Alg;
 use tpm_keys::{KeyPart, Purpose};
@@ -48,15 +49,6 @@ pub enum Scope {
     Whole,
     /// The shortest prefix of the list that matches; if none does, the whole list.
     Prefix,
-}
-
-/// In which form a result is shown.
-#[derive(Clone, Copy, PartialEq, Eq)]
-pub enum Form {
-    /// As lines of text.
-    Text,
-    /// As JSON: one line, or a line for each entry or event.
-    Json,
 }
 
 /// What is judged, with what only it is of.

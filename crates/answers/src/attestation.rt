@@ -1,13 +1,11 @@
 //! The report on a log and a list by a quote.
 
-ghost use Rattle.std.specs.Prelude.{◌≡◌, ◌&&◌, option_copied, IfOk};
-ghost use Rattle.std.specs.Str.{IsUtf8};
+ghost use Rattle.std.specs.Prelude.{◌≡◌, ◌&&◌, option_copied};
 ghost use Rattle.boot_verdict.specs.Verdicts.{verdict_of};
 ghost use Rattle.known_files.specs.Unknown.{none_unknown};
 ghost use Rattle.attestations.specs.declared.expected.ExpectedValues.TheVariants.{Confirmed};
 ghost use Rattle.attestations.specs.Reports.{attest_verdict_of, is_attested};
-ghost use Rattle.cells.specs.Cells.{ShowsItems, ShowsMembers, object, rendered};
-ghost use Rattle.cells.specs.declared.writer.Form.TheVariants.{Json};
+ghost use Rattle.cells.specs.Cells.{ShowsMembers};
 ghost use Rattle.answers.specs.AttestationCells.{attestation_cell, attestation_counts, comparison_cell, conclusion_cell, confirmed_word, quote_cell, signed_cell, unsigned_cell, values_cell};
 
 use crate::prefix::show_prefix_counts;
@@ -17,43 +15,12 @@ use crate::strays::show_extends;
 use crate::unknown::show_unknown;
 use attestations::{AttestReport, ExpectedValues, Whole};
 use boot_verdict::{Report, Row};
-use cells::{CellWriter, Form, Written};
+use cells::{CellWriter, Written};
 use known_files::{Unknown, none_unknown};
-use std::alloc::{AllocError, Global};
+use std::alloc::Global;
 
-/// The report on a log and a list by a quote, in this form.
-///
-/// Fails only if memory runs out.
-pub fn render_attestation(
-    alloc: Global,
-    form: Form,
-    report: &AttestReport,
-    unknown: Option<&Unknown>,
-) -> Result<Vec<u8>, AllocError>
-    ensures bytes { IfOk result (λ bytes. bytes.items
-        ≡ rendered form (attestation_cell (option_copied unknown.entry) (attest_verdict_of report.now))) }
-    ensures utf8 { IfOk result (λ bytes. form ≡ Json → IsUtf8 bytes.items) }
-{
-    let mut out = CellWriter::new(alloc, form);
-    show_object(alloc, report, unknown, &mut out)?;
-    out.into_bytes()
-}
-
-fn show_object(
-    alloc: Global,
-    report: &AttestReport,
-    unknown: Option<&Unknown>,
-    out: &mut CellWriter,
-) -> Written
-    ensures { ShowsItems result out.old out.new
-        (object (attestation_cell (option_copied unknown.entry) (attest_verdict_of report.now))) }
-{
-    out.begin()?;
-    show_members(alloc, report, unknown, out)?;
-    out.end()
-}
-
-fn show_members(
+/// Shows the report on a log and a list by a quote.
+pub fn show_attestation(
     alloc: Global,
     report: &AttestReport,
     unknown: Option<&Unknown>,

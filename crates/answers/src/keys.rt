@@ -1,45 +1,19 @@
 //! What is told of a key.
 
-ghost use Rattle.std.specs.Prelude.{◌≡◌, codes, IfOk};
-ghost use Rattle.std.specs.Str.{IsUtf8};
+ghost use Rattle.std.specs.Prelude.{◌≡◌, codes};
 ghost use Rattle.pcr_banks.specs.Hashing.{name_of};
 ghost use Rattle.tpm_keys.specs.declared.kinds.KeyPart.TheVariants.{All};
 ghost use Rattle.cells.specs.Cells as cells;
-ghost use Rattle.cells.specs.Cells.{ShowsItems, ShowsMembers, if_some, object, rendered};
-ghost use Rattle.cells.specs.declared.writer.Form.TheVariants.{Json};
+ghost use Rattle.cells.specs.Cells.{ShowsMembers, if_some};
 ghost use Rattle.answers.specs.KeyCells.{key_cell, kind_cell, name_cell, scheme_cell};
 
-use cells::{CellWriter, Form, Written};
+use cells::{CellWriter, Written};
 use pcr_banks::{Alg, Digest};
-use std::alloc::{AllocError, Global};
+use std::alloc::Global;
 use tpm_keys::{KeyKind, KeyPart, KeyReport, MOST_NAME_BYTES, Scheme, name_bytes};
 
-/// A part of what is told of a key, or all of it, in this form.
-///
-/// Fails only if memory runs out.
-pub fn render_key(
-    alloc: Global,
-    form: Form,
-    report: &KeyReport,
-    part: KeyPart,
-) -> Result<Vec<u8>, AllocError>
-    ensures bytes { IfOk result (λ bytes. bytes.items ≡ rendered form (key_cell part report.now)) }
-    ensures utf8 { IfOk result (λ bytes. form ≡ Json → IsUtf8 bytes.items) }
-{
-    let mut out = CellWriter::new(alloc, form);
-    show_object(alloc, report, part, &mut out)?;
-    out.into_bytes()
-}
-
-fn show_object(alloc: Global, report: &KeyReport, part: KeyPart, out: &mut CellWriter) -> Written
-    ensures { ShowsItems result out.old out.new (object (key_cell part report.now)) }
-{
-    out.begin()?;
-    show_part(alloc, report, part, out)?;
-    out.end()
-}
-
-fn show_part(alloc: Global, report: &KeyReport, part: KeyPart, out: &mut CellWriter) -> Written
+/// Shows a part of what is told of a key, or all of it.
+pub fn show_key(alloc: Global, report: &KeyReport, part: KeyPart, out: &mut CellWriter) -> Written
     ensures { ShowsMembers result out.old out.new (key_cell part report.now) }
 {
     match part {

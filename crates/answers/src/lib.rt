@@ -14,10 +14,10 @@ mod rows;
 mod strays;
 mod unknown;
 
-pub use attestation::render_attestation;
-pub use keys::render_key;
-pub use list_report::{list_meets, render_list_report};
-pub use positions::{finds, render_positions};
-pub use prefix::render_prefix;
-pub use registers::{render_expected, render_registers};
-pub use report::{meets, render_report};
+pub use attestation::show_attestation;
+pub use keys::show_key;
+pub use list_report::{list_meets, show_list_report};
+pub use positions::{finds, show_positions};
+pub use prefix::show_prefix;
+pub use registers::{show_expected, show_registers};
+pub use report::{meets, show_report};

@@ -1,44 +1,26 @@
 //! The positions where registers first have their expected values.
 
-ghost use Rattle.std.specs.Prelude.{◌≡◌, option_copied, IfOk};
-ghost use Rattle.std.specs.Str.{IsUtf8};
+ghost use Rattle.std.specs.Prelude.{◌≡◌, option_copied};
 ghost use Rattle.boot_verdict.specs.declared.positions.Position.TheVariants.{Reset};
-ghost use Rattle.cells.specs.Cells.{ShowsItems, ShowsMembers, object, rendered};
-ghost use Rattle.cells.specs.declared.writer.Form.TheVariants.{Json};
+ghost use Rattle.cells.specs.Cells.{ShowsMembers};
 ghost use Rattle.answers.specs.PositionCells.{finds, found_cell, found_text, numbered_cell, position_cell, positions_cell};
 
 use crate::rows::{Says, show_rows};
 use boot_verdict::{Located, Position, Requirement, all_found, required_found};
-use cells::{CellWriter, Form, Written};
-use std::alloc::{AllocError, Global};
+use cells::{CellWriter, Written};
+use std::alloc::Global;
 
-/// Where each expected register first has its value, in this form. Fails only if memory runs out.
-pub fn render_positions(
-    alloc: Global,
-    form: Form,
-    located: &[Located],
-    requirement: Option<&Requirement>,
-) -> Result<Vec<u8>, AllocError>
-    ensures bytes { IfOk result (λ bytes. bytes.items ≡ rendered form (positions_cell (option_copied requirement.entry) located.now)) }
-    ensures utf8 { IfOk result (λ bytes. form ≡ Json → IsUtf8 bytes.items) }
-{
-    let mut out = CellWriter::new(alloc, form);
-    show_object(alloc, located, requirement, &mut out)?;
-    out.into_bytes()
-}
-
-fn show_object(
+/// Shows where each expected register first has its value.
+pub fn show_positions(
     alloc: Global,
     located: &[Located],
     requirement: Option<&Requirement>,
     out: &mut CellWriter,
 ) -> Written
-    ensures { ShowsItems result out.old out.new (object (positions_cell (option_copied requirement.entry) located.now)) }
+    ensures { ShowsMembers result out.old out.new (positions_cell (option_copied requirement.entry) located.now) }
 {
-    out.begin()?;
     show_rows(alloc, "place", located, requirement, out)?;
-    show_found(finds(located, requirement), out)?;
-    out.end()
+    show_found(finds(located, requirement), out)
 }
 
 fn show_found(found: bool, out: &mut CellWriter) -> Written

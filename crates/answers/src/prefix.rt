@@ -1,52 +1,32 @@
 //! The report on a confirmed prefix.
 
-ghost use Rattle.std.specs.Prelude.{◌≡◌, codes, option_copied, IfOk};
-ghost use Rattle.std.specs.Str.{IsUtf8};
+ghost use Rattle.std.specs.Prelude.{◌≡◌, codes, option_copied};
 ghost use Rattle.boot_verdict.specs.Verdicts.{verdict_of};
 ghost use Rattle.cells.specs.Cells as cells;
-ghost use Rattle.cells.specs.Cells.{ShowsItems, ShowsMembers, if_some, object, rendered};
-ghost use Rattle.cells.specs.declared.writer.Form.TheVariants.{Json};
+ghost use Rattle.cells.specs.Cells.{ShowsMembers, if_some};
 ghost use Rattle.answers.specs.ReportCells.{confirmed_cell, prefix_cell, prefix_counts_cell, unconfirmed_cell};
 
 use crate::report::{meets, show_counts, show_outcome};
 use boot_verdict::{PrefixReport, Report, Requirement, Unconfirmed};
-use cells::{CellWriter, Form, Written};
+use cells::{CellWriter, Written};
 use known_files::Unknown;
-use std::alloc::{AllocError, Global};
+use std::alloc::Global;
 
-/// The report on a confirmed prefix in this form. Fails only if memory runs out.
-pub fn render_prefix(
-    alloc: Global,
-    form: Form,
-    prefix: &PrefixReport,
-    requirement: Option<&Requirement>,
-    unknown: Option<&Unknown>,
-) -> Result<Vec<u8>, AllocError>
-    ensures bytes { IfOk result (λ bytes. bytes.items ≡ rendered form (prefix_cell (option_copied requirement.entry) (option_copied unknown.entry)
-        (verdict_of prefix.now.report) prefix.now.entries prefix.now.unconfirmed)) }
-    ensures utf8 { IfOk result (λ bytes. form ≡ Json → IsUtf8 bytes.items) }
-{
-    let mut out = CellWriter::new(alloc, form);
-    show_object(alloc, prefix, requirement, unknown, &mut out)?;
-    out.into_bytes()
-}
-
-fn show_object(
+/// Shows the report on a confirmed prefix.
+pub fn show_prefix(
     alloc: Global,
     prefix: &PrefixReport,
     requirement: Option<&Requirement>,
     unknown: Option<&Unknown>,
     out: &mut CellWriter,
 ) -> Written
-    ensures { ShowsItems result out.old out.new (object (prefix_cell (option_copied requirement.entry) (option_copied unknown.entry)
-        (verdict_of prefix.now.report) prefix.now.entries prefix.now.unconfirmed)) }
+    ensures { ShowsMembers result out.old out.new (prefix_cell (option_copied requirement.entry) (option_copied unknown.entry)
+        (verdict_of prefix.now.report) prefix.now.entries prefix.now.unconfirmed) }
 {
     let report = &prefix.report;
     let is_met = meets(report, requirement);
-    out.begin()?;
     show_prefix_counts(alloc, report, prefix.entries, prefix.unconfirmed, out)?;
-    show_outcome(alloc, report, requirement, unknown, is_met, out)?;
-    out.end()
+    show_outcome(alloc, report, requirement, unknown, is_met, out)
 }
 
 /// Shows the counts of the whole list, how many of its entries the prefix has on which the report is, and what is wrong after it.

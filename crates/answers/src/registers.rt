@@ -1,60 +1,24 @@
 //! Registers: those that differ from a start, and expected ones.
 
-ghost use Rattle.std.specs.Prelude.{◌≡◌, ℕ, List, Option, option_map, IfOk};
-ghost use Rattle.std.specs.Str.{IsUtf8};
+ghost use Rattle.std.specs.Prelude.{◌≡◌, ℕ, List, Option, option_map};
 ghost use Rattle.pcr_banks.specs.declared.alg.Alg.{Alg};
 ghost use Rattle.pcr_banks.specs.Digests.{bytes_of, digest_of};
 ghost use Rattle.boot_verdict.specs.RegisterTexts.{every_register};
-ghost use Rattle.cells.specs.Cells.{ShowsItems, ShowsMembers, each, object, rendered};
-ghost use Rattle.cells.specs.declared.writer.Form.TheVariants.{Json};
+ghost use Rattle.cells.specs.Cells.{ShowsItems, ShowsMembers, each};
 ghost use Rattle.answers.specs.RegisterCells.{change_cell, changed_value, expected_cell, register_cell, registers_cell, value_cell};
 
 use boot_verdict::{ALL_REGISTERS, Expected, register_numbered};
-use cells::{CellWriter, Form, Written};
+use cells::{CellWriter, Written};
 use pcr_banks::{Alg, Banks, Digest};
-use std::alloc::{AllocError, Global};
+use std::alloc::Global;
 
-/// The registers whose value in `now` differs from that in `start`, or whose bank `start` lacks, in this form.
-///
-/// Fails only if memory runs out.
-pub fn render_registers(
-    alloc: Global,
-    form: Form,
-    now: &Banks,
-    start: &Banks,
-) -> Result<Vec<u8>, AllocError>
-    ensures bytes { IfOk result (λ bytes. bytes.items ≡ rendered form (registers_cell now.now start.now)) }
-    ensures utf8 { IfOk result (λ bytes. form ≡ Json → IsUtf8 bytes.items) }
+/// Shows the registers whose value in `now` differs from that in `start`, or whose bank `start` lacks.
+pub fn show_registers(alloc: Global, now: &Banks, start: &Banks, out: &mut CellWriter) -> Written
+    ensures { ShowsMembers result out.old out.new (registers_cell now.now start.now) }
 {
-    let mut out = CellWriter::new(alloc, form);
-    show_changed_object(alloc, now, start, &mut out)?;
-    out.into_bytes()
-}
-
-/// These expected registers, in order, in this form.
-///
-/// Fails only if memory runs out.
-pub fn render_expected(
-    alloc: Global,
-    form: Form,
-    expected: &[Expected],
-) -> Result<Vec<u8>, AllocError>
-    ensures bytes { IfOk result (λ bytes. bytes.items ≡ rendered form (expected_cell expected.now)) }
-    ensures utf8 { IfOk result (λ bytes. form ≡ Json → IsUtf8 bytes.items) }
-{
-    let mut out = CellWriter::new(alloc, form);
-    show_expected_object(alloc, expected, &mut out)?;
-    out.into_bytes()
-}
-
-fn show_changed_object(alloc: Global, now: &Banks, start: &Banks, out: &mut CellWriter) -> Written
-    ensures { ShowsItems result out.old out.new (object (registers_cell now.now start.now)) }
-{
-    out.begin()?;
     out.list("registers")?;
     show_changed(alloc, now, start, out)?;
-    out.end_list()?;
-    out.end()
+    out.end_list()
 }
 
 fn show_changed(alloc: Global, now: &Banks, start: &Banks, out: &mut CellWriter) -> Written
@@ -97,14 +61,13 @@ fn changed_value(before: Option<Digest>, now: Option<Digest>) -> Option<Digest>
     }
 }
 
-fn show_expected_object(alloc: Global, expected: &[Expected], out: &mut CellWriter) -> Written
-    ensures { ShowsItems result out.old out.new (object (expected_cell expected.now)) }
+/// Shows these expected registers, in order.
+pub fn show_expected(alloc: Global, expected: &[Expected], out: &mut CellWriter) -> Written
+    ensures { ShowsMembers result out.old out.new (expected_cell expected.now) }
 {
-    out.begin()?;
     out.list("registers")?;
     show_all(alloc, expected, out)?;
-    out.end_list()?;
-    out.end()
+    out.end_list()
 }
 
 fn show_all(alloc: Global, expected: &[Expected], out: &mut CellWriter) -> Written

@@ -1,44 +1,23 @@
 //! The report on a log, a list and expected registers.
 
-ghost use Rattle.std.specs.Prelude.{◌≡◌, ◌&&◌, option_copied, IfOk};
-ghost use Rattle.std.specs.Str.{IsUtf8};
+ghost use Rattle.std.specs.Prelude.{◌≡◌, ◌&&◌, option_copied};
 ghost use Rattle.boot_verdict.specs.declared.report.State.TheVariants.{Differ};
 ghost use Rattle.boot_verdict.specs.Verdicts.{verdict_of};
 ghost use Rattle.known_files.specs.Unknown.{none_unknown};
-ghost use Rattle.cells.specs.Cells.{ShowsItems, ShowsMembers, if_some, object, rendered};
-ghost use Rattle.cells.specs.declared.writer.Form.TheVariants.{Json};
+ghost use Rattle.cells.specs.Cells.{ShowsMembers, if_some};
 ghost use Rattle.answers.specs.ReportCells.{aggregate_cell, compared_cell, counts_cell, meets, outcome_cell, report_cell, report_rows, state_cell, verdict_cell, verdict_word};
 
 use crate::rows::{Says, show_rows};
 use crate::strays::show_strays;
 use crate::unknown::show_unknown;
 use boot_verdict::{Aggregate, Report, Requirement, Row, State, aggregate_word};
-use cells::{CellWriter, Form, Written};
+use cells::{CellWriter, Written};
 use known_files::{Unknown, none_unknown};
 use pcr_banks::Digest;
-use std::alloc::{AllocError, Global};
+use std::alloc::Global;
 
-/// The report in this form. The verdict is `match` if the caller says so and no entry is unknown.
-///
-/// Fails only if memory runs out.
-pub fn render_report(
-    alloc: Global,
-    form: Form,
-    report: &Report,
-    requirement: Option<&Requirement>,
-    unknown: Option<&Unknown>,
-    is_match: bool,
-) -> Result<Vec<u8>, AllocError>
-    ensures bytes { IfOk result (λ bytes. bytes.items
-        ≡ rendered form (report_cell (option_copied requirement.entry) (option_copied unknown.entry) is_match (verdict_of report.now))) }
-    ensures utf8 { IfOk result (λ bytes. form ≡ Json → IsUtf8 bytes.items) }
-{
-    let mut out = CellWriter::new(alloc, form);
-    show_object(alloc, report, requirement, unknown, is_match, &mut out)?;
-    out.into_bytes()
-}
-
-fn show_object(
+/// Shows the report. The verdict is `match` if the caller says so and no entry is unknown.
+pub fn show_report(
     alloc: Global,
     report: &Report,
     requirement: Option<&Requirement>,
@@ -46,13 +25,11 @@ fn show_object(
     is_match: bool,
     out: &mut CellWriter,
 ) -> Written
-    ensures { ShowsItems result out.old out.new
-        (object (report_cell (option_copied requirement.entry) (option_copied unknown.entry) is_match (verdict_of report.now))) }
+    ensures { ShowsMembers result out.old out.new
+        (report_cell (option_copied requirement.entry) (option_copied unknown.entry) is_match (verdict_of report.now)) }
 {
-    out.begin()?;
     show_counts(report.events, report.locality, report.entries, out)?;
-    show_outcome(alloc, report, requirement, unknown, is_match, out)?;
-    out.end()
+    show_outcome(alloc, report, requirement, unknown, is_match, out)
 }
 
 /// Shows how many events and entries there are, and the locality.

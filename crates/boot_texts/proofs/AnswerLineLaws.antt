@@ -1,55 +1,76 @@
--- Each answer as JSON is one line.
-use Rattle.std.proofs.Common.{ℕ, arith, List, [], ◌∷◌, Option, Some, None, codes, refl}
+-- Each line as JSON is one value.
+use Rattle.std.proofs.Common.{ℕ, arith, List, [], ◌∷◌, ◌++◌, Option, Some, None, codes, refl}
 use Rattle.std.specs.Prelude.{flat_map, option_map}
 use Rattle.hex.specs.Hex.{IsBytes, encode_lower}
 use Rattle.pcr_banks.specs.declared.alg.Alg.{Alg}
 use Rattle.pcr_banks.specs.declared.sets.PerBank.{PerBank}
 use Rattle.pcr_banks.specs.Hashing.{all_algs, name_of}
+use Rattle.pcr_banks.specs.Sets.{digest_in}
 use Rattle.boot_log.specs.Spelling.{LogEvent}
 use Rattle.event_data.specs.ContentReading.{content_in}
 use Rattle.event_texts.specs.WideTexts.{wide_text}
 use Rattle.measured_data.specs.declared.place.Place.{Place}
 use Rattle.boot_answers.specs.Commands.{CommandSaid, grub, wide}
 use Rattle.boot_answers.specs.FirmwareVersion.{version_type}
+use Rattle.cells.proofs.LineLaws.{ArePlain, IsPlain, line_within, members_joined}
+use Rattle.cells.specs.Cells.{beside, each, hex, if_some, object_at}
+use Rattle.cells.specs.Values.{IsCount, IsOneLine, object_of}
 use Rattle.json_texts.specs.ContentJson.{content_json}
 use Rattle.json_texts.specs.ContentTexts.{text_or_hex}
-use Rattle.json_texts.specs.JsonValues.{IsCount, IsOneLine, hex_json, optional}
 use Rattle.json_texts.proofs.ContentLaws.{content_plain}
 use Rattle.json_texts.proofs.CountLaws.{content_counted}
-use Rattle.cells.proofs.LineLaws.{ArePlain, IsPlain, line_within, members_joined}
-use Rattle.json_texts.proofs.ValueLaws.{text_plain}
-use Rattle.boot_texts.specs.AnswerLines.{answered_digest, boot_variable_type, command_json, image_json, kind_members, text_json, text_member, unanswered_json, untold_json, variable_json, version_json, word_json}
-use Rattle.boot_texts.specs.Policies.{asking_json}
+use Rattle.boot_texts.specs.declared.difference_lines.Boot.{Boot}
+use Rattle.boot_texts.specs.declared.policies.ImaPolicy.TheVariants.{Asked, Possible}
+use Rattle.boot_texts.specs.AnswerCells.{answered_digest, boot_variable_type, command_cell, digest_cell, image_cell, kind_cell, text_member, untold_cell, variable_cell, version_cell, word_cell}
+use Rattle.boot_texts.specs.Differences.{alike_cell, apart_cell, event_cell}
+use Rattle.boot_texts.specs.Policies.{policy_cell}
 
 content_is_plain : (kind : ℕ) (bytes : List ℕ) → IsBytes bytes → IsPlain (content_json kind (content_in kind bytes)) 6
 content_is_plain kind bytes fits = content_plain kind (content_in kind bytes) (content_counted kind bytes fits)
 
+pub word_is_one : (name word : List ℕ) → IsOneLine (object_of (word_cell name word).json)
+unfolding beside
+word_is_one name word = line_within 3 (object_of (word_cell name word).json) (omega arith) (tt, tt)
+
+pub asked_is_one : (number : ℕ) → IsCount number → IsOneLine (object_of (policy_cell (Asked number)).json)
+unfolding beside
+asked_is_one number count = line_within 3 (object_of (policy_cell (Asked number)).json) (omega arith) (tt, ((number, count, refl), tt))
+
+pub possible_is_one : (number : ℕ) → IsCount number → IsOneLine (object_of (policy_cell (Possible number)).json)
+unfolding beside
+possible_is_one number count = line_within 3 (object_of (policy_cell (Possible number)).json) (omega arith) (tt, ((number, count, refl), tt))
+
+pub version_is_one : (bytes : List ℕ) → IsBytes bytes → IsOneLine (object_of (version_cell (Some (content_in version_type bytes))).json)
+version_is_one bytes fits =
+    line_within 7 (object_of (version_cell (Some (content_in version_type bytes))).json) (omega arith) (content_is_plain version_type bytes fits, tt)
+
+-- ---- images
+
+digest_plain : (alg : Alg) (digest : Option (List ℕ)) → ArePlain (if_some digest (digest_cell alg)).json 5
+unfolding beside
+digest_plain alg None = tt
+digest_plain alg (Some bytes) = (tt, tt)
+
 answered_plain : (matched : List Place) (digests : PerBank) (algs : List Alg)
-    → ArePlain (flat_map (λ alg. optional (name_of alg) (option_map hex_json (answered_digest matched digests alg))) algs) 5
+    → ArePlain (flat_map (λ alg. (if_some (answered_digest matched digests alg) (digest_cell alg)).json) algs) 5
 answered_plain matched digests [] = tt
 answered_plain matched digests (alg ∷ algs) =
-    members_joined 5 (optional (name_of alg) (option_map hex_json (answered_digest matched digests alg))) _
-    (text_plain 5 (name_of alg) encode_lower (answered_digest matched digests alg)) (answered_plain matched digests algs)
+    members_joined 5 (if_some (answered_digest matched digests alg) (digest_cell alg)).json _
+    (digest_plain alg (answered_digest matched digests alg)) (answered_plain matched digests algs)
 
-pub word_one_line : (name word : List ℕ) → IsOneLine (word_json name word)
-word_one_line name word = line_within 3 (word_json name word) (omega arith) (tt, tt)
-
-pub asking_one_line : (word : List ℕ) (number : ℕ) → IsCount number → IsOneLine (asking_json word number)
-asking_one_line word number count = line_within 3 (asking_json word number) (omega arith) (tt, ((number, count, refl), tt))
-
-pub version_one_line : (bytes : List ℕ) → IsBytes bytes → IsOneLine (version_json (content_in version_type bytes))
-version_one_line bytes fits =
-    line_within 7 (version_json (content_in version_type bytes)) (omega arith) (content_is_plain version_type bytes fits, tt)
-
-pub image_one_line : (matched : List Place) (number : ℕ) (event : LogEvent) → IsCount number → IsBytes event.payload
-    → IsOneLine (image_json matched number event)
-image_one_line matched number event count fits =
-    line_within 7 (image_json matched number event) (omega arith)
+pub image_is_one : (matched : List Place) (number : ℕ) (event : LogEvent) → IsCount number → IsBytes event.payload
+    → IsOneLine (object_of (image_cell matched number event).json)
+unfolding beside each object_at
+image_is_one matched number event count fits =
+    line_within 7 (object_of (image_cell matched number event).json) (omega arith)
     ((number, count, refl), (answered_plain matched event.digests all_algs, (content_is_plain event.kind event.payload fits, tt)))
 
-pub variable_one_line : (number : ℕ) (event : LogEvent) → IsCount number → IsBytes event.payload → IsOneLine (variable_json number event)
-variable_one_line number event count fits =
-    line_within 7 (variable_json number event) (omega arith) ((number, count, refl), (content_is_plain boot_variable_type event.payload fits, tt))
+pub variable_is_one : (number : ℕ) (event : LogEvent) → IsCount number → IsBytes event.payload
+    → IsOneLine (object_of (variable_cell number event).json)
+unfolding beside
+variable_is_one number event count fits =
+    line_within 7 (object_of (variable_cell number event).json) (omega arith)
+    ((number, count, refl), (content_is_plain boot_variable_type event.payload fits, tt))
 
 -- ---- commands
 
@@ -61,21 +82,52 @@ text_is_plain : (text : CommandSaid) → IsPlain (text_member text).1 2
 text_is_plain (grub command) = tt
 text_is_plain (wide text) = told_plain (codes "text") (codes "text_hex") text (wide_text text)
 
-kind_plain : (text : CommandSaid) → ArePlain (kind_members text) 2
+kind_plain : (text : CommandSaid) → ArePlain (kind_cell text).json 2
+unfolding object_at
 kind_plain (grub command) = ((tt, tt), tt)
 kind_plain (wide text) = tt
 
-pub text_one_line : (text : CommandSaid) → IsOneLine (text_json text)
-text_one_line text = line_within 3 (text_json text) (omega arith) (text_is_plain text, tt)
+pub text_is_one : (text : CommandSaid) → IsOneLine (object_of (text_member text ∷ []))
+text_is_one text = line_within 3 (object_of (text_member text ∷ [])) (omega arith) (text_is_plain text, tt)
 
-pub command_one_line : (register number : ℕ) (text : CommandSaid) → IsCount register → IsCount number → IsOneLine (command_json register number text)
-command_one_line register number text place count =
-    line_within 3 (command_json register number text) (omega arith)
+pub command_is_one : (register number : ℕ) (text : CommandSaid) → IsCount register → IsCount number
+    → IsOneLine (object_of (command_cell register number text).json)
+unfolding beside
+command_is_one register number text place count =
+    line_within 3 (object_of (command_cell register number text).json) (omega arith)
     ((number, count, refl), ((register, place, refl), (text_is_plain text, kind_plain text)))
 
-pub untold_one_line : (register number : ℕ) → IsCount register → IsCount number → IsOneLine (untold_json register number)
-untold_one_line register number place count =
-    line_within 3 (untold_json register number) (omega arith) (tt, ((register, place, refl), ((number, count, refl), tt)))
+pub untold_is_one : (register number : ℕ) → IsCount register → IsCount number
+    → IsOneLine (object_of (untold_cell register (Some number)).json)
+unfolding beside
+untold_is_one register number place count =
+    line_within 3 (object_of (untold_cell register (Some number)).json) (omega arith) (tt, ((register, place, refl), ((number, count, refl), tt)))
 
-pub unanswered_one_line : (register : ℕ) → IsCount register → IsOneLine (unanswered_json register)
-unanswered_one_line register place = line_within 3 (unanswered_json register) (omega arith) (tt, ((register, place, refl), tt))
+pub unanswered_is_one : (register : ℕ) → IsCount register → IsOneLine (object_of (untold_cell register None).json)
+unfolding beside
+unanswered_is_one register place = line_within 3 (object_of (untold_cell register None).json) (omega arith) (tt, ((register, place, refl), tt))
+
+-- ---- differences
+
+pub alike_is_one : (register : ℕ) (word : List ℕ) → IsCount register → IsOneLine (object_of (alike_cell register word).json)
+unfolding beside
+alike_is_one register word place = line_within 3 (object_of (alike_cell register word).json) (omega arith) ((register, place, refl), (tt, tt))
+
+pub apart_is_one : (register : ℕ) (alg : Alg) (place : ℕ) → IsCount register → IsCount place
+    → IsOneLine (object_of (apart_cell register alg place).json)
+unfolding beside
+apart_is_one register alg place counted count =
+    line_within 3 (object_of (apart_cell register alg place).json) (omega arith) ((register, counted, refl), (tt, ((place, count, refl), tt)))
+
+own_plain : (digest : Option (List ℕ)) → ArePlain (if_some digest (hex (codes " ") (codes "digest"))).json 6
+own_plain None = tt
+own_plain (Some bytes) = (tt, tt)
+
+pub event_is_one : (boot : Boot) (register : ℕ) (alg : Alg) (number : ℕ) (event : LogEvent) → IsCount register → IsCount number
+    → IsBytes event.payload → IsOneLine (object_of (event_cell boot register alg number event).json)
+unfolding beside
+event_is_one boot register alg number event place count fits =
+    line_within 7 (object_of (event_cell boot register alg number event).json) (omega arith)
+    ((register, place, refl), ((number, count, refl),
+    members_joined 6 (if_some (digest_in event.digests alg) (hex (codes " ") (codes "digest"))).json _ (own_plain (digest_in event.digests alg))
+    (content_is_plain event.kind event.payload fits, tt)))

@@ -11,7 +11,7 @@ use Rattle.measured_data.specs.declared.place.Place.{Place}
 use Rattle.measured_data.specs.Confirming.{counts}
 use Rattle.boot_answers.specs.CommonEvents.{unmarked}
 use Rattle.boot_answers.specs.Differences.{IsFirstDifference}
-use Rattle.json_texts.specs.declared.event_form.EventForm.{EventForm}
+use Rattle.cells.specs.declared.writer.Form.{Form}
 use Rattle.json_texts.specs.ItemLines.{numbered_lines}
 use Rattle.json_texts.proofs.SentLaws.{numbered_joined}
 use Rattle.boot_texts.specs.declared.difference_lines.Boot.{Boot}
@@ -174,10 +174,10 @@ module _ (matched : List Place) (events others : List LogEvent) where
       let same : number + length (first ∷ differences) ≡ (number + 1) + length differences = omega arith in
       (are.0, one_register (number + 1) differences difference are.1 (rw same at is))
 
-abbrev lines_of : EventForm → List LogEvent → List LogEvent → ℕ → Difference → List ℕ
+abbrev lines_of : Form → List LogEvent → List LogEvent → ℕ → Difference → List ℕ
 lines_of form events others register difference = register_lines form register difference events others
 
-pub one_register_lines : (form : EventForm) (events others : List LogEvent) (differences : List Difference) (difference : Difference) (register : ℕ)
+pub one_register_lines : (form : Form) (events others : List LogEvent) (differences : List Difference) (difference : Difference) (register : ℕ)
     → length differences ≡ register
     → difference_lines form events others (differences ++ difference ∷ [])
     ≡ difference_lines form events others differences ++ register_lines form register difference events others

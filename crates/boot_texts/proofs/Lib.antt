@@ -5,3 +5,4 @@ pub mod TellingLaws
 pub mod PolicyLaws
 pub mod BootLaws
 pub mod DifferenceLaws
+pub mod OldLineLaws

@@ -1,9 +1,7 @@
 -- How far a boot and an earlier one extended each register alike, and which later events differ, as lines. The members and words are this
 -- project's choice.
-use Rattle.std.specs.Prelude.{◌≡◌, ℕ, ◌+◌, ◌||◌, Bool, true, false, if◌then◌else◌, List, [], ◌∷◌, ◌++◌, codes, decimal, drop, flat_map, length, Option, None, Some, option_map}
+use Rattle.std.specs.Prelude.{◌≡◌, ℕ, ◌+◌, ◌||◌, Bool, true, false, if◌then◌else◌, List, [], ◌∷◌, ◌++◌, codes, drop, flat_map, length, Option, None, Some}
 use Rattle.std.specs.List.{AllByRecursion}
-use Rattle.hex.specs.Hex.{encode_lower}
-use Rattle.json.specs.Json.{Json, string}
 use Rattle.pcr_banks.specs.declared.alg.Alg.{Alg}
 use Rattle.pcr_banks.specs.Hashing.{all_algs, name_of}
 use Rattle.pcr_banks.specs.Sets.{digest_in}
@@ -15,12 +13,12 @@ use Rattle.boot_answers.specs.declared.alike_events.Common.{Common}
 use Rattle.boot_answers.specs.CommonEvents.{IsLongestCommon, compared, unmarked}
 use Rattle.boot_answers.specs.Differences.{IsFirstDifference}
 use Rattle.boot_answers.specs.Extending.{extended_events}
-use Rattle.json_texts.specs.declared.event_form.EventForm.{EventForm}
-use Rattle.json_texts.specs.declared.event_form.EventForm.TheVariants as forms
+use Rattle.cells.specs.declared.writer.Form.{Form}
+use Rattle.cells.specs.Cells.{Cell, hex, if_some, in_order, number, rendered, text, word}
+use Rattle.cells.specs.Values.{Member}
 use Rattle.json_texts.specs.EventJson.{event_content_json}
 use Rattle.json_texts.specs.ItemLines.{numbered_lines}
-use Rattle.json_texts.specs.JsonValues.{hex_json, line_of, number_json, object_of, optional}
-use Rattle.json_texts.specs.SteeringTexts.{unsteered}
+use Rattle.boot_texts.specs.AnswerCells.{value_cell}
 use Rattle.boot_texts.specs.Answering.{has_answer}
 use Rattle.boot_texts.specs.declared.difference_lines.Boot.{Boot}
 use Rattle.boot_texts.specs.declared.difference_lines.Boot.TheVariants as boots
@@ -67,30 +65,18 @@ IsDifference matched register events others (Apart alg place common) =
 -- ---- a line on a register
 
 -- `unknown` or `all`: how far the register was extended alike, in one word.
-abbrev pub alike_json : ℕ → List ℕ → Json
-alike_json register word = object_of ((codes "register", number_json register) ∷ (codes "alike", string word) ∷ [])
-
-abbrev pub alike_text : ℕ → List ℕ → List ℕ
-alike_text register word = codes "register " ++ (decimal register ++ (codes " alike " ++ (word ++ codes "\n")))
-
-abbrev pub alike_line : EventForm → ℕ → List ℕ → List ℕ
-alike_line forms.Json register word = line_of (alike_json register word)
-alike_line forms.Explained register word = alike_text register word
+abbrev pub alike_cell : ℕ → List ℕ → Cell Member
+alike_cell register said = in_order (
+    number (codes "register ") (codes "register") register ∷ word (codes " alike ") (codes "alike") said ∷ text (codes "\n") ∷ [])
 
 -- After how many events the boots differ, in this bank.
-abbrev pub apart_json : ℕ → Alg → ℕ → Json
-apart_json register alg place =
-    object_of ((codes "register", number_json register) ∷ (codes "bank", string (name_of alg)) ∷ (codes "alike", number_json place) ∷ [])
-
-abbrev pub bank_text : ℕ → Alg → List ℕ
-bank_text register alg = codes "register " ++ (decimal register ++ (codes " " ++ (name_of alg ++ codes " alike ")))
-
-abbrev pub apart_text : ℕ → Alg → ℕ → List ℕ
-apart_text register alg place = bank_text register alg ++ (decimal place ++ codes "\n")
-
-abbrev pub apart_line : EventForm → ℕ → Alg → ℕ → List ℕ
-apart_line forms.Json register alg place = line_of (apart_json register alg place)
-apart_line forms.Explained register alg place = apart_text register alg place
+abbrev pub apart_cell : ℕ → Alg → ℕ → Cell Member
+apart_cell register alg place = in_order (
+    number (codes "register ") (codes "register") register
+    ∷ word (codes " ") (codes "bank") (name_of alg)
+    ∷ number (codes " alike ") (codes "alike") place
+    ∷ text (codes "\n")
+    ∷ [])
 
 -- ---- a line on an event
 
@@ -99,33 +85,21 @@ abbrev pub boot_word : Boot → List ℕ
 boot_word boots.Now = codes "now"
 boot_word boots.Before = codes "before"
 
+-- The register, and the event's number in the log of its boot.
+abbrev pub place_cell : ℕ → List ℕ → ℕ → Cell Member
+place_cell register boot n = in_order (
+    number (codes "register ") (codes "register") register ∷ text (codes " ") ∷ text boot ∷ number (codes " ") boot n ∷ [])
+
 -- The register, the event's number in the log of its boot, its digest in the bank where it has one, and what its data claims.
-abbrev pub event_json : Boot → EventLine → ℕ → LogEvent → Json
-event_json boot line number event = object_of (
-    (codes "register", number_json line.register) ∷ (boot_word boot, number_json number)
-    ∷ (optional (codes "digest") (option_map hex_json (digest_in event.digests line.alg)) ++ (codes "claimed", event_content_json event) ∷ []))
-
--- The line up to the digest.
-abbrev pub event_head : Boot → ℕ → ℕ → List ℕ
-event_head boot register number =
-    codes "register " ++ (decimal register ++ (codes " " ++ (boot_word boot ++ (codes " " ++ decimal number))))
-
-abbrev pub digest_field : Option (List ℕ) → List ℕ
-digest_field None = []
-digest_field (Some digest) = codes " " ++ encode_lower digest
-
--- No character of what the data claims steers what shows it.
-abbrev pub event_text : Boot → EventLine → ℕ → LogEvent → List ℕ
-event_text boot line number event =
-    event_head boot line.register number
-    ++ (digest_field (digest_in event.digests line.alg) ++ (codes " claimed " ++ unsteered (line_of (event_content_json event))))
-
-abbrev pub line_in : EventForm → Boot → EventLine → ℕ → LogEvent → List ℕ
-line_in forms.Json boot line number event = line_of (event_json boot line number event)
-line_in forms.Explained boot line number event = event_text boot line number event
+abbrev pub event_cell : Boot → ℕ → Alg → ℕ → LogEvent → Cell Member
+event_cell boot register alg n event = in_order (
+    place_cell register (boot_word boot) n
+    ∷ if_some (digest_in event.digests alg) (hex (codes " ") (codes "digest"))
+    ∷ value_cell (codes " claimed ") (codes "claimed") (event_content_json event)
+    ∷ [])
 
 abbrev pub event_line : Boot → EventLine → ℕ → LogEvent → List ℕ
-event_line boot line number event = line_in line.form boot line number event
+event_line boot line n event = rendered line.form (event_cell boot line.register line.alg n event)
 
 -- ---- the lines on a register
 
@@ -160,13 +134,13 @@ where_extended register events others line = if either_extended register events 
 -- earlier one.
 abbrev pub lines_of_both : EventLine → ℕ → List Bool → List Bool → List LogEvent → List LogEvent → List ℕ
 lines_of_both line place marks other_marks events others =
-    apart_line line.form line.register line.alg place
+    rendered line.form (apart_cell line.register line.alg place)
     ++ (lines_from boots.Now line place marks events ++ lines_from boots.Before line place other_marks others)
 
 -- The lines on a register.
-abbrev pub register_lines : EventForm → ℕ → Difference → List LogEvent → List LogEvent → List ℕ
-register_lines form register Unanswered events others = where_extended register events others (alike_line form register (codes "unknown"))
-register_lines form register Alike events others = where_extended register events others (alike_line form register (codes "all"))
+abbrev pub register_lines : Form → ℕ → Difference → List LogEvent → List LogEvent → List ℕ
+register_lines form register Unanswered events others = where_extended register events others (rendered form (alike_cell register (codes "unknown")))
+register_lines form register Alike events others = where_extended register events others (rendered form (alike_cell register (codes "all")))
 register_lines form register (Apart alg place common) events others =
     lines_of_both (record { form = form; register = register; alg = alg }) place common.now.items common.before.items events others
 
@@ -183,10 +157,10 @@ pub record AreDifferences (matched : List Place) (events others : List LogEvent)
   pub count : length differences ≡ 24
   pub each : AreOfRegisters matched events others 0 differences
 
-abbrev pub difference_lines : EventForm → List LogEvent → List LogEvent → List Difference → List ℕ
+abbrev pub difference_lines : Form → List LogEvent → List LogEvent → List Difference → List ℕ
 difference_lines form events others differences = numbered_lines (λ register difference. register_lines form register difference events others) 0 differences
 
 -- The text is the lines of the differences of all registers.
-abbrev pub AreDifferenceLines : EventForm → List Place → List LogEvent → List LogEvent → List ℕ → Type 0
+abbrev pub AreDifferenceLines : Form → List Place → List LogEvent → List LogEvent → List ℕ → Type 0
 AreDifferenceLines form matched events others text =
     (differences : List Difference) × AreDifferences matched events others differences × (text ≡ difference_lines form events others differences)

@@ -1,7 +1,8 @@
 pub mod Answering
-pub mod AnswerLines
+pub mod AnswerCells
 pub mod Telling
 pub mod Policies
 pub mod EachBank
 pub mod BootLines
 pub mod Differences
+pub mod OldLines

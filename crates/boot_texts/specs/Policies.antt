@@ -2,10 +2,9 @@
 --
 -- Root can append texts to both registers, and can extend one that the boot loader left empty. So a text that asks proves no policy. That no
 -- text asks proves nothing either: no event says which boot loader made it, and the kernel may have options from one that measures none here.
-use Rattle.std.specs.Prelude.{◌≡◌, ◌⊎◌, ℕ, ◌+◌, true, nat_lt, if◌then◌else◌, List, [], ◌∷◌, ◌++◌, codes, decimal, length, Option, Some, None, option_and_then}
+use Rattle.std.specs.Prelude.{◌≡◌, ◌⊎◌, ℕ, ◌+◌, true, nat_lt, if◌then◌else◌, List, [], ◌∷◌, ◌++◌, codes, length, Option, Some, None, option_and_then}
 use Rattle.std.specs.List.{AllByRecursion, list_all}
 use Rattle.std.specs.Str.{is_utf8}
-use Rattle.json.specs.Json.{Json, string}
 use Rattle.boot_log.specs.Replaying.{is_extended_into}
 use Rattle.boot_log.specs.Spelling.{LogEvent}
 use Rattle.event_texts.specs.WideTexts.{wide_text}
@@ -14,14 +13,12 @@ use Rattle.boot_answers.specs.Commands.{CommandSaid, grub, told_text, wide}
 use Rattle.boot_answers.specs.Extending.{extended_events}
 use Rattle.boot_answers.specs.ImaMeasuring.{AsksToMeasure}
 use Rattle.boot_answers.specs.ImaPolicy.{MaySetImaPolicy}
-use Rattle.json_texts.specs.declared.event_form.EventForm.{EventForm}
-use Rattle.json_texts.specs.declared.event_form.EventForm.TheVariants.{Json as AsJson, Explained}
-use Rattle.json_texts.specs.JsonValues.{line_of, number_json, object_of}
+use Rattle.cells.specs.Cells.{Cell, if_some, in_order, number, text, word}
+use Rattle.cells.specs.Values.{Member}
 use Rattle.boot_texts.specs.declared.asked.Asked.{Asked}
 use Rattle.boot_texts.specs.declared.asked.Asked.TheVariants.{Measuring, Policy}
 use Rattle.boot_texts.specs.declared.policies.ImaPolicy.{ImaPolicy}
 use Rattle.boot_texts.specs.declared.policies.ImaPolicy.TheVariants as policies
-use Rattle.boot_texts.specs.AnswerLines.{word_line}
 
 -- ---- one text
 
@@ -96,15 +93,21 @@ IsImaPolicy matched events policies.Unknown = NeitherAsks Measuring matched even
 
 -- ---- its line
 
--- What the text of the event with this number asks.
-abbrev pub asking_json : List ℕ → ℕ → Json
-asking_json word number = object_of ((codes "ima_policy", string word) ∷ (codes "event", number_json number) ∷ [])
+-- What is asked, in one word.
+abbrev pub policy_word : ImaPolicy → List ℕ
+policy_word (policies.Asked event) = codes "asked"
+policy_word (policies.Possible event) = codes "possible"
+policy_word policies.Unknown = codes "unknown"
 
-abbrev pub asking_line : EventForm → List ℕ → ℕ → List ℕ
-asking_line AsJson word number = line_of (asking_json word number)
-asking_line Explained word number = codes "ima_policy " ++ (word ++ (codes " " ++ (decimal number ++ codes "\n")))
+-- The number of the event that asks.
+abbrev pub policy_event : ImaPolicy → Option ℕ
+policy_event (policies.Asked event) = Some event
+policy_event (policies.Possible event) = Some event
+policy_event policies.Unknown = None
 
-abbrev pub policy_line : EventForm → ImaPolicy → List ℕ
-policy_line form (policies.Asked number) = asking_line form (codes "asked") number
-policy_line form (policies.Possible number) = asking_line form (codes "possible") number
-policy_line form policies.Unknown = word_line form (codes "ima_policy") (codes "unknown")
+abbrev pub policy_cell : ImaPolicy → Cell Member
+policy_cell policy = in_order (
+    word (codes "ima_policy ") (codes "ima_policy") (policy_word policy)
+    ∷ if_some (policy_event policy) (number (codes " ") (codes "event"))
+    ∷ text (codes "\n")
+    ∷ [])

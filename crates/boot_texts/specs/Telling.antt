@@ -18,10 +18,11 @@ use Rattle.measured_data.specs.Measuring.{is_measured, settings_register}
 use Rattle.boot_answers.specs.Commands.{CommandSaid, told_text}
 use Rattle.boot_answers.specs.Images.{MayBeImage, image_register}
 use Rattle.boot_answers.specs.Separators.{MayBeSeparator}
-use Rattle.json_texts.specs.declared.event_form.EventForm.{EventForm}
+use Rattle.cells.specs.declared.writer.Form.{Form}
 use Rattle.boot_texts.specs.declared.subject.Subject.{Subject}
 use Rattle.boot_texts.specs.declared.subject.Subject.TheVariants.{Images, Commands, Variables}
-use Rattle.boot_texts.specs.AnswerLines.{command_line, image_line, untold_line, variable_line}
+use Rattle.cells.specs.Cells.{rendered}
+use Rattle.boot_texts.specs.AnswerCells.{command_cell, image_cell, untold_cell, variable_cell}
 
 -- Whether the events after one are looked at, and the text of the one, are these.
 abbrev pub Are : Bool → List ℕ → Bool × List ℕ → Type 0
@@ -47,20 +48,20 @@ abbrev pub MayBeImageIn : List Place → LogEvent → Type 0
 MayBeImageIn matched event = (alg : Alg) × IsImageBy matched event alg
 
 -- Each event that may be an image is told.
-abbrev pub TellsImage : EventForm → List Place → ℕ → LogEvent → Bool → List ℕ → Type 0
+abbrev pub TellsImage : Form → List Place → ℕ → LogEvent → Bool → List ℕ → Type 0
 TellsImage form matched number event goes text =
     (goes ≡ true)
-    × ((MayBeImageIn matched event × (text ≡ image_line form matched number event)) ⊎ ((MayBeImageIn matched event → ⊥) × (text ≡ [])))
+    × ((MayBeImageIn matched event × (text ≡ rendered form (image_cell matched number event))) ⊎ ((MayBeImageIn matched event → ⊥) × (text ≡ [])))
 
 -- ---- commands
 
 -- Whether the events after one are looked at, and its line, where this is its text.
-abbrev pub command_answer : ℕ → EventForm → ℕ → Option CommandSaid → Bool × List ℕ
-command_answer register form number (Some text) = (true, command_line form register number text)
-command_answer register form number None = (false, untold_line form register number)
+abbrev pub command_answer : ℕ → Form → ℕ → Option CommandSaid → Bool × List ℕ
+command_answer register form number (Some text) = (true, rendered form (command_cell register number text))
+command_answer register form number None = (false, rendered form (untold_cell register (Some number)))
 
 -- The texts of the register's events are told, up to the first event that tells none.
-abbrev pub TellsCommand : ℕ → EventForm → List Place → ℕ → LogEvent → Bool → List ℕ → Type 0
+abbrev pub TellsCommand : ℕ → Form → List Place → ℕ → LogEvent → Bool → List ℕ → Type 0
 TellsCommand register form matched number event goes text =
     Are goes text (if is_extended_into register event then command_answer register form number (told_text matched event) else (true, []))
 
@@ -94,11 +95,11 @@ abbrev pub is_told_variable : List Place → LogEvent → Bool
 is_told_variable matched event =
     list_all (λ alg. allows_variable matched event alg) all_algs && option_map_or is_boot_variable (variable_in event.payload) false
 
-abbrev pub told_variable : EventForm → List Place → ℕ → LogEvent → List ℕ
-told_variable form matched number event = if is_told_variable matched event then variable_line form number event else []
+abbrev pub told_variable : Form → List Place → ℕ → LogEvent → List ℕ
+told_variable form matched number event = if is_told_variable matched event then rendered form (variable_cell number event) else []
 
 -- The boot variables of the register of settings are told, up to its first event that may be a separator.
-abbrev pub TellsSetting : EventForm → List Place → ℕ → LogEvent → Bool → List ℕ → Type 0
+abbrev pub TellsSetting : Form → List Place → ℕ → LogEvent → Bool → List ℕ → Type 0
 TellsSetting form matched number event goes text =
     (MayBeSeparatorIn matched event × Are goes text (false, []))
     ⊎ ((MayBeSeparatorIn matched event → ⊥) × Are goes text (true, told_variable form matched number event))
@@ -107,13 +108,13 @@ abbrev pub TellsIf : Bool → Type 0 → Bool → List ℕ → Type 0
 TellsIf true Told goes text = Told
 TellsIf false Told goes text = Are goes text (true, [])
 
-abbrev pub TellsVariable : EventForm → List Place → ℕ → LogEvent → Bool → List ℕ → Type 0
+abbrev pub TellsVariable : Form → List Place → ℕ → LogEvent → Bool → List ℕ → Type 0
 TellsVariable form matched number event goes text =
     TellsIf (is_extended_into settings_register event) (TellsSetting form matched number event goes text) goes text
 
 -- ---- all
 
-abbrev pub ToldOf : Subject → EventForm → List Place → ℕ → LogEvent → Bool → List ℕ → Type 0
+abbrev pub ToldOf : Subject → Form → List Place → ℕ → LogEvent → Bool → List ℕ → Type 0
 ToldOf Images form matched number event goes text = TellsImage form matched number event goes text
 ToldOf (Commands register) form matched number event goes text = TellsCommand register form matched number event goes text
 ToldOf Variables form matched number event goes text = TellsVariable form matched number event goes text

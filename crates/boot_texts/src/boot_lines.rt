@@ -4,26 +4,27 @@ ghost use Rattle.std.specs.Prelude.{◌≡◌, ◌++◌, List, ℕ, OnErr, OnOk}
 ghost use Rattle.boot_log.specs.declared.header.Row.{Row};
 ghost use Rattle.boot_log.specs.LogViews.{log_bytes};
 ghost use Rattle.boot_log.specs.Spelling.{IsLog, LogEvent};
-ghost use Rattle.boot_texts.specs.AnswerLines.{secure_boot_line, state_word};
+ghost use Rattle.cells.specs.Cells.{rendered};
+ghost use Rattle.boot_texts.specs.AnswerCells.{secure_boot_cell, state_word, word_cell};
 ghost use Rattle.boot_texts.specs.BootLines.{AreBootLines, AreCommandLines, AreImageLines, AreVariableLines};
 
 use crate::answering::is_answered;
-use crate::commands::append_unanswered;
+use crate::commands::UntoldLine;
 use crate::images::IMAGE_REGISTER;
 use crate::policies::{GRUB_REGISTER, STUB_REGISTER, append_policy};
 use crate::steps::append_each;
 use crate::subject::Subject;
-use crate::versions::append_version;
-use crate::words::append_word;
+use crate::versions::VersionLine;
+use crate::words::WordLine;
 use boot_answers::{SETTINGS_REGISTER, SecureBoot, firmware_version, secure_boot};
 use boot_log::LogView;
-use json_texts::{EventForm, Written};
+use cells::{Form, Written, append};
 use measured_data::Place;
 use std::alloc::Global;
 
 /// Appends the lines of all answers on the boot that the log tells, by the registers in `matched`, those that match. A bank answers for a register
 /// that matches in it, if it is no bank of SHA-1 ([`boot_answers::is_answering`]). Each line is an object of JSON; or, for people
-/// ([`EventForm::Explained`]), words, some with JSON at the end, in which no character steers a terminal, as in [`json_texts::send_events`].
+/// ([`Form::Text`]), words, some with JSON at the end, in which no character steers a terminal, as in [`json_texts::send_events`].
 ///
 /// - `secure_boot on`, `off` or `unknown` ([`boot_answers::secure_boot`]);
 /// - `firmware_version`, and what the first event says, or `unknown` ([`boot_answers::firmware_version`]);
@@ -44,7 +45,7 @@ pub fn append_boot(
     alloc: Global,
     log: &LogView<'_>,
     matched: &[Place],
-    form: EventForm,
+    form: Form,
     lines: &mut Vec<u8>,
 ) -> Written
     ensures ok { OnOk result ((table : List Row) (events : List LogEvent) → IsLog (log_bytes log.now) table events
@@ -62,14 +63,15 @@ fn append_answers(
     alloc: Global,
     log: &LogView<'_>,
     matched: &[Place],
-    form: EventForm,
+    form: Form,
     lines: &mut Vec<u8>,
 ) -> Written
     ensures { OnOk result ((table : List Row) (events : List LogEvent) → IsLog (log_bytes log.now) table events
         → (text : List ℕ) × AreBootLines form matched.now events text × (lines.new.items ≡ lines.old.items ++ text)) }
 {
     append_state(alloc, form, secure_boot(log, matched), lines)?;
-    append_version(alloc, form, &firmware_version(log, matched), lines)?;
+    let version = firmware_version(log, matched);
+    append(alloc, form, &VersionLine { version }, lines)?;
     append_images(alloc, form, log, matched, lines)?;
     append_commands(alloc, form, log, matched, GRUB_REGISTER, lines)?;
     append_commands(alloc, form, log, matched, STUB_REGISTER, lines)?;
@@ -89,16 +91,29 @@ fn state_word(state: SecureBoot) -> &'static str
 }
 
 // Appends the line of whether Secure Boot was on.
-fn append_state(alloc: Global, form: EventForm, state: SecureBoot, lines: &mut Vec<u8>) -> Written
-    ensures { OnOk result (lines.new.items ≡ lines.old.items ++ secure_boot_line form state) }
+fn append_state(alloc: Global, form: Form, state: SecureBoot, lines: &mut Vec<u8>) -> Written
+    ensures { OnOk result (lines.new.items ≡ lines.old.items ++ rendered form (secure_boot_cell state)) }
 {
     append_word(alloc, form, "secure_boot", state_word(state), lines)
+}
+
+// Appends the line of an answer in one word.
+fn append_word(
+    alloc: Global,
+    form: Form,
+    name: &str,
+    word: &str,
+    lines: &mut Vec<u8>,
+) -> Written
+    ensures { OnOk result (lines.new.items ≡ lines.old.items ++ rendered form (word_cell name.now word.now)) }
+{
+    append(alloc, form, &WordLine { name, word }, lines)
 }
 
 // Appends the lines of images.
 fn append_images(
     alloc: Global,
-    form: EventForm,
+    form: Form,
     log: &LogView<'_>,
     matched: &[Place],
     lines: &mut Vec<u8>,
@@ -117,7 +132,7 @@ fn append_images(
 // Appends the lines of the texts that boot loaders measured into the register.
 fn append_commands(
     alloc: Global,
-    form: EventForm,
+    form: Form,
     log: &LogView<'_>,
     matched: &[Place],
     register: u32,
@@ -136,7 +151,11 @@ fn append_commands(
             lines,
         )?;
     } else {
-        append_unanswered(alloc, form, register, lines)?;
+        let line = UntoldLine {
+            register,
+            event: None,
+        };
+        append(alloc, form, &line, lines)?;
     }
     Ok(())
 }
@@ -144,7 +163,7 @@ fn append_commands(
 // Appends the lines of boot variables.
 fn append_variables(
     alloc: Global,
-    form: EventForm,
+    form: Form,
     log: &LogView<'_>,
     matched: &[Place],
     lines: &mut Vec<u8>,

@@ -6,17 +6,14 @@ ghost use Rattle.boot_log.specs.declared.header.Row.{Row};
 ghost use Rattle.boot_log.specs.LogViews.{log_bytes};
 ghost use Rattle.boot_log.specs.Replaying.{is_extended_into};
 ghost use Rattle.boot_log.specs.Spelling.{IsLog, LogEvent, log_event_of};
-ghost use Rattle.json_texts.specs.JsonValues.{AppendsLine, hex_json, optional};
-ghost use Rattle.json_texts.specs.parts.WrittenParts.{WritesMembers, WritesValue};
-ghost use Rattle.boot_texts.specs.Differences.{alike_json, alike_line, alike_text, apart_json, apart_line, apart_text, bank_text, boot_word, digest_field, event_head, event_json, event_line, event_text, lines_from};
+ghost use Rattle.cells.specs.Cells.{ShowsMembers, hex, if_some};
+ghost use Rattle.json_texts.specs.EventJson.{event_content_json};
+ghost use Rattle.boot_texts.specs.AnswerCells.{value_cell};
+ghost use Rattle.boot_texts.specs.Differences.{alike_cell, apart_cell, boot_word, event_cell, event_line, lines_from, place_cell};
 
-use crate::words::append_number;
+use crate::contents::show_content;
 use boot_log::{Event, LogView};
-use json::Writer;
-use json_texts::{
-    EventForm, Written, append_content, begin_line, end_line, write_content, write_hex,
-    write_number, write_text,
-};
+use cells::{CellWriter, Form, Shown, Written, append};
 use pcr_banks::{Alg, Digest};
 use std::alloc::Global;
 
@@ -36,116 +33,64 @@ pub(crate) enum Boot {
 #[derive(Clone, Copy)]
 pub(crate) struct EventLine {
     /// How they are told.
-    pub form: EventForm,
+    pub form: Form,
     /// The register into which the events are extended.
     pub register: u32,
     /// The bank of which their digests are told.
     pub alg: Alg,
 }
 
-/// Appends the line that the register was extended alike so far as this word says. Fails only if memory runs out.
-pub(crate) fn append_alike(
-    alloc: Global,
-    register: u32,
-    word: &str,
-    form: EventForm,
-    lines: &mut Vec<u8>,
-) -> Written
-    ensures { OnOk result (lines.new.items ≡ lines.old.items ++ alike_line form register word.now) }
-{
-    match form {
-        EventForm::Json => append_alike_json(alloc, register, word, lines),
-        EventForm::Explained => append_alike_text(register, word, lines),
+/// The line that a register was extended alike so far as this word says.
+#[derive(Drop)]
+pub(crate) struct AlikeLine<'a> {
+    /// The register.
+    pub register: u32,
+    /// `unknown` or `all`.
+    pub word: &'a str,
+}
+
+impl Shown for AlikeLine<'_> {
+    ghost cell_of = { λ line. alike_cell line.register line.word.now };
+
+    fn show(&self, _alloc: Global, out: &mut CellWriter) -> Written {
+        show_alike(self.register, self.word, out)
     }
 }
 
-fn append_alike_json(alloc: Global, register: u32, word: &str, lines: &mut Vec<u8>) -> Written
-    ensures { AppendsLine result lines.old.items lines.new.items (alike_json register word.now) }
+fn show_alike(register: u32, word: &str, out: &mut CellWriter) -> Written
+    ensures { ShowsMembers result out.old out.new (alike_cell register word.now) }
 {
-    let (mut writer, start) = begin_line(alloc, lines);
-    let written = write_alike(register, word, &mut writer);
-    end_line(written, writer, start, lines)
+    out.number("register ", "register", register as u64)?;
+    out.word(" alike ", "alike", word)?;
+    out.text("\n")
 }
 
-fn write_alike(register: u32, word: &str, writer: &mut Writer) -> Written
-    ensures { WritesValue result writer.old writer.new (alike_json register word.now) }
-{
-    writer.begin_object()?;
-    write_number("register", register as u64, writer)?;
-    write_text("alike", word, writer)?;
-    writer.end_object()?;
-    Ok(())
+/// The line that the boots differ after so many events.
+#[derive(Drop)]
+pub(crate) struct ApartLine {
+    /// The register.
+    pub register: u32,
+    /// The bank in which they differ.
+    pub alg: Alg,
+    /// How many events they have alike.
+    pub place: usize,
 }
 
-fn append_alike_text(register: u32, word: &str, lines: &mut Vec<u8>) -> Written
-    ensures { OnOk result (lines.new.items ≡ lines.old.items ++ alike_text register word.now) }
-{
-    lines.extend_from_slice(b"register ")?;
-    append_number(register as u64, lines)?;
-    lines.extend_from_slice(b" alike ")?;
-    lines.extend_from_slice(word.as_bytes())?;
-    lines.extend_from_slice(b"\n")
-}
+impl Shown for ApartLine {
+    ghost cell_of = { λ line. apart_cell line.register line.alg line.place };
 
-/// Appends the line that the boots differ in this bank after so many events. Fails only if memory runs out.
-pub(crate) fn append_apart(
-    alloc: Global,
-    register: u32,
-    alg: Alg,
-    place: usize,
-    form: EventForm,
-    lines: &mut Vec<u8>,
-) -> Written
-    ensures { OnOk result (lines.new.items ≡ lines.old.items ++ apart_line form register alg place) }
-{
-    match form {
-        EventForm::Json => append_apart_json(alloc, register, alg, place, lines),
-        EventForm::Explained => append_apart_text(register, alg, place, lines),
+    fn show(&self, _alloc: Global, out: &mut CellWriter) -> Written {
+        show_apart(self.register, self.alg, self.place, out)
     }
 }
 
-fn append_apart_json(
-    alloc: Global,
-    register: u32,
-    alg: Alg,
-    place: usize,
-    lines: &mut Vec<u8>,
-) -> Written
-    ensures { AppendsLine result lines.old.items lines.new.items (apart_json register alg place) }
+fn show_apart(register: u32, alg: Alg, place: usize, out: &mut CellWriter) -> Written
+    ensures { ShowsMembers result out.old out.new (apart_cell register alg place) }
 {
-    let (mut writer, start) = begin_line(alloc, lines);
-    let written = write_apart(register, alg, place, &mut writer);
-    end_line(written, writer, start, lines)
-}
-
-fn write_apart(register: u32, alg: Alg, place: usize, writer: &mut Writer) -> Written
-    ensures { WritesValue result writer.old writer.new (apart_json register alg place) }
-{
-    writer.begin_object()?;
-    write_number("register", register as u64, writer)?;
-    write_text("bank", alg.name(), writer)?;
-    write_number("alike", place as u64, writer)?;
-    writer.end_object()?;
-    Ok(())
-}
-
-fn append_apart_text(register: u32, alg: Alg, place: usize, lines: &mut Vec<u8>) -> Written
-    ensures { OnOk result (lines.new.items ≡ lines.old.items ++ apart_text register alg place) }
-{
-    append_bank(register, alg, lines)?;
-    append_number(place as u64, lines)?;
-    lines.extend_from_slice(b"\n")
-}
-
-// Appends the register and the bank.
-fn append_bank(register: u32, alg: Alg, lines: &mut Vec<u8>) -> Written
-    ensures { OnOk result (lines.new.items ≡ lines.old.items ++ bank_text register alg) }
-{
-    lines.extend_from_slice(b"register ")?;
-    append_number(register as u64, lines)?;
-    lines.extend_from_slice(b" ")?;
-    lines.extend_from_slice(alg.name().as_bytes())?;
-    lines.extend_from_slice(b" alike ")
+    out.number("register ", "register", register as u64)?;
+    out.word(" ", "bank", alg.name())?;
+    out.number(" alike ", "alike", place as u64)?;
+    out.text("\n")
 }
 
 /// Appends the lines of the events that are extended into the register, but the first `place` of them, and then those with a mark. Fails only if
@@ -228,54 +173,44 @@ fn append_event(
 ) -> Written
     ensures { OnOk result (lines.new.items ≡ lines.old.items ++ event_line boot line number (log_event_of event.now)) }
 {
-    match line.form {
-        EventForm::Json => append_event_json(alloc, boot, line, number, event, lines),
-        EventForm::Explained => append_event_text(alloc, boot, line, number, event, lines),
+    let shown = BootEvent {
+        boot,
+        register: line.register,
+        alg: line.alg,
+        number,
+        event,
+    };
+    append(alloc, line.form, &shown, lines)
+}
+
+// An event of one of the boots.
+#[derive(Drop)]
+struct BootEvent<'a> {
+    boot: Boot,
+    register: u32,
+    alg: Alg,
+    number: usize,
+    event: &'a Event<'a>,
+}
+
+impl Shown for BootEvent<'_> {
+    ghost cell_of = { λ shown. event_cell shown.boot shown.register shown.alg shown.number (log_event_of shown.event.now) };
+
+    fn show(&self, alloc: Global, out: &mut CellWriter) -> Written {
+        show_place(self.register, boot_word(self.boot), self.number, out)?;
+        show_digest(alloc, self.event.digests.get(self.alg), out)?;
+        show_claimed(alloc, self.event, out)
     }
 }
 
-fn append_event_json(
-    alloc: Global,
-    boot: Boot,
-    line: EventLine,
-    number: usize,
-    event: &Event<'_>,
-    lines: &mut Vec<u8>,
-) -> Written
-    ensures { AppendsLine result lines.old.items lines.new.items (event_json boot line number (log_event_of event.now)) }
+// Shows the register, the boot and the event's number in its log.
+fn show_place(register: u32, boot: &str, number: usize, out: &mut CellWriter) -> Written
+    ensures { ShowsMembers result out.old out.new (place_cell register boot.now number) }
 {
-    let (mut writer, start) = begin_line(alloc, lines);
-    let written = write_event(alloc, boot, line, number, event, &mut writer);
-    end_line(written, writer, start, lines)
-}
-
-fn write_event(
-    alloc: Global,
-    boot: Boot,
-    line: EventLine,
-    number: usize,
-    event: &Event<'_>,
-    writer: &mut Writer,
-) -> Written
-    ensures { WritesValue result writer.old writer.new (event_json boot line number (log_event_of event.now)) }
-{
-    writer.begin_object()?;
-    write_number("register", line.register as u64, writer)?;
-    write_number(boot_word(boot), number as u64, writer)?;
-    write_digest(alloc, event.digests.get(line.alg), writer)?;
-    writer.key("claimed")?;
-    write_content(alloc, event.kind, event.payload, writer)?;
-    writer.end_object()?;
-    Ok(())
-}
-
-fn write_digest(alloc: Global, digest: Option<Digest>, writer: &mut Writer) -> Written
-    ensures { WritesMembers result writer.old writer.new (optional (codes "digest") (option_map hex_json (option_map bytes_of digest))) }
-{
-    match digest {
-        Some(digest) => write_hex(alloc, "digest", digest.bytes(), writer),
-        None => Ok(()),
-    }
+    out.number("register ", "register", register as u64)?;
+    out.text(" ")?;
+    out.text(boot)?;
+    out.number(" ", boot, number as u64)
 }
 
 fn boot_word(boot: Boot) -> &'static str
@@ -287,44 +222,19 @@ fn boot_word(boot: Boot) -> &'static str
     }
 }
 
-fn append_event_text(
-    alloc: Global,
-    boot: Boot,
-    line: EventLine,
-    number: usize,
-    event: &Event<'_>,
-    lines: &mut Vec<u8>,
-) -> Written
-    ensures { OnOk result (lines.new.items ≡ lines.old.items ++ event_text boot line number (log_event_of event.now)) }
-{
-    append_head(boot, line.register, number, lines)?;
-    append_digest(alloc, event.digests.get(line.alg), lines)?;
-    lines.extend_from_slice(b" claimed ")?;
-    append_content(alloc, event.kind, event.payload, lines)
-}
-
-// Appends the register, the boot and the event's number in its log.
-fn append_head(boot: Boot, register: u32, number: usize, lines: &mut Vec<u8>) -> Written
-    ensures { OnOk result (lines.new.items ≡ lines.old.items ++ event_head boot register number) }
-{
-    lines.extend_from_slice(b"register ")?;
-    append_number(register as u64, lines)?;
-    lines.extend_from_slice(b" ")?;
-    lines.extend_from_slice(boot_word(boot).as_bytes())?;
-    lines.extend_from_slice(b" ")?;
-    append_number(number as u64, lines)
-}
-
-// Appends the digest, if there is one.
-fn append_digest(alloc: Global, digest: Option<Digest>, lines: &mut Vec<u8>) -> Written
-    ensures { OnOk result (lines.new.items ≡ lines.old.items ++ digest_field (option_map bytes_of digest)) }
+// Shows the digest, if there is one.
+fn show_digest(alloc: Global, digest: Option<Digest>, out: &mut CellWriter) -> Written
+    ensures { ShowsMembers result out.old out.new (if_some (option_map bytes_of digest) (hex (codes " ") (codes "digest"))) }
 {
     match digest {
-        Some(digest) => {
-            let digits = hex::encode(alloc, digest.bytes())?;
-            lines.extend_from_slice(b" ")?;
-            lines.extend_from_slice(digits.as_bytes())
-        }
+        Some(digest) => out.hex(alloc, " ", "digest", digest.bytes()),
         None => Ok(()),
     }
+}
+
+// Shows what the event's data claims.
+fn show_claimed(alloc: Global, event: &Event<'_>, out: &mut CellWriter) -> Written
+    ensures { ShowsMembers result out.old out.new (value_cell (codes " claimed ") (codes "claimed") (event_content_json (log_event_of event.now))) }
+{
+    show_content(alloc, " claimed ", "claimed", event.kind, event.payload, out)
 }

@@ -4,13 +4,14 @@ ghost use Rattle.std.specs.Prelude.{◌≡◌, ℕ, List, ◌++◌, IfOk, OnErr,
 ghost use Rattle.boot_log.specs.declared.header.Row.{Row};
 ghost use Rattle.boot_log.specs.LogViews.{log_bytes};
 ghost use Rattle.boot_log.specs.Spelling.{IsLog, LogEvent};
-ghost use Rattle.boot_texts.specs.Differences.{AreDifferenceLines, IsComparedIn, IsDifference, alike_line, either_extended, has_events, lines_of_both, register_lines, where_extended};
+ghost use Rattle.cells.specs.Cells.{rendered};
+ghost use Rattle.boot_texts.specs.Differences.{AreDifferenceLines, IsComparedIn, IsDifference, alike_cell, either_extended, has_events, lines_of_both, register_lines, where_extended};
 
 use crate::answering::{answers, has_answer};
-use crate::difference_lines::{Boot, EventLine, append_alike, append_apart, append_events};
+use crate::difference_lines::{AlikeLine, ApartLine, Boot, EventLine, append_events};
 use boot_answers::{Common, RegisterEvents, common_events, first_difference};
 use boot_log::LogView;
-use json_texts::{EventForm, Written};
+use cells::{Form, Written, append};
 use measured_data::Place;
 use pcr_banks::{Alg, REGISTERS};
 use std::alloc::{AllocError, Global};
@@ -98,15 +99,15 @@ fn append_if_extended(
     before: &LogView<'_>,
     register: u32,
     word: &str,
-    form: EventForm,
+    form: Form,
     lines: &mut Vec<u8>,
 ) -> Written
     ensures { (table rows : List Row) (events others : List LogEvent) → IsLog (log_bytes log.now) table events
         → IsLog (log_bytes before.now) rows others
-        → OnOk result (lines.new.items ≡ lines.old.items ++ where_extended register events others (alike_line form register word.now)) }
+        → OnOk result (lines.new.items ≡ lines.old.items ++ where_extended register events others (rendered form (alike_cell register word.now))) }
 {
     if either_extended(log, before, register) {
-        append_alike(alloc, register, word, form, lines)
+        append(alloc, form, &AlikeLine { register, word }, lines)
     } else {
         Ok(())
     }
@@ -127,7 +128,12 @@ fn append_from(
         → IsLog (log_bytes before.now) rows others
         → OnOk result (lines.new.items ≡ lines.old.items ++ lines_of_both line place marks.now other_marks.now events others) }
 {
-    append_apart(alloc, line.register, line.alg, place, line.form, lines)?;
+    let apart = ApartLine {
+        register: line.register,
+        alg: line.alg,
+        place,
+    };
+    append(alloc, line.form, &apart, lines)?;
     append_events(alloc, log, Boot::Now, line, place, marks, lines)?;
     append_events(alloc, before, Boot::Before, line, place, other_marks, lines)
 }
@@ -139,7 +145,7 @@ fn append_register(
     before: &LogView<'_>,
     register: u32,
     difference: Difference,
-    form: EventForm,
+    form: Form,
     lines: &mut Vec<u8>,
 ) -> Written
     ensures { (table rows : List Row) (events others : List LogEvent) → IsLog (log_bytes log.now) table events
@@ -177,7 +183,7 @@ fn append_registers(
     log: &LogView<'_>,
     before: &LogView<'_>,
     matched: &[Place],
-    form: EventForm,
+    form: Form,
     lines: &mut Vec<u8>,
 ) -> Written
     ensures { OnOk result ((table rows : List Row) (events others : List LogEvent) → IsLog (log_bytes log.now) table events
@@ -204,7 +210,7 @@ fn append_registers(
 /// Of the 256 events of each boot after those alike ([`boot_answers::MOST_COMPARED`]), a longest common subsequence has no lines
 /// ([`boot_answers::common_events`]). All events after these have one.
 ///
-/// For people ([`EventForm::Explained`]) the lines are `register 4 alike unknown`, `register 4 alike all`, `register 4 sha256 alike 2`, and
+/// For people ([`Form::Text`]) the lines are `register 4 alike unknown`, `register 4 alike all`, `register 4 sha256 alike 2`, and
 /// `register 4 now 14 1f5e.. claimed {"text":".."}`, without the digest where there is none. No character of what is claimed steers what shows
 /// it.
 ///
@@ -214,7 +220,7 @@ pub fn append_differences(
     log: &LogView<'_>,
     before: &LogView<'_>,
     matched: &[Place],
-    form: EventForm,
+    form: Form,
     lines: &mut Vec<u8>,
 ) -> Written
     ensures lines { OnOk result ((table rows : List Row) (events others : List LogEvent) → IsLog (log_bytes log.now) table events

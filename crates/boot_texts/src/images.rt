@@ -1,24 +1,17 @@
 //! The images that the firmware started.
 
-ghost use Rattle.std.specs.Prelude.{◌≡◌, ◌↔◌, [], ◌∷◌, ◌++◌, codes, option_map, true, IsTrue, List, ℕ, Some, OnOk};
+ghost use Rattle.std.specs.Prelude.{◌≡◌, ◌↔◌, ◌++◌, codes, option_map, true, IsTrue, List, ℕ, OnOk};
 ghost use Rattle.pcr_banks.specs.Digests.{bytes_of};
-ghost use Rattle.pcr_banks.specs.Hashing.{name_of};
 ghost use Rattle.boot_log.specs.Spelling.{log_event_of};
-ghost use Rattle.json_texts.specs.JsonValues.{AppendsLine, hex_json, optional};
-ghost use Rattle.json_texts.specs.parts.WrittenParts.{WritesMembers, WritesValue};
-ghost use Rattle.boot_texts.specs.AnswerLines.{answered_digest, answered_fields, answered_json, digest_field, image_json, image_line};
+ghost use Rattle.cells.specs.Cells.{ShowsMembers, if_some, object_at};
+ghost use Rattle.boot_texts.specs.AnswerCells.{answered_cell, answered_digest, digest_cell, image_cell};
 ghost use Rattle.boot_texts.specs.Telling.{IsImageBy, MayBeImageIn, TellsImage};
-ghost use Rattle.json_texts.specs.declared.event_form.EventForm.TheVariants.{Explained};
 
 use crate::answering::answers;
-use crate::words::append_number;
+use crate::contents::show_content;
 use boot_answers::may_be_image;
 use boot_log::Event;
-use json::Writer;
-use json_texts::{
-    EventForm, Written, append_content, begin_line, end_line, write_content, write_hex,
-    write_number,
-};
+use cells::{CellWriter, Form, Shown, Written, append};
 use measured_data::Place;
 use pcr_banks::{Alg, Digest, PerBank};
 use std::alloc::Global;
@@ -48,7 +41,7 @@ fn is_image_by(event: &Event<'_>, matched: &[Place], alg: Alg) -> bool
 /// Appends the line of the event with this number, if it may be an image by some bank that answers.
 pub(crate) fn append_if_image(
     alloc: Global,
-    form: EventForm,
+    form: Form,
     matched: &[Place],
     number: usize,
     event: &Event<'_>,
@@ -58,57 +51,79 @@ pub(crate) fn append_if_image(
         × (lines.new.items ≡ lines.old.items ++ text)) }
 {
     if may_be_image_in(event, matched) {
-        append_image(alloc, form, matched, number, event, lines)?;
+        let line = ImageLine {
+            matched,
+            number,
+            event,
+        };
+        append(alloc, form, &line, lines)?;
     }
     Ok(())
 }
 
-// Appends the line of an image.
-fn append_image(
-    alloc: Global,
-    form: EventForm,
-    matched: &[Place],
+// The line of an image.
+#[derive(Drop)]
+struct ImageLine<'a> {
+    matched: &'a [Place],
     number: usize,
-    event: &Event<'_>,
-    lines: &mut Vec<u8>,
-) -> Written
-    ensures { OnOk result (lines.new.items ≡ lines.old.items ++ image_line form matched.now number (log_event_of event.now)) }
-{
-    match form {
-        EventForm::Json => append_image_json(alloc, matched, number, event, lines),
-        EventForm::Explained => append_image_text(alloc, matched, number, event, lines),
+    event: &'a Event<'a>,
+}
+
+impl Shown for ImageLine<'_> {
+    ghost cell_of = { λ line. image_cell line.matched.now line.number (log_event_of line.event.now) };
+
+    fn show(&self, alloc: Global, out: &mut CellWriter) -> Written {
+        show_image(alloc, self.matched, self.number, self.event, out)
     }
 }
 
-fn append_image_json(
+fn show_image(
     alloc: Global,
     matched: &[Place],
     number: usize,
     event: &Event<'_>,
-    line: &mut Vec<u8>,
+    out: &mut CellWriter,
 ) -> Written
-    ensures { AppendsLine result line.old.items line.new.items (image_json matched.now number (log_event_of event.now)) }
+    ensures { ShowsMembers result out.old out.new (image_cell matched.now number (log_event_of event.now)) }
 {
-    let (mut writer, start) = begin_line(alloc, line);
-    let written = write_image(alloc, matched, number, event, &mut writer);
-    end_line(written, writer, start, line)
+    out.number("image ", "image", number as u64)?;
+    out.text(" ")?;
+    show_digests(alloc, matched, &event.digests, out)?;
+    show_content(
+        alloc,
+        "claimed ",
+        "claimed",
+        event.kind,
+        event.payload,
+        out,
+    )
 }
 
-fn write_image(
+fn show_digests(
     alloc: Global,
     matched: &[Place],
-    number: usize,
-    event: &Event<'_>,
-    writer: &mut Writer,
+    digests: &PerBank,
+    out: &mut CellWriter,
 ) -> Written
-    ensures { WritesValue result writer.old writer.new (image_json matched.now number (log_event_of event.now)) }
+    ensures { ShowsMembers result out.old out.new (object_at (codes "digests") (answered_cell matched.now digests.now)) }
 {
-    writer.begin_object()?;
-    write_number("image", number as u64, writer)?;
-    write_answered(alloc, matched, &event.digests, writer)?;
-    writer.key("claimed")?;
-    write_content(alloc, event.kind, event.payload, writer)?;
-    writer.end_object()?;
+    out.object("digests")?;
+    show_answered(alloc, matched, digests, out)?;
+    out.end()
+}
+
+// Shows the digests in the banks that answer.
+fn show_answered(
+    alloc: Global,
+    matched: &[Place],
+    digests: &PerBank,
+    out: &mut CellWriter,
+) -> Written
+    ensures { ShowsMembers result out.old out.new (answered_cell matched.now digests.now) }
+{
+    for alg in &Alg::ALL {
+        show_digest(alloc, *alg, answered_digest(matched, digests, *alg), out)?;
+    }
     Ok(())
 }
 
@@ -123,82 +138,20 @@ fn answered_digest(matched: &[Place], digests: &PerBank, alg: Alg) -> Option<Dig
     }
 }
 
-// Writes the digests in the banks that answer.
-fn write_answered(
-    alloc: Global,
-    matched: &[Place],
-    digests: &PerBank,
-    writer: &mut Writer,
-) -> Written
-    ensures { WritesMembers result writer.old writer.new ((codes "digests", answered_json matched.now digests.now) ∷ []) }
-{
-    writer.key("digests")?;
-    writer.begin_object()?;
-    for alg in &Alg::ALL {
-        write_digest(alloc, *alg, answered_digest(matched, digests, *alg), writer)?;
-    }
-    writer.end_object()?;
-    Ok(())
-}
-
-// Writes the digest, if there is one, under the name of its algorithm.
-fn write_digest(alloc: Global, alg: Alg, digest: Option<Digest>, writer: &mut Writer) -> Written
-    ensures { WritesMembers result writer.old writer.new (optional (name_of alg) (option_map hex_json (option_map bytes_of digest))) }
+// Shows the digest, if there is one, with the name of its algorithm.
+fn show_digest(alloc: Global, alg: Alg, digest: Option<Digest>, out: &mut CellWriter) -> Written
+    ensures { ShowsMembers result out.old out.new (if_some (option_map bytes_of digest) (digest_cell alg)) }
 {
     match digest {
-        Some(digest) => write_hex(alloc, alg.name(), digest.bytes(), writer),
+        Some(digest) => show_named(alloc, alg, &digest, out),
         None => Ok(()),
     }
 }
 
-fn append_image_text(
-    alloc: Global,
-    matched: &[Place],
-    number: usize,
-    event: &Event<'_>,
-    lines: &mut Vec<u8>,
-) -> Written
-    ensures { OnOk result (lines.new.items ≡ lines.old.items ++ image_line Explained matched.now number (log_event_of event.now)) }
+fn show_named(alloc: Global, alg: Alg, digest: &Digest, out: &mut CellWriter) -> Written
+    ensures { ShowsMembers result out.old out.new (digest_cell alg (bytes_of digest.now)) }
 {
-    lines.extend_from_slice(b"image ")?;
-    append_number(number as u64, lines)?;
-    lines.extend_from_slice(b" ")?;
-    append_answered(alloc, matched, &event.digests, lines)?;
-    lines.extend_from_slice(b"claimed ")?;
-    append_content(alloc, event.kind, event.payload, lines)
-}
-
-// Appends the digests in the banks that answer, each with the name of its algorithm, and a space after each word.
-fn append_answered(
-    alloc: Global,
-    matched: &[Place],
-    digests: &PerBank,
-    lines: &mut Vec<u8>,
-) -> Written
-    ensures { OnOk result (lines.new.items ≡ lines.old.items ++ answered_fields matched.now digests.now) }
-{
-    for alg in &Alg::ALL {
-        append_digest(alloc, *alg, answered_digest(matched, digests, *alg), lines)?;
-    }
-    Ok(())
-}
-
-// Appends the algorithm's name and its digest, if there is one.
-fn append_digest(alloc: Global, alg: Alg, digest: Option<Digest>, lines: &mut Vec<u8>) -> Written
-    ensures { OnOk result (lines.new.items ≡ lines.old.items ++ digest_field alg (option_map bytes_of digest)) }
-{
-    match digest {
-        Some(digest) => append_field(alloc, alg, &digest, lines),
-        None => Ok(()),
-    }
-}
-
-fn append_field(alloc: Global, alg: Alg, digest: &Digest, lines: &mut Vec<u8>) -> Written
-    ensures { OnOk result (lines.new.items ≡ lines.old.items ++ digest_field alg (Some (bytes_of digest.now))) }
-{
-    let digits = hex::encode(alloc, digest.bytes())?;
-    lines.extend_from_slice(alg.name().as_bytes())?;
-    lines.extend_from_slice(b" ")?;
-    lines.extend_from_slice(digits.as_bytes())?;
-    lines.extend_from_slice(b" ")
+    out.text(alg.name())?;
+    out.hex(alloc, " ", alg.name(), digest.bytes())?;
+    out.text(" ")
 }

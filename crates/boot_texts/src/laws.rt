@@ -1,8 +1,9 @@
 //! Laws: consequences of the definitions, each the contract of a function that does nothing.
 
-ghost use Rattle.std.specs.Prelude.{◌≡◌, ℕ, List, Some, true};
+ghost use Rattle.std.specs.Prelude.{◌≡◌, ℕ, List, [], ◌∷◌, Option, None, Some, true};
 ghost use Rattle.byte_fields.specs.Spelling.{IsBytes};
 ghost use Rattle.hex.specs.Hex.{IsBytes as AreBytes};
+ghost use Rattle.pcr_banks.specs.declared.alg.Alg.{Alg};
 ghost use Rattle.boot_log.specs.Spelling.{LogEvent};
 ghost use Rattle.event_data.specs.ContentReading.{content_in};
 ghost use Rattle.event_data.specs.Forms.{VariableData};
@@ -10,10 +11,19 @@ ghost use Rattle.measured_data.specs.declared.place.Place.{Place};
 ghost use Rattle.measured_data.specs.Measuring.{settings_register};
 ghost use Rattle.boot_answers.specs.Commands.{CommandSaid, told_text};
 ghost use Rattle.boot_answers.specs.FirmwareVersion.{version_type};
-ghost use Rattle.json_texts.specs.JsonValues.{IsCount, IsOneLine};
-ghost use Rattle.boot_texts.specs.AnswerLines.{command_json, image_json, text_json, unanswered_json, untold_json, variable_json, version_json, word_json};
+ghost use Rattle.cells.specs.Values.{IsCount, IsOneLine, object_of};
+ghost use Rattle.boot_texts.specs.AnswerCells.{command_cell, image_cell, text_member, untold_cell, variable_cell, version_cell, word_cell};
+ghost use Rattle.boot_texts.specs.declared.difference_lines.Boot.{Boot};
+ghost use Rattle.boot_texts.specs.declared.difference_lines.EventLine.{EventLine};
+ghost use Rattle.boot_texts.specs.declared.policies.ImaPolicy.{ImaPolicy};
+ghost use Rattle.boot_texts.specs.OldLines as old;
+ghost use Rattle.event_data.specs.EventForms.{Content};
+ghost use Rattle.cells.specs.Cells.{rendered};
+ghost use Rattle.cells.specs.declared.writer.Form.{Form};
+ghost use Rattle.boot_texts.specs.declared.policies.ImaPolicy.TheVariants.{Asked, Possible};
+ghost use Rattle.boot_texts.specs.Differences.{alike_cell, apart_cell, event_cell};
 ghost use Rattle.boot_texts.specs.EachBank.{TellText, TellVariable};
-ghost use Rattle.boot_texts.specs.Policies.{asking_json};
+ghost use Rattle.boot_texts.specs.Policies.{policy_cell};
 ghost use Rattle.boot_texts.specs.Telling.{is_boot_variable, is_told_variable};
 
 use measured_data::parts_are_the_first;
@@ -32,19 +42,48 @@ pub fn each_bank_tells_the_variable()
         → (variable : VariableData) × (is_boot_variable variable ≡ true) × TellVariable matched settings_register event variable }
 {}
 
-/// Each answer as JSON is one line: its text reads back as the value, and has no line feed. Its numbers are such as code holds (`IsCount`),
-/// and an event's data is bytes.
-pub fn each_answer_is_one_line()
-    ensures word { (name word : List ℕ) → IsOneLine (word_json name word) }
-    ensures version { (bytes : List ℕ) → AreBytes bytes → IsOneLine (version_json (content_in version_type bytes)) }
+/// Each line as JSON is one value: its text reads back as the value, and has no line feed. Its numbers are such as code holds (`IsCount`), and
+/// an event's data is bytes.
+pub fn each_line_is_one_value()
+    ensures word { (name word : List ℕ) → IsOneLine (object_of (word_cell name word).json) }
+    ensures version { (bytes : List ℕ) → AreBytes bytes → IsOneLine (object_of (version_cell (Some (content_in version_type bytes))).json) }
     ensures image { (matched : List Place) (number : ℕ) (event : LogEvent) → IsCount number → AreBytes event.payload
-        → IsOneLine (image_json matched number event) }
+        → IsOneLine (object_of (image_cell matched number event).json) }
     ensures command { (register number : ℕ) (text : CommandSaid) → IsCount register → IsCount number
-        → IsOneLine (command_json register number text) }
-    ensures text { (text : CommandSaid) → IsOneLine (text_json text) }
-    ensures untold { (register number : ℕ) → IsCount register → IsCount number → IsOneLine (untold_json register number) }
-    ensures unanswered { (register : ℕ) → IsCount register → IsOneLine (unanswered_json register) }
-    ensures asking { (word : List ℕ) (number : ℕ) → IsCount number → IsOneLine (asking_json word number) }
+        → IsOneLine (object_of (command_cell register number text).json) }
+    ensures text { (text : CommandSaid) → IsOneLine (object_of (text_member text ∷ [])) }
+    ensures untold { (register number : ℕ) → IsCount register → IsCount number
+        → IsOneLine (object_of (untold_cell register (Some number)).json) }
+    ensures unanswered { (register : ℕ) → IsCount register → IsOneLine (object_of (untold_cell register None).json) }
+    ensures asked { (number : ℕ) → IsCount number → IsOneLine (object_of (policy_cell (Asked number)).json) }
+    ensures possible { (number : ℕ) → IsCount number → IsOneLine (object_of (policy_cell (Possible number)).json) }
     ensures variable { (number : ℕ) (event : LogEvent) → IsCount number → AreBytes event.payload
-        → IsOneLine (variable_json number event) }
+        → IsOneLine (object_of (variable_cell number event).json) }
+    ensures alike { (register : ℕ) (word : List ℕ) → IsCount register → IsOneLine (object_of (alike_cell register word).json) }
+    ensures apart { (register : ℕ) (alg : Alg) (place : ℕ) → IsCount register → IsCount place
+        → IsOneLine (object_of (apart_cell register alg place).json) }
+    ensures event { (boot : Boot) (register : ℕ) (alg : Alg) (number : ℕ) (event : LogEvent) → IsCount register → IsCount number
+        → AreBytes event.payload → IsOneLine (object_of (event_cell boot register alg number event).json) }
+{}
+
+/// Cells give each line as it was defined once as text and once as JSON.
+pub fn lines_are_as_before()
+    ensures word { (form : Form) (name word : List ℕ) → rendered form (word_cell name word) ≡ old.word_line form name word }
+    ensures version { (form : Form) (version : Option Content) → rendered form (version_cell version) ≡ old.version_line form version }
+    ensures image { (form : Form) (matched : List Place) (number : ℕ) (event : LogEvent)
+        → rendered form (image_cell matched number event) ≡ old.image_line form matched number event }
+    ensures command { (form : Form) (register number : ℕ) (text : CommandSaid)
+        → rendered form (command_cell register number text) ≡ old.command_line form register number text }
+    ensures untold { (form : Form) (register number : ℕ)
+        → rendered form (untold_cell register (Some number)) ≡ old.untold_line form register number }
+    ensures unanswered { (form : Form) (register : ℕ) → rendered form (untold_cell register None) ≡ old.unanswered_line form register }
+    ensures policy { (form : Form) (policy : ImaPolicy) → rendered form (policy_cell policy) ≡ old.policy_line form policy }
+    ensures variable { (form : Form) (number : ℕ) (event : LogEvent)
+        → rendered form (variable_cell number event) ≡ old.variable_line form number event }
+    ensures alike { (form : Form) (register : ℕ) (word : List ℕ)
+        → rendered form (alike_cell register word) ≡ old.alike_line form register word }
+    ensures apart { (form : Form) (register : ℕ) (alg : Alg) (place : ℕ)
+        → rendered form (apart_cell register alg place) ≡ old.apart_line form register alg place }
+    ensures event { (boot : Boot) (line : EventLine) (number : ℕ) (event : LogEvent)
+        → rendered line.form (event_cell boot line.register line.alg number event) ≡ old.event_line boot line number event }
 {}

@@ -1,23 +1,20 @@
 //! What the told texts of both registers ask of Linux.
 
-ghost use Rattle.std.specs.Prelude.{◌≡◌, ◌++◌, codes, decimal, List, IfOk, OnOk};
+ghost use Rattle.std.specs.Prelude.{◌≡◌, ◌++◌, List, IfOk, OnOk};
 ghost use Rattle.boot_log.specs.declared.header.Row.{Row};
 ghost use Rattle.boot_log.specs.LogViews.{log_bytes};
 ghost use Rattle.boot_log.specs.Spelling.{IsLog, LogEvent};
-ghost use Rattle.json_texts.specs.JsonValues.{AppendsLine};
-ghost use Rattle.json_texts.specs.parts.WrittenParts.{WritesValue};
+ghost use Rattle.cells.specs.Cells.{ShowsMembers, rendered};
 ghost use Rattle.boot_texts.specs.declared.policies.ImaPolicy.{ImaPolicy as PolicyData};
-ghost use Rattle.boot_texts.specs.Policies.{IsAskingEvent, IsAskingIn, IsImaPolicy, asking_json, asking_line, policy_line};
+ghost use Rattle.boot_texts.specs.Policies.{IsAskingEvent, IsAskingIn, IsImaPolicy, policy_cell, policy_event, policy_word};
 
 use crate::asked::Asked;
 use crate::asking::asks;
-use crate::commands::append_event;
+use crate::commands::show_event;
 use crate::steps::is_extended_into;
-use crate::words::append_word;
 use boot_answers::told_text;
 use boot_log::LogView;
-use json::Writer;
-use json_texts::{EventForm, Written, begin_line, end_line, write_number, write_text};
+use cells::{CellWriter, Form, Shown, Written, append};
 use measured_data::Place;
 use std::alloc::{AllocError, Global};
 
@@ -105,76 +102,53 @@ fn ima_policy(alloc: Global, log: &LogView<'_>, matched: &[Place]) -> Result<Ima
 /// Appends the line of what the told texts ask.
 pub(crate) fn append_policy(
     alloc: Global,
-    form: EventForm,
+    form: Form,
     log: &LogView<'_>,
     matched: &[Place],
     lines: &mut Vec<u8>,
 ) -> Written
     ensures { OnOk result ((table : List Row) (events : List LogEvent) → IsLog (log_bytes log.now) table events
-        → (policy : PolicyData) × IsImaPolicy matched.now events policy × (lines.new.items ≡ lines.old.items ++ policy_line form policy)) }
+        → (policy : PolicyData) × IsImaPolicy matched.now events policy
+        × (lines.new.items ≡ lines.old.items ++ rendered form (policy_cell policy))) }
 {
     let policy = ima_policy(alloc, log, matched)?;
-    append_answer(alloc, form, policy, lines)?;
+    append(alloc, form, &policy, lines)?;
     Ok(())
 }
 
-// Appends the line of the answer.
-fn append_answer(alloc: Global, form: EventForm, policy: ImaPolicy, lines: &mut Vec<u8>) -> Written
-    ensures { OnOk result (lines.new.items ≡ lines.old.items ++ policy_line form policy) }
+impl Shown for ImaPolicy {
+    ghost cell_of = { policy_cell };
+
+    fn show(&self, _alloc: Global, out: &mut CellWriter) -> Written {
+        show_policy(*self, out)
+    }
+}
+
+fn show_policy(policy: ImaPolicy, out: &mut CellWriter) -> Written
+    ensures { ShowsMembers result out.old out.new (policy_cell policy) }
+{
+    out.word("ima_policy ", "ima_policy", policy_word(policy))?;
+    show_event(policy_event(policy), out)?;
+    out.text("\n")
+}
+
+// What is asked, in one word.
+fn policy_word(policy: ImaPolicy) -> &'static str
+    ensures { result.now ≡ policy_word policy }
 {
     match policy {
-        ImaPolicy::Asked(number) => append_asking(alloc, form, "asked", number, lines),
-        ImaPolicy::Possible(number) => append_asking(alloc, form, "possible", number, lines),
-        ImaPolicy::Unknown => append_word(alloc, form, "ima_policy", "unknown", lines),
+        ImaPolicy::Asked(_) => "asked",
+        ImaPolicy::Possible(_) => "possible",
+        ImaPolicy::Unknown => "unknown",
     }
 }
 
-// Appends the line of what the event with this number asks.
-fn append_asking(
-    alloc: Global,
-    form: EventForm,
-    word: &str,
-    number: usize,
-    lines: &mut Vec<u8>,
-) -> Written
-    ensures { OnOk result (lines.new.items ≡ lines.old.items ++ asking_line form word.now number) }
+// The number of the event that asks.
+fn policy_event(policy: ImaPolicy) -> Option<usize>
+    ensures { result ≡ policy_event policy }
 {
-    match form {
-        EventForm::Json => append_asking_json(alloc, word, number, lines),
-        EventForm::Explained => append_asking_text(word, number, lines),
+    match policy {
+        ImaPolicy::Asked(event) | ImaPolicy::Possible(event) => Some(event),
+        ImaPolicy::Unknown => None,
     }
-}
-
-fn append_asking_json(alloc: Global, word: &str, number: usize, lines: &mut Vec<u8>) -> Written
-    ensures { AppendsLine result lines.old.items lines.new.items (asking_json word.now number) }
-{
-    let (mut writer, start) = begin_line(alloc, lines);
-    let written = write_asking(word, number, &mut writer);
-    end_line(written, writer, start, lines)
-}
-
-fn write_asking(word: &str, number: usize, writer: &mut Writer) -> Written
-    ensures { WritesValue result writer.old writer.new (asking_json word.now number) }
-{
-    writer.begin_object()?;
-    write_text("ima_policy", word, writer)?;
-    write_number("event", number as u64, writer)?;
-    writer.end_object()?;
-    Ok(())
-}
-
-fn append_asking_text(word: &str, number: usize, lines: &mut Vec<u8>) -> Written
-    ensures { OnOk result (lines.new.items
-        ≡ lines.old.items ++ (codes "ima_policy " ++ (word.now ++ (codes " " ++ (decimal number ++ codes "\n"))))) }
-{
-    lines.extend_from_slice(b"ima_policy ")?;
-    append_asked(word, number, lines)
-}
-
-// Appends what is asked, and the event's number.
-fn append_asked(word: &str, number: usize, lines: &mut Vec<u8>) -> Written
-    ensures { OnOk result (lines.new.items ≡ lines.old.items ++ (word.now ++ (codes " " ++ (decimal number ++ codes "\n")))) }
-{
-    lines.extend_from_slice(word.as_bytes())?;
-    append_event(number, lines)
 }

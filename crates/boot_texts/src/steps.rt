@@ -7,13 +7,13 @@ ghost use Rattle.boot_log.specs.Replaying.{is_extended_into};
 ghost use Rattle.boot_log.specs.Spelling.{IsLog, LogEvent, log_event_of};
 ghost use Rattle.boot_texts.specs.Telling.{Tells, TellsCommand, ToldOf};
 
-use crate::commands::{append_command, append_untold};
+use crate::commands::{CommandLine, UntoldLine};
 use crate::images::append_if_image;
 use crate::subject::Subject;
 use crate::variables::append_if_variable;
 use boot_answers::told_text;
 use boot_log::{Event, LogView};
-use json_texts::{EventForm, Written};
+use cells::{Form, Written, append};
 use measured_data::Place;
 use std::alloc::{AllocError, Global};
 
@@ -30,7 +30,7 @@ pub(crate) fn is_extended_into(register: u32, event: &Event<'_>) -> bool
 /// Appends what the events of the log tell of the subject, up to the first after which nothing is told.
 pub(crate) fn append_each(
     alloc: Global,
-    form: EventForm,
+    form: Form,
     log: &LogView<'_>,
     matched: &[Place],
     subject: Subject,
@@ -53,7 +53,7 @@ pub(crate) fn append_each(
 // Appends what the event with this number tells of the subject, and returns whether those after it are looked at.
 fn append_told(
     alloc: Global,
-    form: EventForm,
+    form: Form,
     matched: &[Place],
     subject: Subject,
     number: usize,
@@ -78,7 +78,7 @@ fn append_told(
 // Appends the line of the event with this number, if it is extended into the register. Returns whether it tells a text, or is not.
 fn append_if_command(
     alloc: Global,
-    form: EventForm,
+    form: Form,
     matched: &[Place],
     register: u32,
     number: usize,
@@ -93,11 +93,20 @@ fn append_if_command(
     }
     match told_text(event, matched) {
         Some(text) => {
-            append_command(alloc, form, register, number, &text, lines)?;
+            let line = CommandLine {
+                register,
+                number,
+                text,
+            };
+            append(alloc, form, &line, lines)?;
             Ok(true)
         }
         None => {
-            append_untold(alloc, form, register, number, lines)?;
+            let line = UntoldLine {
+                register,
+                event: Some(number),
+            };
+            append(alloc, form, &line, lines)?;
             Ok(false)
         }
     }

@@ -7,22 +7,17 @@ ghost use Rattle.pcr_banks.specs.Hashing.{all_algs};
 ghost use Rattle.boot_log.specs.Spelling.{log_event_of};
 ghost use Rattle.event_data.specs.Forms.{variable_of};
 ghost use Rattle.event_data.specs.Reading.{variable_in};
-ghost use Rattle.json_texts.specs.declared.event_form.EventForm.TheVariants.{Explained};
-ghost use Rattle.json_texts.specs.JsonValues.{AppendsLine};
-ghost use Rattle.json_texts.specs.parts.WrittenParts.{WritesValue};
-ghost use Rattle.boot_texts.specs.AnswerLines.{variable_json, variable_line};
+ghost use Rattle.cells.specs.Cells.{ShowsMembers};
+ghost use Rattle.boot_texts.specs.AnswerCells.{variable_cell};
 ghost use Rattle.boot_texts.specs.Telling.{IsSeparatorBy, MayBeSeparatorIn, TellsSetting, TellsVariable, allows_variable, is_boot_variable, is_told_variable, told_variable};
 
 use crate::answering::answers;
+use crate::contents::show_content;
 use crate::steps::is_extended_into;
-use crate::words::append_number;
 use boot_answers::{SETTINGS_REGISTER, may_be_separator};
 use boot_log::Event;
+use cells::{CellWriter, Form, Shown, Written, append};
 use event_data::{ValueForm, Variable, read_variable, value_form};
-use json::Writer;
-use json_texts::{
-    EventForm, Written, append_content, begin_line, end_line, write_content, write_number,
-};
 use measured_data::{Part, Place, is_measured};
 use pcr_banks::Alg;
 use std::alloc::{AllocError, Global};
@@ -33,7 +28,7 @@ const EV_EFI_VARIABLE_BOOT: u32 = 0x8000_0002;
 /// Appends the line of the event with this number, if it is a boot variable. Returns whether the events after it are looked at.
 pub(crate) fn append_if_variable(
     alloc: Global,
-    form: EventForm,
+    form: Form,
     matched: &[Place],
     number: usize,
     event: &Event<'_>,
@@ -52,7 +47,7 @@ pub(crate) fn append_if_variable(
 // Appends the line of the register's event with this number, if it is a boot variable. Returns whether it is no separator.
 fn append_setting(
     alloc: Global,
-    form: EventForm,
+    form: Form,
     matched: &[Place],
     number: usize,
     event: &Event<'_>,
@@ -90,7 +85,7 @@ fn is_separator_by(event: &Event<'_>, matched: &[Place], alg: Alg) -> bool
 // Appends the line of the event with this number, if it is a boot variable.
 fn append_if_told(
     alloc: Global,
-    form: EventForm,
+    form: Form,
     matched: &[Place],
     number: usize,
     event: &Event<'_>,
@@ -99,7 +94,7 @@ fn append_if_told(
     ensures { OnOk result (lines.new.items ≡ lines.old.items ++ told_variable form matched.now number (log_event_of event.now)) }
 {
     if is_told_variable(event, matched) {
-        append_variable(alloc, form, number, event, lines)
+        append(alloc, form, &VariableLine { number, event }, lines)
     } else {
         Ok(())
     }
@@ -150,56 +145,29 @@ fn is_boot_variable(variable: &Variable<'_>) -> bool
     )
 }
 
-// Appends the line of a boot variable.
-fn append_variable(
-    alloc: Global,
-    form: EventForm,
+// The line of a boot variable.
+#[derive(Drop)]
+struct VariableLine<'a> {
     number: usize,
-    event: &Event<'_>,
-    lines: &mut Vec<u8>,
-) -> Written
-    ensures { OnOk result (lines.new.items ≡ lines.old.items ++ variable_line form number (log_event_of event.now)) }
-{
-    match form {
-        EventForm::Json => append_variable_json(alloc, number, event, lines),
-        EventForm::Explained => append_variable_text(alloc, number, event, lines),
+    event: &'a Event<'a>,
+}
+
+impl Shown for VariableLine<'_> {
+    ghost cell_of = { λ line. variable_cell line.number (log_event_of line.event.now) };
+
+    fn show(&self, alloc: Global, out: &mut CellWriter) -> Written {
+        show_variable(alloc, self.number, self.event, out)
     }
 }
 
-fn append_variable_json(
+fn show_variable(
     alloc: Global,
     number: usize,
     event: &Event<'_>,
-    line: &mut Vec<u8>,
+    out: &mut CellWriter,
 ) -> Written
-    ensures { AppendsLine result line.old.items line.new.items (variable_json number (log_event_of event.now)) }
+    ensures { ShowsMembers result out.old out.new (variable_cell number (log_event_of event.now)) }
 {
-    let (mut writer, start) = begin_line(alloc, line);
-    let written = write_variable(alloc, number, event, &mut writer);
-    end_line(written, writer, start, line)
-}
-
-fn write_variable(alloc: Global, number: usize, event: &Event<'_>, writer: &mut Writer) -> Written
-    ensures { WritesValue result writer.old writer.new (variable_json number (log_event_of event.now)) }
-{
-    writer.begin_object()?;
-    write_number("boot_variable", number as u64, writer)?;
-    writer.key("content")?;
-    write_content(alloc, EV_EFI_VARIABLE_BOOT, event.payload, writer)?;
-    writer.end_object()?;
-    Ok(())
-}
-
-fn append_variable_text(
-    alloc: Global,
-    number: usize,
-    event: &Event<'_>,
-    lines: &mut Vec<u8>,
-) -> Written
-    ensures { OnOk result (lines.new.items ≡ lines.old.items ++ variable_line Explained number (log_event_of event.now)) }
-{
-    lines.extend_from_slice(b"boot_variable ")?;
-    append_number(number as u64, lines)?;
-    lines.extend_from_slice(b" ")?;
-    append_content(alloc, EV_EFI_VARIABLE_BOOT, event.payload, lines)
+    out.number("boot_variable ", "boot_variable", number as u64)?;
+    show_content(alloc, " ", "content", EV_EFI_VARIABLE_BOOT, event.payload, out)
 }

@@ -16,12 +16,12 @@ use std::alloc::{AllocError, Global};
 /// What a call gives that writes: it fails only if memory runs out.
 pub type Written = Result<(), AllocError>;
 
-/// The form of a result.
-#[derive(Clone, Copy)]
+/// In which form a result is shown.
+#[derive(Clone, Copy, Debug, PartialEq, Eq)]
 pub enum Form {
-    /// Lines of text.
+    /// As lines of text.
     Text,
-    /// One line of JSON.
+    /// As JSON: one line, or a line for each entry or event.
     Json,
 }
 

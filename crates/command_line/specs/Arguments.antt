@@ -17,8 +17,8 @@ use Rattle.agent_plans.specs.declared.plan.ConfirmedBy.{ConfirmedBy}
 use Rattle.agent_plans.specs.declared.plan.ConfirmedBy.TheVariants.{Expected, Nothing, Quote}
 use Rattle.agent_plans.specs.declared.plan.DataShown.{DataShown}
 use Rattle.agent_plans.specs.declared.plan.DataShown.TheVariants.{Bytes, Meaning}
-use Rattle.agent_plans.specs.declared.plan.Form.{Form}
-use Rattle.agent_plans.specs.declared.plan.Form.TheVariants as forms
+use Rattle.cells.specs.declared.writer.Form.{Form}
+use Rattle.cells.specs.declared.writer.Form.TheVariants as forms
 use Rattle.agent_plans.specs.declared.plan.Judged.{Judged}
 use Rattle.agent_plans.specs.declared.plan.Judged.TheVariants as judged
 use Rattle.agent_plans.specs.declared.plan.Measurement.{Measurement}

@@ -7,7 +7,7 @@ ghost use Rattle.std.specs.Vec.Iter.{into_iter_items};
 ghost use Rattle.agent_plans.specs.Plans.{IsWithinRanges, IsWithin, NamesKnown, TakesKnown};
 ghost use Rattle.command_line.specs.Arguments.{BeginsWithVersion, HasHelpWord, HasJudged, HasQuestion, HasValues, HasValuesIn, IsRequestedBy, IsHelp, IsPlanOrHelp, asks_help, asks_version};
 ghost use Rattle.std.specs.List.{list_any};
-ghost use Rattle.agent_plans.specs.declared.plan.Form.TheVariants.{Text};
+ghost use Rattle.cells.specs.declared.writer.Form.TheVariants.{Text};
 ghost use Rattle.agent_plans.specs.declared.plan.Plan.TheVariants as plans;
 ghost use Rattle.agent_plans.specs.declared.plan.Question.TheVariants as questions;
 ghost use Rattle.agent_plans.specs.declared.plan.Task.TheVariants.{Version};

@@ -19,8 +19,8 @@ use Rattle.boot_log.specs.Spelling.{LogEvent}
 use Rattle.pcr_banks.specs.Registers.{value_at}
 use Rattle.boot_verdict.specs.declared.expected.Expected.{Expected}
 use Rattle.boot_verdict.specs.Verdicts.{IsSomeLog, is_value, pcr_after_log}
-use Rattle.json_texts.specs.declared.event_form.EventForm.{EventForm}
-use Rattle.json_texts.specs.declared.event_form.EventForm.TheVariants.{Explained, Json}
+use Rattle.cells.specs.declared.writer.Form.{Form}
+use Rattle.cells.specs.declared.writer.Form.TheVariants.{Json, Text}
 use Rattle.measured_data.specs.declared.place.Place.{Place}
 use Rattle.ima_agent.specs.Matching.{HasExpected, IsKnownFor, IsMatched, Values, counts, has_value, is_refuted, matched_places, place_of, refutes}
 
@@ -205,6 +205,6 @@ matched_are algs events expected place =
 -- ---- before a line is told
 
 -- Of a log lines can be told.
-pub known_for : (events : EventForm) (log : List ℕ) → IsSomeLog log → IsKnownFor events log
+pub known_for : (events : Form) (log : List ℕ) → IsSomeLog log → IsKnownFor events log
 known_for Json log is = tt
-known_for Explained log is = is
+known_for Text log is = is

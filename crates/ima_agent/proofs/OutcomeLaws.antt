@@ -11,8 +11,8 @@ use Rattle.agent_inputs.specs.Loading.{Holds, Inputs, Saved}
 use Rattle.agent_plans.specs.Plans.{NamesKnown, TakesKnown}
 use Rattle.agent_plans.specs.declared.plan.ConfirmedBy.{ConfirmedBy}
 use Rattle.agent_plans.specs.declared.plan.DataShown.{DataShown}
-use Rattle.agent_plans.specs.declared.plan.Form.{Form}
-use Rattle.agent_plans.specs.declared.plan.Form.TheVariants.{Json, Text}
+use Rattle.cells.specs.declared.writer.Form.{Form}
+use Rattle.cells.specs.declared.writer.Form.TheVariants.{Json, Text}
 use Rattle.agent_plans.specs.declared.plan.Judged.{Judged}
 use Rattle.agent_plans.specs.declared.plan.Judged.TheVariants as judged
 use Rattle.agent_plans.specs.declared.plan.Question.{Question}
@@ -33,7 +33,7 @@ use Rattle.verdict_texts.specs.declared.events.EventData.{EventData}
 use Rattle.ima_agent.specs.declared.events.EventLines.TheVariants as lines
 use Rattle.ima_agent.specs.Matching.{AreMatched, IsKnownFor}
 use Rattle.ima_agent.specs.Showing.{ShowsEntriesOf}
-use Rattle.ima_agent.specs.ShowingEvents.{EventForm, IsReported, ShowsEventsIn, ShowsPlainEventsIn, ShowsToldOf, lines_for}
+use Rattle.ima_agent.specs.ShowingEvents.{Form, IsReported, ShowsEventsIn, ShowsPlainEventsIn, ShowsToldOf, lines_for}
 
 -- A sink that failed in a text did not take more.
 sent_less : {A B E F : Type 0} (old new : SinkState) (fault : E) (other : F) (text more : List ℕ)
@@ -98,7 +98,7 @@ module _ (inputs : Inputs) (log : String Global) (requested : DataShown) (confir
   plain_outcome shown is text status (inl all) = inl ((bytes, held, rw is all), kept)
   plain_outcome shown is text status (inr (fault, none, failure)) = inr (inl (fault, inr (bytes, held, rw is none), failure, kept))
 
-  module _ (told : EventForm) (is : lines_for form requested ≡ lines.Told told) where
+  module _ (told : Form) (is : lines_for form requested ≡ lines.Told told) where
     events_outcome : IsKnownFor told bytes → (matched : Option (List Place)) (done : ℕ) → AreMatched inputs confirmed_by bytes matched done
         → (text : List ℕ) (status : ℕ) → ShowsEventsIn form told matched done bytes text status → Outcome text status
     events_outcome known matched done are text status (inl all) = inl ((bytes, held, rw is (known, (matched, done, are, inl all))), kept)

@@ -24,8 +24,8 @@ use Rattle.json_texts.specs.JsonValues.{line_of}
 use Rattle.json_texts.specs.SentEntries.{AreAllIn, SendsEntries}
 use Rattle.json_texts.specs.SentEvents.{SendsEvents, SendsLines}
 use Rattle.measured_data.specs.declared.place.Place.{Place}
-use Rattle.agent_plans.specs.declared.plan.Form.{Form}
-use Rattle.agent_plans.specs.declared.plan.Form.TheVariants.{Json, Text}
+use Rattle.cells.specs.declared.writer.Form.{Form}
+use Rattle.cells.specs.declared.writer.Form.TheVariants.{Json, Text}
 use Rattle.agent_inputs.specs.declared.fault.RunFault.{RunFault}
 use Rattle.agent_inputs.specs.declared.fault.RunFault.TheVariants as runs
 use Rattle.agent_inputs.specs.Faults.{fault_of_list, fault_of_log}
@@ -34,7 +34,7 @@ use Rattle.ima_agent.specs.declared.streams.StreamFault.{StreamFault}
 use Rattle.ima_agent.specs.declared.streams.StreamFault.TheVariants as streams
 use Rattle.rendering.specs.FaultTexts.{IsFailure}
 use Rattle.ima_agent.specs.Showing.{AreAllInFile, EndsAfterEntries, ShowsEntriesOf, ShowsToFault, StopsInFile, entry_lines, list_lines}
-use Rattle.ima_agent.specs.ShowingEvents.{AreAllEvents, EventForm, IsReported, ShowsEventsIn, StopsInLog, log_lines}
+use Rattle.ima_agent.specs.ShowingEvents.{AreAllEvents, Form, IsReported, ShowsEventsIn, StopsInLog, log_lines}
 use Rattle.ima_agent.specs.Program.{Streams}
 use Rattle.judging.proofs.InputLaws.{HasAll, held_more, held_whole}
 
@@ -108,7 +108,7 @@ streams_so P Q old new (Err (streams.Run fault)) so sent =
 
 -- ---- the events of a log
 
-module _ (form : Form) (told : EventForm) (matched : Option (List Place)) (done : ℕ) (log : List ℕ) (old new : SinkState) where
+module _ (form : Form) (told : Form) (matched : Option (List Place)) (done : ℕ) (log : List ℕ) (old new : SinkState) where
   abbrev lines : List Row → List LogEvent → List ℕ
   lines = log_lines told matched log
 

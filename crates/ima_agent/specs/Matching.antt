@@ -16,8 +16,8 @@ use Rattle.boot_verdict.specs.ExpectedTexts.{IsExpectedText}
 use Rattle.boot_verdict.specs.declared.expected.Expected.{Expected}
 use Rattle.boot_verdict.specs.Isolation.{list_register}
 use Rattle.boot_verdict.specs.Verdicts.{is_value, IsSomeLog, pcr_after_log}
-use Rattle.json_texts.specs.declared.event_form.EventForm.{EventForm}
-use Rattle.json_texts.specs.declared.event_form.EventForm.TheVariants as told
+use Rattle.cells.specs.declared.writer.Form.{Form}
+use Rattle.cells.specs.declared.writer.Form.TheVariants as told
 use Rattle.measured_data.specs.declared.place.Place.{Place}
 use Rattle.agent_plans.specs.declared.plan.ConfirmedBy.{ConfirmedBy}
 use Rattle.agent_plans.specs.declared.plan.ConfirmedBy.TheVariants as confirmed
@@ -162,11 +162,11 @@ AreNotMatched inputs (confirmed.Quote quoting) log fault = IsRefusalOn inputs (A
 -- ---- before a line is told
 
 -- To people no line of a log is told that is no log.
-abbrev pub IsKnownFor : EventForm → List ℕ → Type 0
+abbrev pub IsKnownFor : Form → List ℕ → Type 0
 IsKnownFor told.Json log = Unit {0}
-IsKnownFor told.Explained log = IsSomeLog log
+IsKnownFor told.Text log = IsSomeLog log
 
 -- Why no line is told: the bytes are no log, and no registers are compared; or the registers that match are not known.
-abbrev pub IsNotTold : Inputs → EventForm → ConfirmedBy → List ℕ → RunFault → Type 0
-IsNotTold inputs told.Explained confirmed.Nothing log fault = HasLogFault log fault
+abbrev pub IsNotTold : Inputs → Form → ConfirmedBy → List ℕ → RunFault → Type 0
+IsNotTold inputs told.Text confirmed.Nothing log fault = HasLogFault log fault
 IsNotTold inputs events confirmed_by log fault = AreNotMatched inputs confirmed_by log fault

@@ -9,8 +9,8 @@ use Rattle.agent_inputs.specs.declared.fault.RunFault.TheVariants as runs
 use Rattle.agent_inputs.specs.Faults.{IsArgumentsFault}
 use Rattle.agent_inputs.specs.Loading.{Inputs, IsInputFault, OfInput, Saved}
 use Rattle.agent_plans.specs.declared.plan.Scope.TheVariants.{Whole}
-use Rattle.agent_plans.specs.declared.plan.Form.{Form}
-use Rattle.agent_plans.specs.declared.plan.Form.TheVariants as forms
+use Rattle.cells.specs.declared.writer.Form.{Form}
+use Rattle.cells.specs.declared.writer.Form.TheVariants as forms
 use Rattle.agent_plans.specs.declared.plan.Attest.{Attest}
 use Rattle.agent_plans.specs.declared.plan.Judge.{Judge}
 use Rattle.agent_plans.specs.declared.plan.Judged.{Judged}

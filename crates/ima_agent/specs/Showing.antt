@@ -7,7 +7,7 @@ use Rattle.ima_list.specs.Spelling.{BeginsWith, IsReading}
 use Rattle.boot_verdict.specs.Verdicts.{IsSomeLog}
 pub use Rattle.json_texts.specs.ItemLines.{entry_lines, list_lines, numbered_lines, AreAllEntries, EndsWithFault, FailsAfterEntries}
 use Rattle.json_texts.specs.SentEntries.{AreAllIn}
-use Rattle.agent_plans.specs.declared.plan.Form.{Form}
+use Rattle.cells.specs.declared.writer.Form.{Form}
 use Rattle.agent_inputs.specs.declared.fault.RunFault.{RunFault}
 use Rattle.agent_inputs.specs.declared.fault.RunFault.TheVariants as runs
 use Rattle.agent_inputs.specs.Faults.{HasLogFault, fault_of_list}

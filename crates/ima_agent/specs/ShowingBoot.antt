@@ -3,23 +3,15 @@ use Rattle.std.specs.Prelude.{◌≡◌, ◌⊎◌, ℕ, List, [], ◌++◌, Opt
 use Rattle.boot_log.specs.declared.header.Row.{Row}
 use Rattle.boot_log.specs.Spelling.{IsLog, LogEvent}
 use Rattle.measured_data.specs.declared.place.Place.{Place}
-use Rattle.json_texts.specs.declared.event_form.EventForm.{EventForm}
-use Rattle.json_texts.specs.declared.event_form.EventForm.TheVariants as told
 use Rattle.boot_texts.specs.BootLines.{AreBootLines}
 use Rattle.boot_texts.specs.Differences.{AreDifferenceLines}
 use Rattle.agent_plans.specs.declared.plan.ConfirmedBy.{ConfirmedBy}
-use Rattle.agent_plans.specs.declared.plan.Form.{Form}
-use Rattle.agent_plans.specs.declared.plan.Form.TheVariants as forms
+use Rattle.cells.specs.declared.writer.Form.{Form}
 use Rattle.agent_inputs.specs.declared.fault.RunFault.{RunFault}
 use Rattle.agent_inputs.specs.Faults.{HasLogFault}
 use Rattle.agent_inputs.specs.Loading.{Inputs, IsInputFault, OfInput}
 use Rattle.ima_agent.specs.Matching.{AreMatched, AreNotMatched}
 use Rattle.ima_agent.specs.Showing.{IsNoLogFor}
-
--- How answers are told in this form.
-abbrev pub told_in : Form → EventForm
-told_in forms.Json = told.Json
-told_in forms.Text = told.Explained
 
 -- The registers that match; none where none were compared.
 abbrev pub places_of : Option (List Place) → List Place
@@ -28,7 +20,7 @@ places_of (Some places) = places
 
 -- The text tells how far the boot with these events, and the earlier one that left the log in the file of this name, extended each register
 -- alike; without a name it is empty.
-abbrev pub AreCompared : Inputs → EventForm → List Place → List LogEvent → Option (List ℕ) → List ℕ → Type 0
+abbrev pub AreCompared : Inputs → Form → List Place → List LogEvent → Option (List ℕ) → List ℕ → Type 0
 AreCompared inputs form matched events None text = text ≡ []
 AreCompared inputs form matched events (Some name) text =
     OfInput inputs (Some name) (λ earlier. (table : List Row) × (others : List LogEvent) × IsLog earlier table others
@@ -44,9 +36,9 @@ pub record ShowsBoot (inputs : Inputs) (form : Form) (confirmed_by : ConfirmedBy
   pub matched : Option (List Place)
   pub are_matched : AreMatched inputs confirmed_by log matched status
   pub answers : List ℕ
-  pub are_answers : AreBootLines (told_in form) (places_of matched) events answers
+  pub are_answers : AreBootLines form (places_of matched) events answers
   pub compared : List ℕ
-  pub are_compared : AreCompared inputs (told_in form) (places_of matched) events before compared
+  pub are_compared : AreCompared inputs form (places_of matched) events before compared
   pub text_is : text ≡ answers ++ compared
 
 -- Why there is no log of an earlier boot: the file is not loaded; or its bytes are no log.

@@ -6,15 +6,13 @@ use Rattle.measured_data.specs.declared.place.Place.{Place}
 use Rattle.verdict_texts.specs.declared.events.EventData.{EventData}
 use Rattle.verdict_texts.specs.declared.events.EventData.TheVariants as texts
 use Rattle.verdict_texts.specs.EventTexts.{events_text}
-pub use Rattle.json_texts.specs.declared.event_form.EventForm.{EventForm}
-use Rattle.json_texts.specs.declared.event_form.EventForm.TheVariants as told
+pub use Rattle.cells.specs.declared.writer.Form.{Form}
 pub use Rattle.json_texts.specs.ItemLines.{AreAllEvents, EndsWithFault, FailsAfterEvents}
 pub use Rattle.json_texts.specs.SentEvents.{log_lines}
 use Rattle.agent_plans.specs.declared.plan.ConfirmedBy.{ConfirmedBy}
 use Rattle.agent_plans.specs.declared.plan.DataShown.{DataShown}
 use Rattle.agent_plans.specs.declared.plan.DataShown.TheVariants as arguments
-use Rattle.agent_plans.specs.declared.plan.Form.{Form}
-use Rattle.agent_plans.specs.declared.plan.Form.TheVariants as forms
+use Rattle.cells.specs.declared.writer.Form.TheVariants as forms
 use Rattle.agent_inputs.specs.declared.fault.RunFault.{RunFault}
 use Rattle.agent_inputs.specs.declared.fault.RunFault.TheVariants as runs
 use Rattle.agent_inputs.specs.Faults.{HasLogFault, fault_of_log}
@@ -27,10 +25,10 @@ use Rattle.ima_agent.specs.Showing.{ShowsToFault}
 
 -- How events are shown in this form, where this is requested of their data: in JSON with what it says in any case.
 abbrev pub lines_for : Form → DataShown → EventLines
-lines_for forms.Json requested = lines.Told told.Json
+lines_for forms.Json requested = lines.Told forms.Json
 lines_for forms.Text arguments.Size = lines.Plain texts.Size
 lines_for forms.Text arguments.Bytes = lines.Plain texts.Bytes
-lines_for forms.Text arguments.Meaning = lines.Told told.Explained
+lines_for forms.Text arguments.Meaning = lines.Told forms.Text
 
 -- The line of a fault in this form, and its status.
 abbrev pub IsReported : Form → RunFault → List ℕ → ℕ → Type 0
@@ -39,13 +37,13 @@ IsReported forms.Json fault text status = IsReportedAsJson fault text status
 
 -- What can be read of the bytes as a log is shown with what its data says, and with what the registers that match confirm; with this status, if
 -- that is all.
-abbrev pub ShowsTold : Form → EventForm → Option (List Place) → ℕ → List ℕ → List ℕ → ℕ → Type 0
+abbrev pub ShowsTold : Form → Form → Option (List Place) → ℕ → List ℕ → List ℕ → ℕ → Type 0
 ShowsTold form events matched done log shown status =
     ShowsToFault done (AreAllEvents (log_lines events matched log) log) (FailsAfterEvents (log_lines events matched log) fault_of_log log) (IsReported form) shown
     status
 
 -- The text is the lines of a header and events that the bytes begin with, and then memory ran out.
-abbrev pub RunsOutAfterEvents : EventForm → Option (List Place) → List ℕ → List ℕ → RunFault → Type 0
+abbrev pub RunsOutAfterEvents : Form → Option (List Place) → List ℕ → List ℕ → RunFault → Type 0
 RunsOutAfterEvents events matched log text fault =
     (fault ≡ runs.Memory)
     × ((table : List Row) × (given : List LogEvent) × (rest : List ℕ) × BeginsWith log table given rest × (text ≡ log_lines events matched log table given))
@@ -83,19 +81,19 @@ ShowsPlainEventsIn form shown log text status =
     ⊎ ((fault : RunFault) × HasLogFault log fault × IsFailure form fault text status)
 
 -- Why no more of the log in these bytes is shown than this text: it fails; or memory ran out, after some events or before the first line.
-abbrev pub StopsInLog : EventForm → Option (List Place) → List ℕ → List ℕ → RunFault → Type 0
+abbrev pub StopsInLog : Form → Option (List Place) → List ℕ → List ℕ → RunFault → Type 0
 StopsInLog events matched log text fault =
     FailsAfterEvents (log_lines events matched log) fault_of_log log text fault
     ⊎ RunsOutAfterEvents events matched log text fault
     ⊎ ((fault ≡ runs.Memory) × (text ≡ []))
 
 -- The log in these bytes is shown with what its data says, as far as it goes; with this status, if that is all.
-abbrev pub ShowsEventsIn : Form → EventForm → Option (List Place) → ℕ → List ℕ → List ℕ → ℕ → Type 0
+abbrev pub ShowsEventsIn : Form → Form → Option (List Place) → ℕ → List ℕ → List ℕ → ℕ → Type 0
 ShowsEventsIn form events matched done log shown status =
     ShowsToFault done (AreAllEvents (log_lines events matched log) log) (StopsInLog events matched log) (IsReported form) shown status
 
 -- It is, with what the registers confirm that match; or why it is not told.
-abbrev pub ShowsToldOf : Inputs → Form → EventForm → ConfirmedBy → List ℕ → List ℕ → ℕ → Type 0
+abbrev pub ShowsToldOf : Inputs → Form → Form → ConfirmedBy → List ℕ → List ℕ → ℕ → Type 0
 ShowsToldOf inputs form events confirmed_by log shown status =
     (IsKnownFor events log
     × ((matched : Option (List Place)) × (done : ℕ) × AreMatched inputs confirmed_by log matched done

@@ -7,7 +7,7 @@ ghost use Rattle.boot_log.specs.declared.header.Row.{Row};
 ghost use Rattle.boot_log.specs.LogViews.{log_bytes};
 ghost use Rattle.boot_log.specs.Spelling.{IsLog, LogEvent};
 ghost use Rattle.ima_agent.specs.Program.{IsFaultOf, IsOutputFor};
-ghost use Rattle.ima_agent.specs.ShowingBoot.{AreCompared, IsNoBootFor, IsNoEarlierLog, ShowsBoot, places_of, told_in};
+ghost use Rattle.ima_agent.specs.ShowingBoot.{AreCompared, IsNoBootFor, IsNoEarlierLog, ShowsBoot, places_of};
 
 use crate::matches::matched_in;
 use crate::streams::Prepared;
@@ -15,7 +15,6 @@ use agent_inputs::{AgentFiles, RunFault, load_input};
 use agent_plans::{ConfirmedBy, Form};
 use boot_log::LogView;
 use boot_texts::{append_boot, append_differences};
-use json_texts::EventForm;
 use measured_data::Place;
 use rendering::Output;
 use std::alloc::Global;
@@ -42,16 +41,6 @@ pub(crate) fn boot_for<F: AgentFiles>(
     boot_output(alloc, files, &bytes, confirmed_by, before.as_deref(), form)
 }
 
-// How answers are told in this form.
-fn told_in(form: Form) -> EventForm
-    ensures { result ≡ told_in form }
-{
-    match form {
-        Form::Json => EventForm::Json,
-        Form::Text => EventForm::Explained,
-    }
-}
-
 // The registers that match; none where none were compared.
 fn places_of(matched: &Option<Vec<Place>>) -> &[Place]
     ensures { result.now ≡ places_of (option_map (λ places. places.items) matched.now) }
@@ -76,13 +65,12 @@ fn boot_output<F: AgentFiles>(
     ensures fault { IfErr result (IsNoBootFor (F.known files.old) confirmed_by.now (option_map (λ name. name.now) before.entry) log.now) }
     ensures saved { F.saved files.new ≡ F.saved files.old }
 {
-    let told = told_in(form);
-    let matched = matched_in(alloc, files, log, told, confirmed_by)?;
+    let matched = matched_in(alloc, files, log, form, confirmed_by)?;
     let places = places_of(&matched.places);
     let view = LogView::new(log)?;
     let mut text = Vec::new(alloc);
-    append_boot(alloc, &view, places, told, &mut text)?;
-    append_compared(alloc, files, &view, places, told, before, &mut text)?;
+    append_boot(alloc, &view, places, form, &mut text)?;
+    append_compared(alloc, files, &view, places, form, before, &mut text)?;
     Ok(Output {
         text,
         status: matched.status,
@@ -95,12 +83,12 @@ fn append_compared<F: AgentFiles>(
     files: &mut F,
     view: &LogView<'_>,
     matched: &[Place],
-    told: EventForm,
+    form: Form,
     before: Option<&str>,
     lines: &mut Vec<u8>,
 ) -> Result<(), RunFault>
     ensures lines { OnOk result ((table : List Row) (events : List LogEvent) → IsLog (log_bytes view.now) table events
-        → (text : List ℕ) × AreCompared (F.known files.old) told matched.now events (option_map (λ name. name.now) before.entry) text
+        → (text : List ℕ) × AreCompared (F.known files.old) form matched.now events (option_map (λ name. name.now) before.entry) text
         × (lines.new.items ≡ lines.old.items ++ text)) }
     ensures fault { IfErr result (λ fault. IsNoEarlierLog (F.known files.old) (option_map (λ name. name.now) before.entry) fault
         ⊎ (fault ≡ Memory)) }
@@ -111,6 +99,6 @@ fn append_compared<F: AgentFiles>(
     };
     let bytes = load_input(alloc, files, Some(name))?;
     let earlier = LogView::new(&bytes)?;
-    append_differences(alloc, view, &earlier, matched, told, lines)?;
+    append_differences(alloc, view, &earlier, matched, form, lines)?;
     Ok(())
 }

@@ -1,7 +1,7 @@
 //! The events of a log, as the program shows them.
 
 ghost use Rattle.std.specs.Prelude.{◌≡◌, string_bytes};
-ghost use Rattle.agent_plans.specs.declared.plan.Form.{Form};
+ghost use Rattle.cells.specs.declared.writer.Form.{Form};
 ghost use Rattle.agent_plans.specs.declared.plan.Task.TheVariants as tasks;
 ghost use Rattle.ima_agent.specs.Program.{IsOutcome, Streams};
 ghost use Rattle.ima_agent.specs.ShowingEvents.{ShowsPlainEventsIn, ShowsToldOf, lines_for};
@@ -12,7 +12,6 @@ use agent_inputs::{AgentFiles, load_input};
 use agent_plans::{ConfirmedBy, DataShown, Form};
 use boot_log::LogView;
 use byte_streams::Sink;
-use json_texts::EventForm;
 use std::alloc::Global;
 use verdict_texts::{EventData, write_events};
 
@@ -22,7 +21,7 @@ pub(crate) enum EventLines {
     /// Each in a plain line, which has this of its data.
     Plain(EventData),
     /// Each with what its data says, in this form.
-    Told(EventForm),
+    Told(Form),
 }
 
 /// Sends the header and the events of the log in the file of this name, in this form. Where what data says is told, this tells which of it is
@@ -54,10 +53,10 @@ fn lines_for(form: Form, requested: DataShown) -> EventLines
     ensures { result ≡ lines_for form requested }
 {
     match (form, requested) {
-        (Form::Json, _) => EventLines::Told(EventForm::Json),
+        (Form::Json, _) => EventLines::Told(Form::Json),
         (Form::Text, DataShown::Size) => EventLines::Plain(EventData::Size),
         (Form::Text, DataShown::Bytes) => EventLines::Plain(EventData::Bytes),
-        (Form::Text, DataShown::Meaning) => EventLines::Told(EventForm::Explained),
+        (Form::Text, DataShown::Meaning) => EventLines::Told(Form::Text),
     }
 }
 
@@ -81,7 +80,7 @@ fn tell_log<F: AgentFiles, S: Sink>(
     alloc: Global,
     files: &mut F,
     log: &[u8],
-    told: EventForm,
+    told: Form,
     confirmed_by: &ConfirmedBy,
     sink: &mut S,
 ) -> Sent

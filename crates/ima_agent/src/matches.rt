@@ -18,7 +18,7 @@ use agent_inputs::{AgentFiles, RunFault, load_input};
 use agent_plans::ConfirmedBy;
 use boot_log::LogView;
 use boot_verdict::{Expected, read_expected};
-use json_texts::EventForm;
+use cells::Form;
 use measured_data::Place;
 use pcr_banks::{Alg, Banks};
 use std::alloc::{AllocError, Global};
@@ -40,7 +40,7 @@ pub(crate) fn matched_in<F: AgentFiles>(
     alloc: Global,
     files: &mut F,
     log: &[u8],
-    told: EventForm,
+    told: Form,
     confirmed_by: &ConfirmedBy,
 ) -> Result<Matched, RunFault>
     ensures matched { IfOk result (λ matched. AreMatched (F.known files.old) confirmed_by.now log.now
@@ -53,8 +53,8 @@ pub(crate) fn matched_in<F: AgentFiles>(
     match (told, confirmed_by) {
         (_, ConfirmedBy::Expected(name)) => expected_in(alloc, files, log, name),
         (_, ConfirmedBy::Quote(quoting)) => quoted_in(alloc, files, log, quoting),
-        (EventForm::Json, ConfirmedBy::Nothing) => Ok(NOTHING),
-        (EventForm::Explained, ConfirmedBy::Nothing) => {
+        (Form::Json, ConfirmedBy::Nothing) => Ok(NOTHING),
+        (Form::Text, ConfirmedBy::Nothing) => {
             let _whole = LogView::new(log)?;
             Ok(NOTHING)
         }

@@ -5,7 +5,7 @@ ghost use Rattle.std.specs.Process.{exit_status};
 ghost use Rattle.agent_inputs.specs.Faults.{IsArgumentsFault};
 ghost use Rattle.agent_plans.specs.Plans.{IsWithin, IsWithinLimits, IsWithinRanges, NamesKnown};
 ghost use Rattle.command_line.specs.Arguments.{BeginsWithVersion, IsRequestedBy};
-ghost use Rattle.agent_plans.specs.declared.plan.Form.TheVariants.{Text};
+ghost use Rattle.cells.specs.declared.writer.Form.TheVariants.{Text};
 ghost use Rattle.agent_plans.specs.declared.plan.Plan.TheVariants as plans;
 ghost use Rattle.agent_plans.specs.declared.plan.Task.TheVariants as tasks;
 ghost use Rattle.rendering.specs.FaultTexts.{fault_status, IsFailure};

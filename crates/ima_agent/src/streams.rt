@@ -1,16 +1,17 @@
 //! Outputs that are sent, some of them while their input is read.
 
 ghost use Rattle.std.specs.Prelude.{◌≡◌, option_map};
-ghost use Rattle.agent_plans.specs.declared.plan.Form.{Form};
-ghost use Rattle.agent_plans.specs.declared.plan.Form.TheVariants.{Json};
+ghost use Rattle.cells.specs.declared.writer.Form.{Form};
+ghost use Rattle.cells.specs.declared.writer.Form.TheVariants.{Json};
 ghost use Rattle.ima_agent.specs.Program.{SendsOutput, SendsText, Streams};
 ghost use Rattle.ima_agent.specs.Showing.{ShowsEntriesOf};
 ghost use Rattle.ima_agent.specs.ShowingEvents.{ShowsEventsIn};
 
 use agent_inputs::{AgentFiles, INPUT_LIMIT, RunFault, not_read, too_long};
+use agent_plans::Form;
 use byte_streams::{Failed, Sink, send};
 use ima_list::laws::entries_to_the_end_are_the_reading;
-use json_texts::{EntriesFault, EventForm, EventsFault, send_entries, send_events};
+use json_texts::{EntriesFault, EventsFault, send_entries, send_events};
 use measured_data::Place;
 use rendering::Output;
 use std::alloc::Global;
@@ -58,7 +59,7 @@ pub(crate) fn send_text<S: Sink>(text: &[u8], status: u8, sink: &mut S) -> Sent
 pub(crate) fn send_log<S: Sink>(
     alloc: Global,
     log: &[u8],
-    told: EventForm,
+    told: Form,
     matched: Option<&[Place]>,
     status: u8,
     sink: &mut S,

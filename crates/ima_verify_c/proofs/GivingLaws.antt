@@ -4,7 +4,7 @@ use Rattle.std.specs.Prelude.{ℤ, ◌⊎◌}
 use Rattle.agent_inputs.specs.declared.fault.RunFault.{RunFault}
 use Rattle.agent_inputs.specs.declared.fault.RunFault.TheVariants.{Memory}
 use Rattle.agent_inputs.specs.Loading.{unknown}
-use Rattle.agent_plans.specs.declared.plan.Form.{Form}
+use Rattle.cells.specs.declared.writer.Form.{Form}
 use Rattle.judging.specs.Requests.{Requested}
 use Rattle.rendering.specs.Rendering.{IsRefusalOn}
 use Rattle.ima_verify_c.specs.declared.told.Told.{Told}

@@ -3,7 +3,7 @@ use Rattle.std.proofs.Common.{◌≡◌, ℕ, true, false, List, length, refl, s
 use Rattle.std.specs.Prelude.{ℤ, ◌⊎◌, IfErr, IfNone, IfOk, IfSome}
 use Rattle.agent_inputs.specs.declared.fault.RunFault.{RunFault}
 use Rattle.agent_inputs.specs.declared.fault.RunFault.TheVariants.{Memory}
-use Rattle.agent_plans.specs.declared.plan.Form.{Form}
+use Rattle.cells.specs.declared.writer.Form.{Form}
 use Rattle.pieces.specs.declared.piece.Piece.{Piece}
 use Rattle.pieces.specs.declared.piece.Position.{Position}
 use Rattle.pieces.specs.Pieces.{is_within}

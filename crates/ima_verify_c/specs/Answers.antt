@@ -2,8 +2,8 @@
 use Rattle.std.specs.Prelude.{ℕ, ◌==◌, if◌then◌else◌, Bool, List, ◌∷◌, bytes_eq, codes, length, Option, None, Some, option_map, ◌≡◌, ℤ, pos, ◌<◌, ◌≤◌, ◌⊎◌, false, [], ◌++◌, drop, Result, Ok, Err, unwrap_or}
 use Rattle.agent_plans.specs.declared.plan.Scope.{Scope}
 use Rattle.agent_plans.specs.declared.plan.Scope.TheVariants.{Prefix, Whole}
-use Rattle.agent_plans.specs.declared.plan.Form.{Form}
-use Rattle.agent_plans.specs.declared.plan.Form.TheVariants.{Json, Text}
+use Rattle.cells.specs.declared.writer.Form.{Form}
+use Rattle.cells.specs.declared.writer.Form.TheVariants.{Json, Text}
 use Rattle.judging.specs.Requests.{Any, Attests, Requested, Compares, Judgement, KeyOf, ListRegistersOf, ListVerdictOf, LogRegistersOf, Nothing, PositionsOf, Requires, These, VerdictOf}
 use Rattle.judging.specs.Inputs.{BytesOf, Where}
 use Rattle.agent_inputs.specs.declared.fault.FaultKind.{FaultKind}

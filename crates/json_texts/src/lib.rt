@@ -2,7 +2,7 @@
 //!
 //! Each value is an object on one line, in UTF-8. Its members have a fixed order. Numbers are JSON numbers; digests and data are strings
 //! of lower case hexadecimal digits. A line is appended to a vector of the caller's; [`send_entries`] sends the lines of a list to a sink,
-//! and [`send_events`] those of a log, while it is read. The events of a log can also be sent in a form for people ([`EventForm::Explained`]).
+//! and [`send_events`] those of a log, while it is read. The events of a log can also be sent as text for people ([`cells::Form::Text`]).
 //! For other lines there are the writers of their parts, as [`write_text`]: a line is begun ([`begin_line`]), written and ended ([`end_line`]).
 #![tactic(auto)]
 
@@ -30,7 +30,6 @@ pub use content_texts::write_wide;
 pub use contents::{command_word, write_content, write_form};
 pub use entries::{append_entry, append_entry_count};
 pub use entry_lines::{EntriesFault, send_entries};
-pub use event_form::EventForm;
 pub use event_lines::{EventsFault, send_events};
 pub use events::{append_event, append_header};
 pub use explained::append_content;

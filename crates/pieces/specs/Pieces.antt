@@ -7,8 +7,8 @@ use Rattle.pieces.specs.declared.piece.End.TheVariants.{Last, Longer, More}
 use Rattle.pieces.specs.declared.piece.Piece.{Piece}
 use Rattle.pieces.specs.declared.piece.Position.{Position}
 use Rattle.agent_inputs.specs.Faults.{fault_of_list, fault_of_log}
-use Rattle.agent_plans.specs.declared.plan.Form.{Form}
-use Rattle.agent_plans.specs.declared.plan.Form.TheVariants.{Json, Text}
+use Rattle.cells.specs.declared.writer.Form.{Form}
+use Rattle.cells.specs.declared.writer.Form.TheVariants.{Json, Text}
 use Rattle.ima_list.specs.Lines.{line_of}
 use Rattle.ima_list.specs.ListEntry.{ListEntry}
 use Rattle.ima_list.specs.Spelling.{BeginsWith, IsReading}
@@ -20,7 +20,7 @@ use Rattle.boot_log.specs.Reading.{specification_in}
 use Rattle.boot_log.specs.Spelling as logs
 use Rattle.boot_log.specs.Spelling.{LogEvent}
 use Rattle.json_texts.specs.EventJson.{header_json, event_json}
-use Rattle.json_texts.specs.declared.event_form.EventForm.TheVariants as events
+use Rattle.cells.specs.declared.writer.Form.TheVariants as events
 use Rattle.json_texts.specs.SentEvents as sent
 
 -- Where the first line begins.

@@ -2,7 +2,7 @@
 
 ghost use Rattle.std.specs.Prelude.{◌≡◌, ℕ, List, [], ◌++◌, flat_map};
 ghost use Rattle.agent_inputs.specs.declared.fault.RunFault.{RunFault as AFault};
-ghost use Rattle.agent_plans.specs.declared.plan.Form.{Form};
+ghost use Rattle.cells.specs.declared.writer.Form.{Form};
 ghost use Rattle.pieces.specs.declared.piece.End.TheVariants.{Last};
 ghost use Rattle.pieces.specs.declared.piece.Piece.{Piece as APiece};
 ghost use Rattle.pieces.specs.declared.piece.Position.{Position as APosition};

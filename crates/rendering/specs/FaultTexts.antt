@@ -9,8 +9,8 @@ use Rattle.json_texts.specs.declared.faults.FaultPlace.{FaultPlace}
 use Rattle.json_texts.specs.declared.faults.FaultPlace.TheVariants.{Event, Entry}
 use Rattle.json_texts.specs.FaultJson.{fault_json}
 use Rattle.json_texts.specs.JsonValues.{line_of}
-use Rattle.agent_plans.specs.declared.plan.Form.{Form}
-use Rattle.agent_plans.specs.declared.plan.Form.TheVariants as forms
+use Rattle.cells.specs.declared.writer.Form.{Form}
+use Rattle.cells.specs.declared.writer.Form.TheVariants as forms
 
 -- How a fault of each kind is said: the words that begin its line, its kind in JSON, and the exit status after it: 2 for refused input, 3 if
 -- memory ran out, outcomes do not account for the book, or a device failed, and 4 for a refused quote.

@@ -6,8 +6,6 @@ use Rattle.known_files.specs.declared.unknown.Unknown.{Unknown}
 use Rattle.attestations.specs.Reports.{attest_verdict_of}
 use Rattle.cells.specs.Cells.{Cell, rendered}
 use Rattle.cells.specs.Values.{Member}
-use Rattle.cells.specs.declared.writer.Form.{Form as CellForm}
-use Rattle.cells.specs.declared.writer.Form.TheVariants as cells
 use Rattle.answers.specs.AttestationCells.{attestation_cell}
 use Rattle.answers.specs.KeyCells.{key_cell}
 use Rattle.answers.specs.PositionCells.{positions_cell}
@@ -17,8 +15,8 @@ use Rattle.boot_verdict.specs.Verdicts.{verdict_of}
 use Rattle.judging.specs.declared.request.Answer.{Answer}
 use Rattle.judging.specs.declared.request.Answer.TheVariants.{Attestation, Report, Prefix, Positions, ListReport, Registers, Expected, Key}
 use Rattle.judging.specs.declared.request.Answered.{Answered}
-use Rattle.agent_plans.specs.declared.plan.Form.{Form}
-use Rattle.agent_plans.specs.declared.plan.Form.TheVariants as forms
+use Rattle.cells.specs.declared.writer.Form.{Form}
+use Rattle.cells.specs.declared.writer.Form.TheVariants as forms
 use Rattle.agent_plans.specs.declared.plan.Print.{Print}
 use Rattle.agent_plans.specs.declared.plan.Print.TheVariants as prints
 use Rattle.ima_list.specs.Lines.{line_of as entry_text}
@@ -45,21 +43,16 @@ answer_cell well required unknown (Registers registers) = registers_cell registe
 answer_cell well required unknown (Expected expected) = expected_cell expected.items
 answer_cell well required unknown (Key report part) = key_cell part report
 
--- The form in which cells are written.
-abbrev pub cell_form : Form → CellForm
-cell_form forms.Text = cells.Text
-cell_form forms.Json = cells.Json
-
 -- The answer in this form.
 abbrev pub render : Form → Answered → List ℕ
-render form given = rendered (cell_form form) (answer_cell given.is_well given.requirement given.unknown given.answer)
+render form given = rendered form (answer_cell given.is_well given.requirement given.unknown given.answer)
 
 -- ---- a measurement
 
 -- What is printed of a measurement in this form: the list as text or binary, or its registers that differ from their reset values. As JSON
 -- the list is the lines of its entries.
 abbrev pub print_measured : Form → Print → Measured → List ℕ
-print_measured form prints.Registers given = rendered (cell_form form) (registers_cell given.book.banks given.reset)
+print_measured form prints.Registers given = rendered form (registers_cell given.book.banks given.reset)
 print_measured forms.Text prints.Ascii given = flat_map entry_text given.book.entries
 print_measured forms.Text prints.Binary given = exported given.book
 print_measured forms.Json print given = entry_lines given.book.entries

@@ -1,15 +1,14 @@
 //! Answers as text or JSON, and what the program writes if nothing is refused.
 
 ghost use Rattle.std.specs.Prelude.{◌≡◌, IfOk};
-ghost use Rattle.cells.specs.Cells.{rendered};
-ghost use Rattle.rendering.specs.Rendering.{answer_cell, answer_status, cell_form, render};
+ghost use Rattle.cells.specs.Cells.{ShowsMembers};
+ghost use Rattle.rendering.specs.Rendering.{answer_cell, answer_status, render};
 
-use agent_plans::Form;
 use answers::{
-    render_attestation, render_expected, render_key, render_list_report, render_positions,
-    render_prefix, render_registers, render_report,
+    show_attestation, show_expected, show_key, show_list_report, show_positions, show_prefix,
+    show_registers, show_report,
 };
-use cells::Form as CellForm;
+use cells::{CellWriter, Form, Shown, Written};
 use judging::{Answer, Answered};
 use std::alloc::{AllocError, Global};
 
@@ -47,7 +46,7 @@ pub fn render(alloc: Global, given: &Answered, form: Form) -> Result<Output, All
     ensures status { IfOk result (λ output. output.status ≡ answer_status given.now.is_well given.now.answer) }
 {
     Ok(Output {
-        text: answer_bytes(alloc, given, cell_form(form))?,
+        text: cells::render(alloc, form, &ShownAnswer { given })?,
         status: status_of_answer(given),
     })
 }
@@ -63,35 +62,35 @@ pub fn status_of_answer(given: &Answered) -> u8
     }
 }
 
-// The answer in this form.
-fn answer_bytes(alloc: Global, given: &Answered, form: CellForm) -> Result<Vec<u8>, AllocError>
-    ensures { IfOk result (λ bytes. bytes.items
-        ≡ rendered form (answer_cell given.now.is_well given.now.requirement given.now.unknown given.now.answer)) }
+// An answer that is shown.
+#[derive(Drop)]
+struct ShownAnswer<'a> {
+    given: &'a Answered,
+}
+
+impl Shown for ShownAnswer<'_> {
+    ghost cell_of = { λ shown. answer_cell shown.given.now.is_well shown.given.now.requirement shown.given.now.unknown shown.given.now.answer };
+
+    fn show(&self, alloc: Global, out: &mut CellWriter) -> Written {
+        show_answer(alloc, self.given, out)
+    }
+}
+
+fn show_answer(alloc: Global, given: &Answered, out: &mut CellWriter) -> Written
+    ensures { ShowsMembers result out.old out.new (answer_cell given.now.is_well given.now.requirement given.now.unknown given.now.answer) }
 {
     let requirement = given.requirement.as_ref();
     let unknown = given.unknown.as_ref();
     match &given.answer {
-        Answer::Attestation(report) => render_attestation(alloc, form, report, unknown),
+        Answer::Attestation(report) => show_attestation(alloc, report, unknown, out),
         Answer::Report(report) => {
-            render_report(alloc, form, report, requirement, unknown, given.is_well)
+            show_report(alloc, report, requirement, unknown, given.is_well, out)
         }
-        Answer::Prefix(prefix) => render_prefix(alloc, form, prefix, requirement, unknown),
-        Answer::Positions(positions) => render_positions(alloc, form, positions, requirement),
-        Answer::ListReport(report) => {
-            render_list_report(alloc, form, report, requirement, unknown)
-        }
-        Answer::Registers(banks) => render_registers(alloc, form, &banks.now, &banks.start),
-        Answer::Expected(expected) => render_expected(alloc, form, expected),
-        Answer::Key { report, part } => render_key(alloc, form, report, *part),
-    }
-}
-
-// The form in which cells are written.
-fn cell_form(form: Form) -> CellForm
-    ensures { result ≡ cell_form form }
-{
-    match form {
-        Form::Text => CellForm::Text,
-        Form::Json => CellForm::Json,
+        Answer::Prefix(prefix) => show_prefix(alloc, prefix, requirement, unknown, out),
+        Answer::Positions(positions) => show_positions(alloc, positions, requirement, out),
+        Answer::ListReport(report) => show_list_report(alloc, report, requirement, unknown, out),
+        Answer::Registers(banks) => show_registers(alloc, &banks.now, &banks.start, out),
+        Answer::Expected(expected) => show_expected(alloc, expected, out),
+        Answer::Key { report, part } => show_key(alloc, report, *part, out),
     }
 }

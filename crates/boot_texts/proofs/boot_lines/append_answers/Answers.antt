@@ -14,7 +14,7 @@ returns c table events is =
         state = c.secure_boot.result;
         is_state = c.secure_boot.ensures table events is;
         version = _;
-        is_version = c.firmware_version.ensures table events is;
+        is_version = c.firmware_version-version.ensures table events is;
         images = images.0;
         are_images = images.1;
         commands = commands.0;
@@ -27,5 +27,5 @@ returns c table events is =
         are_variables = variables.1;
         text_is = refl;
       },
-      all_lines c.args.lines.now.items _ _ images.0 commands.0 more.0 _ variables.0 c.in_ok-append_state.ensures c.in_ok-append_version.ensures images.2 commands.2 more.2 policy.2 variables.2,
+      all_lines c.args.lines.now.items _ _ images.0 commands.0 more.0 _ variables.0 c.in_ok-append_state.ensures c.in_ok-append.ensures.ok images.2 commands.2 more.2 policy.2 variables.2,
     )

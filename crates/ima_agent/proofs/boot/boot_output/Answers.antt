@@ -13,7 +13,7 @@ pub returns-in_err-matched-clause-fault : goal.returns-in_err-matched-clause-fau
 returns-in_err-matched-clause-fault g c =
     let p = err_from_is_err_and c.from_residual.result c.from_residual.ensures.1 in
     rw (p.1, p.2)
-    (not_told (g.F.Files.known c.args.files.now) c.told_in-told.result c.args.confirmed_by.now (name_in c.args.before) c.args.log.now
+    (not_told (g.F.Files.known c.args.files.now) c.args.form c.args.confirmed_by.now (name_in c.args.before) c.args.log.now
     c.in_err-matched.field-0.0 c.in_err-matched.ensures.fault)
 
 pub returns-in_err-append_boot-clause-fault : goal.returns-in_err-append_boot-clause-fault
@@ -45,8 +45,8 @@ returns-clause-shown g c =
       matched = option_map (λ (places : Vec Place Global). places.items) c.in_ok-matched.matched.places;
       are_matched = c.in_ok-matched.ensures.matched;
       answers = answers;
-      are_answers = rw (c.places_of-places.ensures, c.told_in-told.ensures) at are;
+      are_answers = rw c.places_of-places.ensures at are;
       compared = compared;
-      are_compared = rw (c.places_of-places.ensures, c.told_in-told.ensures, c.in_ok-matched.ensures.inputs) at so;
+      are_compared = rw (c.places_of-places.ensures, c.in_ok-matched.ensures.inputs) at so;
       text_is = more ∙ ap (λ (l : List ℕ). l ++ compared) (text ∙ ap (λ (l : List ℕ). l ++ answers) c.new-text.ensures.items);
     }

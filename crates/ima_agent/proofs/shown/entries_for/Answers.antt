@@ -1,5 +1,5 @@
 use Rattle.std.proofs.lemmas.Result.{IfOk-weaker}
-use Rattle.agent_plans.specs.declared.plan.Form.TheVariants.{Text}
+use Rattle.cells.specs.declared.writer.Form.TheVariants.{Text}
 use Rattle.agent_plans.specs.declared.plan.Task.TheVariants as tasks
 use Rattle.ima_agent.proofs.OutcomeLaws.{entries_outcome, kept_so, outcome_sent}
 use Rattle.ima_agent.proofs.StreamingLaws.{streams_so}

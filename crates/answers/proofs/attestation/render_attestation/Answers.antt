@@ -1,9 +1,0 @@
-use Rattle.cells.proofs.CellLaws.{all_rendered, all_utf8}
-use Rattle.answers.proofs.attestation.render_attestation.Goals as goal
-
-pub returns : goal.returns
-returns c =
-    record {
-      bytes = all_rendered (λ bytes. bytes.items) c.args.form _ _ _ c.into_bytes.result c.new-out.ensures c.in_ok-show_object.ensures c.into_bytes.ensures.bytes;
-      utf8 = all_utf8 (λ bytes. bytes.items) c.args.form _ _ _ c.into_bytes.result c.new-out.ensures c.in_ok-show_object.ensures c.into_bytes.ensures.utf8;
-    }
