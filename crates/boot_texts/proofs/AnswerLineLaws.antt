@@ -127,7 +127,11 @@ pub event_is_one : (boot : Boot) (register : ℕ) (alg : Alg) (number : ℕ) (ev
     → IsBytes event.payload → IsOneLine (object_of (event_cell boot register alg number event).json)
 unfolding beside
 event_is_one boot register alg number event place count fits =
-    line_within 7 (object_of (event_cell boot register alg number event).json) (omega arith)
-    ((register, place, refl), ((number, count, refl),
-    members_joined 6 (if_some (digest_in event.digests alg) (hex (codes " ") (codes "digest"))).json _ (own_plain (digest_in event.digests alg))
-    (content_is_plain event.kind event.payload fits, tt)))
+    line_within 7 (object_of (event_cell boot register alg number event).json) (omega arith) (
+      (register, place, refl),
+      (
+        (number, count, refl),
+        members_joined 6 (if_some (digest_in event.digests alg) (hex (codes " ") (codes "digest"))).json _ (own_plain (digest_in event.digests alg))
+            (content_is_plain event.kind event.payload fits, tt),
+      ),
+    )

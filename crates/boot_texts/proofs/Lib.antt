@@ -5,4 +5,3 @@ pub mod TellingLaws
 pub mod PolicyLaws
 pub mod BootLaws
 pub mod DifferenceLaws
-pub mod OldLineLaws

@@ -5,4 +5,3 @@ pub mod Policies
 pub mod EachBank
 pub mod BootLines
 pub mod Differences
-pub mod OldLines

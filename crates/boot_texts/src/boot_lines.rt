@@ -98,13 +98,7 @@ fn append_state(alloc: Global, form: Form, state: SecureBoot, lines: &mut Vec<u8
 }
 
 // Appends the line of an answer in one word.
-fn append_word(
-    alloc: Global,
-    form: Form,
-    name: &str,
-    word: &str,
-    lines: &mut Vec<u8>,
-) -> Written
+fn append_word(alloc: Global, form: Form, name: &str, word: &str, lines: &mut Vec<u8>) -> Written
     ensures { OnOk result (lines.new.items ≡ lines.old.items ++ rendered form (word_cell name.now word.now)) }
 {
     append(alloc, form, &WordLine { name, word }, lines)

@@ -64,12 +64,7 @@ pub(crate) fn show_form(
 }
 
 // Appends the line of what this content says, in which no character steers what shows it.
-fn append_form(
-    alloc: Global,
-    kind: u32,
-    content: &EventContent<'_>,
-    lines: &mut Vec<u8>,
-) -> Written
+fn append_form(alloc: Global, kind: u32, content: &EventContent<'_>, lines: &mut Vec<u8>) -> Written
     ensures { OnOk result (lines.new.items ≡ lines.old.items ++ unsteered (line_of (content_json kind (content_of content.now)))) }
 {
     let mut line = Vec::new(alloc);

@@ -236,5 +236,12 @@ fn show_digest(alloc: Global, digest: Option<Digest>, out: &mut CellWriter) -> W
 fn show_claimed(alloc: Global, event: &Event<'_>, out: &mut CellWriter) -> Written
     ensures { ShowsMembers result out.old out.new (value_cell (codes " claimed ") (codes "claimed") (event_content_json (log_event_of event.now))) }
 {
-    show_content(alloc, " claimed ", "claimed", event.kind, event.payload, out)
+    show_content(
+        alloc,
+        " claimed ",
+        "claimed",
+        event.kind,
+        event.payload,
+        out,
+    )
 }

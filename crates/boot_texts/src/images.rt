@@ -89,14 +89,7 @@ fn show_image(
     out.number("image ", "image", number as u64)?;
     out.text(" ")?;
     show_digests(alloc, matched, &event.digests, out)?;
-    show_content(
-        alloc,
-        "claimed ",
-        "claimed",
-        event.kind,
-        event.payload,
-        out,
-    )
+    show_content(alloc, "claimed ", "claimed", event.kind, event.payload, out)
 }
 
 fn show_digests(

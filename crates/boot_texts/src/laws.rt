@@ -1,6 +1,6 @@
 //! Laws: consequences of the definitions, each the contract of a function that does nothing.
 
-ghost use Rattle.std.specs.Prelude.{◌≡◌, ℕ, List, [], ◌∷◌, Option, None, Some, true};
+ghost use Rattle.std.specs.Prelude.{◌≡◌, ℕ, List, [], ◌∷◌, None, Some, true};
 ghost use Rattle.byte_fields.specs.Spelling.{IsBytes};
 ghost use Rattle.hex.specs.Hex.{IsBytes as AreBytes};
 ghost use Rattle.pcr_banks.specs.declared.alg.Alg.{Alg};
@@ -14,12 +14,6 @@ ghost use Rattle.boot_answers.specs.FirmwareVersion.{version_type};
 ghost use Rattle.cells.specs.Values.{IsCount, IsOneLine, object_of};
 ghost use Rattle.boot_texts.specs.AnswerCells.{command_cell, image_cell, text_member, untold_cell, variable_cell, version_cell, word_cell};
 ghost use Rattle.boot_texts.specs.declared.difference_lines.Boot.{Boot};
-ghost use Rattle.boot_texts.specs.declared.difference_lines.EventLine.{EventLine};
-ghost use Rattle.boot_texts.specs.declared.policies.ImaPolicy.{ImaPolicy};
-ghost use Rattle.boot_texts.specs.OldLines as old;
-ghost use Rattle.event_data.specs.EventForms.{Content};
-ghost use Rattle.cells.specs.Cells.{rendered};
-ghost use Rattle.cells.specs.declared.writer.Form.{Form};
 ghost use Rattle.boot_texts.specs.declared.policies.ImaPolicy.TheVariants.{Asked, Possible};
 ghost use Rattle.boot_texts.specs.Differences.{alike_cell, apart_cell, event_cell};
 ghost use Rattle.boot_texts.specs.EachBank.{TellText, TellVariable};
@@ -64,26 +58,4 @@ pub fn each_line_is_one_value()
         → IsOneLine (object_of (apart_cell register alg place).json) }
     ensures event { (boot : Boot) (register : ℕ) (alg : Alg) (number : ℕ) (event : LogEvent) → IsCount register → IsCount number
         → AreBytes event.payload → IsOneLine (object_of (event_cell boot register alg number event).json) }
-{}
-
-/// Cells give each line as it was defined once as text and once as JSON.
-pub fn lines_are_as_before()
-    ensures word { (form : Form) (name word : List ℕ) → rendered form (word_cell name word) ≡ old.word_line form name word }
-    ensures version { (form : Form) (version : Option Content) → rendered form (version_cell version) ≡ old.version_line form version }
-    ensures image { (form : Form) (matched : List Place) (number : ℕ) (event : LogEvent)
-        → rendered form (image_cell matched number event) ≡ old.image_line form matched number event }
-    ensures command { (form : Form) (register number : ℕ) (text : CommandSaid)
-        → rendered form (command_cell register number text) ≡ old.command_line form register number text }
-    ensures untold { (form : Form) (register number : ℕ)
-        → rendered form (untold_cell register (Some number)) ≡ old.untold_line form register number }
-    ensures unanswered { (form : Form) (register : ℕ) → rendered form (untold_cell register None) ≡ old.unanswered_line form register }
-    ensures policy { (form : Form) (policy : ImaPolicy) → rendered form (policy_cell policy) ≡ old.policy_line form policy }
-    ensures variable { (form : Form) (number : ℕ) (event : LogEvent)
-        → rendered form (variable_cell number event) ≡ old.variable_line form number event }
-    ensures alike { (form : Form) (register : ℕ) (word : List ℕ)
-        → rendered form (alike_cell register word) ≡ old.alike_line form register word }
-    ensures apart { (form : Form) (register : ℕ) (alg : Alg) (place : ℕ)
-        → rendered form (apart_cell register alg place) ≡ old.apart_line form register alg place }
-    ensures event { (boot : Boot) (line : EventLine) (number : ℕ) (event : LogEvent)
-        → rendered line.form (event_cell boot line.register line.alg number event) ≡ old.event_line boot line number event }
 {}

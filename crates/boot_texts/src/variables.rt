@@ -160,14 +160,16 @@ impl Shown for VariableLine<'_> {
     }
 }
 
-fn show_variable(
-    alloc: Global,
-    number: usize,
-    event: &Event<'_>,
-    out: &mut CellWriter,
-) -> Written
+fn show_variable(alloc: Global, number: usize, event: &Event<'_>, out: &mut CellWriter) -> Written
     ensures { ShowsMembers result out.old out.new (variable_cell number (log_event_of event.now)) }
 {
     out.number("boot_variable ", "boot_variable", number as u64)?;
-    show_content(alloc, " ", "content", EV_EFI_VARIABLE_BOOT, event.payload, out)
+    show_content(
+        alloc,
+        " ",
+        "content",
+        EV_EFI_VARIABLE_BOOT,
+        event.payload,
+        out,
+    )
 }

@@ -28,11 +28,7 @@ impl Shown for VersionLine<'_> {
     }
 }
 
-fn show_version(
-    alloc: Global,
-    version: &Option<EventContent<'_>>,
-    out: &mut CellWriter,
-) -> Written
+fn show_version(alloc: Global, version: &Option<EventContent<'_>>, out: &mut CellWriter) -> Written
     ensures { ShowsMembers result out.old out.new (version_cell (option_map content_of version.now)) }
 {
     match version {
