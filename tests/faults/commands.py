@@ -151,7 +151,7 @@ class Commands(harness.TestCase):
             "a definition comes with an older time": lambda: edit(self.tree.root / "crates/pcr_banks/specs/Hashing.antt", old_time=True),
             "a source has another name": rename,
             "a source is gone": lambda: source.with_name("renamed.rt").unlink(),
-            "a crate stands on others": lambda: table.write_text(table.read_text().replace("program: ima_agent", "program: itoa ima_agent")),
+            "a crate stands on others": lambda: table.write_text(table.read_text().replace("program: ", "program: itoa ")),
             "the handles are others": lambda: edit(self.tree.root / "HANDLES", old_time=True),
             "the kit is another": lambda: self.tree.name_kit("second kit"),
             "the program is another": lambda: edit(self.tree.root / PROGRAM / "out/ima_agent_program"),

@@ -2,9 +2,8 @@
 
 use crate::commands::{COMMANDS, Command, FAULTS, FILES};
 use crate::devices::{PieceFiles, answered, arguments_of};
-use ima_agent::{
-    Failure, FileProgress, NoProgress, Progress, exit_code, hint, run, run_with_progress,
-};
+use hints::hint;
+use ima_agent::{Failure, FileProgress, NoProgress, Progress, exit_code, run, run_with_progress};
 use std::alloc::Global;
 use std::io::{Error, ErrorKind};
 use std::process::{Abort, ExitCode};

@@ -1,9 +1,6 @@
-pub mod EscapingLaws
 pub mod ShowingLaws
 pub mod StreamingLaws
 pub mod OutcomeLaws
 pub mod MatchingLaws
 pub mod BootLaws
 pub mod QuotedLaws
-pub mod HintLaws
-pub mod OldLaws

@@ -27,7 +27,8 @@ use Rattle.rendering.specs.declared.renderer.Output.{Output}
 use Rattle.ima_agent.specs.declared.streams.StreamFault.{StreamFault}
 use Rattle.ima_agent.specs.declared.streams.StreamFault.TheVariants as streams
 use Rattle.rendering.specs.FaultTexts.{IsFailure}
-use Rattle.ima_agent.specs.Program.{Answers, IsFaultOf, IsOutcome, IsOutputFor, SendsOutput, SendsText, Streams, file_of, files_of, judgement_by, known_by, requires_by, status_after}
+use Rattle.questions.specs.Questions.{known_by}
+use Rattle.ima_agent.specs.Program.{Answers, IsFaultOf, IsOutcome, IsOutputFor, SendsOutput, SendsText, Streams, status_after}
 use Rattle.measured_data.specs.declared.place.Place.{Place}
 use Rattle.verdict_texts.specs.declared.events.EventData.{EventData}
 use Rattle.ima_agent.specs.declared.events.EventLines.TheVariants as lines

@@ -1,16 +1,8 @@
-pub mod Escaping
 pub mod Showing
 pub mod Matching
 pub mod ShowingEvents
 pub mod ShowingBoot
-pub mod Heads
-pub mod Hints
-pub mod HintTexts
-pub mod Mistakes
-pub mod OldAggregates
 pub mod Program
-pub mod Refused
-pub mod Saying
 pub use Rattle.agent_inputs.specs.Loading
 pub use Rattle.agent_inputs.specs.Loading
 pub use Rattle.agent_inputs.specs.Faults

@@ -33,6 +33,7 @@ use Rattle.rendering.specs.Rendering.{IsRefusalOn, answer_status}
 use Rattle.agent_inputs.specs.declared.fault.RunFault.{RunFault}
 use Rattle.agent_inputs.specs.Faults.{HasLogFault}
 use Rattle.agent_inputs.specs.Loading.{Inputs, IsInputFault, OfInput}
+use Rattle.questions.specs.Questions.{attested_with}
 use Rattle.ima_agent.specs.Showing.{IsNoLogFor}
 
 -- The register that is expected to have a value.
@@ -84,22 +85,6 @@ pub record IsMatched (algs : AlgSet) (events : List LogEvent) (expected : List E
       → HasExpected algs events other
 
 -- ---- by a quote
-
--- What is judged by a quote of this log, and of a whole list: nobody goes on from anything.
-abbrev pub attested_with : Where → Quoting → Attested
-attested_with log quoting = record {
-  log = log;
-  list = FileOf (string_bytes quoting.list);
-  message = FileOf (string_bytes quoting.quote);
-  nonce = quoting.nonce.items;
-  required = string_bytes quoting.required;
-  takes_sha1 = quoting.takes_sha1;
-  is_signed = quoting.is_signed;
-  expected = None;
-  scope = Whole;
-  resume = None;
-  known = [];
-}
 
 -- Whether the quote is of the register's value, which the log alone gives it: it selects the register, and the list extends another.
 abbrev pub is_of_log : List ℕ → ℕ → Bool

@@ -1,5 +1,5 @@
 -- What the program is asked for, sends and returns.
-use Rattle.std.specs.Prelude.{◌≡◌, ℕ, ◌⊎◌, List, [], map, flat_map, string_bytes, ◌++◌, Option, None, Some, option_map, Result, Ok, Err, String}
+use Rattle.std.specs.Prelude.{◌≡◌, ℕ, ◌⊎◌, List, [], flat_map, string_bytes, ◌++◌, None, Some, option_map, Result, Ok, Err, String}
 use Rattle.std.specs.Global.{Global, Vec}
 use Rattle.byte_streams.specs.declared.streams.Failed.{Failed}
 use Rattle.byte_streams.specs.Streams.{SinkState, Sends}
@@ -8,22 +8,13 @@ use Rattle.agent_inputs.specs.declared.fault.RunFault.{RunFault}
 use Rattle.agent_inputs.specs.declared.fault.RunFault.TheVariants as runs
 use Rattle.agent_inputs.specs.Faults.{IsArgumentsFault}
 use Rattle.agent_inputs.specs.Loading.{Inputs, IsInputFault, OfInput, Saved}
-use Rattle.agent_plans.specs.declared.plan.Scope.TheVariants.{Whole}
 use Rattle.cells.specs.declared.writer.Form.{Form}
 use Rattle.cells.specs.declared.writer.Form.TheVariants as forms
-use Rattle.agent_plans.specs.declared.plan.Attest.{Attest}
-use Rattle.agent_plans.specs.declared.plan.Judge.{Judge}
-use Rattle.agent_plans.specs.declared.plan.Judged.{Judged}
-use Rattle.agent_plans.specs.declared.plan.Judged.TheVariants as judged
 use Rattle.agent_plans.specs.declared.plan.Plan.{Plan}
-use Rattle.agent_plans.specs.declared.plan.Question.{Question}
-use Rattle.agent_plans.specs.declared.plan.Question.TheVariants as questions
 use Rattle.agent_plans.specs.declared.plan.Task.{Task}
 use Rattle.agent_plans.specs.declared.plan.Task.TheVariants as tasks
 use Rattle.agent_plans.specs.Plans.{IsWithinRanges, task_of}
 use Rattle.command_line.specs.Arguments.{IsRequestedBy}
-use Rattle.judging.specs.Requests.{Any, Attested, Attests, Requested, Compared, Compares, ExpectedOf, Judgement, KeyOf, ListRegistersOf, ListVerdictOf, LogRegistersOf, Nothing, PositionsOf, Requires, These, VerdictOf}
-use Rattle.judging.specs.Inputs.{FileOf, Where}
 use Rattle.measuring.specs.declared.file_book.Measured.{Measured}
 use Rattle.measuring.specs.Measuring.{IsMeasured, IsMeasuringFault}
 use Rattle.rendering.specs.declared.renderer.Output.{Output}
@@ -31,84 +22,10 @@ use Rattle.rendering.specs.Rendering.{IsOutputFault, ShowsAnswer, print_measured
 use Rattle.ima_agent.specs.declared.streams.StreamFault.{StreamFault}
 use Rattle.ima_agent.specs.declared.streams.StreamFault.TheVariants as streams
 use Rattle.rendering.specs.FaultTexts.{fault_line, fault_status, IsFailure, IsReportedAsJson}
-use Rattle.ima_agent.specs.Matching.{attested_with}
+use Rattle.questions.specs.Questions.{known_by, requested_by, save_by}
 use Rattle.ima_agent.specs.Showing.{AreAllEntries, BreaksOffAfterEntries, EndsWithFault, IsNoListFor, IsRefusedFor, ShowsEntries, ShowsHexadecimal, version_text}
 use Rattle.ima_agent.specs.ShowingBoot.{IsNoBootFor, ShowsBoot}
 use Rattle.ima_agent.specs.ShowingEvents.{BreaksOffAfterEvents, IsNoneShownFor, ShowsEvents, lines_for}
-
--- ---- a question
-
--- The file of this name.
-abbrev pub file_of : String Global → Where
-file_of name = FileOf (string_bytes name)
-
--- The files of these names; none without names.
-abbrev pub files_of : Option (Vec (String Global)) → List Where
-files_of None = []
-files_of (Some names) = map file_of names.items
-
-abbrev pub judgement_by : Judged → Judgement
-judgement_by (judged.Verdict log scope resume save) = VerdictOf (file_of log) scope (option_map file_of resume)
-judgement_by (judged.Positions log) = PositionsOf (file_of log)
-judgement_by judged.ListVerdict = ListVerdictOf
-
--- What has to be among the expected registers: those that the text spells, if it is given; else some register, if the verdict is on a list
--- that grows.
-abbrev pub requires_by : Judged → Option (String Global) → Requires
-requires_by judged (Some text) = These (string_bytes text)
-requires_by (judged.Verdict log Whole None None) None = Nothing
-requires_by (judged.Verdict log scope resume save) None = Any
-requires_by (judged.Positions log) None = Nothing
-requires_by judged.ListVerdict None = Nothing
-
-abbrev pub compared_by : Judge → Compared
-compared_by judge = record {
-  judgement = judgement_by judge.judged;
-  list = file_of judge.list;
-  expected = file_of judge.expected;
-  required = requires_by judge.judged judge.required;
-  known = files_of judge.known;
-}
-
--- What is judged by a quote.
-abbrev pub attested_by : Attest → Attested
-attested_by attest = record (attested_with (file_of attest.log) attest.quoting) {
-  expected = option_map file_of attest.expected;
-  scope = attest.scope;
-  resume = option_map file_of attest.resume;
-  known = files_of attest.known;
-}
-
--- What a question asks.
-abbrev pub requested_by : Question → Requested
-requested_by (questions.LogRegisters log) = LogRegistersOf (file_of log)
-requested_by (questions.ListRegisters list) = ListRegistersOf (file_of list)
-requested_by (questions.Judge judge) = Compares (compared_by judge)
-requested_by (questions.Attest attest) = Attests (attested_by attest)
-requested_by (questions.Expected printed registers) = ExpectedOf (file_of printed) (option_map string_bytes registers)
-requested_by (questions.Key area purpose part) = KeyOf (file_of area) purpose part
-
--- The same with these texts of known files.
-abbrev pub with_known : List Where → Requested → Requested
-with_known known (Compares request) = Compares (record request { known = known })
-with_known known (Attests asked) = Attests (record asked { known = known })
-with_known known request = request
-
--- The texts of known files that a question names.
-abbrev pub known_by : Question → List Where
-known_by (questions.Judge judge) = files_of judge.known
-known_by (questions.Attest attest) = files_of attest.known
-known_by question = []
-
--- The name under which the checkpoint is saved, if it is.
-abbrev pub save_of : Judged → Option (List ℕ)
-save_of (judged.Verdict log scope resume save) = option_map string_bytes save
-save_of judged = None
-
-abbrev pub save_by : Question → Option (List ℕ)
-save_by (questions.Judge judge) = save_of judge.judged
-save_by (questions.Attest attest) = option_map string_bytes attest.save
-save_by question = None
 
 -- ---- a task
 

@@ -4,24 +4,13 @@
 #![tactic(auto)]
 
 mod boot;
-mod causes;
-mod escapes;
 mod events;
-mod explanations;
-mod files_again;
 mod hexadecimal;
-mod hints;
 mod matches;
-mod mistakes;
-mod old_aggregates;
 mod program;
-mod progress;
 mod quoted;
-mod requests;
-mod second_look;
 mod shown;
 mod streams;
-mod task_inputs;
 mod version;
 
 pub use agent_inputs::{
@@ -39,11 +28,8 @@ pub use boot_verdict::{
     write_expected, write_registers,
 };
 pub use command_line::arguments_after_name;
-pub use escapes::escape;
-pub use explanations::{Failure, explanation};
 pub use measuring::FileProgress;
 pub use program::{exit_code, read_words, run, run_with_progress};
-pub use progress::{NoProgress, Progress, SystemProgress, Terminals};
+pub use questions::{Failure, NoProgress, Progress};
 pub use rendering::{Output, json_fault_line, json_memory_line, status_of, write_fault};
-pub use second_look::{hint, hint_from};
 pub use verdict_texts::{EventData, write_events, write_positions, write_report};

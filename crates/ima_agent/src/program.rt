@@ -13,9 +13,6 @@ ghost use Rattle.ima_agent.specs.Program.{Answers, IsFaultOf, IsOutcome, IsOutpu
 
 use crate::boot::boot_for;
 use crate::events::events_for;
-use crate::explanations::Failure;
-use crate::progress::{NoProgress, Progress};
-use crate::requests::{known_inputs, request_of, save_of};
 use crate::shown::{entries_for, shown_registers};
 use crate::streams::{DONE, Prepared, Sent, StreamFault, send_output, send_text};
 use crate::version::version_text;
@@ -23,6 +20,7 @@ use agent_inputs::{AgentFiles, RunFault};
 use agent_plans::{Form, Measurement, Plan, Question, Task};
 use byte_streams::{Failed, Sink, send};
 use measuring::measure;
+use questions::{Failure, NoProgress, Progress, known_inputs, request_of, save_of};
 use rendering::{
     json_fault_line, json_memory_line, output_for, print_measured, status_of, write_fault,
 };

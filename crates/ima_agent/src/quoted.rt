@@ -7,10 +7,10 @@ ghost use Rattle.boot_verdict.specs.Verdicts.{IsSomeLog};
 ghost use Rattle.judging.specs.Inputs.{BytesOf};
 ghost use Rattle.judging.specs.Requests.{Attests};
 ghost use Rattle.rendering.specs.Rendering.{IsRefusalOn};
-ghost use Rattle.ima_agent.specs.Matching.{AreMatched, attested_with, is_of_log, places_by, places_in, quoted_places};
+ghost use Rattle.questions.specs.Questions.{attested_with};
+ghost use Rattle.ima_agent.specs.Matching.{AreMatched, is_of_log, places_by, places_in, quoted_places};
 
 use crate::matches::Matched;
-use crate::requests::attesting_by;
 use agent_inputs::{AgentFiles, RunFault};
 use agent_plans::Quoting;
 use attestations::Selected;
@@ -18,6 +18,7 @@ use boot_verdict::LIST_REGISTER;
 use judging::{Answer, Answered, Input, Request, answer_request};
 use measured_data::Place;
 use pcr_banks::REGISTERS;
+use questions::attesting_by;
 use rendering::status_of_answer;
 use std::alloc::{AllocError, Global};
 

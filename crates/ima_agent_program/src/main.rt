@@ -1,9 +1,8 @@
 //! The program `ima-agent`, which is `ima_agent::exit_code` over the system's files and streams.
 #![tactic(auto)]
 
-use ima_agent::{
-    SystemFiles, SystemProgress, Terminals, WriteSink, arguments_after_name, exit_code,
-};
+use hints::{SystemProgress, Terminals};
+use ima_agent::{SystemFiles, WriteSink, arguments_after_name, exit_code};
 use std::io::IsTerminal;
 use std::process::ExitCode;
 use std::rt::Env;

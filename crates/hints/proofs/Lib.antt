@@ -1,0 +1,3 @@
+pub mod EscapingLaws
+pub mod HintLaws
+pub mod OldLaws

@@ -1,0 +1,161 @@
+-- What a person is told to do next. No line advises to expect or to require less.
+use Rattle.std.specs.Prelude.{ℕ, ◌++◌, ◌∷◌, ◌&&◌, ◌||◌, Bool, true, false, if◌then◌else◌, List, [], codes, decimal, Option, None, Some, option_map, is_some}
+use Rattle.pcr_banks.specs.Hashing.{name_of}
+use Rattle.attestations.specs.declared.expected.ExpectedValues.{ExpectedValues}
+use Rattle.attestations.specs.declared.expected.ExpectedValues.TheVariants as values
+use Rattle.boot_verdict.specs.declared.expected.Expected.{Expected}
+use Rattle.boot_verdict.specs.declared.report.Aggregate.{Aggregate}
+use Rattle.boot_verdict.specs.declared.report.Aggregate.TheVariants as aggregates
+use Rattle.boot_verdict.specs.declared.isolation.Stray.{Stray}
+use Rattle.boot_verdict.specs.Isolation.{are_none}
+use Rattle.pcr_banks.specs.declared.alg.Alg.{Alg}
+use Rattle.pcr_banks.specs.declared.alg.Alg.TheVariants.{Sha1}
+use Rattle.hints.specs.declared.causes.Causes.{Causes}
+use Rattle.hints.specs.declared.causes.Grown.{Grown}
+use Rattle.hints.specs.declared.causes.JudgedBy.{JudgedBy}
+use Rattle.hints.specs.declared.causes.JudgedBy.TheVariants.{Values, ListAlone, Places}
+use Rattle.hints.specs.declared.hints.Hint.{Hint}
+use Rattle.hints.specs.declared.hints.Hint.TheVariants.{Grown as GrownTo, NoEntries, OtherAggregate, OldAggregate, NoAggregateBank, NoAggregate, ListDiffers, NotExpected, NotQuoted, EventOfList, EntryOfLog, EntryAside, LogDiffers, LogNowhere, WithoutLog, Missing, NothingExpected, Absent, Unknown}
+use Rattle.hints.specs.declared.mistakes.Mistake.{Mistake}
+use Rattle.hints.specs.declared.mistakes.Mistake.TheVariants as mistakes
+use Rattle.hints.specs.Escaping.{escape}
+
+-- ---- which hints
+
+-- The list grew only if it is its register that differs, or that a quote may refute; and if nothing of log and list extends a register that is the
+-- other's.
+abbrev pub is_grown : Causes → Bool
+is_grown causes = are_none causes.strays && (is_some causes.list || is_some causes.values)
+
+-- A boot aggregate that is another may be an older kernel's.
+abbrev pub aggregate_hint : Option Aggregate → Option Expected → Bool → Option Hint
+aggregate_hint (Some aggregates.Wrong) list is_old = if is_old then Some OldAggregate else Some OtherAggregate
+aggregate_hint (Some aggregates.NoBank) list is_old = Some NoAggregateBank
+aggregate_hint (Some aggregates.Missing) list is_old = Some NoAggregate
+aggregate_hint (Some aggregates.Good) list is_old = option_map (λ expected. ListDiffers expected.alg) list
+aggregate_hint None list is_old = option_map (λ expected. ListDiffers expected.alg) list
+
+abbrev pub wrong_list : Causes → Bool → Option Hint
+wrong_list causes is_old = if causes.is_empty then Some NoEntries else aggregate_hint causes.aggregate causes.list is_old
+
+abbrev pub list_hint : Causes → Option Grown → Bool → Option Hint
+list_hint causes None is_old = wrong_list causes is_old
+list_hint causes (Some grown) is_old = if is_grown causes then Some (GrownTo grown.confirmed grown.entries) else wrong_list causes is_old
+
+abbrev pub values_of : Option ExpectedValues → Option Grown → Option Hint
+values_of (Some values.NotGiven) None = Some NotExpected
+values_of (Some values.Unconfirmed) grown = Some NotQuoted
+values_of values grown = None
+
+abbrev pub values_hint : Causes → Option Grown → Option Hint
+values_hint causes grown = values_of causes.values grown
+
+abbrev pub event_hint : Causes → Option Hint
+event_hint causes = option_map EventOfList causes.strays.event
+
+-- Without a log no register is the log's.
+abbrev pub stray_of : JudgedBy → Stray → Hint
+stray_of ListAlone stray = EntryAside stray.entry stray.register
+stray_of judged stray = EntryOfLog stray.entry stray.register
+
+abbrev pub entry_hint : Causes → Option Hint
+entry_hint causes = option_map (stray_of causes.judged) causes.strays.entry
+
+abbrev pub log_of : JudgedBy → Expected → Hint
+log_of Values expected = LogDiffers expected.alg expected.register
+log_of ListAlone expected = WithoutLog expected.alg expected.register
+log_of Places expected = LogNowhere expected.alg expected.register
+
+abbrev pub log_hint : Causes → Option Hint
+log_hint causes = option_map (log_of causes.judged) causes.log
+
+abbrev pub missing_or : Option (Alg × ℕ) → Bool → Option Hint
+missing_or (Some place) is_bare = Some (Missing place.0 place.1)
+missing_or None is_bare = if is_bare then Some NothingExpected else None
+
+abbrev pub missing_hint : Causes → Option Hint
+missing_hint causes = missing_or causes.missing causes.is_bare
+
+abbrev pub absent_hint : Causes → Option Hint
+absent_hint causes = option_map (λ expected. Absent expected.alg) causes.absent
+
+abbrev pub unknown_hint : Causes → Option Hint
+unknown_hint causes = option_map Unknown causes.unknown
+
+abbrev pub of_option : Option Hint → List Hint
+of_option None = []
+of_option (Some hint) = hint ∷ []
+
+-- All that there is to say, what a person should look at first before the rest.
+abbrev pub hints_of : Causes → Option Grown → Bool → List Hint
+hints_of causes grown is_old =
+    of_option (list_hint causes grown is_old) ++ (of_option (values_hint causes grown) ++ (of_option (event_hint causes) ++ (of_option (entry_hint causes)
+    ++ (of_option (log_hint causes) ++ (of_option (missing_hint causes) ++ (of_option (absent_hint causes) ++ of_option (unknown_hint causes)))))))
+
+-- ---- their lines
+
+-- The words with which a line ends, after its numbers.
+abbrev pub last_words : Hint → List ℕ
+last_words (GrownTo confirmed entries) = codes " entries: the list grew after it was read; collect again, or add --prefix to judge those "
+last_words NoEntries = codes "LIST is empty: copy the kernel's list with cat, since its size is given as 0"
+last_words OtherAggregate = codes "the boot aggregate is another: log and list are of different boots, or one of them was changed"
+last_words OldAggregate = codes "the boot aggregate is that of PCRs 0 to 7 alone, as some kernels before 5.8 record it: it does not bind PCRs 8 and 9 to the list"
+last_words NoAggregateBank = codes "LOG has no bank for the boot aggregate, so nothing says that log and list are of one boot"
+last_words NoAggregate = codes "entry 0 is no boot aggregate: the list lacks its beginning, has another template, or was changed"
+last_words (ListDiffers Sha1) = codes " PCR 10 differs: it was read at another time than LIST, or an entry is missing or was changed"
+last_words (ListDiffers alg) =
+    codes " PCR 10 differs: it was read at another time than LIST, a kernel before 5.8 extended it by SHA-1 digests with zeros after them, or an entry is missing or was changed"
+last_words NotExpected = codes "add EXPECTED, the values read with the quote: its rows show which PCR differs"
+last_words NotQuoted = codes "EXPECTED is not what the TPM signed: give the values read with the quote"
+last_words (EventOfList event) = codes " extends PCR 10, which only the list should: log and list cannot be told apart"
+last_words (EntryOfLog entry register) = codes ", which only the log should: log and list cannot be told apart"
+last_words (EntryAside entry register) =
+    codes ", as a rule with pcr= in the policy has it; replay takes a list whose entries extend PCR 10 alone"
+last_words (LogDiffers alg register) =
+    codes " differs: LOG is of another boot, or was changed; ima-agent events --explain --expected shows its events"
+last_words (LogNowhere alg register) =
+    codes " never has its value: LOG is of another boot, or was changed; ima-agent events --explain --expected shows its events"
+last_words (WithoutLog alg register) = codes " differs: replay reads no log; ima-agent verify does"
+last_words (Missing alg register) = codes ": read it with the others"
+last_words NothingExpected = codes "EXPECTED has no PCR, so no PCR was compared: give the values read with LIST"
+last_words (Unknown entry) =
+    codes " is the first that no known file has: ima-agent show names its file; compare that with the file in its package"
+last_words (Absent alg) = codes " is no bank of LOG, so its PCRs cannot be judged: LOG is of another machine, or was changed"
+
+-- The words before them: what the hint is of.
+abbrev pub of_register : Alg → ℕ → List ℕ → List ℕ
+of_register alg register words = name_of alg ++ (codes " PCR " ++ (decimal register ++ words))
+
+abbrev pub with_words : Hint → List ℕ → List ℕ
+with_words (GrownTo confirmed entries) words =
+    codes "PCR 10 covers the first " ++ (decimal confirmed ++ (codes " of " ++ (decimal entries ++ (words ++ decimal confirmed))))
+with_words (EventOfList event) words = codes "event " ++ (decimal event ++ words)
+with_words (EntryOfLog entry register) words = codes "entry " ++ (decimal entry ++ (codes " extends PCR " ++ (decimal register ++ words)))
+with_words (EntryAside entry register) words = codes "entry " ++ (decimal entry ++ (codes " extends PCR " ++ (decimal register ++ words)))
+with_words (Unknown entry) words = codes "entry " ++ (decimal entry ++ words)
+with_words (ListDiffers alg) words = name_of alg ++ words
+with_words (Absent alg) words = name_of alg ++ words
+with_words (LogDiffers alg register) words = of_register alg register words
+with_words (LogNowhere alg register) words = of_register alg register words
+with_words (WithoutLog alg register) words = of_register alg register words
+with_words (Missing alg register) words = codes "EXPECTED lacks " ++ of_register alg register words
+with_words hint words = words
+
+abbrev pub hint_line : Hint → List ℕ
+hint_line hint = with_words hint (last_words hint)
+
+-- A hint as it is shown.
+abbrev pub shown_hint : Hint → List ℕ
+shown_hint hint = escape (hint_line hint) ++ 10 ∷ []
+
+-- ---- what an input is
+
+abbrev pub mistake_words : Mistake → List ℕ
+mistake_words mistakes.Empty = codes "it is empty: copy the kernel's files with cat, since their size is given as 0"
+mistake_words mistakes.NothingPrinted = codes "it is empty: the tool printed nothing"
+mistake_words mistakes.ListForLog = codes "it is a measurement list, and no firmware event log"
+mistake_words mistakes.OldLog =
+    codes "it is in the SHA-1 form of TPM 1.2, which is not read: kernels before 5.3 and some cloud machines give no other; PCRs 0 to 9 cannot be judged"
+mistake_words mistakes.LogForList = codes "it is a firmware event log, and no measurement list"
+mistake_words mistakes.TextForList = codes "it is the list as text: take binary_runtime_measurements, which is beside it"
+mistake_words mistakes.PrintedForExpected = codes "it is what tpm2-tools print: ima-agent expected makes EXPECTED of it"

@@ -1,0 +1,79 @@
+-- Which input of a task a fault is of, and what that input should be.
+use Rattle.std.specs.Prelude.{ℕ, List, Option, None, Some, option_map, string_bytes}
+use Rattle.agent_inputs.specs.declared.fault.RunFault.{RunFault}
+use Rattle.agent_inputs.specs.declared.fault.RunFault.TheVariants as runs
+use Rattle.agent_plans.specs.declared.plan.ConfirmedBy.{ConfirmedBy}
+use Rattle.agent_plans.specs.declared.plan.ConfirmedBy.TheVariants as confirmed
+use Rattle.agent_plans.specs.declared.plan.Judged.{Judged}
+use Rattle.agent_plans.specs.declared.plan.Judged.TheVariants as judged
+use Rattle.agent_plans.specs.declared.plan.Question.{Question}
+use Rattle.agent_plans.specs.declared.plan.Question.TheVariants as questions
+use Rattle.agent_plans.specs.declared.plan.Quoting.{Quoting}
+use Rattle.agent_plans.specs.declared.plan.Task.{Task}
+use Rattle.agent_plans.specs.declared.plan.Task.TheVariants as tasks
+use Rattle.hints.specs.declared.mistakes.Wanted.{Wanted}
+use Rattle.hints.specs.declared.mistakes.Wanted.TheVariants as wanted
+
+-- ---- the names of a task's files
+
+abbrev pub quote_in : ConfirmedBy → Option Quoting
+quote_in (confirmed.Quote quoting) = Some quoting
+quote_in confirmed = None
+
+abbrev pub quoting_of : Task → Option Quoting
+quoting_of (tasks.Answer (questions.Attest attest)) = Some attest.quoting
+quoting_of (tasks.Events log shown confirmed_by) = quote_in confirmed_by
+quoting_of (tasks.Boot log confirmed_by before) = quote_in confirmed_by
+quoting_of task = None
+
+abbrev pub judged_log : Judged → Option (List ℕ)
+judged_log (judged.Verdict log scope resume save) = Some (string_bytes log)
+judged_log (judged.Positions log) = Some (string_bytes log)
+judged_log judged.ListVerdict = None
+
+-- The log; none where there are two, as of a boot and the one before it.
+abbrev pub log_of : Task → Option (List ℕ)
+log_of (tasks.Measure request) = Some (string_bytes request.log)
+log_of (tasks.Answer (questions.LogRegisters log)) = Some (string_bytes log)
+log_of (tasks.Answer (questions.Attest attest)) = Some (string_bytes attest.log)
+log_of (tasks.Answer (questions.Judge judge)) = judged_log judge.judged
+log_of (tasks.Events log shown confirmed_by) = Some (string_bytes log)
+log_of (tasks.Boot log confirmed_by None) = Some (string_bytes log)
+log_of task = None
+
+abbrev pub list_of : Task → Option (List ℕ)
+list_of (tasks.Answer (questions.Judge judge)) = Some (string_bytes judge.list)
+list_of (tasks.Answer (questions.ListRegisters list)) = Some (string_bytes list)
+list_of (tasks.Entries list) = Some (string_bytes list)
+list_of task = option_map (λ quoting. string_bytes quoting.list) (quoting_of task)
+
+abbrev pub expected_in : ConfirmedBy → Option (List ℕ)
+expected_in (confirmed.Expected name) = Some (string_bytes name)
+expected_in confirmed = None
+
+-- The text that should state registers: EXPECTED, or what tpm2-tools printed.
+abbrev pub expected_of : Task → Option (List ℕ)
+expected_of (tasks.Answer (questions.Expected printed registers)) = Some (string_bytes printed)
+expected_of (tasks.Answer (questions.Judge judge)) = Some (string_bytes judge.expected)
+expected_of (tasks.Answer (questions.Attest attest)) = option_map string_bytes attest.expected
+expected_of (tasks.Events log shown confirmed_by) = expected_in confirmed_by
+expected_of (tasks.Boot log confirmed_by before) = expected_in confirmed_by
+expected_of task = None
+
+-- ---- the refused input
+
+abbrev pub text_wanted : Task → Wanted
+text_wanted (tasks.Answer (questions.Expected printed registers)) = wanted.Printed
+text_wanted task = wanted.Expected
+
+-- The input of this name, which should be this.
+abbrev pub as_wanted : List ℕ → Wanted → List ℕ × Wanted
+as_wanted name what = (name, what)
+
+-- The file that has this fault, by its name, and what it should be. A fault of any other input is of no file that is taken for another.
+abbrev pub refused_input : RunFault → Task → Option (List ℕ × Wanted)
+refused_input (runs.Log fault) task = option_map (λ name. as_wanted name wanted.Log) (log_of task)
+refused_input (runs.List fault) task = option_map (λ name. as_wanted name wanted.List) (list_of task)
+refused_input (runs.Replay fault) task = option_map (λ name. as_wanted name wanted.List) (list_of task)
+refused_input (runs.Expect fault) task = option_map (λ name. as_wanted name (text_wanted task)) (expected_of task)
+refused_input fault task = None

@@ -1,0 +1,62 @@
+-- What a person is told to do next.
+use Rattle.std.specs.Prelude.{◌≡◌, ℕ, ◌⊎◌, ◌++◌, ◌∷◌, Bool, List, [], codes, flat_map, take, Option, None, Some, MatchOption, IfSome, IfNone}
+use Rattle.agent_inputs.specs.declared.fault.RunFault.{RunFault}
+use Rattle.agent_inputs.specs.Loading.{Inputs}
+use Rattle.agent_plans.specs.declared.plan.Question.{Question}
+use Rattle.agent_plans.specs.declared.plan.Task.{Task}
+use Rattle.agent_plans.specs.declared.plan.Task.TheVariants as tasks
+use Rattle.judging.specs.Requests.{Requested}
+use Rattle.hints.specs.declared.causes.Causes.{Causes}
+use Rattle.hints.specs.declared.causes.Grown.{Grown}
+use Rattle.hints.specs.declared.mistakes.Mistake.{Mistake}
+use Rattle.hints.specs.declared.mistakes.Wanted.{Wanted}
+use Rattle.hints.specs.Escaping.{escape}
+use Rattle.hints.specs.Heads.{IsLookedAt}
+use Rattle.hints.specs.Hints.{IsGrown, IsNotGrown, IsNotSeen, IsSeen}
+use Rattle.hints.specs.HintTexts.{hints_of, mistake_words, shown_hint}
+use Rattle.hints.specs.Mistakes.{mistake_in}
+use Rattle.hints.specs.OldAggregates.{IsSaidOld}
+use Rattle.questions.specs.Questions.{requested_by, with_known}
+use Rattle.hints.specs.Refused.{list_of, log_of, refused_input}
+use Rattle.questions.specs.declared.failures.Failure.{Failure}
+use Rattle.questions.specs.declared.failures.Failure.TheVariants as failures
+
+-- What a question asks, without known files.
+abbrev pub without_known : Question → Requested
+without_known question = with_known [] (requested_by question)
+
+-- Three lines at most, on the causes for which what is asked for differs when the inputs are judged once more, and on a prefix of the list, if all
+-- is well with one but for files that are not known; and whether the question's list records an older kernel's aggregate. Nothing is said only
+-- where it differs no longer, or cannot be judged again.
+abbrev pub TellsCauses : Inputs → Question → List ℕ → Type 0
+TellsCauses inputs question text =
+    (IsNotSeen inputs (requested_by question) × (text ≡ []))
+    ⊎ ((causes : Causes) × (grown : Option Grown) × (is_old : Bool) × IsSeen inputs (requested_by question) causes
+    × IfSome grown (IsGrown inputs (without_known question)) × IfNone grown (IsNotGrown inputs (without_known question))
+    × IsSaidOld inputs (log_of (tasks.Answer question)) (list_of (tasks.Answer question)) is_old
+    × (text ≡ flat_map shown_hint (take 3 (hints_of causes grown is_old))))
+
+-- The line that names an input, and says what it is; nothing if that cannot be told.
+abbrev pub mistake_line : List ℕ → Option Mistake → List ℕ
+mistake_line input None = []
+mistake_line input (Some mistake) = escape (input ++ (codes ": " ++ mistake_words mistake)) ++ 10 ∷ []
+
+abbrev pub head_line : List ℕ → Wanted → Option (List ℕ) → List ℕ
+head_line input wanted None = []
+head_line input wanted (Some head) = mistake_line input (mistake_in wanted head)
+
+-- What the input that the fault is of is, by its first bytes. Nothing if that cannot be told, it may fail, or the fault is of no such input.
+abbrev pub TellsMistake : Inputs → RunFault → Task → List ℕ → Type 0
+TellsMistake inputs fault task text =
+    MatchOption (refused_input fault task) (text ≡ [])
+    (λ refused. (head : Option (List ℕ)) × IsLookedAt inputs refused.0 head × (text ≡ head_line refused.0 refused.1 head))
+
+abbrev pub TellsOf : Inputs → Task → List ℕ → Type 0
+TellsOf inputs (tasks.Answer question) text = TellsCauses inputs question text
+TellsOf inputs task text = text ≡ []
+
+-- What to do next after this.
+abbrev pub TellsNext : Inputs → Failure → List ℕ → Type 0
+TellsNext inputs (failures.Differs task) text = TellsOf inputs task.now text
+TellsNext inputs (failures.Fault fault task) text = TellsMistake inputs fault.now task.now text
+TellsNext inputs failure text = text ≡ []

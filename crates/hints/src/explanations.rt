@@ -1,0 +1,228 @@
+//! What a person is told of a run that failed.
+
+ghost use Rattle.std.specs.Prelude.{◌≡◌, true, string_bytes, IfOk};
+ghost use Rattle.std.specs.List.{list_all};
+ghost use Rattle.hints.specs.Escaping.{is_shown};
+
+use crate::escapes::{escape_each, shown_line, shown_lines};
+use crate::task_inputs::{STANDARD_INPUT, input_of, known_name, quoting_of};
+use agent_inputs::RunFault;
+use agent_plans::{Judge, Question, Quoting, Task};
+use attestations::{Policy, PolicyFault};
+use boot_verdict::{Requirement, Selection, SelectionFault};
+use command_line::refusal_of;
+use questions::Failure;
+use std::alloc::{AllocError, Global};
+use std::fs::File;
+use std::io;
+use std::io::Read;
+use std::rt::Files as FileSystem;
+
+/// What is wrong with arguments that are within all other limits.
+const TOO_MANY_FILES: &str = "error: 2^32 files or more";
+
+/// The option that names what is required, as the help shows it.
+const REQUIRE: &str = "--require <SELECTION>";
+
+/// The option that names which registers are shown.
+const REGISTERS: &str = "--registers <SELECTION>";
+
+/// Why the run failed, in lines for a person: the input that is at fault, and what is wrong with it; for wrong arguments what `clap`
+/// says of them. Of an input that could not be read it asks once more, to learn the system's reason. An answer explains itself.
+///
+/// Fails if memory runs out, and if the run failed because it did.
+pub fn explanation<R: FileSystem + io::Input>(
+    rt: &R,
+    alloc: Global,
+    failure: Failure<'_>,
+) -> Result<String, AllocError>
+    ensures { IfOk result (λ text. list_all is_shown (string_bytes text) ≡ true) }
+{
+    match failure {
+        Failure::Fault { fault, task } => of_fault(rt, alloc, fault, task),
+        Failure::Refused { fault, arguments } => of_refusal(alloc, fault, arguments),
+        Failure::Arguments { reason } => match reason.kind() {
+            io::ErrorKind::InvalidData => shown_line(alloc, "an argument is not UTF-8"),
+            _ => Err(AllocError),
+        },
+        Failure::Differs { .. } => Ok(String::new(alloc)),
+        Failure::Output => shown_line(alloc, "the output could not be written"),
+    }
+}
+
+// Why this task has this fault.
+fn of_fault<R: FileSystem + io::Input>(
+    rt: &R,
+    alloc: Global,
+    fault: &RunFault,
+    task: &Task,
+) -> Result<String, AllocError>
+    ensures { IfOk result (λ text. list_all is_shown (string_bytes text) ≡ true) }
+{
+    match fault {
+        RunFault::Memory => Err(AllocError),
+        RunFault::Usage => of_value_in(alloc, task),
+        RunFault::Read(_) if matches!(task, Task::Registers) => {
+            of_reason(alloc, STANDARD_INPUT, read_reason(&mut rt.reader()))
+        }
+        RunFault::Read(name) => of_reason(alloc, name, open_reason(rt, name)),
+        RunFault::TooLong(_) if matches!(task, Task::Registers) => {
+            // The fault has no name to tell standard input by.
+            let fault = RunFault::TooLong(String::from_str(alloc, STANDARD_INPUT)?);
+            shown_line(alloc, &format!(in alloc; "{fault}")?)
+        }
+        RunFault::Known { file, fault } => match known_name(task, *file) {
+            Some(name) => shown_line(alloc, &format!(in alloc; "{name}: {fault}")?),
+            None => shown_line(alloc, &format!(in alloc; "known file {file}: {fault}")?),
+        },
+        _ => match input_of(task, fault) {
+            Some(input) => shown_line(alloc, &format!(in alloc; "{input}: {fault}")?),
+            None => shown_line(alloc, &format!(in alloc; "{fault}")?),
+        },
+    }
+}
+
+// Why these arguments are refused. They are escaped before `clap` has them, so each line feed that comes of it is its own.
+fn of_refusal(alloc: Global, fault: &RunFault, arguments: &[String]) -> Result<String, AllocError>
+    ensures { IfOk result (λ text. list_all is_shown (string_bytes text) ≡ true) }
+{
+    if matches!(fault, RunFault::Memory) {
+        return Err(AllocError);
+    }
+    let arguments = escape_each(alloc, arguments)?;
+    match refusal_of(alloc, &arguments)? {
+        Some(text) => shown_lines(alloc, &text),
+        None => shown_line(alloc, TOO_MANY_FILES),
+    }
+}
+
+// Which value of the arguments is refused that `clap` takes.
+fn of_value_in(alloc: Global, task: &Task) -> Result<String, AllocError>
+    ensures { IfOk result (λ text. list_all is_shown (string_bytes text) ≡ true) }
+{
+    if let Some(quoting) = quoting_of(task) {
+        return shown_line(alloc, &of_policy(alloc, quoting)?);
+    }
+    let text = match task {
+        Task::Answer(
+            Question::Judge(
+                Judge {
+                    required: Some(text),
+                    ..
+                },
+            ),
+        ) => of_requirement(alloc, text)?,
+        Task::Answer(
+            Question::Expected {
+                registers: Some(text),
+                ..
+            },
+        ) => of_registers(alloc, text)?,
+        _ => String::from_str(alloc, TOO_MANY_FILES)?,
+    };
+    shown_line(alloc, &text)
+}
+
+// Why this text spells no requirement.
+fn of_requirement(alloc: Global, text: &str) -> Result<String, AllocError> {
+    match Requirement::from_text(alloc, text.as_bytes()) {
+        Ok(_) => Err(AllocError),
+        Err(fault) => of_selection(alloc, text, REQUIRE, fault),
+    }
+}
+
+// Why this text selects no registers.
+fn of_registers(alloc: Global, text: &str) -> Result<String, AllocError> {
+    match Selection::from_text(alloc, text.as_bytes()) {
+        Ok(_) => Err(AllocError),
+        Err(fault) => of_selection(alloc, text, REGISTERS, fault),
+    }
+}
+
+// Why the text of this option is refused, with its first wrong part. Bytes are told from 1 on.
+fn of_selection(
+    alloc: Global,
+    text: &str,
+    option: &str,
+    fault: SelectionFault,
+) -> Result<String, AllocError> {
+    let SelectionFault::Malformed { at } = fault else {
+        return format!(in alloc; "error: invalid value '{text}' for '{option}': {fault}");
+    };
+    let part = part_at(text, at);
+    let place = at.saturating_add(1);
+    format!(in alloc;
+        "error: invalid value '{text}' for '{option}': at byte {place}, '{part}': {fault}"
+    )
+}
+
+// The part of a selection that begins at this byte.
+fn part_at(text: &str, at: usize) -> &str {
+    let Some((_, rest)) = text.split_at_checked(at) else {
+        return "";
+    };
+    before(before(rest, ","), "+")
+}
+
+// What comes before the first separator, or all.
+fn before<'a>(text: &'a str, separator: &str) -> &'a str {
+    match text.split_once(separator) {
+        Some((part, _)) => part,
+        None => text,
+    }
+}
+
+// Why a quote is not asked for so.
+fn of_policy(alloc: Global, quoting: &Quoting) -> Result<String, AllocError> {
+    let text = &quoting.required;
+    let Ok(required) = Requirement::from_text(alloc, text.as_bytes()) else {
+        return of_requirement(alloc, text);
+    };
+    let policy = Policy {
+        nonce: &quoting.nonce,
+        required: &required,
+        takes_sha1: quoting.takes_sha1,
+    };
+    match policy.fault() {
+        None => Err(AllocError),
+        Some(fault @ PolicyFault::ShortNonce) => {
+            let nonce = hex::encode(alloc, &quoting.nonce)?;
+            format!(in alloc; "error: invalid value '{nonce}' for '--nonce <HEX>': {fault}")
+        }
+        Some(fault) => format!(in alloc; "error: invalid value '{text}' for '{REQUIRE}': {fault}"),
+    }
+}
+
+// That the input could not be read, and the system's reason, if it is known.
+fn of_reason(alloc: Global, input: &str, reason: Option<io::Error>) -> Result<String, AllocError>
+    ensures { IfOk result (λ text. list_all is_shown (string_bytes text) ≡ true) }
+{
+    let Some(reason) = reason else {
+        return shown_line(alloc, &format!(in alloc; "cannot read {input}")?);
+    };
+    let reason = format!(in alloc; "{reason}")?;
+    let reason = without_number(&reason);
+    shown_line(alloc, &format!(in alloc; "cannot read {input}: {reason}")?)
+}
+
+// The system's words for an error, without its number.
+fn without_number(reason: &str) -> &str {
+    match reason.split_once(" (os error ") {
+        Some((words, _)) => words,
+        None => reason,
+    }
+}
+
+// Why the file of this name cannot be opened or read, if that fails now.
+fn open_reason<R: FileSystem>(rt: &R, name: &str) -> Option<io::Error> {
+    match File::open(rt, name) {
+        Ok(mut file) => read_reason(&mut file),
+        Err(reason) => Some(reason),
+    }
+}
+
+// Why nothing can be read, if that fails now.
+fn read_reason<R: Read>(reader: &mut R) -> Option<io::Error> {
+    let mut byte = [0];
+    reader.read(&mut byte).err()
+}

@@ -1,0 +1,169 @@
+//! A second look at inputs that differ or are refused, for what a person may do next. The output is written before, and so is the status decided.
+
+ghost use Rattle.std.specs.Prelude.{◌≡◌, [], true, string_bytes, option_map, IfOk, IfSome, IfNone};
+ghost use Rattle.std.specs.List.{list_all};
+ghost use Rattle.agent_inputs.specs.Loading.{unknown};
+ghost use Rattle.judging.specs.Requests.{requested_of};
+ghost use Rattle.hints.specs.Escaping.{is_shown};
+ghost use Rattle.hints.specs.Hints.{IsGrown, IsNotGrown, IsNotSeen, IsSeen, on_prefix};
+ghost use Rattle.hints.specs.Saying.{TellsMistake, TellsNext, TellsOf};
+
+use crate::causes::{Causes, Grown, causes_of, grown_by};
+use crate::files_again::{FilesAgain, head_of};
+use crate::hints::{hint_on, hints_on};
+use crate::mistakes::mistake_in;
+use crate::old_aggregates::is_old_aggregate;
+use crate::task_inputs::refused_input;
+use agent_inputs::{AgentFiles, RunFault};
+use agent_plans::{Scope, Task};
+use judging::{Attesting, Comparison, Request, Wanted, answer_request};
+use questions::{Failure, known_inputs, request_of};
+use std::alloc::{AllocError, Global};
+use std::rt::Files as FileSystem;
+
+/// What [`hint_from`] says of the files of a runtime, if they are regular files: others are not read again.
+pub fn hint<R: FileSystem>(
+    rt: &R,
+    alloc: Global,
+    failure: Failure<'_>,
+) -> Result<String, AllocError>
+    ensures told { IfOk result (λ text. TellsNext unknown failure.entry (string_bytes text)) }
+    ensures shown { IfOk result (λ text. list_all is_shown (string_bytes text) ≡ true) }
+{
+    hint_from(alloc, &mut FilesAgain::new(rt), failure)
+}
+
+/// What a person may do next, in lines: after an answer that something differs, by a second look at the inputs, and where an input is refused
+/// that is not what it should be, by its first bytes. No text where nothing helps, or the inputs cannot be read again. It changes no input.
+///
+/// Fails if memory runs out.
+pub fn hint_from<F: AgentFiles>(
+    alloc: Global,
+    files: &mut F,
+    failure: Failure<'_>,
+) -> Result<String, AllocError>
+    ensures told { IfOk result (λ text. TellsNext (F.known files.old) failure.entry (string_bytes text)) }
+    ensures shown { IfOk result (λ text. list_all is_shown (string_bytes text) ≡ true) }
+    ensures saved { F.saved files.new ≡ F.saved files.old }
+{
+    match failure {
+        Failure::Differs { task } => on_difference(alloc, files, task),
+        Failure::Fault { fault, task } => on_fault(alloc, files, fault, task),
+        _ => Ok(String::new(alloc)),
+    }
+}
+
+// After the answer to a task is that something differs.
+fn on_difference<F: AgentFiles>(
+    alloc: Global,
+    files: &mut F,
+    task: &Task,
+) -> Result<String, AllocError>
+    ensures told { IfOk result (λ text. TellsOf (F.known files.old) task.now (string_bytes text)) }
+    ensures shown { IfOk result (λ text. list_all is_shown (string_bytes text) ≡ true) }
+    ensures saved { F.saved files.new ≡ F.saved files.old }
+{
+    let Task::Answer(question) = task else {
+        return Ok(String::new(alloc));
+    };
+    let known = known_inputs(alloc, question)?;
+    match causes_seen(alloc, files, request_of(question, &known)) {
+        None => Ok(String::new(alloc)),
+        Some(causes) => {
+            let grown = grown_seen(alloc, files, request_of(question, &[]));
+            let is_old = is_old_aggregate(alloc, files, task)?;
+            hints_on(alloc, &causes, grown, is_old)
+        }
+    }
+}
+
+// Why what is asked for differs, if it still does.
+fn causes_seen<F: AgentFiles>(alloc: Global, files: &mut F, request: Request<'_>) -> Option<Causes>
+    ensures seen { IfSome result (IsSeen (F.known files.old) (requested_of request.entry)) }
+    ensures unseen { IfNone result (IsNotSeen (F.known files.old) (requested_of request.entry)) }
+    ensures known { F.known files.new ≡ F.known files.old }
+    ensures saved { F.saved files.new ≡ F.saved files.old }
+{
+    match answer_request(alloc, files, request) {
+        Ok(given) if !given.is_well => Some(causes_of(&given)),
+        Ok(_) | Err(_) => None,
+    }
+}
+
+// Of which prefix of the list the values are, if what is asked for is on a whole list.
+fn grown_seen<F: AgentFiles>(alloc: Global, files: &mut F, request: Request<'_>) -> Option<Grown>
+    ensures grown { IfSome result (IsGrown (F.known files.old) (requested_of request.entry)) }
+    ensures not_grown { IfNone result (IsNotGrown (F.known files.old) (requested_of request.entry)) }
+    ensures known { F.known files.new ≡ F.known files.old }
+    ensures saved { F.saved files.new ≡ F.saved files.old }
+{
+    let request = on_prefix(request)?;
+    match answer_request(alloc, files, request) {
+        Ok(given) if given.is_well => grown_by(&given),
+        Ok(_) | Err(_) => None,
+    }
+}
+
+// The same of the shortest prefix that matches, if it is asked of a whole list.
+fn on_prefix(request: Request<'_>) -> Option<Request<'_>>
+    ensures { option_map requested_of result ≡ on_prefix (requested_of request.entry) }
+{
+    match request {
+        Request::Comparison(
+            Comparison {
+                wanted: Wanted::Verdict {
+                    log,
+                    scope: Scope::Whole,
+                    resume,
+                },
+                list,
+                expected,
+                required,
+                known,
+            },
+        ) => Some(Request::Comparison(Comparison {
+            wanted: Wanted::Verdict {
+                log,
+                scope: Scope::Prefix,
+                resume,
+            },
+            list,
+            expected,
+            required,
+            known,
+        })),
+        Request::Attestation(
+            asked @ Attesting {
+                scope: Scope::Whole,
+                ..
+            },
+        ) => Some(Request::Attestation(Attesting {
+            scope: Scope::Prefix,
+            ..asked
+        })),
+        _ => None,
+    }
+}
+
+// Where an input is refused.
+fn on_fault<F: AgentFiles>(
+    alloc: Global,
+    files: &mut F,
+    fault: &RunFault,
+    task: &Task,
+) -> Result<String, AllocError>
+    ensures told { IfOk result (λ text. TellsMistake (F.known files.old) fault.now task.now (string_bytes text)) }
+    ensures shown { IfOk result (λ text. list_all is_shown (string_bytes text) ≡ true) }
+    ensures saved { F.saved files.new ≡ F.saved files.old }
+{
+    let Some((input, wanted)) = refused_input(task, fault) else {
+        return Ok(String::new(alloc));
+    };
+    let Some(head) = head_of(alloc, files, input)? else {
+        return Ok(String::new(alloc));
+    };
+    match mistake_in(wanted, &head) {
+        None => Ok(String::new(alloc)),
+        Some(mistake) => hint_on(alloc, input, mistake),
+    }
+}

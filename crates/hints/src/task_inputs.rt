@@ -1,0 +1,155 @@
+//! The names of a task's inputs.
+
+ghost use Rattle.std.specs.Prelude.{◌≡◌, option_map};
+ghost use Rattle.hints.specs.Refused.{as_wanted, expected_of, judged_log, list_of, log_of, quoting_of, refused_input, text_wanted};
+
+use crate::mistakes::Wanted;
+use agent_inputs::RunFault;
+use agent_plans::{Attest, ConfirmedBy, Judge, Judged, Measurement, Question, Quoting, Task};
+use measure_book::BookFault;
+
+/// What standard input is called.
+pub(crate) const STANDARD_INPUT: &str = "standard input";
+
+/// The input that has the fault, unless the fault names it itself or is of none.
+pub(crate) fn input_of<'a>(task: &'a Task, fault: &RunFault) -> Option<&'a str> {
+    match (fault, task) {
+        (RunFault::NotHex, _) | (RunFault::Log(_), Task::Registers) => Some(STANDARD_INPUT),
+        (RunFault::Log(_) | RunFault::Book(BookFault::NoBank), _) => log_of(task),
+        (RunFault::List(_) | RunFault::Replay(_), _) => list_of(task),
+        (RunFault::Expect(_), _) => expected_of(task),
+        (RunFault::Quote(_), _) => Some(quoting_of(task)?.quote.as_str()),
+        (RunFault::Key(_), Task::Answer(Question::Key { area, .. })) => Some(area.as_str()),
+        (RunFault::Checkpoint(_), Task::Answer(Question::Attest(attest))) => {
+            attest.resume.as_deref()
+        }
+        (RunFault::Checkpoint(_), Task::Answer(Question::Judge(judge))) => match &judge.judged {
+            Judged::Verdict { resume, .. } => resume.as_deref(),
+            _ => None,
+        },
+        (RunFault::Outcome { job, .. }, Task::Measure(Measurement { files, .. })) => {
+            let name = files.get(*job as usize)?;
+            Some(name.as_str())
+        }
+        _ => None,
+    }
+}
+
+/// The name of the text of known files of this number, counted from 1.
+pub(crate) fn known_name(task: &Task, file: usize) -> Option<&str> {
+    let names = match task {
+        Task::Answer(Question::Judge(judge)) => judge.known.as_ref()?,
+        Task::Answer(Question::Attest(attest)) => attest.known.as_ref()?,
+        _ => return None,
+    };
+    let name = names.get(file.checked_sub(1)?)?;
+    Some(name.as_str())
+}
+
+/// The input that has this fault and what it should be, if it is a file that may be another by mistake.
+pub(crate) fn refused_input<'a>(task: &'a Task, fault: &RunFault) -> Option<(&'a str, Wanted)>
+    ensures { option_map (λ refused. as_wanted refused.0.now refused.1) result ≡ refused_input fault.now task.now }
+{
+    match fault {
+        RunFault::Log(_) => wanted_at(log_of(task), Wanted::Log),
+        RunFault::List(_) | RunFault::Replay(_) => wanted_at(list_of(task), Wanted::List),
+        RunFault::Expect(_) => wanted_at(expected_of(task), text_wanted(task)),
+        _ => None,
+    }
+}
+
+// That this is wanted of the input of this name, if there is one.
+fn wanted_at(name: Option<&str>, wanted: Wanted) -> Option<(&str, Wanted)>
+    ensures { option_map (λ refused. as_wanted refused.0.now refused.1) result ≡ option_map (λ name. as_wanted name.now wanted) name.entry }
+{
+    Some((name?, wanted))
+}
+
+// What a text that should state registers has to be.
+fn text_wanted(task: &Task) -> Wanted
+    ensures { result ≡ text_wanted task.now }
+{
+    match task {
+        Task::Answer(Question::Expected { .. }) => Wanted::Printed,
+        _ => Wanted::Expected,
+    }
+}
+
+/// The log of a task in a file, unless there is another.
+pub(crate) fn log_of(task: &Task) -> Option<&str>
+    ensures { option_map (λ name. name.now) result ≡ log_of task.now }
+{
+    match task {
+        Task::Measure(Measurement { log, .. })
+        | Task::Answer(Question::LogRegisters { log })
+        | Task::Answer(Question::Attest(Attest { log, .. }))
+        | Task::Events { log, .. }
+        | Task::Boot {
+            log,
+            before: None,
+            ..
+        } => Some(log.as_str()),
+        Task::Answer(Question::Judge(judge)) => judged_log(&judge.judged),
+        _ => None,
+    }
+}
+
+// The log of what is judged.
+fn judged_log(judged: &Judged) -> Option<&str>
+    ensures { option_map (λ name. name.now) result ≡ judged_log judged.now }
+{
+    match judged {
+        Judged::Verdict { log, .. } | Judged::Positions { log } => Some(log.as_str()),
+        Judged::ListVerdict => None,
+    }
+}
+
+/// The measurement list of a task.
+pub(crate) fn list_of(task: &Task) -> Option<&str>
+    ensures { option_map (λ name. name.now) result ≡ list_of task.now }
+{
+    match task {
+        Task::Answer(Question::Judge(Judge { list, .. }))
+        | Task::Answer(Question::ListRegisters { list })
+        | Task::Entries { list } => Some(list.as_str()),
+        _ => Some(quoting_of(task)?.list.as_str()),
+    }
+}
+
+// The text of a task that should state registers.
+fn expected_of(task: &Task) -> Option<&str>
+    ensures { option_map (λ name. name.now) result ≡ expected_of task.now }
+{
+    match task {
+        Task::Answer(Question::Expected { printed, .. }) => Some(printed.as_str()),
+        Task::Answer(Question::Judge(Judge { expected, .. })) => Some(expected.as_str()),
+        Task::Answer(Question::Attest(Attest { expected, .. })) => expected.as_deref(),
+        Task::Events {
+            confirmed_by: ConfirmedBy::Expected(name),
+            ..
+        }
+        | Task::Boot {
+            confirmed_by: ConfirmedBy::Expected(name),
+            ..
+        } => Some(name.as_str()),
+        _ => None,
+    }
+}
+
+/// The quote that a task is of, if it is of one.
+pub(crate) fn quoting_of(task: &Task) -> Option<&Quoting>
+    ensures { option_map (λ quoting. quoting.now) result ≡ quoting_of task.now }
+{
+    match task {
+        Task::Answer(Question::Attest(Attest { quoting, .. }))
+        | Task::Events {
+            confirmed_by: ConfirmedBy::Quote(quoting),
+            ..
+        }
+        | Task::Boot {
+            confirmed_by: ConfirmedBy::Quote(quoting),
+            ..
+        } => Some(quoting),
+        _ => None,
+    }
+}

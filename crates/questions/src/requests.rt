@@ -1,0 +1,186 @@
+//! What questions ask of their inputs.
+
+ghost use Rattle.std.specs.Prelude.{◌≡◌, [], map, option_map, IfOk, OnErr};
+ghost use Rattle.judging.specs.Requests.{requested_of, place_of, attested_of, compared_of, judgement_of, requires_of};
+ghost use Rattle.questions.specs.Questions.{attested_with, requested_by, file_of, files_of, known_by, attested_by, compared_by, judgement_by, requires_by, save_by, with_known};
+
+use agent_plans::{Attest, Judge, Judged, Question, Quoting, Scope};
+use judging::{Attesting, Comparison, Input, Request, Required, Wanted};
+use std::alloc::{AllocError, Global};
+
+/// The texts of known files that a question names.
+pub fn known_inputs(alloc: Global, question: &Question) -> Result<Vec<Input<'_>>, AllocError>
+    ensures inputs { IfOk result (λ known. map place_of known.items ≡ known_by question.now) }
+    // Memory runs out only where there is one.
+    ensures some { OnErr result (known_by question.now ≡ [] → ⊥) }
+{
+    let mut inputs = Vec::new(alloc);
+    for name in known_names(question) {
+        inputs.push(Input::File(name))?;
+    }
+    Ok(inputs)
+}
+
+// The names of the texts of known files.
+fn known_names(question: &Question) -> &[String]
+    ensures { map file_of result.now ≡ known_by question.now }
+{
+    let names = match question {
+        Question::Judge(judge) => &judge.known,
+        Question::Attest(attest) => &attest.known,
+        _ => return &[],
+    };
+    match names {
+        None => &[],
+        Some(names) => names,
+    }
+}
+
+/// What a question asks, where these are the texts of known files that it names.
+pub fn request_of<'a>(question: &'a Question, known: &'a [Input<'a>]) -> Request<'a>
+    ensures asked { map place_of known.now ≡ known_by question.now → requested_of result ≡ requested_by question.now }
+    // With other texts of known files it is the same, but for these.
+    ensures given { requested_of result ≡ with_known (map place_of known.now) (requested_by question.now) }
+{
+    match question {
+        Question::LogRegisters { log } => Request::LogRegisters {
+            log: Input::File(log),
+        },
+        Question::ListRegisters { list } => Request::ListRegisters {
+            list: Input::File(list),
+        },
+        Question::Judge(judge) => Request::Comparison(comparison_of(judge, known)),
+        Question::Attest(attest) => Request::Attestation(attesting_of(attest, known)),
+        Question::Expected { printed, registers } => Request::Expected {
+            printed: Input::File(printed),
+            registers: match registers {
+                None => None,
+                Some(range) => Some(range.as_bytes()),
+            },
+        },
+        Question::Key {
+            area,
+            purpose,
+            part,
+        } => Request::Key {
+            area: Input::File(area),
+            purpose: *purpose,
+            part: *part,
+        },
+    }
+}
+
+// What is judged by a quote.
+fn attesting_of<'a>(attest: &'a Attest, known: &'a [Input<'a>]) -> Attesting<'a>
+    ensures asked { map place_of known.now ≡ files_of attest.now.known → attested_of result ≡ attested_by attest.now }
+    ensures given { attested_of result ≡ record (attested_by attest.now) { known = map place_of known.now } }
+{
+    Attesting {
+        expected: file_of(&attest.expected),
+        scope: attest.scope,
+        resume: file_of(&attest.resume),
+        known,
+        ..attesting_by(Input::File(&attest.log), &attest.quoting)
+    }
+}
+
+/// What is judged by a quote of this log, and of a whole list.
+pub fn attesting_by<'a>(log: Input<'a>, quoting: &'a Quoting) -> Attesting<'a>
+    ensures { attested_of result ≡ attested_with (place_of log.entry) quoting.now }
+{
+    Attesting {
+        log,
+        list: Input::File(&quoting.list),
+        message: Input::File(&quoting.quote),
+        expected: None,
+        nonce: &quoting.nonce,
+        required: quoting.required.as_bytes(),
+        takes_sha1: quoting.takes_sha1,
+        is_signed: quoting.is_signed,
+        scope: Scope::Whole,
+        resume: None,
+        known: &[],
+    }
+}
+
+// The file of this name, if there is one.
+fn file_of(name: &Option<String>) -> Option<Input<'_>>
+    ensures { option_map place_of result ≡ option_map file_of name.now }
+{
+    match name {
+        None => None,
+        Some(name) => Some(Input::File(name)),
+    }
+}
+
+// What is compared.
+fn comparison_of<'a>(judge: &'a Judge, known: &'a [Input<'a>]) -> Comparison<'a>
+    ensures asked { map place_of known.now ≡ files_of judge.now.known → compared_of result ≡ compared_by judge.now }
+    ensures given { compared_of result ≡ record (compared_by judge.now) { known = map place_of known.now } }
+{
+    Comparison {
+        wanted: wanted_of(&judge.judged),
+        list: Input::File(&judge.list),
+        expected: Input::File(&judge.expected),
+        required: required_of(judge),
+        known,
+    }
+}
+
+// What the answer is to be.
+fn wanted_of(judged: &Judged) -> Wanted<'_>
+    ensures { judgement_of result ≡ judgement_by judged.now }
+{
+    match judged {
+        Judged::Verdict {
+            log,
+            scope,
+            resume,
+            ..
+        } => Wanted::Verdict {
+            log: Input::File(log),
+            scope: *scope,
+            resume: file_of(resume),
+        },
+        Judged::Positions { log } => Wanted::Positions {
+            log: Input::File(log),
+        },
+        Judged::ListVerdict => Wanted::ListVerdict,
+    }
+}
+
+// What has to be among the expected registers.
+fn required_of(judge: &Judge) -> Required<'_>
+    ensures { requires_of result ≡ requires_by judge.now.judged judge.now.required }
+{
+    match (&judge.required, &judge.judged) {
+        (Some(text), _) => Required::These(text.as_bytes()),
+        (
+            None,
+            Judged::Verdict {
+                scope: Scope::Whole,
+                resume: None,
+                save: None,
+                ..
+            },
+        ) => Required::Nothing,
+        (None, Judged::Verdict { .. }) => Required::Any,
+        (None, Judged::Positions { .. } | Judged::ListVerdict) => Required::Nothing,
+    }
+}
+
+/// The name under which the checkpoint is saved, if it is.
+pub fn save_of(question: &Question) -> Option<&str>
+    ensures { option_map (λ name. name.now) result ≡ save_by question.now }
+{
+    match question {
+        Question::Judge(
+            Judge {
+                judged: Judged::Verdict { save, .. },
+                ..
+            },
+        ) => save.as_deref(),
+        Question::Attest(attest) => attest.save.as_deref(),
+        _ => None,
+    }
+}
