@@ -5,7 +5,7 @@ tests/faults/words.py [ROOT]: the tree whose crates are read, or else the one th
 
 A fault has one sentence, its `#[error("..")]`, by which it is displayed; the program tells it to a terminal. The faults with a number must
 have the sentences of the tables of docs/errors.txt. All others, and the texts of `agent_inputs/src/fault.rt` and of
-`ima_agent/src/explanations.rt` that put sentences together, must be those of words.txt, by crate and fault.
+`hints/src/explanations.rt` that put sentences together, must be those of words.txt, by crate and fault.
 
 A row of a table that begins with 'it' or 'its' says what is wrong at a place, which its sentence names first."""
 
@@ -115,7 +115,7 @@ class Words(harness.TestCase):
 
     def test_other_words(self):
         found = {name: sentence for name, (_, sentence) in faults_in(self.root).items() if not is_numbered(name)}
-        for file in ("agent_inputs/src/fault.rt", "ima_agent/src/explanations.rt", "ima_agent/src/task_inputs.rt"):
+        for file in ("agent_inputs/src/fault.rt", "hints/src/explanations.rt", "hints/src/task_inputs.rt"):
             found |= texts_in(self.root / "crates" / file)
         wanted = dict(line.split(": ", 1) for line in (HERE / "words.txt").read_text().splitlines())
         for name in sorted({*found, *wanted}):
