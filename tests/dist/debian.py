@@ -1,5 +1,7 @@
 """A system in a folder, into which dpkg puts packages."""
 
+import gzip
+import os
 import re
 import shlex
 
@@ -23,6 +25,19 @@ FIELDS = {
                      "python3-ima-verify (>= 1.0), python3-jinja2 (>= 3.0), ima-agent (>= VERSION)"},
 }
 RELATIONS = ("Architecture", "Multi-Arch", "Section", "Depends", "Pre-Depends", "Recommends", "Suggests", "Maintainer", "Version")
+# What the scripts of the fleet's package have tools do, by what dpkg calls them with and where. Units are begun by none, and end with the package.
+COMPILED, CLEANED, LOADED = "py3compile -p fleet-verify", "py3clean -p fleet-verify", "systemctl --system daemon-reload"
+MADE, KNOWN, FORGOTTEN = "systemd-sysusers fleet-verify.conf", *(f"deb-systemd-helper {do} fleet-poll.timer" for do in ("update-state", "purge"))
+DONE = (
+    ("postinst", "configure", "with systemd", [COMPILED, MADE, KNOWN, LOADED]), ("postinst", "configure", "without systemd", [COMPILED, MADE, KNOWN]),
+    ("postinst", "configure", "below another root", [COMPILED, "systemd-sysusers --root=/other fleet-verify.conf", KNOWN]),
+    ("prerm", "remove", "with systemd", [CLEANED, "deb-systemd-invoke stop fleet-poll.timer fleet-poll.service"]),
+    ("prerm", "upgrade", "with systemd", [CLEANED]), ("prerm", "remove", "without systemd", [CLEANED]),
+    ("prerm", "remove", "below another root", [CLEANED]),
+    ("postrm", "remove", "with systemd", [LOADED]), ("postrm", "remove", "without systemd", []),
+    ("postrm", "purge", "with systemd", [FORGOTTEN, LOADED]), ("postrm", "purge", "below another root", [FORGOTTEN]),
+    *((name, "remove", "without tools", []) for name in ("postinst", "prerm", "postrm")),
+)
 # Where other programs look for files.
 PLACES = {
     "ima-agent": ["/usr/share/bash-completion/completions/ima-agent", "/usr/share/fish/vendor_completions.d/ima-agent.fish",
@@ -70,12 +85,39 @@ def unkept(package):
     return sorted(files ^ set([] if kept.fault else kept.output.decode().splitlines()))
 
 
+def dates(package):
+    """The times of a package's files, and of its changelog."""
+    for line in run("dpkg-deb", "--contents", package, env={**os.environ, "TZ": "UTC0"}).output.decode().splitlines():
+        yield " ".join(line.split()[3:5])
+    folder = FOLDER / f"contents of {package.stem}"
+    run("dpkg-deb", "--extract", package, folder)
+    [changelog] = folder.glob("usr/share/doc/*/changelog.gz")
+    yield gzip.decompress(changelog.read_bytes()).decode().splitlines()[-1].partition(">  ")[2]
+
+
 def make_tools():
     """Makes the tools that scripts of packages call, which write down their calls."""
     TOOLS.mkdir()
-    for name in ("py3compile", "py3clean", "systemd-sysusers", "deb-systemd-helper", "systemctl"):
-        (TOOLS / name).write_text(f'#!/bin/sh\necho "${{0##*/}} $*" >>{shlex.quote(str(CALLS))}\n')
+    for name in ("py3compile", "py3clean", "systemd-sysusers", "deb-systemd-helper", "deb-systemd-invoke", "systemctl"):
+        # (where no systemd answers, systemctl fails)
+        (TOOLS / name).write_text(f'#!/bin/sh\necho "${{0##*/}} $*" >>{shlex.quote(str(CALLS))}\n[ "${{0##*/}}" != systemctl ]\n')
         (TOOLS / name).chmod(0o755)
+
+
+def misled(package):
+    """The scripts of the fleet's package that do otherwise than `DONE` says. What stands in for /run/systemd/system is a folder, or none."""
+    folder = FOLDER / "scripts"
+    run("dpkg-deb", "--control", package, folder)
+    for name, word, where, calls in DONE:
+        running = TOOLS if where != "without systemd" else TOOLS / "none"
+        script = (folder / name).read_text().replace("/run/systemd/system", str(running))
+        settings = {"PATH": f"{TOOLS}:/usr/bin:/bin" if where != "without tools" else "/none"}
+        settings |= {"DPKG_ROOT": "/other"} if where == "below another root" else {}
+        ended = run("/bin/sh", "-c", script, name, word, env=settings)
+        told = CALLS.read_text().splitlines() if CALLS.exists() else []
+        CALLS.unlink(missing_ok=True)
+        if (ended.fault, told) != (None, calls):
+            yield f"{name} {word} {where}: {ended.status}, {told}"
 
 
 def dpkg(system, *words):

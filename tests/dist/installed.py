@@ -77,9 +77,9 @@ def bare(*words, libraries="", modules="", umask=-1, **settings):
     return run(*words, umask=umask, env={"PATH": PATH, "LD_LIBRARY_PATH": libraries, "PYTHONPATH": modules, **settings})
 
 
-def script(name, *words, **settings):
+def script(name, *words, umask=-1, **settings):
     """Runs a script of the tree, which leaves nothing beside it."""
-    return run(sys.executable, "-B", ROOT / name, *words, env={**os.environ, **settings})
+    return run(sys.executable, "-B", ROOT / name, *words, umask=umask, env={**os.environ, **settings})
 
 
 def make(folder, umask=-1, **settings):
