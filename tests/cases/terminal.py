@@ -75,6 +75,9 @@ LARGE_FILES, LARGE_BYTES = 16, 48 * MEBIBYTE
 ADDRESS_SPACE = 64 * MEBIBYTE
 # For how many seconds each of some pipes stays open: the first number is due after more than a second, the next after a tenth of one.
 PACES = (1.2, 0.3, 0.3)
+INTERVAL = 0.1
+# The first of these holds up those that follow: the numbers that were due meanwhile are not made up for.
+LATE_PACES = (2.5, *15 * [0])
 ATTEMPTS = 5
 
 # Which inputs the names of a command are; what follows them are files to measure.
@@ -495,6 +498,9 @@ def hinted_commands():
     yield "a list that grew by files that are not known", [
         "verify", "--require=sha256:0-10", "--known=known", "firmware.log", "longer.list", "expected.txt"], 1, [grown, unknown]
     yield "a list that is piped", ["verify", "firmware.log", "/dev/stdin", "expected.txt"], 1, []
+    links = [f"link to {name}" for name in ("firmware.log", "longer.list", "expected.txt")]
+    yield "a list that grew, by links", ["verify", *links], 1, [grown]
+    yield "a quoted list that grew, by links", ["attest", *quoted, "--require=sha256:0-10", *links[:2], "link to quote.msg"], 1, [grown]
 
 
 def mistaken_commands():
@@ -514,6 +520,9 @@ def mistaken_commands():
         (["expected", "empty"], "expected fault 6", "empty", "no register is stated, or none of those that are wanted", NOTHING_PRINTED),
         (["registers", "L cut"], "log fault 1 at event 0", "L cut", cut, None),
         *((["registers", f"{name} is a list"], "log fault 2", f"{escaped} is a list", head, LIST_FOR_LOG) for name, escaped in NAMES),
+        (["verify", "firmware.log", "link to ima.ascii", "expected.txt"], "list fault 2 at entry 0", "link to ima.ascii",
+         "entry 0: it names a register of 24 or more", TEXT_FOR_LIST),
+        (["registers", "link to old.log"], "log fault 2", "link to old.log", head, OLD_LOG),
     ):
         said = [f"{name}: {sentence}"] + ([f"{name}: {mistake}"] if mistake else [])
         yield f"{mistake or 'no mistake'}: {words}", words, f"refused: {refused}\n".encode(), said
@@ -640,6 +649,8 @@ def make_samples(folder):
     (folder / "L cut").write_bytes((folder / "L").read_bytes()[:40])
     # (an event of TPM 1.2: register, type, SHA-1, size and data)
     (folder / "old.log").write_bytes(bytes.fromhex("00000000 08000000" + "11" * 20 + "02000000 0000"))
+    for name in ("firmware.log", "longer.list", "expected.txt", "quote.msg", "ima.ascii", "old.log"):
+        (folder / f"link to {name}").symlink_to(name)
 
 
 def left_on_terminal(command, folder):
@@ -666,17 +677,22 @@ def progress_fault(said, count, end):
 
 
 def paced(folder, names, paces):
-    """What a terminal gets of a measurement of pipes that are closed after these times, and how long it took."""
+    """What a terminal gets of a measurement of pipes that are closed after these times, how long it took, and for how long it went on after the
+    first of these times."""
+    passed = []
+
     def close_in_turn():
         for name, pace in zip(names, paces):
             with open(folder / name, "wb"):
                 time.sleep(pace)
+                passed.append(time.monotonic())
 
     thread, begun = threading.Thread(target=close_in_turn, daemon=True), time.monotonic()
     thread.start()
     words = ["measure", "--workers", "1", "L", *names]
     _, said = run_on_terminal(words, folder, subprocess.DEVNULL, subprocess.DEVNULL)
-    return said, time.monotonic() - begun
+    end = time.monotonic()
+    return said, end - begun, end - passed[0]
 
 
 class Cases(harness.TestCase):
@@ -765,14 +781,24 @@ class Further(harness.TestCase):
         names = [f"pipe {number}" for number, _ in enumerate(PACES)]
         for name in names:
             os.mkfifo(self.room / name)
-        said, _ = paced(self.room, names, PACES)
+        said, *_ = paced(self.room, names, PACES)
         wanted = b"".join(b"\r%d of %d files\x1b[K" % (number + 1, len(names)) for number, _ in enumerate(names)) + b"\r\x1b[K"
         self.check("a measurement of pipes", said, wanted)
         for _ in range(ATTEMPTS):
-            said, seconds = paced(self.room, names[:1], (0.5,))
+            said, seconds, _ = paced(self.room, names[:1], (0.5,))
             if seconds < 1:
                 break
         self.check("a measurement of less than a second", (said, seconds < 1), (b"", True))
+
+    def test_pace_after_a_wait(self):
+        """After a file that took seconds the next numbers come no faster than others."""
+        names = [f"late pipe {number}" for number, _ in enumerate(LATE_PACES)]
+        for name in names:
+            os.mkfifo(self.room / name)
+        said, _, seconds = paced(self.room, names, LATE_PACES)
+        shown = len(re.findall(rb"\r\d+ of", said))
+        is_slow = 0 < shown <= 1 + seconds / INTERVAL
+        self.check("a measurement that was held up", None if is_slow else f"{shown} numbers in {seconds} seconds: {said!r}", None)
 
     def test_progress(self):
         """Measurements that last: of files that are all there, and with one at the end that is not."""
