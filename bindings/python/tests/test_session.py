@@ -203,6 +203,18 @@ class Growing(Refusing):
         log[:], expected[:], state[:] = b"", b"x", b""
         self.assertTrue(session.more(LIST[ENDS[50]:]))
 
+    def test_size_of_an_input_is_that_of_its_memory(self):
+        """What has items of several bytes, or of several dimensions, has another length than bytes."""
+        whole, nonce = memoryview(LIST).cast("B", (1, len(LIST))), memoryview(NONCE).cast("I")
+        self.assertEqual((len(whole), whole.nbytes, len(nonce), nonce.nbytes), (1, len(LIST), 5, 20))
+        session = Session(LOG, EXPECTED, require="sha256:0-10")
+        self.assertTrue(session.more(whole))
+        self.assertEqual(session.offset, len(LIST))
+        session = Session.by_quotes(LOG)
+        self.assertTrue(session.attest(whole, MESSAGE, nonce=nonce, require="sha256:0-10", signature_checked=True))
+        self.assertEqual(session.offset, len(LIST))
+        self.assertTrue(ima_verify.attest(LOG, whole, MESSAGE, nonce=nonce, require="sha256:0-10", signature_checked=True))
+
     def test_other_types_are_no_inputs(self):
         for wrong in (None, 5, [10, 0], "x"):
             self.assertRaises(TypeError, Session, wrong, EXPECTED, require=NOTHING)
