@@ -1,14 +1,14 @@
 /* Holds the library to what ima_verify.h promises of wrong calls, room, faults, requirements, known files, quotes, sessions by them, keys,
  * pieces and the stack.
  *
- *     header LOG LIST EXPECTED PRINTED MESSAGE NONCE AREA PEM KNOWN BEFORE [STACK]
+ *     header LOG LIST EXPECTED PRINTED MESSAGE NONCE AREA PEM KNOWN BEFORE BANKS_LOG BANKS_LIST BANKS_MESSAGE [STACK]
  *
  * The files are those of the sample boot; PRINTED is what tpm2_pcrread printed, MESSAGE is the message of a quote of registers 0 to 10 in
  * the SHA-256 bank, and NONCE has its nonce in hexadecimal. AREA is the public area of an attestation key of RSA, 2048 bits, that signs by
- * RSASSA with SHA-256, and PEM is that key. KNOWN lists the files of LIST, and BEFORE has the registers before its first violation. Each
- * function is called in a thread with so many bytes of stack, by default
- * the 512 KiB of the header. Prints a line for each check that fails, how much stack was used at most, and last 'N passed, M failed'. The
- * status is 1 if one failed. */
+ * RSASSA with SHA-256, and PEM is that key. KNOWN lists the files of LIST, and BEFORE has the registers before its first violation. The
+ * files whose names begin with BANKS are those of a boot with banks of all algorithms, whose quote has the same nonce. Each function is
+ * called in a thread with so many bytes of stack, by default the 512 KiB of the header. Prints a line for each check that fails, how much
+ * stack was used at most, and last 'N passed, M failed'. The status is 1 if one failed. */
 #define _GNU_SOURCE
 #include <ima_verify.h>
 
@@ -593,6 +593,21 @@ static void check_quote(const struct given *sample) {
     check_quoted(WITH(message, ((struct ima_verify_bytes){changed, message.size})), false, false, "another digest");
 }
 
+/* The verdict by a quote of a boot with banks of all algorithms is that of the sample's, though its checkpoint, which attest does not give, is
+ * about as long as one can be. */
+static void check_quoted_banks(const struct given *sample, struct ima_verify_bytes log, struct ima_verify_bytes list,
+                               struct ima_verify_bytes message) {
+    enum { LONG = 17000 };
+    struct given given = *sample;
+    given.evidence.log = log;
+    given.evidence.list = list;
+    given.message = message;
+    check_quoted(&given, true, true, "banks of all algorithms");
+    ask(attest_more, &given, IMA_VERIFY_TEXT, ROOM);
+    bool is_long = next.size > LONG && next.size < IMA_VERIFY_CHECKPOINT_ROOM;
+    check(result == IMA_VERIFY_DONE && has_no_fault() && is_long, "attest_more", "banks of all algorithms");
+}
+
 /* Asks for a checkpoint, and copies it. */
 static struct ima_verify_bytes saved_by(const struct function *function, const struct given *given, uint8_t *room, const char *what) {
     ask(function, given, IMA_VERIFY_TEXT, ROOM);
@@ -927,7 +942,7 @@ static struct ima_verify_bytes spelled(struct ima_verify_bytes digits) {
 }
 
 int main(int count, char **words) {
-    if (count < 11)
+    if (count < 14)
         return 2;
     struct given sample = {
         .evidence = {.log = load(words[1]), .list = load(words[2]), .expected = load(words[3]),
@@ -955,12 +970,13 @@ int main(int count, char **words) {
     check_strays(&sample);
     check_quote_refusals(&sample);
     check_quote(&sample);
+    check_quoted_banks(&sample, load(words[11]), load(words[12]), load(words[13]));
     check_quoted_sessions(&sample);
     check_key(&sample);
     check_changed_keys(&sample);
     check_pieces(&sample);
     fflush(stdout);
-    check_stack(&sample, count > 11 ? strtoul(words[11], NULL, 10) : STACK);
+    check_stack(&sample, count > 14 ? strtoul(words[14], NULL, 10) : STACK);
     printf("%ld passed, %ld failed\n", passed, failed);
     return failed != 0;
 }

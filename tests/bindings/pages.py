@@ -7,8 +7,8 @@ import inputs
 from harness import ROOT
 from reference import answer
 from reference.log import Event, Log
-from reference.measurement_list import IMA_NG, VIOLATION, Entry, entry_of, list_spelling
-from reference.registers import SHA1, SHA256
+from reference.measurement_list import IMA_NG, VIOLATION, Entry, entry_of, list_spelling, replay
+from reference.registers import ALGORITHMS, SHA1, SHA256
 
 SAMPLE, QUOTED = ROOT / "samples/real-boot", ROOT / "samples/quoted"
 FILES = "firmware.log", "ima.list", "expected.txt"
@@ -134,6 +134,18 @@ def hiding_inputs():
     log, event = log._replace(events=log.events[:-1]), log.events[-1]
     moved = Entry(event.register, SHA1.hash(event.data), b"x", event.data)
     yield "an event in the list", log, [*inputs.made_entries(log, inputs.made_measurements(5)), moved]
+
+
+def banks_inputs(folder):
+    """Files of a boot with banks of all algorithms: log, list, and the sample's quote, but of this boot's registers 0 to 10 of SHA-256."""
+    log = inputs.made_log(ALGORITHMS, 24)
+    entries, registers = inputs.made_entries(log, inputs.made_measurements(3)), log.registers()
+    replay(registers, entries)
+    digest = SHA256.hash(b"".join(registers.value(SHA256, register) for register in range(11)))
+    message = (QUOTED / "quote.msg").read_bytes()[:-SHA256.size] + digest  # (the digest is its end)
+    for name, data in (("banks.log", log.spelling()), ("banks.list", list_spelling(entries)), ("banks.msg", message)):
+        (folder / name).write_bytes(data)
+        yield folder / name
 
 
 def doc_samples():
