@@ -144,11 +144,11 @@ func TestKnownFilesNeedARequirement(t *testing.T) {
 
 func TestOnlySessionsTakeOtherOptions(t *testing.T) {
 	for _, options := range [][]Option{{Prefix()}, {Resume([]byte(stateText))}, {Known(), Prefix()}, {Resume(nil)}} {
-		verdict, err := Verify(nil, nil, nil, "sha256:10", options...)
+		verdict, err := Verify(bootLog, bootList, bootTPM, "sha256:10", options...)
 		equal(t, []interface{}{verdict, err != nil}, []interface{}{Verdict{}, true})
-		list, err := Replay(nil, nil, "sha256:10", options...)
+		list, err := Replay(bootList, bootTPM, "sha256:10", options...)
 		equal(t, []interface{}{list, err != nil}, []interface{}{ListVerdict{}, true})
-		found, err := Attest(nil, nil, Quote{}, options...)
+		found, err := Attest(bootLog, bootList, quoteOfSample(), options...)
 		equal(t, []interface{}{found, err != nil}, []interface{}{Attestation{}, true})
 	}
 }
