@@ -10,9 +10,10 @@ from pathlib import Path
 
 from cluster import REQUIRE, ROOT, SECONDS, has
 from fleet_verify.machines import Machine
-from fleet_verify.opening import open_table
+from fleet_verify.opening import open_snapshot, open_table
 from fleet_verify.verdicts import Verdicts
 from hostile import listening_socket
+from tables import query
 
 AT_ONCE = 4
 PAGE = 4096
@@ -22,6 +23,9 @@ INNER, LEAF = 5, 13  # (kinds of pages)
 
 ENDLESS = "WITH RECURSIVE counted (machine) AS (SELECT 1 UNION ALL SELECT machine + 1 FROM counted)"
 COLUMNS = "machine, 'match' AS verdict, NULL AS cause, NULL AS poll, '' AS required, NULL AS signer, NULL AS time, NULL AS known_sha256"
+
+# Names of tables to which a URI gives another meaning, and one that is not UTF-8.
+NAMES = ("a?b.db", "a#b.db", "100%41.db", "caf\udce9.db")
 
 # What is done to a table that is one, by SQL.
 EDITED = {
@@ -123,6 +127,9 @@ def made_files(folder, good):
         path = Path(shutil.copyfile(good, folder / f"beside a pipe {ending}.db"))
         os.mkfifo(f"{path}-{ending}")
         yield f"beside a pipe, {ending}", path
+        link = folder / f"a link beside a pipe {ending}"
+        link.symlink_to(path)
+        yield f"a link to a table beside a pipe, {ending}", link
 
 
 def test_opening(tools):
@@ -151,5 +158,20 @@ def test_opening(tools):
             is_told = f"fleet-verify: refused: {path}: " in errors
             tools.check(f"refused by {name}: {title}", (status, output, is_told or errors), (2, "", True))
     tools.check("what is refused stays as it is", [path for path, data in before.items() if path.read_bytes() != data], [])
+    test_names(tools, folder)
     tools.needs_modules("jinja2")
     tools.check("the table that these were made of is one", called(("page", good))[0], 0)
+
+
+def test_names(tools, folder):
+    """A table is the file of the name that was given, or that a link of this name leads to, to be written and to be read."""
+    for number, name in enumerate(NAMES):
+        home = folder / f"names {number}"
+        home.mkdir()
+        (home / "link").symlink_to(name)
+        make_table(home / "link")
+        found = [query(home / name, "SELECT machine FROM found")]
+        for path in (home / name, home / "link"):
+            with closing(open_snapshot(str(path))) as table:
+                found.append(table.execute("SELECT machine FROM found").fetchall())
+        tools.check(f"a table of the name {name!r}", (sorted(os.listdir(home)), found), (sorted([name, "link"]), 3 * [[("a",)]]))
