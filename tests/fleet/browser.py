@@ -12,11 +12,12 @@ import zlib
 from concurrent.futures import ThreadPoolExecutor
 from contextlib import contextmanager
 from datetime import datetime, timedelta, timezone
+from urllib.parse import quote
 
 from cluster import SECONDS
 from page_tree import Reader, every, foreign, hostile_texts, lacks_jinja
-from pages import hostile_table, page_of
-from reports import hostile_boot, program_of, report_text
+from pages import hostile_table, listed_table, page_of
+from reports import hostile_boot, make_boot, most_known, program_of, report_text
 
 CHROMIUM = (
     "--headless=new", "--disable-gpu", "--hide-scrollbars", "--no-first-run", "--disable-background-networking", "--disable-component-update",
@@ -113,25 +114,70 @@ def without_policy(text):
     return found
 
 
+# What somebody does on a page without its policy: types a word, sends the form, or goes to another fragment.
+FORM = "const form = document.getElementById('search');"
+DONE = {
+    "typed": "form.elements.words.value = 'left'; form.dispatchEvent(new Event('input'));",
+    "sent": "form.elements.words.value = 'left'; form.requestSubmit();",
+    "another fragment": "location.hash = '#search=left';",
+}
+
+
 def test_search(tools, folder, fleet, boot):
-    """Search and filter, as the fragment asks for them: each row that has all words, and no other. An old page says how old it is."""
-    old = changed(folder, re.sub(r'datetime="[^"]*"', f'datetime="{datetime.now(timezone.utc) - timedelta(days=3)}"', fleet.read_text()))
+    """Search and filter, by a fragment and by hand: each row that has all words and the kind, and no other. A page of a day or more says how old
+    it is."""
+    known = folder / "known.html"
+    known.write_text(report_text(tools, make_boot(folder / "known"), "--known", most_known(folder))[1])
+    listed = folder / "listed.html"
+    listed.write_text(page_of(tools, listed_table(folder / "listed.db"))[1])
+    bare = without_policy(listed.read_text())
+    done = {title: changed(folder, f"{bare}<script>{{ {FORM} {do} }}</script>") for title, do in DONE.items()}
+    old, day = (aged(folder, fleet, hours) for hours in (3 * 24, 24))
     cases = (
-        (fleet, "#search=caf&kind=unreadable", ["caf"], ""),
-        (fleet, "#search=INVOICE%20txt", ["invoice"], ""),
-        (old, "#search=nothing-has-this", [], "It is 3 days old."),
-        (boot, "#search=u202e&kind=confirmed", ["invoice"], ""),
+        (fleet, "caf", "unreadable", ""), (fleet, "INVOICE txt", "", ""), (fleet, "all MACHINES", "", ""), (fleet, "cause invoice", "", ""),
+        (old, "nothing-has-this", "", "It is 3 days old."), (day, "", "none-is-so", "It is 1 day old."), (boot, "u202e", "confirmed", ""),
+        (known, "", "unknown", ""), (known, "", "violation", ""), (listed, "left", "", ""), (listed, "", "match", ""),
+        (listed, "late differ", "", ""), *((page, "left", title, "") for title, page in done.items()),
     )
-    shown = browse_all(tools, [(page, "--dump-dom", fragment) for page, fragment, *_ in cases])
-    for (page, fragment, wanted, age), (text, _) in zip(cases, shown):
-        top = Reader(text).top
-        rows = [row for group in every(top) if "data-rows" in group.attributes for row in group.inner if not isinstance(row, str)]
-        seen = [row.text for row in rows if "hidden" not in row.attributes]
-        others = [row for row in seen if not any(part in row for part in wanted)]
-        told = (others, bool(seen), next(top.all("output")).text, "hidden" in next(top.all("form")).attributes)
-        tools.check(f"{page.name}{fragment}: the rows that are found", told, ([], bool(wanted), f"{len(seen)} of {len(rows)} rows", False))
+    fragments = ["" if kind in DONE else f"#search={quote(words)}&kind={kind}" for _, words, kind, _ in cases]
+    shown = browse_all(tools, [(page, "--dump-dom", "--virtual-time-budget=2000", fragment) for (page, *_), fragment in zip(cases, fragments)])
+    for (page, words, kind, age), fragment, (text, _) in zip(cases, fragments, shown):
+        title, top = f"{page.name}, {words!r}, {kind!r}", Reader(text).top
+        kinds = {option.text for option in top.all("option")}
+        check_found(tools, title, top, words.lower().split(), kind if kind in kinds else "")
         said = [each.text for each in top.all("strong") if each.attributes.get("id") == "age" and "hidden" not in each.attributes]
-        tools.check(f"{page.name}: its age", said, [age] if age else [])
+        tools.check(f"{title}: its age", said, [age] if age else [])
+
+
+def aged(folder, page, hours):
+    """The page, made so many hours ago."""
+    return changed(folder, re.sub(r'datetime="[^"]*"', f'datetime="{datetime.now(timezone.utc) - timedelta(hours=hours)}"', page.read_text()))
+
+
+def check_found(tools, title, top, words, kind):
+    """Rows are seen if they have all words and the kind, and folded parts are open if they have such a row."""
+    groups = [group for group in every(top) if "data-rows" in group.attributes]
+    rows = [(group, row) for group in groups for row in group.inner if not isinstance(row, str)]
+
+    def is_found(row):
+        return all(word in row.text.lower() for word in words) and (not kind or kind in row.attributes.get("data-kind", "").split())
+
+    wanted = [row.text for _, row in rows if is_found(row)]
+    is_asked = bool(words or kind)
+    tools.check(f"{title}: something is to be found", bool(wanted), "nothing-has-this" not in words)
+    seen = [row.text for _, row in rows if "hidden" not in row.attributes]
+    told = (next(top.all("output")).text, "hidden" in next(top.all("form")).attributes)
+    tools.check(f"{title}: the rows that are found", (seen, *told), (wanted, f"{len(wanted)} of {len(rows)} rows" if is_asked else "", False))
+    folded = [(group, part) for group in groups for part in [around(group, "details")] if part]
+    found = ["open" in part.attributes for _, part in folded]
+    tools.check(f"{title}: what is open", found, [is_asked and any(is_found(row) for home, row in rows if home is group) for group, _ in folded])
+
+
+def around(element, tag):
+    """The nearest element of this name that the element is in, if there is one."""
+    while element and element.tag != tag:
+        element = element.parent
+    return element
 
 
 def test_pictures(tools, folder, fleet):
