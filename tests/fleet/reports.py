@@ -7,9 +7,11 @@ import os
 import re
 import shutil
 import signal
+import struct
 import subprocess
 import sys
 import time
+from collections import Counter
 from concurrent.futures import ThreadPoolExecutor
 from contextlib import suppress
 from pathlib import Path
@@ -18,6 +20,7 @@ import inputs
 from cluster import ROOT, SECONDS, until
 from harness import PROGRAM
 from page_tree import Reader, folded, foreign, hostile_texts, lacks_jinja, rows_below, state_of
+from reference.event_data import command_in, variable_in
 from reference.log import Event, read_log
 from reference.measurement_list import IMA_NG, entry_of, list_spelling, read_list
 from reference.registers import SHA1, SHA256
@@ -25,7 +28,7 @@ from reference.registers import SHA1, SHA256
 SAMPLES = ROOT / "samples"
 REAL, QUOTED = SAMPLES / "real-boot", SAMPLES / "quoted"
 FILES = ("firmware.log", "ima.list", "expected.txt")
-EV_ACTION = 5
+EV_ACTION, EV_EFI_VARIABLE_BOOT = 5, 0x80000002
 # Takes ten lines of 3 MB, of which the last two are notable. Prints which are kept, and how many there were.
 BOUNDS = """
 import json
@@ -302,6 +305,7 @@ def test_report_by_quote(tools, folder):
         (boot,),
     ])
     test_quoted_report(tools, good)
+    test_unsafe_clock(tools, folder, boot, quoted_by_nonce())
     for title, (status, page, _) in zip(("another nonce", "another key"), refused):
         marks = {row[3] for row in rows_below(page, "Events of the firmware log")}
         tools.check(f"a quote with {title}", (status, judged(page), marks), (4, ("refused", False), {"claimed"}))
@@ -326,6 +330,20 @@ def test_quoted_report(tools, given):
     tools.check("its registers are the quoted ones", [row[1] for row in rows_below(page, "PCRs")], [str(number) for number in range(11)])
     marks = {row[3] for row in rows_below(page, "Events of the firmware log")}
     tools.check("events that the quote confirms", marks, {"claimed", "confirmed data", "confirmed value"})
+
+
+def test_unsafe_clock(tools, folder, boot, quoted):
+    """A clock that may have shown a later time before is not safe, and the page says so. (The program is one that says so of any quote.)"""
+    programs = folder / "of an unsafe clock"
+    programs.mkdir()
+    good, clock = tools.folder / "program/ima-agent", '"resets":1,"restarts":0,"safe":true'
+    other = clock.replace("1", "2").replace("0", "1").replace("true", "false")
+    unsafe = f"""[ "$2" = --signature-checked ] || exec '{good}' "$@"; '{good}' "$@" | sed 's/{clock}/{other}/'"""
+    program = program_that(programs / "ima-agent", "attest", unsafe, good)
+    shutil.copy(ROOT / "attest/verify", programs / "ima-attest")
+    status, page, _ = report_of(tools, boot, "--program", program, *quoted)
+    found = (status, judged(page), [each.text for each in page.all("dd")][3])
+    tools.check("a quote whose clock is not safe", found, (0, ("match", True), "626 ms, 2 resets, 1 restart; not safe"))
 
 
 def confirmed_in(page):
@@ -483,17 +501,54 @@ def test_differences(tools, folder):
     (boot / "expected.txt").write_text("".join(line for line in lines if line.split()[1] != "14"))
     status, page, _ = report_of(tools, boot, "--before", ovmf / "systemd-boot.log")
     (table,) = (each for each in page.all("div") if each.attributes.get("aria-labelledby") == "before")
-    rows = [[cell.text for cell in row.inner if not isinstance(cell, str)][:2] for row in table.all("tr")][1:]
+    rows = [[cell.text for cell in row.inner if not isinstance(cell, str)][:3] for row in table.all("tr")][1:]
     logs = [read_log((ovmf / f"{name}.log").read_bytes()) for name in ("secure-boot", "systemd-boot")]
     wanted = {str(register): said_of(*(digests_of(log, register) for log in logs)) for register in range(24) if register != 14}
     wanted = {**{register: text for register, text in wanted.items() if text}, "14": "unknown: no value confirms the PCR"}
-    found = {register: text for register, text in rows if not re.fullmatch(r"(now|before): event \d+", text)}
+    events = [row for row in rows if re.fullmatch(r"(now|before): event \d+", row[1])]
+    found = {register: text for register, text, *_ in (row for row in rows if row not in events)}
     tools.check("differences from an earlier boot", (status, found), (0, wanted))
     tools.check("differences from an earlier boot: each kind of sentence", len(set(wanted.values())), 5)
+    tools.check("differences from an earlier boot: the events of both", events, [*events_apart(*logs)])
+    test_booted(tools, page, logs[0])
+
+
+def events_apart(now, before):
+    """The rows of events that one of the logs has more often, by PCR, those of this boot first. (None comes in another order here.)"""
+    for register in (number for number in range(24) if number != 14):
+        for when, log, other in (("now", now, before), ("before", before, now)):
+            more = Counter(digests_of(log, register)) - Counter(digests_of(other, register))
+            for number, event in numbered(log, register):
+                digest = event.digests[SHA256.identifier]
+                if more[digest]:
+                    more[digest] -= 1
+                    yield [str(register), f"{when}: event {number}", digest.hex()]
+
+
+def test_booted(tools, page, log):
+    """What was booted: the texts of commands and the values of boot variables are confirmed, and what a command is of, which policy it asks for, and
+    the names of variables are only claimed."""
+    rows, named = rows_below(page, "What the machine booted"), ("command, PCR 8", "command, PCR 12", "ima policy")
+    commands = [(number, command_in(event.data)) for number, event in numbered(log, 8)]
+    wanted = [["command, PCR 8", command.text.decode(), f"kind{command.kind}", str(number)] for number, command in commands]
+    asking = next(number for number, command in commands if b"ima_policy=tcb" in command.text)
+    wanted += [["command, PCR 12", "unknown", "", ""], ["ima policy", "", "asked", str(asking)]]
+    tools.check("what it booted: commands", [row for row in rows if row[0] in named], wanted)
+    rows = [row[1:] for row in rows if row[0] == "boot variable"]
+    variables = [(str(number), variable_in(event.data)) for number, event in numbered(log, 1) if event.type == EV_EFI_VARIABLE_BOOT]
+    found = [(number, claimed.partition("name")[2], "guid" in confirmed or "name" in confirmed) for confirmed, claimed, number in rows]
+    tools.check("what it booted: names of variables", found, [(number, each.name.decode("utf-16-le"), False) for number, each in variables])
+    order = ", ".join(f"{number:04x}" for (number,) in struct.iter_unpack("<H", variables[0][1].value))
+    tools.check("what it booted: the boot order", rows[0][0], f"order{order}")
+
+
+def numbered(log, register):
+    """The events that extend a PCR, by their numbers."""
+    return [(number, event) for number, event in enumerate(log.events, 1) if event.register == register and event.type != inputs.EV_NO_ACTION]
 
 
 def digests_of(log, register):
-    return [event.digests[SHA256.identifier] for event in log.events if event.register == register and event.type != inputs.EV_NO_ACTION]
+    return [event.digests[SHA256.identifier] for _, event in numbered(log, register)]
 
 
 def said_of(now, before):
