@@ -167,6 +167,9 @@ def test_told(tools):
     })
     tools.check("--json: the order of those without a report", [each["machine"] for each in others], ["e", "f", "c", "d", "b"])
     tools.check("the most frequent causes", summary.causes, ["failed 2: x", "refused 1: y", "refused 1: z"])
+    for age, wanted in ((math.inf, None), (None, None), (90.04, 90.0)):
+        told = json.loads(Summary(counts={"match": 1}, oldest_match=age).json, parse_constant=lambda name: f"{name} is no JSON")
+        tools.check(f"--json: an age of {age} seconds", told["oldest_match_seconds"], wanted)
 
 
 def test_bound(tools):

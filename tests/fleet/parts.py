@@ -267,13 +267,16 @@ print(cause_of(RuntimeError("the key x does not exist"), "s3://bucket/x"))
 print(cause_of(RuntimeError("s3://bucket/x is gone"), "simplecache::s3://bucket/x"))
 print(cause_of(RuntimeError("no answer"), "file:///"))
 print(cause_of(RuntimeError("no answer"), "/"))
+for path in ("/srv/boot (1/log", "/srv/c++/[a]*", "/srv/a.b/log", r"/srv/a\\1/log"):
+    print(cause_of(RuntimeError(f"{path} is gone, and not /srv/a/b/log"), path))
 print(cause_of(RuntimeError(chr(27) + "]0;x" + chr(7) + chr(10) + chr(0xdc80))))
 print(len(cause_of(RuntimeError(2000 * "x"))))
 """
 CAUSES_WANTED = [
     "FileNotFoundError: ..", "FileNotFoundError: ..", "PermissionError: [Errno 13] Permission denied",
     "RuntimeError: no answer from ..?", "MemoryError", "OSError: [Errno 22] Bad request: ..", "RuntimeError: the key .. does not exist",
-    "RuntimeError: .. is gone", "RuntimeError: no answer", "RuntimeError: no answer", "RuntimeError: ?]0;x???", "1000",
+    "RuntimeError: .. is gone", "RuntimeError: no answer", "RuntimeError: no answer",
+    *4 * ["RuntimeError: .. is gone, and not /srv/a/b/log"], "RuntimeError: ?]0;x???", "1000",
 ]
 
 # Prints the paths of machines in folders, and what is said of the last, which has no such file.
