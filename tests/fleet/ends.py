@@ -109,6 +109,7 @@ def test_ends(tools, fleet):
     test_stopped_worker(ends)
     test_no_library(ends)
     test_no_dask(ends)
+    test_no_certificates(ends)
 
 
 def test_signals(ends):
@@ -292,3 +293,12 @@ def test_no_dask(ends):
     ends.check("no Dask: a scheduler", found, (2, "", True, False))
     status, _, _ = ends.tools.verify("--workers", 1, ends.fleet.table, table, **given)
     ends.check("no Dask: workers", (status, rows_of(table)), (1, ends.fleet.rows))
+
+
+def test_no_certificates(ends):
+    """A run by TLS without certificates is refused, and does not go on without encryption."""
+    ends.tools.needs_dask()
+    table, given = ends.tools.folder / "no certificates.db", {"DASK_DISTRIBUTED__COMM__TLS__CA_FILE": ""}
+    for address in ("tls://127.0.0.1:1", "wss://127.0.0.1:1"):
+        status, output, errors = ends.tools.verify("--scheduler", address, ends.fleet.table, table, **given)
+        ends.check(f"no certificates: {address}", (status, output, "an address by TLS needs certificates" in errors), (2, "", True))
