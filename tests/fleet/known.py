@@ -82,6 +82,8 @@ def test_texts(tools, folder):
     for number, text in enumerate(texts):
         paths.append(str(folder / f"text {number}"))
         (folder / f"text {number}").write_bytes(text)
+    (folder / "text 0").rename(folder / "text")
+    (folder / "text 0").symlink_to("text")  # (what the operator names may be a link)
     with mock.patch.object(known, "MOST_BYTES", 10):
         found = known.read_known(paths[:3])
         places = [found.place(line) for line in (1, 2, 3)]

@@ -22,7 +22,7 @@ from harness import PROGRAM
 from page_tree import Reader, folded, foreign, hostile_texts, lacks_jinja, rows_below, state_of
 from reference.event_data import command_in, variable_in
 from reference.log import Event, read_log
-from reference.measurement_list import IMA_NG, entry_of, list_spelling, read_list
+from reference.measurement_list import IMA_NG, Entry, entry_of, list_spelling, read_list
 from reference.registers import SHA1, SHA256
 
 SAMPLES = ROOT / "samples"
@@ -181,6 +181,8 @@ def test_report(tools):
     test_broken_list(tools, folder)
     test_prefixes(tools, folder)
     test_differences(tools, folder)
+    test_other_templates(tools, folder)
+    test_own_links(tools, folder)
     test_failing_program(tools, folder)
     test_planted_program(tools, folder)
     test_planted_modules(tools, folder)
@@ -558,6 +560,38 @@ def said_of(now, before):
         return "no difference" if now else None
     sentence = {0: "the logs differ at the first event", 1: "the first event is the same"}.get(same, f"the first {same} events are the same")
     return f"{sentence} in bank sha256"
+
+
+def test_other_templates(tools, folder):
+    """An entry of another template: what its fields say, or else all of its bytes."""
+    log, digest, raw = read_log((REAL / "firmware.log").read_bytes()), bytes(range(32)), b"raw"
+
+    def of_fields(*fields):
+        return b"".join(len(field).to_bytes(4, "little") + field for field in (b"sha256:\0" + digest, *fields))
+
+    payloads = {b"ima-sig": of_fields(b"/a\0", b"\3"), b"ima-buf": of_fields(b"b\0", b"c"), b"x": raw, b"caf\xe9": raw}
+    others = [Entry(10, SHA1.hash(payload), template, payload) for template, payload in payloads.items()]
+    entries = [entry_of(IMA_NG, SHA256, log.registers().boot_aggregate(SHA256), b"boot_aggregate"), *others]
+    expected = inputs.expected_text(inputs.expected_after(log, entries))
+    status, page, _ = report_of(tools, make_boot(folder / "other templates", ima=list_spelling(entries), expected=expected))
+    rows = [row[2:] for row in rows_below(page, "Entries of the measurement list")[1:]]
+    said = f"algorithmsha256digest{digest.hex()}pathbbuffer{b'c'.hex()}"
+    tools.check("entries of other templates", (status, rows), (0, [
+        ["confirmed", "/a", f"sha256 {digest.hex()}", "ima-sig"], ["confirmed", said, "", "ima-buf"], ["confirmed", raw.hex(), "", "x"],
+        ["confirmed", raw.hex(), "", "caf\\xe9"],
+    ]))
+
+
+def test_own_links(tools, folder):
+    """A file that the operator names may be a link. (Only what a machine sent may not.)"""
+    own, words = {"key": QUOTED / "AK.pem", "before": REAL / "firmware.log", "known": SAMPLES / "known/SHA256SUMS"}, []
+    for name, file in own.items():
+        (folder / f"own {name}").symlink_to(file)
+        words += [f"--{name}", folder / f"own {name}"]
+    status, page, _ = report_of(tools, make_quoted(folder / "own links"), *words, *quoted_by_nonce()[2:])
+    read = {row[0]: row[2] for row in rows_below(page, "The verdict") if row[0].startswith("own ")}
+    wanted = {f"own {name}": hashlib.sha256(file.read_bytes()).hexdigest() for name, file in own.items()}
+    tools.check("links that the operator names", (status, judged(page), read), (1, ("differ", False), wanted))
 
 
 def test_failing_program(tools, folder):
