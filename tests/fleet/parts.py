@@ -445,9 +445,21 @@ def test_version(tools):
 
 # What the service may not do without a reason: its exposure, as systemd-analyze has it, times ten; and what that does not look at.
 MOST_EXPOSED = 5
-LIMITS = ("MemoryMax=4G", "OOMPolicy=continue", "PrivateNetwork=yes", "RestrictAddressFamilies=none", "ProtectHome=yes", "PrivateUsers=yes")
+LIMITS = (
+    "MemoryMax=4G", "OOMPolicy=continue", "TasksMax=4096", "Nice=10", "PrivateNetwork=yes", "RestrictAddressFamilies=none", "ProtectHome=yes",
+    "PrivateUsers=yes", "IPAddressDeny=any", "ProtectSystem=strict", "SystemCallErrorNumber=EPERM", "RemoveIPC=yes", "NoNewPrivileges=yes",
+)
+# What else it may not do. (Of any one of these that is lost, the exposure does not tell.)
+HARDENED = (
+    "PrivateTmp=yes", "PrivateIPC=yes", "ProtectProc=invisible", "ProcSubset=pid", "ProtectClock=yes", "ProtectControlGroups=yes",
+    "ProtectHostname=yes", "ProtectKernelLogs=yes", "ProtectKernelModules=yes", "ProtectKernelTunables=yes", "LockPersonality=yes",
+    "MemoryDenyWriteExecute=yes", "RestrictRealtime=yes", "RestrictSUIDSGID=yes", "SystemCallArchitectures=native",
+)
 # Where its settings are, how it ends, who reads what it leaves, and for how long that stays; and when a poll begins that a stopped computer missed.
-SET = ("Type=oneshot", "EnvironmentFile=/etc/fleet-verify/poll.conf", "TimeoutStartSec=1h", "KillMode=mixed", "User=fleet-verify", "UMask=0077")
+SET = (
+    "After=remote-fs.target", "Type=oneshot", "EnvironmentFile=/etc/fleet-verify/poll.conf", "TimeoutStartSec=1h", "KillMode=mixed", "User=fleet-verify",
+    "UMask=0077",
+)
 KEPT = ("StateDirectory=fleet-verify", "StateDirectoryMode=0700", "RuntimeDirectory=fleet-verify", "RuntimeDirectoryPreserve=yes")
 TIMED = ("OnCalendar=*:0/15", "RandomizedDelaySec=1min", "Persistent=yes", "WantedBy=timers.target")
 
@@ -459,7 +471,9 @@ def test_units(tools):
     shutil.copytree(ROOT / "fleet/systemd", folder)
     service, timer = folder / "fleet-poll.service", folder / "fleet-poll.timer"
     text = re.sub(r"^(Exec\w+=)fleet-verify ", r"\1/bin/true ", service.read_text(), flags=re.MULTILINE)
-    for title, settings, said in (("its limits", LIMITS, text), ("its settings", SET, text), ("what it leaves", KEPT, text), ("its times", TIMED, timer.read_text())):
+    for title, settings, said in (
+        ("its limits", (*LIMITS, *HARDENED), text), ("its settings", SET, text), ("what it leaves", KEPT, text), ("its times", TIMED, timer.read_text()),
+    ):
         tools.check(f"the service: {title}", [setting for setting in settings if setting not in said.splitlines()], [])
     exposed = ["systemd-analyze", "security", "--offline=true", "--no-pager", f"--threshold={MOST_EXPOSED}", service]
     for title, edited, is_right in (
