@@ -4,7 +4,9 @@
 mod attested;
 mod known;
 mod quoted;
+mod verdicts;
 
 pub use attested::answer_tells_attestation;
 pub use known::well_answer_has_known_entries;
 pub use quoted::well_answer_quotes_the_log;
+pub use verdicts::report_is_well_by_its_verdict;
