@@ -85,6 +85,11 @@ def unkept(package):
     return sorted(files ^ set([] if kept.fault else kept.output.decode().splitlines()))
 
 
+def file_of(package, name):
+    """What a file of a package has."""
+    return run("sh", "-c", 'dpkg-deb --fsys-tarfile "$1" | tar -xO "./$2"', "sh", package, name).output
+
+
 def dates(package):
     """The times of a package's files, and of its changelog."""
     for line in run("dpkg-deb", "--contents", package, env={**os.environ, "TZ": "UTC0"}).output.decode().splitlines():

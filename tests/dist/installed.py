@@ -26,6 +26,24 @@ BOOT = PREFIX / "share/ima-agent/samples/real-boot"
 LOG, LIST, EXPECTED = (BOOT / name for name in ("firmware.log", "ima.list", "expected.txt"))
 LONGER, CHANGED = FOLDER / "longer.list", FOLDER / "changed.list"
 
+# The files of a release but for its samples, by folder: those that are programs, all others, and what goes with the fleet's wheel.
+PROGRAMS = {"": ["install"], "bin/": ["ima-agent", "ima-attest", "ima-collect", "ima-enroll"], "lib/": ["libima_verify.so.1"]}
+DOCS = ["CHANGELOG.md", "VERSION", "attest.md", "cli.md", "errors.txt", "event-data.md", "examples.txt", "formats.md", "ima-agent.spdx.json",
+        "investigate.md", "json.md", "json.txt", "layouts.txt", "library.md", "reports.txt", "standards.txt", "trust.md", "trust.svg",
+        "verdict.md"]
+OTHERS = {
+    "": ["README.md", "SHA256SUMS"], "debug/": ["ima-agent.debug", "libima_verify.so.1.debug"], "include/": ["ima_verify.h"],
+    "lib/": ["libima_verify.a", "libima_verify.so", "pkgconfig/ima_verify.pc"], "share/doc/ima-agent/": DOCS,
+    "share/": ["bash-completion/completions/ima-agent", "fish/vendor_completions.d/ima-agent.fish", "ima-agent/example.c",
+               "zsh/site-functions/_ima-agent"],
+    "share/man/": ["man1/ima-agent.1", "man1/ima-attest.1", "man1/ima-collect.1", "man1/ima-enroll.1", "man3/ima_verify.3"],
+}
+FLEET = {
+    "share/doc/ima-agent/": ["fleet.md"], "share/man/man1/": ["fleet-verify.1", "ima-report.1"],
+    "share/ima-agent/systemd/": ["fleet-poll.service", "fleet-poll.timer", "fleet-verify.conf", "poll.conf"],
+    "share/ima-agent/python/": ["fleet_verify-VERSION-py3-none-any.whl", "ima_verify-VERSION-py3-none-manylinux_2_N_x86_64.whl"],
+}
+
 
 def lines_of(data):
     return data.decode(errors="backslashreplace").split("\n")
@@ -108,6 +126,23 @@ def tree_of(folder):
 def files_of(folder):
     """The names of all in a folder that is no folder."""
     return [name for name, (mode, *_) in tree_of(folder).items() if mode[0] != "d"]
+
+
+def named(*tables):
+    """The names of the files in tables by folder."""
+    return {folder + name for table in tables for folder, names in table.items() for name in names}
+
+
+def samples():
+    """The names of the samples in a release: those of the tree, but for what made them."""
+    files = [path for path in (ROOT / "samples").rglob("*") if path.is_file() and "__pycache__" not in path.parts]
+    return {f"share/ima-agent/{path.relative_to(ROOT)}" for path in files if path.suffix != ".py"}
+
+
+def unnumbered(names):
+    """Names of files, of which those of wheels have no versions."""
+    version = (ROOT / "VERSION").read_text().strip()
+    return {re.sub(r"manylinux_2_\d+_", "manylinux_2_N_", name.replace(f"-{version}-py3-", "-VERSION-py3-")) for name in names}
 
 
 def is_executable(file):
