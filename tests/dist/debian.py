@@ -5,7 +5,8 @@ import os
 import re
 import shlex
 
-from installed import FOLDER, MULTIARCH, run
+from harness import ROOT
+from installed import DOCS, FOLDER, MULTIARCH, RELEASE, run, samples
 
 TOOLS, CALLS = FOLDER / "tools", FOLDER / "calls"
 # What all packages need of a system, and what the fleet's does.
@@ -24,7 +25,7 @@ FIELDS = {
                      "python3-fsspec (>= 2022.11)", "Depends": "python3 (>= 3.9), python3-cryptography (>= 37), python3-ima-verify (<< 2), "
                      "python3-ima-verify (>= 1.0), python3-jinja2 (>= 3.0), ima-agent (>= VERSION)"},
 }
-RELATIONS = ("Architecture", "Multi-Arch", "Section", "Depends", "Pre-Depends", "Recommends", "Suggests", "Maintainer", "Version")
+RELATIONS = ("Architecture", "Multi-Arch", "Section", "Depends", "Pre-Depends", "Recommends", "Suggests", "Maintainer", "Version", "Priority")
 # What the scripts of the fleet's package have tools do, by what dpkg calls them with and where. Units are begun by none, and end with the package.
 COMPILED, CLEANED, LOADED = "py3compile -p fleet-verify", "py3clean -p fleet-verify", "systemctl --system daemon-reload"
 MADE, KNOWN, FORGOTTEN = "systemd-sysusers fleet-verify.conf", *(f"deb-systemd-helper {do} fleet-poll.timer" for do in ("update-state", "purge"))
@@ -38,26 +39,103 @@ DONE = (
     ("postrm", "purge", "with systemd", [FORGOTTEN, LOADED]), ("postrm", "purge", "below another root", [FORGOTTEN]),
     *((name, "remove", "without tools", []) for name in ("postinst", "prerm", "postrm")),
 )
-# Where other programs look for files.
-PLACES = {
-    "ima-agent": ["/usr/share/bash-completion/completions/ima-agent", "/usr/share/fish/vendor_completions.d/ima-agent.fish",
-                  "/usr/share/zsh/vendor-completions/_ima-agent"],
-    "libima-verify1": [f"{MULTIARCH}/libima_verify.so.1"],
-    "libima-verify-dev": [f"{MULTIARCH}/libima_verify.so", f"{MULTIARCH}/pkgconfig/ima_verify.pc"],
-    "fleet-verify": ["/lib/systemd/system/fleet-poll.service", "/lib/systemd/system/fleet-poll.timer", "/usr/lib/sysusers.d/fleet-verify.conf"],
+# What each package has, but for modules of Python and samples: programs, and other files. What dpkg reads of it, and what it says of itself.
+BIN, DOC, MAN = "usr/bin", "usr/share/doc", "usr/share/man"
+PROGRAMS = {"ima-agent": ["ima-agent", "ima-attest", "ima-enroll"], "ima-collect": ["ima-collect"], "fleet-verify": ["fleet-verify", "ima-report"]}
+FILES = {
+    "ima-agent": ["usr/share/bash-completion/completions/ima-agent", "usr/share/fish/vendor_completions.d/ima-agent.fish",
+                  "usr/share/zsh/vendor-completions/_ima-agent", *(f"{DOC}/ima-agent/{name}" for name in DOCS)],
+    "ima-collect": [],
+    "libima-verify1": [f"{MULTIARCH[1:]}/libima_verify.so.1"],
+    "libima-verify-dev": ["usr/include/ima_verify.h", f"{MULTIARCH[1:]}/libima_verify.a", f"{MULTIARCH[1:]}/libima_verify.so",
+                          f"{MULTIARCH[1:]}/pkgconfig/ima_verify.pc", f"{DOC}/libima-verify-dev/examples/example.c", f"{MAN}/man3/ima_verify.3.gz"],
+    "python3-ima-verify": [],
+    "fleet-verify": ["lib/systemd/system/fleet-poll.service", "lib/systemd/system/fleet-poll.timer", "usr/lib/sysusers.d/fleet-verify.conf",
+                     "etc/fleet-verify/poll.conf", f"{DOC}/fleet-verify/fleet.md"],
 }
+MODULES = {"python3-ima-verify": ("bindings/python", "ima_verify", ["METADATA"]),
+           "fleet-verify": ("fleet", "fleet_verify", ["METADATA", "entry_points.txt"])}
+READ = {"libima-verify1": ["shlibs", "symbols", "triggers"], "python3-ima-verify": ["postinst", "prerm"],
+        "fleet-verify": ["conffiles", "postinst", "postrm", "prerm"]}
+SCRIPTS = ("postinst", "postrm", "prerm")
+SAYS = {
+    "ima-agent": ("", ""), "ima-collect": (" (collector)", "the script that collects these on the machine."),
+    "libima-verify1": (" (library)", "the shared library."), "libima-verify-dev": (" (development)", "the header and the static library."),
+    "python3-ima-verify": (" (Python)", "the module ima_verify for Python 3."),
+    "fleet-verify": (" (fleet)", "the commands that verify many machines, and show\n what came of it."),
+}
+DESCRIPTION = """verifies boot logs and IMA measurement lists{}
+ Do a machine's firmware event log and its IMA measurement list account for
+ the registers (PCRs) of its TPM 2.0? Both are replayed, and the result is
+ compared with register values, as a quote of the TPM confirms them.
+"""
+# What is linked in a package.
+LINKED = {"ima-agent": "bin/ima-agent", "libima-verify1": "lib/libima_verify.so.1"}
+
+
+def modules_of(name, version):
+    """The files of Python in a package: those of the tree, and what tells of them."""
+    if name not in MODULES:
+        return set()
+    root, module, told = MODULES[name]
+    files = [path.relative_to(ROOT / root) for path in (ROOT / root / module).rglob("*") if path.is_file() and path.suffix not in (".so", ".pyc")]
+    return {f"usr/lib/python3/dist-packages/{file}" for file in (*files, *(f"{module}-{version}.dist-info/{each}" for each in told))}
+
+
+def wanted_files(name, version):
+    """By name, whether a file of a package is a program."""
+    others = {*FILES[name], *modules_of(name, version), f"{DOC}/{name}/changelog.gz", *(f"usr/{each}" for each in samples() if name == "ima-agent")}
+    programs = PROGRAMS.get(name, [])
+    others |= {f"{MAN}/man1/{each}.1.gz" for each in programs}
+    return {**dict.fromkeys(others, False), **{f"{BIN}/{each}": True for each in programs}}
+
+
+def listed(package, words):
+    """By name, mode and size of the files in a part of a package, as tar lists them; and the modes of its folders and links."""
+    rows = [line.split(None, 5) for line in run("sh", "-c", f'dpkg-deb {words} "$1" | tar -tv', "sh", package).output.decode().splitlines()]
+    files = {row[5][2:]: (row[0], int(row[2])) for row in rows if row[0][0] == "-"}
+    return files, {row[5].partition(" -> ")[0][2:]: row[0] for row in rows if row[0][0] != "-"}
+
+
+def strange(package, name, version):
+    """What is otherwise in a package than the tables say: its files with their modes, their size, and what dpkg reads."""
+    files, others = listed(package, "--fsys-tarfile")
+    wanted = wanted_files(name, version)
+    found = {**{file: mode == "-rwxr-xr-x" for file, (mode, _) in files.items()}, **{file: False for file, mode in others.items() if mode[0] == "l"}}
+    yield from (f"{name}: {file}" for file in sorted({file for file, _ in {*found.items()} ^ {*wanted.items()}}))
+    modes = {mode for mode, _ in files.values()} | {mode for mode in others.values() if mode[0] != "l"}
+    yield from (f"{name}: mode {mode}" for mode in modes - {"-rwxr-xr-x", "-rw-r--r--", "drwxr-xr-x"})
+    size = run("dpkg-deb", "--field", package, "Installed-Size").output.decode().strip()
+    if int(size) != sum((size + 1023) // 1024 for _, size in files.values()):
+        yield f"{name}: its size is {size}"
+    read = {file: mode == "-rwxr-xr-x" for file, (mode, _) in listed(package, "--ctrl-tarfile")[0].items()}
+    if read != {file: file in SCRIPTS for file in ("control", "md5sums", *READ.get(name, []))}:
+        yield f"{name}: dpkg reads {read}"
+    members = run("ar", "t", package).output.decode().split()
+    if members != ["debian-binary", "control.tar.xz", "data.tar.xz"]:
+        yield f"{name}: {members}"
+
+
+def least_glibc(name):
+    """The least version of glibc that has what is linked in a package, as nm names it."""
+    said = run("nm", "-D", "--", RELEASE / LINKED[name]).output.decode() if name in LINKED else ""
+    return max((tuple(map(int, found.split("."))) for found in re.findall(r"@GLIBC_([0-9.]+)", said)), default=())
 
 
 def flaws(package, maker, version):
     """What dpkg, apt or another program finds otherwise in a package of this maker than the tables above say."""
     rows = dict(re.findall(r"^([\w-]+): (.*)$", run("dpkg-deb", "--field", package).output.decode(), re.MULTILINE))
     name = rows["Package"]
-    told = {field: re.sub(r"libc6 \(>= 2\.\d+\)", "libc6 (>= GLIBC)", rows[field]) for field in RELATIONS if field in rows}
-    wanted = {**FIELDS[name], "Maintainer": maker, "Version": version}
-    wanted = {field: text.replace("VERSION", version) for field, text in wanted.items()}
+    told = {field: rows[field] for field in RELATIONS if field in rows}
+    wanted = {**FIELDS[name], "Maintainer": maker, "Version": version, "Priority": "optional"}
+    glibc = ".".join(map(str, least_glibc(name)))
+    wanted = {field: text.replace("VERSION", version).replace("GLIBC", glibc) for field, text in wanted.items()}
     yield from (f"{name}: {field} is {told.get(field)}" for field in sorted({*told, *wanted}) if told.get(field) != wanted.get(field))
-    files = [line.split()[5][1:] for line in run("dpkg-deb", "--contents", package).output.decode().splitlines()]
-    yield from (f"{name}: there is no {file}" for file in PLACES.get(name, []) if file not in files)
+    part, what = SAYS[name]
+    says = DESCRIPTION.format(part) + (f" .\n This package has {what}\n" if what else "")
+    if run("dpkg-deb", "--field", package, "Description").output.decode() != says:
+        yield f"{name}: it says of itself {run('dpkg-deb', '--field', package, 'Description').output.decode()}"
+    yield from strange(package, name, version)
 
 
 def begin(system):
