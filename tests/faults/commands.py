@@ -11,6 +11,7 @@ import io
 import os
 import re
 import shutil
+import stat
 import subprocess
 import sys
 import tempfile
@@ -30,20 +31,26 @@ from sources import crates_below  # noqa: E402
 PROGRAM = Path("crates/ima_agent_program")
 MAIN = PROGRAM / "src/main.rt"
 NOT_BUILT = 125
+SONAME = "libima_verify.so.1"
+# What dist/library makes.
+MADE = {SONAME: "-rwxr-xr-x", "libima_verify.so": "lrwxrwxrwx", "libima_verify.a": "-rw-r--r--", "ima_verify.h": "-rw-r--r--"}
 # Scripts in tests/ that try nothing by themselves.
 NO_PARTS = {"tests/attest/emulated.py", "tests/fleet/quoted.py"}
 
 # What stands in for rt. `ci` works in the copy that ./ima-agent makes, whose program writes its source and its arguments, and ends with
-# the status that its first argument names. FAIL has it fail; DURING is a command that it runs meanwhile; `try` says that a run ended so.
+# the status that its first argument names. FAIL has it fail, and NOTHING make nothing; DURING is a command that it runs meanwhile; `try` says
+# that a run ended so. The program and `try` write what they are given, which a build must not take.
 STAND_IN = """#!/bin/sh
 case $1 in
 version) cat "${0%/bin/rt}/KIT-ID" ;;
 ci)
     echo built >>"$BUILDS"
+    cat >/dev/null
     sh -c "${DURING:-:}"
     [ -z "${FAIL:-}" ] || { echo 'the proof of main is open'; exit 1; }
+    [ -z "${NOTHING:-}" ] || exit 0
     mkdir -p crates/ima_agent_program/out crates/ima_agent/out/rlib
-    { printf '%s\\n' '#!/bin/sh' '[ "$1" != --help ] || exit 0' 'printf "<%s>\\n" "$@"'
+    { printf '%s\\n' '#!/bin/sh' '[ "$1" != --help ] || exit 0' 'printf "<%s>\\n" "$@"' cat
         sed 's/^/# /' crates/ima_agent_program/src/main.rt; echo 'exit "$1"'; } \\
         >crates/ima_agent_program/out/ima_agent_program
     chmod +x crates/ima_agent_program/out/ima_agent_program
@@ -52,11 +59,15 @@ ci)
     ;;
 lib)
     echo built >>"$BUILDS"
+    cat >/dev/null
+    sh -c "${DURING:-:}"
+    [ -z "${FAIL:-}" ] || { echo 'the proof of ima_verify_verdict is open'; exit 1; }
     cp "${0%/bin/rt}/archive.a" out/libima_verify_c.a
     ;;
 try)
     shift
     printf '<%s>\\n' "$@"
+    cat
     echo "$ENDED" >&2
     ;;
 esac
@@ -82,17 +93,17 @@ class Tree:
     def name_kit(self, name):
         (self.kit / "KIT-ID").write_text(name + "\n")
 
-    def start(self, *words, command="ima-agent", folder=None, **settings):
+    def start(self, *words, command="ima-agent", folder=None, umask=-1, **settings):
         """Begins a call of a command."""
         path = os.pathsep.join([str(self.kit / "bin"), os.environ["PATH"]])
         environment = {**os.environ, "PATH": path, "BUILDS": str(self.builds), **settings}
-        return subprocess.Popen([self.root / command, *words], cwd=folder, env=environment, stdin=subprocess.DEVNULL,
+        return subprocess.Popen([self.root / command, *words], cwd=folder, env=environment, umask=umask, stdin=subprocess.PIPE,
                                 stdout=subprocess.PIPE, stderr=subprocess.PIPE, text=True)
 
-    def call(self, *words, **settings):
-        """The status of a call, what it writes, and what it says beside that."""
+    def call(self, *words, given="", **settings):
+        """The status of a call that is given this, what it writes, and what it says beside that."""
         process = self.start(*words, **settings)
-        answer, said = process.communicate(timeout=60)
+        answer, said = process.communicate(given, timeout=60)
         return process.returncode, answer, said
 
 
@@ -124,6 +135,12 @@ class Commands(harness.TestCase):
             answer = self.tree.call(str(status), "a b", "*")
             self.check(f"status {status} and the arguments reach the caller", answer[:2], (status, f"<{status}>\n<a b>\n<*>\n"))
         self.check("the program that was built is run again", self.builds_for("again"), 0)
+        link = self.folder() / "a link"
+        link.symlink_to(self.tree.root / "ima-agent")
+        self.check("and so it is by a link to the script", self.builds_for("again", command=link), 0)
+        edit(self.tree.root / MAIN)
+        for title in ("standard input is the program's, and no build's", "without a build, too"):
+            self.check(title, self.tree.call("0", given="a log\n")[:2], (0, "<0>\na log\n"))
 
     def test_planted_programs(self):
         """No program in the caller's folder, which may be a machine's, is run."""
@@ -206,6 +223,41 @@ class Commands(harness.TestCase):
         told = re.findall(r"^ima-agent: (\d+) of (\d+) crates proved after 0 min \d+ s: (\w+)$", said, re.MULTILINE)
         self.check("each crate that is proved is told", told, [("1", count, "byte_fields"), ("2", count, "ima_agent_program")])
 
+    def test_unbuilt(self):
+        """What keeps a program from being built or kept is said, and its status is none of the program's."""
+        root, out, main = self.tree.root, self.tree.root / PROGRAM / "out", self.tree.root / MAIN
+        below, table = root / "crates/ima_agent/out", root / "crates.txt"
+        lines, failing = table.read_text(), self.folder()
+
+        def without(tool):
+            """Settings with a tool that does its work and then fails."""
+            (failing / tool).mkdir()
+            (failing / tool / tool).write_text(f'#!/bin/sh\n{shutil.which(tool)} "$@"\nexit 1\n')
+            (failing / tool / tool).chmod(0o755)
+            return {"PATH": os.pathsep.join([str(failing / tool), str(self.tree.kit / "bin"), os.environ["PATH"]])}
+
+        for title, change, settings, said in (
+            ("a file in the place of out", lambda: (shutil.rmtree(out), out.touch()), {}, "out cannot be made"),
+            ("a folder in the place of the lock", lambda: (out / "ima-agent.lock").mkdir(parents=True), {}, "the build cannot be locked"),
+            ("no folder for temporary files", lambda: None, {"TMPDIR": "/none"}, "no folder for the build"),
+            ("a table without the program", lambda: table.write_text(lines.replace("ima_agent_program", "other")), {}, "crates.txt was not read"),
+            ("a crate without its folder", lambda: table.write_text(lines.replace("program: ", "program: none ") + "none:\n"), {},
+             "the sources were not copied"),
+            ("a build that makes nothing", lambda: edit(main), {"NOTHING": "1"}, "the sources were not read"),
+            ("a file in the place of a library's folder", lambda: (shutil.rmtree(below, ignore_errors=True), below.touch()), {}, "the library ima_agent was not kept"),
+            ("tar fails", lambda: None, without("tar"), "the sources were not copied"),
+            ("cp fails", lambda: None, without("cp"), "the program was not kept"),
+            ("mv fails", lambda: None, without("mv"), "was not kept"),
+        ):
+            change()
+            edit(main)
+            status, answer, errors = self.tree.call("0", **settings)
+            self.check(f"unbuilt: {title}", (status, answer, said in errors or errors), (NOT_BUILT, "", True))
+            table.write_text(lines)
+            for path in (out, below):
+                path.unlink() if path.is_file() else shutil.rmtree(path, ignore_errors=True)
+        self.check("what is not kept is built by the next call", self.builds_for(), 1)
+
     def test_left(self):
         """What another build left in a crate is not in the copy that is built."""
         left, seen = self.tree.root / "crates/byte_fields/out/left", self.tree.root.parent / "seen"
@@ -244,6 +296,38 @@ class Commands(harness.TestCase):
             change()
             self.check(f"the library is built where {title}", builds(), 1)
             self.check("  and not again", builds(), 0)
+        source = tree.root / "crates/ima_verify_c/src/lib.rt"
+        edit(source)
+        before = tree.builds.read_text()
+        calls = [tree.start(folder / f"made {number}", command="dist/library", DURING="sleep 1") for number in range(3)]
+        answers = [(call.communicate(timeout=60)[0], call.returncode, (folder / f"made {number}/{SONAME}").exists())
+                   for number, call in enumerate(calls)]
+        self.check("three calls at once make libraries, by one build",
+                   (answers, tree.builds.read_text().removeprefix(before)), (3 * [("", 0, True)], "built\n"))
+        edit(source)
+        status, answer, said = tree.call(folder / "unmade", command="dist/library", FAIL="1")
+        told = [line in said for line in ("the proof of ima_verify_verdict is open\n", "dist/library: the build failed\n")]
+        self.check("a library that is not proved is not made", (status, answer, told, (folder / "unmade").exists()), (1, "", [True] * 2, False))
+        tree.call(folder / "made", command="dist/library", DURING=f"echo '// meanwhile' >>'{source}'")
+        self.check("and it is built again where a source was edited during the build", builds(), 1)
+
+    def test_archives(self):
+        """Of an archive that is named there are libraries, if it has all that the header declares, and needs nothing else."""
+        self.needs("cc", "ar", "nm")
+        tree, folder, place = self.tree, self.folder(), self.folder()
+        functions, (first, *_) = [f"int {name}(void) {{ return 0; }}\n" for name in exports_of(ROOT)], exports_of(ROOT)
+        archives = {"-all": functions, "-one less": functions[1:], "-one more": [*functions, "int other(void) { return 0; }\n"],
+                    "-others": [f"int nowhere(void);\nint {first}(void) {{ return nowhere(); }}\n", *functions[1:]]}
+        for name, lines in archives.items():
+            (folder / "verifier.c").write_text("".join(lines))
+            for words in (["cc", "-fPIC", "-c", "verifier.c"], ["ar", "rc", place / name, "verifier.o"]):
+                subprocess.run(words, cwd=folder, check=True)
+        for name, said in (("-all", ""), ("-one more", ""), ("-others", "nowhere"),
+                           ("-one less", "the shared library exports other functions than the header declares")):
+            status, answer, errors = tree.call(f"{name} made", name, command="dist/library", folder=place, umask=0o077)
+            made = {path.name: stat.filemode(path.lstat().st_mode) for path in (place / f"{name} made").glob("*")}
+            wanted = (1, {}) if said else (0, MADE)
+            self.check(f"of the archive {name}: {said or 'libraries'}", (min(status, 1), made, answer, said in errors or errors), (*wanted, "", True))
 
     def test_try(self):
         folder = self.tree.root.parent / "inputs"
@@ -280,6 +364,16 @@ class Commands(harness.TestCase):
         self.check("try: why there is no answer, and that nothing is proved", [line in said for line in (
             "run=none\n", "try: there is no answer\n", "try: nothing is proved of the program that answers now")], [True] * 3)
         self.check("try: nothing is left", [*scratch.iterdir()], [])
+        found = self.tree.call("show", command="try", folder=folder, given="a log\n", ENDED="run=ended status=0 ", TMPDIR=str(scratch))
+        self.check("try: standard input is the program's", (found[:2], [*scratch.iterdir()]), ((0, "<-->\n<show>\na log\n"), []))
+        found = self.tree.call("show", command="try", folder=folder, ENDED="run=ended status=0 ", TMPDIR="/none")
+        self.check("try: no file for what rt says", (found[:2], "no file for what rt says" in found[2]), ((NOT_BUILT, ""), True))
+        link = folder / "a link"
+        link.symlink_to(self.tree.root / "try")
+        (folder / "-a file").touch()
+        found = self.tree.call("show", "-a file", command=link, folder=folder, ENDED="run=ended status=0 ")[:2]
+        self.check("try: by a link to the script, and a file of an odd name", found,
+                   (0, f"<--data>\n<-a file={folder}/-a file>\n<-->\n<show>\n<-a file>\n"))
         self.check("try: a file above the folder is refused", tried("show", "../inputs/log")[0], NOT_BUILT)
         for words in (("--save", "x"), ("--save=x",)):
             self.check(f"try: {words[0]} is refused", tried("verify", *words)[0], NOT_BUILT)
