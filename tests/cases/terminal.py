@@ -9,7 +9,7 @@ where the input is not what it should be the line of tests/reference/hints.py th
 located, it must get the lines of that reference, and none if an input is no regular file. After a success it must get nothing, and after a
 refused command line some text of clap's: `USAGES` has some. Where the output goes to the same terminal, the sentence must come after the line. Further commands have names with bytes that a terminal acts upon, are out of memory,
 have an output that fails, or measure for more than a second. Each of these runs without a terminal too, and standard error must then get
-nothing. Pipes that are closed one after another show when which number is due. The script counts commands."""
+nothing. Pipes that are closed one after another show when which number is due, and none if the clock fails. The script counts commands."""
 
 import json
 import os
@@ -79,6 +79,24 @@ INTERVAL = 0.1
 # The first of these holds up those that follow: the numbers that were due meanwhile are not made up for.
 LATE_PACES = (2.5, *15 * [0])
 ATTEMPTS = 5
+MANY_CALLS = 1_000_000
+# Stands before the C library: so many calls of the clock succeed, and none after them.
+CLOCK = """
+#define _GNU_SOURCE
+#include <errno.h>
+#include <stdatomic.h>
+#include <stdlib.h>
+#include <sys/syscall.h>
+#include <time.h>
+#include <unistd.h>
+static atomic_int calls;
+int clock_gettime(clockid_t clock, struct timespec *now) {
+    if (atomic_fetch_add(&calls, 1) < atoi(getenv("CLOCK_CALLS")))
+        return (int)syscall(SYS_clock_gettime, clock, now);
+    errno = EINVAL;
+    return -1;
+}
+"""
 
 # Which inputs the names of a command are; what follows them are files to measure.
 INPUTS = {
@@ -192,12 +210,12 @@ class Command(NamedTuple):
     settle: object = None
 
 
-def run_on_terminal(words, folder, given, output, settle=None, seconds=SECONDS):
+def run_on_terminal(words, folder, given, output, settle=None, seconds=SECONDS, settings=None):
     """Runs the program with a terminal as its standard error, and returns its status and what that got."""
     ours, theirs = pty.openpty()
     tty.setraw(theirs)
     try:
-        process = subprocess.Popen([PROGRAM, *words], stdin=given, stdout=output, stderr=theirs, cwd=folder, env={}, preexec_fn=settle)
+        process = subprocess.Popen([PROGRAM, *words], stdin=given, stdout=output, stderr=theirs, cwd=folder, env=settings or {}, preexec_fn=settle)
     finally:
         os.close(theirs)
     said, end = b"", time.monotonic() + seconds
@@ -498,6 +516,7 @@ def hinted_commands():
     yield "a list that grew by files that are not known", [
         "verify", "--require=sha256:0-10", "--known=known", "firmware.log", "longer.list", "expected.txt"], 1, [grown, unknown]
     yield "a list that is piped", ["verify", "firmware.log", "/dev/stdin", "expected.txt"], 1, []
+    yield "a device as list", ["verify", "firmware.log", "/dev/null", "expected.txt"], 1, []
     links = [f"link to {name}" for name in ("firmware.log", "longer.list", "expected.txt")]
     yield "a list that grew, by links", ["verify", *links], 1, [grown]
     yield "a quoted list that grew, by links", ["attest", *quoted, "--require=sha256:0-10", *links[:2], "link to quote.msg"], 1, [grown]
@@ -523,6 +542,7 @@ def mistaken_commands():
         (["verify", "firmware.log", "link to ima.ascii", "expected.txt"], "list fault 2 at entry 0", "link to ima.ascii",
          "entry 0: it names a register of 24 or more", TEXT_FOR_LIST),
         (["registers", "link to old.log"], "log fault 2", "link to old.log", head, OLD_LOG),
+        (["registers", "/dev/null"], "log fault 1 at event 0", "/dev/null", cut, None),
     ):
         said = [f"{name}: {sentence}"] + ([f"{name}: {mistake}"] if mistake else [])
         yield f"{mistake or 'no mistake'}: {words}", words, f"refused: {refused}\n".encode(), said
@@ -676,7 +696,7 @@ def progress_fault(said, count, end):
     return None if len(numbers) > 1 and rises and numbers[-1] <= count else f"the numbers are {numbers}"
 
 
-def paced(folder, names, paces):
+def paced(folder, names, paces, settings=None):
     """What a terminal gets of a measurement of pipes that are closed after these times, how long it took, and for how long it went on after the
     first of these times."""
     passed = []
@@ -690,9 +710,9 @@ def paced(folder, names, paces):
     thread, begun = threading.Thread(target=close_in_turn, daemon=True), time.monotonic()
     thread.start()
     words = ["measure", "--workers", "1", "L", *names]
-    _, said = run_on_terminal(words, folder, subprocess.DEVNULL, subprocess.DEVNULL)
+    status, said = run_on_terminal(words, folder, subprocess.DEVNULL, subprocess.DEVNULL, settings=settings)
     end = time.monotonic()
-    return said, end - begun, end - passed[0]
+    return said if status == 0 else f"status {status}, {said}", end - begun, end - passed[0]
 
 
 class Cases(harness.TestCase):
@@ -757,16 +777,19 @@ class Further(harness.TestCase):
                 self.check(f"{title}, explained", left_elsewhere(explained, self.room), Ended(2, line, said))
 
     def test_waiting(self):
-        """Without arguments a terminal that is standard input, too, is told what is read."""
+        """Without arguments a terminal that is standard input, too, is told what is read, and nothing else is."""
         ours, theirs = pty.openpty()
         try:
             os.write(ours, b"\x04")  # the end of what is typed
             status, said = run_on_terminal([], self.room, theirs, subprocess.DEVNULL)
+            os.write(ours, b"\x04")
+            elsewhere = subprocess.run([PROGRAM], stdin=theirs, stdout=subprocess.DEVNULL, stderr=subprocess.PIPE, env={}, timeout=SECONDS)
         finally:
             os.close(theirs)
             os.close(ours)
         sentence = b"standard input: event 0: its bytes are not all there\n"
         self.check("nothing typed", (status, said), (2, WAITING + sentence))
+        self.check("nothing typed, elsewhere", (elsewhere.returncode, elsewhere.stderr), (2, b""))
         status, said = run_on_terminal([], self.room, subprocess.DEVNULL, subprocess.DEVNULL)
         self.check("nothing given", (status, said), (2, sentence))
 
@@ -799,6 +822,17 @@ class Further(harness.TestCase):
         shown = len(re.findall(rb"\r\d+ of", said))
         is_slow = 0 < shown <= 1 + seconds / INTERVAL
         self.check("a measurement that was held up", None if is_slow else f"{shown} numbers in {seconds} seconds: {said!r}", None)
+
+    def test_clock(self):
+        """Where the clock fails, at once or later, a measurement shows no number from then on, and ends as ever."""
+        self.needs("cc")
+        clock, source, pipe = self.room / "clock.so", self.room / "clock.c", self.room / "clock's pipe"
+        source.write_text(CLOCK)
+        subprocess.run(["cc", "-shared", "-fPIC", "-o", clock, source], check=True)
+        os.mkfifo(pipe)
+        for calls, wanted in ((0, b""), (1, b""), (MANY_CALLS, b"\r1 of 1 files\x1b[K\r\x1b[K")):
+            said, *_ = paced(self.room, [pipe.name], PACES[:1], {"LD_PRELOAD": str(clock), "CLOCK_CALLS": str(calls)})
+            self.check(f"a clock that gives the time {calls} times", said, wanted)
 
     def test_progress(self):
         """Measurements that last: of files that are all there, and with one at the end that is not."""
