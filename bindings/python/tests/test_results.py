@@ -3,9 +3,11 @@
 From bindings/python: IMA_VERIFY_LIBRARY=/path/to/libima_verify.so python3 -m unittest discover tests"""
 
 import array
+import copy
 import ctypes
 import dataclasses
 import hashlib
+import pickle
 import re
 import sys
 import threading
@@ -84,6 +86,24 @@ class Sample(unittest.TestCase):
         with self.assertRaisesRegex(ima_verify.Refused, "^refused: replay fault 1 at entry 5$"):
             ima_verify.report(LOG, CHANGED, EXPECTED, require=NOTHING)
         self.assertRaises(ima_verify.Misuse, ima_verify.report, LOG, LIST, EXPECTED, require="")
+
+    def test_results_stay_as_they_are(self):
+        """No attribute can be set, equal results are one in a set, and copies and pickles are equal."""
+        given = LOG, LONGER, EXPECTED
+        results = [
+            *(function(*given, require="sha256:0-10,sha1:10") for function in (ima_verify.verify, ima_verify.report, ima_verify.locate)),
+            ima_verify.replay(LONGER, EXPECTED, require="sha256:10"), *ima_verify.registers(LOG), *ima_verify.entries(LIST),
+            *ima_verify.events(LOG).algorithms, Session(LOG, EXPECTED, require=NOTHING, prefix=True).more(LIST + b"x"),
+        ]
+        unhashable = [*ima_verify.events(LOG), ima_verify.attest(LOG, LIST, MESSAGE, nonce=NONCE, require="sha256:0-10", signature_checked=True)]
+        for result in (*results, *results[0].rows, *results[2].rows, results[-1].unconfirmed, *unhashable, unhashable[-1].clock):
+            for field in dataclasses.fields(result):
+                with self.assertRaises(dataclasses.FrozenInstanceError):
+                    setattr(result, field.name, None)
+            again = pickle.loads(pickle.dumps(result)), copy.deepcopy(result)
+            self.assertEqual(again, (result, result))
+            if result not in unhashable:
+                self.assertEqual(len({result, *again}), 1)
 
     def test_registers_are_those_of_the_sample(self):
         self.assertEqual(ima_verify.registers(LOG), registers_in(REGISTERS))

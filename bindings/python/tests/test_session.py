@@ -33,6 +33,8 @@ LONGER = LIST + LIST[ENDS[98]:]
 OTHER_LOG = inputs.made_log([SHA256], 24).spelling()
 MESSAGE = (ROOT / "samples/quoted/quote.msg").read_bytes()
 NONCE = bytes.fromhex((ROOT / "samples/quoted/nonce").read_text())
+# The files of the list, but for its violations 93, 94 and 97.
+SUMS = (ROOT / "samples/known/SHA256SUMS").read_bytes()
 # The expected registers of the firmware alone.
 TEN = b"".join(EXPECTED.splitlines(True)[:10])
 
@@ -537,6 +539,41 @@ class Quoted(Refusing):
                 self.assertFalse(session.attest(LIST[session.offset:ENDS[end]], MESSAGE, **given))
                 self.assertEqual((session.state, session.offset), (state, 0 if state is None else ENDS[50]))
 
+    def test_without_a_checked_signature_the_confirmed_part_is_told(self):
+        for state in (None, self.quoted_state(50)):
+            session = Session.by_quotes(LOG, prefix=True, state=state)
+            found = session.attest(LONGER[session.offset:], MESSAGE, **{**self.GIVEN, "signature_checked": False})
+            self.assertEqual((found.matches, bool(found), found.quote_matches, found.signature_checked), (False, False, True, False))
+            self.assertEqual((found.confirmed, found.entries, found.unconfirmed), (99, 100, None))
+            self.assertTrue(found.json.endswith('"verdict":"signature not checked"}'))
+            self.assertEqual(session.state, state)
+
+    def test_known_files_are_asked_for_from_the_state_on(self):
+        for prefix in (False, True):
+            session = Session.by_quotes(LOG, prefix=prefix, state=self.quoted_state(50), known=[SUMS])
+            found = session.attest(LIST[ENDS[50]:], MESSAGE, **self.GIVEN)
+            self.assertEqual((found.matches, found.quote_matches, found.known_from, found.unknown), (False, True, 50, (93, 94, 97)))
+            self.assertEqual((found.entries, found.confirmed), (99, 99 if prefix else None))
+            self.assertEqual((session.state, session.offset), (self.quoted_state(50), ENDS[50]))
+            session = Session.by_quotes(LOG, prefix=prefix, state=self.quoted_state(98), known=[])
+            found = session.attest(LIST[ENDS[98]:], MESSAGE, **self.GIVEN)
+            self.assertEqual((found.matches, found.known_from, found.unknown, session.offset), (False, 98, (98,), ENDS[98]))
+            session = Session.by_quotes(LOG, prefix=prefix, state=self.quoted_state(98), known=[SUMS])
+            found = session.attest((LIST if prefix is False else LONGER)[ENDS[98]:], MESSAGE, **self.GIVEN)
+            self.assertEqual((found.matches, found.known_from, found.unknown), (True, 98, ()))
+            self.assertEqual((session.state, session.offset), (self.quoted_state(), ENDS[99]))
+
+    def test_session_on_registers_takes_quotes(self):
+        """Before and after verdicts on registers, with the options of the session."""
+        session = Session(LOG, EXPECTED, require="sha256:0-10", prefix=True)
+        found = session.attest(LONGER, MESSAGE, **self.GIVEN)
+        self.assertEqual((found.matches, found.confirmed, found.entries, session.state), (True, 99, 100, self.quoted_state()))
+        self.assertTrue(session.more(b""))
+        self.assertEqual(session.state, state_after(99))
+        session = Session(LOG, EXPECTED, require="sha256:0-10", state=self.quoted_state(50), known=[SUMS])
+        found = session.attest(LIST[ENDS[50]:], MESSAGE, **self.GIVEN)
+        self.assertEqual((found.known_from, found.unknown), (50, (93, 94, 97)))
+
     def test_state_of_another_boot_is_refused(self):
         resets, restarts = self.BOOT
         for boot in (None, (resets + 1, restarts), (resets, restarts + 1), (restarts, resets), (2**32 - 1, restarts)):
@@ -817,6 +854,23 @@ class Answers(unittest.TestCase):
             self.assertEqual([(each.known_from, each.unknown) for each in found], 2 * [(3, ())])
             for call in calls:
                 self.assertEqual((call.inputs, call.options[:3]), ([b"a", STATE, b"c", b"d", b"e", crosses], (True, True, True)))
+
+    def test_known_files_are_copied(self):
+        """A text that is alone, too."""
+        quoted = ima_verify.attest(LOG, LIST, MESSAGE, **{**Quoted.GIVEN, "signature_checked": False}).json.encode() + b"\n"
+        reports = [text.replace(mark, b'"known_from":3,"unknown":[],' + mark, 1) for text, mark in ((DIFFERING, b'"verdict"'), (quoted, b'"quote"'))]
+        given = {"nonce": 16 * b"e", "require": "f", "signature_checked": False}
+        for count, crosses in ((1, b"a\n"), (2, b"a\na\n")):
+            texts = [bytearray(b"a\n") for _ in range(count)]
+            by_registers, by_quotes = Session(b"", b"", require="e", state=STATE, known=texts), Session.by_quotes(b"", state=STATE, known=texts)
+            for text in texts:
+                text[:] = b"xyz"
+            with answering(1, b"", reports[0]) as calls:
+                by_registers.more(b"c")
+            self.assertEqual(calls[0].inputs[-1], crosses)
+            with fake.library(attest=lambda call: (call.give_state(b""), call.give(1, reports[1]))[1]) as calls:
+                by_quotes.attest(b"c", b"d", **given)
+            self.assertEqual(calls[0].inputs[-1], crosses)
 
     def test_wrong_answers_are_no_verdicts(self):
         for status, text in ((0, b""), (0, b"\n"), (0, b"{}\n"), (0, REPORT[:-1]), (1, REPORT), (0, DIFFERING), (2, REPORT), (3, REPORT), (4, REPORT),

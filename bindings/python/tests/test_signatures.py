@@ -341,6 +341,17 @@ class WithoutCryptography(unittest.TestCase):
                 ima_verify.verify_quote(KEY, SIGNATURE, MESSAGE)
         self.assertIsInstance(caught.exception, ImportError)
 
+    @unittest.skipUnless(HAS_CRYPTOGRAPHY, "no cryptography")
+    def test_cryptography_that_is_too_old_is_said(self):
+        sys.modules.pop("ima_verify._signatures", None)
+        self.addCleanup(sys.modules.pop, "ima_verify._signatures", None)
+        ima_verify.__dict__.pop("_signatures", None)
+        with unittest.mock.patch.object(padding.PSS, "AUTO"):
+            del padding.PSS.AUTO  # (which is there from version 37 on)
+            with self.assertRaisesRegex(ima_verify.LoadError, "^verify_quote needs the package cryptography, from version 37 on: "):
+                ima_verify.verify_quote(KEY, SIGNATURE, MESSAGE)
+        self.assertTrue(ima_verify.verify_quote(KEY, SIGNATURE, MESSAGE))
+
     def test_package_is_imported_without_cryptography(self):
         program = "import sys, ima_verify; print([name for name in sys.modules if name.startswith('cryptography')])"
         words = [sys.executable, "-B", "-c", program]
