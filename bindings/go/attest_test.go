@@ -254,6 +254,50 @@ func TestNoMatchLeavesASessionByQuotesAsItWas(t *testing.T) {
 	}
 }
 
+func TestConfirmedPartIsGivenWithoutASignature(t *testing.T) {
+	unsigned, state := quoteOfSample(), quotedStateAfter(t, 50, 1, 0)
+	unsigned.SignatureChecked = false
+	for _, options := range [][]Option{{Prefix()}, {Resume(state), Prefix()}} {
+		s := quoteSession(t, bootLog, options...)
+		before := s.State()
+		found, err := s.Attest(longer[s.Offset():], unsigned)
+		equal(t, []interface{}{err, found.Matches, found.QuoteMatches, found.SignatureChecked}, []interface{}{nil, false, true, false})
+		equal(t, []interface{}{found.Confirmed, found.Entries, found.Unconfirmed}, []interface{}{uint64(99), uint64(100), (*Unconfirmed)(nil)})
+		equal(t, []interface{}{strings.HasSuffix(found.JSON, `"verdict":"signature not checked"}`), s.State()}, []interface{}{true, before})
+	}
+}
+
+func TestQuotesAskForKnownFilesFromTheStateOn(t *testing.T) {
+	for _, c := range []struct {
+		count   int
+		known   Option
+		unknown []uint64
+	}{{50, Known(knownSums), violations}, {98, Known(), []uint64{98}}, {98, Known(knownSums), nil}, {99, Known(), nil}} {
+		state := quotedStateAfter(t, c.count, 1, 0)
+		for _, options := range [][]Option{{Resume(state), c.known}, {c.known, Prefix(), Resume(state)}} {
+			s, wanted := quoteSession(t, bootLog, options...), state
+			found, err := s.Attest(bootList[ends[c.count]:], quoteOfSample())
+			if c.unknown == nil {
+				wanted = quotedStateAfter(t, 99, 1, 0)
+			}
+			equal(t, []interface{}{err, found.Matches, found.QuoteMatches, found.Entries}, []interface{}{nil, c.unknown == nil, true, uint64(99)})
+			equal(t, []interface{}{found.JudgesKnown, found.KnownFrom, found.Unknown}, []interface{}{true, uint64(c.count), c.unknown})
+			equal(t, []interface{}{found.Confirmed, s.State()}, []interface{}{map[bool]uint64{true: 99}[len(options) == 3], wanted})
+		}
+	}
+}
+
+func TestSessionOnRegistersTakesQuotes(t *testing.T) {
+	s := session(t, bootLog, bootTPM, "sha256:0-10", Prefix())
+	found, err := s.Attest(longer, quoteOfSample())
+	equal(t, []interface{}{err, found.Matches, found.Confirmed, found.Entries}, []interface{}{nil, true, uint64(99), uint64(100)})
+	equal(t, []interface{}{s.State(), s.Offset()}, []interface{}{quotedStateAfter(t, 99, 1, 0), uint64(len(bootList))})
+	equal(t, more(t, s, nil).Matches, true)
+	equal(t, s.State(), stateAfter(t, 99))
+	found, err = session(t, bootLog, bootTPM, "sha256:0-10", Known(knownSums)).Attest(bootList, quoteOfSample())
+	equal(t, []interface{}{err, found.Matches, found.Unknown}, []interface{}{nil, false, violations})
+}
+
 func TestStateOfAnotherBootIsNotAttested(t *testing.T) {
 	state, at := quotedStateAfter(t, 99, 1, 0), strings.Index(string(quoteMessage), string(quoteNonce))+len(quoteNonce)+8
 	for _, other := range [][]byte{stateAfter(t, 99), quotedStateAfter(t, 99, 2, 0), quotedStateAfter(t, 99, 1, 1), quotedStateAfter(t, 99, 0, 1)} {

@@ -172,6 +172,22 @@ func TestTextsOfKnownFilesAreJoinedByLines(t *testing.T) {
 	equal(t, string(found.text), "b\n") // (they are copied when a session is made, or a verdict asked for)
 }
 
+func TestKnownFilesOfASessionAreCopied(t *testing.T) {
+	for _, count := range []int{1, 2} {
+		var texts [][]byte
+		for len(texts) < count {
+			texts = append(texts, clone(knownSums))
+		}
+		by, byQuotes := session(t, bootLog, bootTPM, "sha256:0-10", Known(texts...)), quoteSession(t, bootLog, Known(texts...))
+		for _, text := range texts {
+			copy(text, "x")
+		}
+		equal(t, more(t, by, bootList).Unknown, violations)
+		found, err := byQuotes.Attest(bootList, quoteOfSample())
+		equal(t, []interface{}{err, found.Unknown}, []interface{}{nil, violations})
+	}
+}
+
 // A report that looked for entries of no known file, and found these.
 func withUnknown(text, numbers string) string {
 	member, mark := `"known_from":0,"unknown":[`+numbers+`],`, `"verdict"`

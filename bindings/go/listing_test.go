@@ -189,6 +189,28 @@ func TestEventsOfTheSample(t *testing.T) {
 	equal(t, registersIn(t, bootTPM)[4], Register{AlgorithmSHA256, 4, fourth})
 }
 
+// What is read from a piece stays as it is while the next ones are read.
+func TestItemsOfAllPiecesAreThoseOfTheInput(t *testing.T) {
+	const many, header = 40, 65
+	once, err := drainedEvents(Events(bootLog))
+	equal(t, err, nil)
+	events, err := drainedEvents(Events(joined(bootLog, bytes.Repeat(bootLog[header:], many))))
+	equal(t, []interface{}{err, len(events)}, []interface{}{nil, 24 * (1 + many)})
+	for k, event := range events {
+		wanted := once[k%24]
+		wanted.Number = uint64(k + 1)
+		equal(t, event, wanted)
+	}
+	list := append(clone(bootList), entryOf("ima-ngv2", joined(withLength(joined([]byte("verity:sha1:\x00"), ones)), withLength([]byte("/x\x00"))))...)
+	entries := entriesIn(t, list)
+	equal(t, entries[99].Fields != nil, true)
+	for k, entry := range entriesIn(t, bytes.Repeat(list, many)) {
+		wanted := entries[k%100]
+		wanted.Number = uint64(k)
+		equal(t, entry, wanted)
+	}
+}
+
 func TestEventsWithoutNamesOrDigests(t *testing.T) {
 	table := joined([]byte("Spec ID Event03\x00"), number(0), []byte{0, 2, 0, 2}, number(2), []byte{18, 0, 1, 0, 4, 0, 20, 0, 0})
 	header := joined(number(0), number(3), zeros, withLength(table))
