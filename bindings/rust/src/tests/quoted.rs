@@ -113,6 +113,11 @@ fn quoted_state(files: &Files) -> Vec<u8> {
     session.state().unwrap().to_vec()
 }
 
+/// The list, with its last entry once more.
+fn longer(files: &Files) -> Vec<u8> {
+    [&files.list[..], &files.list[files.list.len() - LAST_ENTRY_SIZE..]].concat()
+}
+
 #[track_caller]
 fn check_no_state(log: &[u8], state: &[u8], quote: &Quote<'_>, number: u64) {
     let mut session = Session::by_quotes(log).resume(state).unwrap();
@@ -160,6 +165,56 @@ fn no_match_leaves_the_session_as_it_was() {
         assert!(!session.attest(more, quote).unwrap().matches);
         assert_eq!(session.state(), Some(&state[..]));
     }
+}
+
+#[test]
+fn confirmed_part_is_given_without_a_signature() {
+    let files = files();
+    let (state, longer) = (quoted_state(&files), longer(&files));
+    let unsigned = Quote { signature_checked: false, ..files.quote() };
+    let session = || Session::by_quotes(&files.log).prefix();
+    for (mut session, before) in [(session(), None), (session().resume(&state).unwrap(), Some(&state[..]))] {
+        let found = session.attest(&longer[session.offset() as usize..], &unsigned).unwrap();
+        assert_eq!((found.matches, found.quote_matches, found.signature_checked), (false, true, false));
+        assert_eq!((found.confirmed, found.entries, found.unconfirmed), (Some(99), 100, None));
+        assert!(found.json.ends_with(r#""verdict":"signature not checked"}"#));
+        assert_eq!(session.state(), before);
+    }
+}
+
+#[test]
+fn quotes_ask_for_known_files_from_the_state_on() {
+    let files = files();
+    let (state, longer, none): (_, _, &[&[u8]]) = (quoted_state(&files), longer(&files), &[]);
+    let last = &longer[files.list.len()..];
+    for (more, prefix, entries, is_quoted, unknown) in [
+        (&[][..], false, 99, true, vec![]),
+        (&[], true, 99, true, vec![]),
+        (last, false, 100, false, vec![99]),
+        (last, true, 100, true, vec![]),
+    ] {
+        let session = Session::by_quotes(&files.log).resume(&state).unwrap();
+        let mut session = if prefix { session.prefix() } else { session };
+        let found = session.attest(more, &Quote { known: Some(none), ..files.quote() }).unwrap();
+        assert_eq!((found.matches, found.quote_matches, found.entries), (is_quoted, is_quoted, entries));
+        assert_eq!((found.known_from, found.unknown, found.confirmed), (Some(99), unknown, prefix.then_some(99)));
+        assert_eq!(session.state(), Some(&state[..]));
+    }
+}
+
+#[test]
+fn session_on_registers_takes_quotes() {
+    let files = files();
+    let (state, longer, expected) = (quoted_state(&files), longer(&files), sample("real-boot/expected.txt"));
+    let mut session = Session::new(&files.log, &expected, "sha256:0-10").prefix();
+    let found = session.attest(&longer, &files.quote()).unwrap();
+    assert_eq!((found.matches, found.confirmed, found.entries), (true, Some(99), 100));
+    assert_eq!((session.state(), session.offset()), (Some(&state[..]), files.list.len() as u64));
+    let before = session.clone();
+    assert!(session.more(b"").unwrap().matches);
+    // (the other session is as it was: only its state is one of a quote)
+    check_no_state(&files.log, session.state().unwrap(), &files.quote(), 4);
+    assert_eq!(before.state(), Some(&state[..]));
 }
 
 #[test]

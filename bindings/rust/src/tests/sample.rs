@@ -2,7 +2,8 @@
 //! of it.
 
 use crate::{expected as expected_from, list_registers, locate, registers, replay, show, verify, version};
-use crate::{Algorithm, BootAggregate, Error, Kind, Place, PlaceRow, Register, Row, State, Stray, Verdict, NOTHING_REQUIRED};
+use crate::{Algorithm, BootAggregate, Entries, Error, Events, Kind, Place, PlaceRow, Register};
+use crate::{Required, Row, Session, State, Stray, Verdict, NOTHING_REQUIRED};
 use std::sync::Barrier;
 use std::thread;
 
@@ -352,9 +353,26 @@ fn errors_say_what_is_wrong() {
         (Error::OutOfMemory, "no memory for libima_verify"),
         (Error::Unexpected { result: 5, size: 10, text: Vec::new() }, "libima_verify gave the result 5 and the size 10"),
         (Error::Version(0), "libima_verify has version 0 of the interface"),
+        (
+            Error::Signature,
+            "the signature is not by this key and on this message, in plain form and by SHA-256, SHA-384 or SHA-512",
+        ),
+        (Error::Key("it cannot be read"), "the key is not taken: it cannot be read"),
     ] {
         assert_eq!(error.to_string(), text);
     }
+}
+
+/// Any thread may have a session, a listing or an error.
+#[test]
+fn all_may_cross_threads() {
+    fn crosses<T: Send + Sync + 'static>() {}
+    crosses::<Session>();
+    crosses::<Entries<'static>>();
+    crosses::<Events<'static>>();
+    crosses::<Required<'static>>();
+    let error: Box<dyn std::error::Error + Send + Sync> = refused("refused: log fault 2", Kind::Log, 2, None).into();
+    assert_eq!((error.to_string(), error.source().is_none()), ("refused: log fault 2".to_owned(), true));
 }
 
 #[test]
