@@ -206,6 +206,11 @@ static bool has_no_fault(void) {
     return is_fault(IMA_VERIFY_NO_FAULT, 0, IMA_VERIFY_NO_PLACE);
 }
 
+/* The fault of a call is that of its text, also if there is no checkpoint. */
+static bool is_checkpoint_without_fault(void) {
+    return next.fault.kind == IMA_VERIFY_NO_FAULT && next.fault.number == 0 && next.fault.place == IMA_VERIFY_NO_PLACE;
+}
+
 /* Whether both outputs are as they were. */
 static bool is_left(void) {
     return is_filled(text, 0) && is_filled(checkpoint, 0);
@@ -281,6 +286,10 @@ static void check_wrong_outputs(const struct given *sample) {
         prepare(sample, ROOM);
         next.data = NULL;
         check_misused(function->call(sample, IMA_VERIFY_TEXT), function->name, "a checkpoint with room at NULL");
+        next.room = 0;
+        result = function->call(sample, IMA_VERIFY_TEXT);
+        bool is_told = out.size > 0 && next.size > 0 && is_filled(text, 0);
+        check(result == IMA_VERIFY_TOO_SHORT && is_told, function->name, "no room at NULL for a checkpoint");
     }
     at = NULL;
     check_misused(ask(entries, sample, IMA_VERIFY_TEXT, ROOM), "entries", "no position");
@@ -307,7 +316,8 @@ static void check_rooms(const struct given *sample) {
         ask(function, sample, form, size - 1);
         check(result == IMA_VERIFY_TOO_SHORT && is_left() && has_no_fault() && out.size == size, function->name, "a byte too few");
         if (gives_checkpoint(function)) {
-            check(next_size > 0 && next_size < IMA_VERIFY_CHECKPOINT_ROOM, function->name, "the size of a checkpoint");
+            bool has_size = next_size > 0 && next_size < IMA_VERIFY_CHECKPOINT_ROOM;
+            check(has_size && is_checkpoint_without_fault(), function->name, "the size of a checkpoint");
             size = size > next_size ? size : next_size;
         }
         ask(function, sample, form, size);
@@ -334,7 +344,8 @@ static void check_refusal(const struct function *function, const struct given *g
                           uint64_t place) {
     ask(function, given, IMA_VERIFY_TEXT, ROOM);
     check(result == IMA_VERIFY_REFUSED && is_text(line) && is_fault(kind, number, place), function->name, line);
-    check(is_filled(checkpoint, 0) && (!gives_checkpoint(function) || next.size == 0), function->name, "no checkpoint");
+    bool has_none = next.size == 0 && is_checkpoint_without_fault();
+    check(is_filled(checkpoint, 0) && (!gives_checkpoint(function) || has_none), function->name, "no checkpoint");
     ask(function, given, IMA_VERIFY_JSON, ROOM);
     bool is_json = out.size > 10 && memcmp(text, "{\"fault\":{", 10) == 0 && text[out.size - 1] == '\n';
     check(result == IMA_VERIFY_REFUSED && is_json && is_fault(kind, number, place), function->name, "a fault as JSON");
