@@ -76,6 +76,23 @@ class Hook(unittest.TestCase):
             with unittest.mock.patch.dict(os.environ, {"IMA_VERIFY_LIBRARY": "libima_verify.so"}):
                 self.assertRaisesRegex(SystemExit, "is not a path", self.hook["library_in"], folder)
 
+    def test_editable_installation_packs_no_library(self):
+        """It runs from the sources, where the library may come later."""
+        with tempfile.TemporaryDirectory() as folder:
+            file, hook = Path(folder, "libima_verify.so"), object.__new__(self.hook["LibraryHook"])
+            hook.root = folder
+            with unittest.mock.patch.dict(os.environ, {"IMA_VERIFY_LIBRARY": str(file)}):
+                data = {"force_include": {}}
+                hook.initialize("editable", data)
+                self.assertEqual(data, {"force_include": {}})
+                self.assertRaisesRegex(SystemExit, "no library to pack", hook.initialize, "standard", data)
+                file.write_bytes(self.ELF)
+                hook.initialize("editable", data)
+                self.assertEqual(data, {"force_include": {}})
+                hook.initialize("standard", data)
+                included = {str(file.resolve()): "ima_verify/libima_verify.so"}
+                self.assertEqual(data, {"pure_python": False, "tag": "py3-none-linux_x86_64", "force_include": included})
+
 
 @unittest.skipUnless(PYTHON, "no Python has hatchling")
 class Wheel(unittest.TestCase):
