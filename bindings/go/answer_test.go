@@ -243,6 +243,31 @@ func TestMembersMayStandInAnyOrderAndBeMore(t *testing.T) {
 	equal(t, readVerdict(done, text), nil)
 }
 
+// Counts of 64 bits, such as the version of a firmware to which the TPM adds a constant, and smaller ones.
+func TestNumbersUpToTheirEndsAreRead(t *testing.T) {
+	const most, last = "18446744073709551615", "18446744073709551614"
+	strays := `{"event":` + most + `,"register":10},{"entry":` + last + `,"register":23}`
+	large := strings.NewReplacer(`"events":1,"locality":0,"entries":3`, `"events":`+most+`,"locality":255,"entries":`+most)
+	v, err := of(differs, withUnknown(strayed(large.Replace(report), strays), last)).verdict(true)
+	equal(t, []interface{}{err, v.Events, v.Locality, v.Entries}, []interface{}{nil, uint64(math.MaxUint64), uint8(255), uint64(math.MaxUint64)})
+	equal(t, v.Extends, []Stray{{Event: math.MaxUint64, Register: 10}, {Entry: math.MaxUint64 - 1, Register: 23}})
+	equal(t, v.Unknown, []uint64{math.MaxUint64 - 1})
+	large = strings.NewReplacer(`[10]`, `[0,23]`, `"milliseconds":5,"resets":1,"restarts":0`,
+		`"milliseconds":`+most+`,"resets":4294967295,"restarts":4294967295`,
+		`"firmware":7,"events":1,"locality":0`, `"firmware":`+most+`,"events":`+most+`,"locality":255`)
+	a, err := attestationIn(done, large.Replace(attested), true)
+	equal(t, []interface{}{err, a.Clock}, []interface{}{nil, Clock{math.MaxUint64, math.MaxUint32, math.MaxUint32, true}})
+	equal(t, []interface{}{a.Firmware, a.Events, a.Locality, a.Matches}, []interface{}{uint64(math.MaxUint64), uint64(math.MaxUint64), uint8(255), true})
+	equal(t, a.Quoted[AlgorithmSHA1], []int{0, 23})
+	p, err := of(done, strings.NewReplacer(`:18}`, `:`+most+`}`, `:98}`, `:`+last+`}`).Replace(placesLine)).places()
+	equal(t, []interface{}{err, p.Rows[1].Place.Number, p.Rows[2].Place.Number}, []interface{}{nil, uint64(math.MaxUint64), uint64(math.MaxUint64 - 1)})
+	given := strings.Replace(algorithms, `"id":18,"size":1`, `"id":65535,"size":65535`, 1) +
+		strings.NewReplacer(`"register":0`, `"register":4294967295`, `"type_number":4`, `"type_number":4294967295`).Replace(eventLine)
+	events, err := eventsOf(linesOf(false, scripted([]answer{of(done, given)})))
+	equal(t, []interface{}{err, events.Algorithms()[0], events.Next()}, []interface{}{nil, LogAlgorithm{"", math.MaxUint16, math.MaxUint16}, true})
+	equal(t, []uint32{events.Event().Register, events.Event().TypeNumber}, []uint32{math.MaxUint32, math.MaxUint32})
+}
+
 func TestWrongReportsAreNoVerdicts(t *testing.T) {
 	match := `"state":"match"`
 	checkChanges(t, readVerdict, done, report, [][2]string{

@@ -262,6 +262,26 @@ class Answers(unittest.TestCase):
             found = read_attestation(1, text, False)
             self.assertEqual((found.matches, found.signature_checked, bool(found)), (False, False, False))
 
+    def test_numbers_up_to_their_ends_are_read(self):
+        """Counts of 64 bits, such as the version of a firmware to which the TPM adds a constant, and smaller ones."""
+        most, last = b"18446744073709551615", b"18446744073709551614"
+        strays = b'"extends":[{"event":%b,"register":10},{"entry":%b,"register":23}],"verdict":"differ"' % (most, last)
+        text = REPORT.replace(b'"verdict":"match"', strays).replace(
+            b'"events":1,"locality":0,"entries":3', b'"events":%b,"locality":255,"entries":%b' % (most, most))
+        for read in (_answers.read_verdict, _answers.read_report):
+            found = read(1, with_unknown(text, last), True)
+            self.assertEqual((found.events, found.locality, found.entries, found.unknown), (2**64 - 1, 255, 2**64 - 1, (2**64 - 2,)))
+            self.assertEqual(found.extends, (ima_verify.Stray(10, event=2**64 - 1), ima_verify.Stray(23, entry=2**64 - 2)))
+        text = ATTESTED.replace(b"[10]", b"[0,23]").replace(
+            b'"milliseconds":5,"resets":1,"restarts":0', b'"milliseconds":%b,"resets":4294967295,"restarts":4294967295' % most).replace(
+            b'"firmware":7,"events":1,"locality":0', b'"firmware":%b,"events":%b,"locality":255' % (most, most))
+        found = read_attestation(0, text, True)
+        self.assertEqual(found.clock, ima_verify.Clock(2**64 - 1, 2**32 - 1, 2**32 - 1, True))
+        self.assertEqual((found.firmware, found.events, found.locality, found.matches), (2**64 - 1, 2**64 - 1, 255, True))
+        self.assertEqual(found.quoted[ima_verify.Algorithm.SHA1], (0, 23))
+        places = _answers.read_places(0, PLACES.replace(b":18}", b":%b}" % most).replace(b":98}", b":%b}" % last))
+        self.assertEqual([row.number for row in places.rows], [None, 2**64 - 1, 2**64 - 2])
+
     def test_wrong_reports_by_a_quote_are_no_verdicts(self):
         self.check_changes(read_attestation, 0, ATTESTED, (
             (b'"quoted":[', b'"quoted":[1,'), (b'"quoted":[', b'"quoted":[{},'), (b'"quoted"', b'"selected"'), (b'"sha1"', b'"md5"'),
@@ -591,6 +611,16 @@ class Listings(unittest.TestCase):
         self.assertEqual(self.events(ALGORITHMS), [])
         (nameless,) = self.events(ALGORITHMS + EVENT.replace(b'"type":"EV_SEPARATOR",', b""))
         self.assertIsNone(nameless.type)
+
+    def test_numbers_of_entries_and_events_up_to_their_ends_are_read(self):
+        self.assertEqual([entry.register for entry in self.entries(ENTRY.replace(b":10,", b":23,"))], [23])
+        algorithms = ALGORITHMS.replace(b'"id":18,"size":1', b'"id":65535,"size":65535')
+        event = EVENT.replace(b'"register":0', b'"register":4294967295').replace(b'"type_number":4', b'"type_number":4294967295')
+        library, size = self.given("events", [algorithms + event])
+        with library:
+            events = ima_verify.events(size * b"x")
+            self.assertEqual(events.algorithms[0], ima_verify.LogAlgorithm(None, 65535, 65535))
+            self.assertEqual([(event.register, event.type_number) for event in events], [(2**32 - 1, 2**32 - 1)])
 
     def check_faulty(self, name, pieces, fault, count):
         library, size = self.given(name, pieces, fault)

@@ -974,6 +974,35 @@ fn reports_by_a_quote_are_read() {
     }
 }
 
+/// Counts of 64 bits, such as the version of a firmware to which the TPM adds a constant, and smaller ones.
+#[test]
+fn numbers_up_to_their_ends_are_read() {
+    let (most, last) = (u64::MAX, u64::MAX - 1);
+    let strays = format!(r#"{{"event":{most},"register":10}},{{"entry":{last},"register":23}}"#);
+    let counts = format!(r#""events":{most},"locality":255,"entries":{most}"#);
+    let text = strayed(REPORT, &strays).replace(r#""events":1,"locality":0,"entries":3"#, &counts);
+    let found = answer(DIFFERS, with_unknown(&text, &last.to_string())).verdict(true).unwrap();
+    assert_eq!((found.events, found.locality, found.entries, found.unknown), (most, 255, most, vec![last]));
+    assert_eq!(found.extends, [Stray::Event { event: most, register: 10 }, Stray::Entry { entry: last, register: 23 }]);
+    let clock = format!(r#""milliseconds":{most},"resets":4294967295,"restarts":4294967295"#);
+    let counts = format!(r#""firmware":{most},"events":{most},"locality":255"#);
+    let text = ATTESTED.replace("[10]", "[0,23]").replace(r#""milliseconds":5,"resets":1,"restarts":0"#, &clock);
+    let text = text.replace(r#""firmware":7,"events":1,"locality":0"#, &counts);
+    let found = attestation(DONE, &text, true).unwrap();
+    assert_eq!(found.clock, Clock { milliseconds: most, resets: u32::MAX, restarts: u32::MAX, safe: true });
+    assert_eq!((found.firmware, found.events, found.locality, found.matches), (most, most, 255, true));
+    assert_eq!(found.quoted[&Algorithm::Sha1], [0, 23]);
+    let text = PLACES.replace(":18}", &format!(":{most}}}")).replace(":98}", &format!(":{last}}}"));
+    let places: Vec<_> = answer(DONE, text).places().unwrap().rows.iter().map(|row| row.place).collect();
+    assert_eq!(places, [Place::Reset, Place::Event(most), Place::Entry(last)]);
+    let event = event_line().replace(r#""register":0"#, r#""register":4294967295"#);
+    let event = event.replace(r#""type_number":4"#, r#""type_number":4294967295"#);
+    let mut lines = lines([answer(DONE, ALGORITHMS.replace(r#""id":18,"size":1"#, r#""id":65535,"size":65535"#) + &event)]);
+    assert_eq!(lines.next_algorithms().unwrap().unwrap()[0], LogAlgorithm { name: None, id: u16::MAX, size: u16::MAX });
+    let event = lines.next_event().unwrap().unwrap();
+    assert_eq!((event.register, event.type_number), (u32::MAX, u32::MAX));
+}
+
 #[test]
 fn wrong_reports_by_a_quote_are_none() {
     let stray = format!(r#""extends":[{STRAY_ENTRY}],"quote""#);
