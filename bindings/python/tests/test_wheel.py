@@ -104,13 +104,13 @@ class Wheel(unittest.TestCase):
         self.folder = Path(folder.name)
         self.library = Path(_library.loaded()._name).resolve()
 
-    def make(self, library, folder="made"):
+    def make(self, library, folder="made", source=PACKAGE):
         environment = {**os.environ, "IMA_VERIFY_LIBRARY": str(library)}
-        return subprocess.run([PYTHON, "-B", "-c", BUILD, self.folder / folder], cwd=PACKAGE, env=environment, stdout=subprocess.PIPE,
+        return subprocess.run([PYTHON, "-B", "-c", BUILD, self.folder / folder], cwd=source, env=environment, stdout=subprocess.PIPE,
                               stderr=subprocess.STDOUT, universal_newlines=True, timeout=300)
 
-    def made(self, folder="made"):
-        ended = self.make(self.library, folder)
+    def made(self, folder="made", source=PACKAGE):
+        ended = self.make(self.library, folder, source)
         self.assertEqual(ended.returncode, 0, ended.stdout)
         (wheel,) = (self.folder / folder).iterdir()
         return wheel
@@ -122,6 +122,24 @@ class Wheel(unittest.TestCase):
             self.assertEqual(archive.read("ima_verify/libima_verify.so"), self.library.read_bytes())
             for file in files:
                 self.assertEqual(archive.read(f"ima_verify/{file.name}"), file.read_bytes())
+
+    def test_wheel_has_nothing_else(self):
+        """It has no other library that is in the package's folder, and says for which Pythons and machines it is."""
+        source = self.folder / "source"
+        shutil.copytree(PACKAGE, source, ignore=shutil.ignore_patterns("*.so", "__pycache__"))
+        for name in ("libima_verify.so", "other.so"):
+            (source / "ima_verify" / name).write_bytes(b"another")
+        wheel = self.made(source=source)
+        tag = wheel.stem.partition("-py3-")[2]
+        with zipfile.ZipFile(wheel) as archive:
+            names = sorted(name if name.startswith("ima_verify/") else name.rpartition("/")[2] for name in archive.namelist())
+            said = b"".join(archive.read(name) for name in archive.namelist() if name.endswith(("/METADATA", "/WHEEL"))).decode()
+            self.assertEqual(archive.read("ima_verify/libima_verify.so"), self.library.read_bytes())
+        modules = "__init__", "_answers", "_errors", "_library", "_listings", "_results", "_signatures"
+        wanted = ["libima_verify.so", "py.typed", *(f"{module}.py" for module in modules)]
+        self.assertEqual(names, sorted(["METADATA", "RECORD", "WHEEL", *(f"ima_verify/{name}" for name in wanted)]))
+        for line in ("Requires-Python: >=3.8", "Classifier: Typing :: Typed", "Root-Is-Purelib: false", f"Tag: py3-{tag}"):
+            self.assertIn(f"\n{line}\n", said)
 
     def test_version_is_that_of_the_tree(self):
         version = (PACKAGE.parents[1] / "VERSION").read_text().strip()
