@@ -7,9 +7,10 @@ Each command of the cases whose files have at most 4 MiB runs with a terminal as
 case wants. After a fault the terminal must get its sentence, which is made here of the fault's line, by the tables of docs/errors.txt, and
 where the input is not what it should be the line of tests/reference/hints.py that says so. After a verdict `differ`, or values that are not
 located, it must get the lines of that reference, and none if an input is no regular file. After a success it must get nothing, and after a
-refused command line some text of clap's: `USAGES` has some. Where the output goes to the same terminal, the sentence must come after the line. Further commands have names with bytes that a terminal acts upon, are out of memory,
-have an output that fails, or measure for more than a second. Each of these runs without a terminal too, and standard error must then get
-nothing. Pipes that are closed one after another show when which number is due, and none if the clock fails. The script counts commands."""
+refused command line some text of clap's: `USAGES` has some. Where the output goes to the same terminal, the sentence must come after the
+line. Further commands have names with bytes that a terminal acts upon, are out of memory, have an output that fails or a standard stream that
+is closed, or measure for more than a second. Each of these runs without a terminal too, and standard error must then get nothing. Pipes that
+are closed one after another show when which number is due, and none if the clock fails. The script counts commands."""
 
 import json
 import os
@@ -447,7 +448,13 @@ def further_commands():
     yield Command("standard input without an end", [], Ended(2, b"refused: too long -\n", b"standard input is longer than 64 MiB\n"),
                   lambda: give("/dev/zero"))
     yield Command("a folder", ["show", "."], Ended(3, b"failed: read .\n", b"cannot read .: Is a directory\n"))
-    yield Command("a full device", ["registers", "L"], Ended(3, b"", b"the output could not be written\n"), fill_output)
+    for title, settle in (
+        ("a full device", fill_output), ("a pipe that nobody reads", break_output), ("no standard output", lambda: os.close(1)),
+    ):
+        yield Command(title, ["registers", "L"], Ended(3, b"", b"the output could not be written\n"), settle)
+    yield Command("no standard input", [], Ended(3, b"failed: read -\n", b"cannot read standard input: Bad file descriptor\n"),
+                  lambda: os.close(0))
+    yield Command("no standard error", ["show", "none"], Ended(3, b"failed: read none\n", b""), lambda: os.close(2))
 
 
 def hinted_commands():
@@ -626,6 +633,12 @@ def pipe_list():
 
 def fill_output():
     os.dup2(os.open("/dev/full", os.O_WRONLY), 1)
+
+
+def break_output():
+    end, begin = os.pipe()
+    os.close(end)
+    os.dup2(begin, 1)
 
 
 def make_files(folder):
