@@ -117,14 +117,17 @@ def test_json(tools):
     for number, kind in enumerate(("unreadable", "refused", "differ")):
         spoil(folder, number, kind)
     begun = datetime.now(timezone.utc)
-    status, output, _ = tools.verify("--workers", 1, "--poll", "--json", machines, table)
+    status, output, errors = tools.verify("--workers", 1, "--poll", "--json", machines, table, TZ="Asia/Kolkata")
     told = json.loads(output)
-    tools.check("--json: one line", (status, output.count("\n"), told["status"]), (1, 1, 1))
+    tools.check("--json: one line, and no causes beside it", (status, output.count("\n"), told["status"], "fleet-verify: " in errors), (1, 1, 1, False))
     found = {name: told[name] for name in ("poll", "machines", "verdicts", "retired", "not_matching_more")}
     counts = dict(zip(KINDS, (1, 1, 1, 1, 0)))
     tools.check("--json: counts", found, {"poll": 1, "machines": 4, "verdicts": counts, "retired": 0, "not_matching_more": 0})
     end, now = datetime.fromisoformat(told["time"]), datetime.now(timezone.utc)
     tools.check("--json: the end", begun <= end <= now, True)
+    times = [told["time"], *(time for time, in query(table, "SELECT time FROM given UNION ALL SELECT time FROM polls UNION ALL SELECT time FROM ends"))]
+    are_right = [begun <= datetime.fromisoformat(time) <= now and time.endswith("+00:00") for time in times]
+    tools.check("times are in UTC, whatever the time zone", are_right, 7 * [True])  # (of the end, four machines, a poll and its end)
     tools.check("--json: ages", 0 <= told["oldest_match_seconds"] <= told["seconds"] <= (now - begun).total_seconds(), True)
     tools.check("--json: the rate", abs(told["machines_a_second"] - 4 / told["seconds"]) < 0.1, True)
     gone, nothing = "list: FileNotFoundError: [Errno 2] No such file or directory", "nothing to compare: no register is expected"
@@ -143,8 +146,32 @@ def test_json(tools):
     tools.check("--json: why", reasons, {("match", None, 1), ("differ", None, 1), ("refused", nothing, 1), ("unreadable", gone, 1)})
     status, output, _ = tools.verify("--workers", 1, "--json", machines, table)
     tools.check("--json of a run that is refused: nothing", (status, output), (2, ""))
+    test_standing(tools, folder)
     test_told(tools)
     test_bound(tools)
+
+
+def test_standing(tools, folder):
+    """A run with nothing to do says how many verdicts stand and since when, gives none, and tells what it retires and counts it no longer."""
+    machines, table = folder / "machines.tsv", folder / "standing.db"
+    status, _, errors = tools.verify("--workers", 1, machines, table)
+    change(table, "UPDATE given SET time = '2026-01-01T00:00:00.000+00:00' WHERE number = 2")
+    machines.write_text("".join(machines.read_text().splitlines(keepends=True)[1:]))
+    status, output, errors = tools.verify("--workers", 1, "--again", "none", "--prune", "--json", machines, table)
+    told = json.loads(output)
+    found = {name: told[name] for name in ("poll", "machines", "retired", "machines_a_second", "verdicts")}
+    counts = dict(zip(KINDS, (1, 1, 1, 0, 0)))
+    wanted = {"poll": None, "machines": 3, "retired": 1, "machines_a_second": 0, "verdicts": counts}
+    tools.check("--json: a run with nothing to do", (status, found), (1, wanted))
+    said = "verdicts that stand from earlier runs: 3, the oldest since 2026-01-01T00:00:00.000+00:00; --again gives new ones"
+    tools.check("verdicts that stand: how many, and since when", said in errors, True)
+    change(table, "INSERT INTO ends VALUES ('2026-01-01T00:00:00.000+00:00', NULL)")
+    status, _, errors = tools.verify("--workers", 1, machines, table)
+    tools.check("a run that has ended: when", (status, f"its run ended at {told['time']}:" in errors), (2, True))
+    status, _, errors = tools.verify("--workers", 1, "--again", "refused,differ", machines, table)
+    last = [line.partition(";")[0] for line in errors.splitlines() if " done: " in line][-1]
+    wanted = "3 of 3 done: match 1, differ 1, refused 1, unreadable 0, failed 0"
+    tools.check("verdicts that are given anew: progress counts each machine once", (status, last), (1, wanted))
 
 
 def test_told(tools):
@@ -158,8 +185,11 @@ def test_told(tools):
     }
     with closing(Verdicts(str(tools.folder / "told.db"), REQUIRE)) as table:
         table.record([(Machine(name, (f"/{name}",)), {**answer, "time": "now"}) for name, answer in answers.items()], ())
-        summary = Summary()
+        summary, faults = Summary(), Summary()
         summary.look(table)
+        cut = [(Machine(f"h{number}", (f"/h{number}",)), {"verdict": "refused", "cause": f"refused: log fault 1 at event {number}"}) for number in range(9)]
+        table.record([(machine, {**answer, "time": "now"}) for machine, answer in cut], ())
+        faults.look(table)
     first, *others = summary.named
     tools.check("--json: what a report says", first, {
         "machine": "g", "verdict": "differ", "cause": None, "boot_aggregate": "wrong", "registers": [row], "extends": strays, "quote": "differ",
@@ -167,6 +197,7 @@ def test_told(tools):
     })
     tools.check("--json: the order of those without a report", [each["machine"] for each in others], ["e", "f", "c", "d", "b"])
     tools.check("the most frequent causes", summary.causes, ["failed 2: x", "refused 1: y", "refused 1: z"])
+    tools.check("the most frequent cause, at several places", faults.causes[0], "refused 9: refused: log fault 1 at event ..")
     for age, wanted in ((math.inf, None), (None, None), (90.04, 90.0)):
         told = json.loads(Summary(counts={"match": 1}, oldest_match=age).json, parse_constant=lambda name: f"{name} is no JSON")
         tools.check(f"--json: an age of {age} seconds", told["oldest_match_seconds"], wanted)

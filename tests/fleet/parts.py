@@ -408,6 +408,7 @@ def test_parts(tools):
         said = tools.start(["-c", script, *words], **modules).communicate(timeout=SECONDS)[0]
         tools.check(title, said.splitlines(), wanted)
     test_folder_of_call(tools)
+    test_tree(tools)
     test_version(tools)
 
 
@@ -435,6 +436,29 @@ def test_folder_of_call(tools):
         tools.check(f"modules of the folder of the call: {title}", (done.returncode, done.stderr * (done.returncode != 0), found), (0, "", ""))
         if call[1:2] == [ELSEWHERE]:
             tools.check("a worker of a call in such a folder can verify", done.stdout.splitlines(), ELSEWHERE_WANTED)
+
+
+def test_tree(tools):
+    """What is called where it lies, also from its own folder, finds the binding beside it, unless one is installed, and writes nothing there."""
+    tree, installed = tools.folder / "tree", tools.folder / "installed"
+    for path in ("fleet", "bindings/python"):
+        shutil.copytree(ROOT / path, tree / path, ignore=shutil.ignore_patterns("__pycache__"))
+    (installed / "ima_verify").mkdir(parents=True)
+    (installed / "ima_verify/__init__.py").write_text("raise ImportError('the installed one')\n")
+    machines, before = tree / "machines.tsv", sorted(tree.rglob("*"))
+    machines.write_text(f"a\t{ROOT / 'samples/real-boot'}\n")
+    given = {name: text for name, text in tools.environment.items() if name not in ("PYTHONPATH", "PYTHONDONTWRITEBYTECODE")}
+    words = ["--unquoted", "--require", REQUIRE, "--workers", "1", machines]
+    for title, call, cwd, more, wanted in (
+        ("a run", ["verify.py", *words, tools.folder / "tree.db"], tools.folder, {}, (0, False)),
+        ("a run in its own folder", ["verify.py", *words, tools.folder / "own tree.db"], tree / "fleet", {}, (0, False)),
+        ("an installed binding", ["verify.py", *words, tools.folder / "no tree.db"], tree, {"PYTHONPATH": str(installed)}, (3, True)),
+        ("a report", ["report.py", "--help"], tree / "fleet", {}, (0, False)),
+    ):
+        command = [tools.python, tree / "fleet" / call[0], *call[1:]]
+        done = subprocess.run([*map(str, command)], env={**given, **more}, cwd=cwd, capture_output=True, text=True, timeout=SECONDS)
+        tools.check(f"called where it lies: {title}", (done.returncode, "the installed one" in done.stderr), wanted)
+    tools.check("called where it lies: nothing is written there", sorted(set(tree.rglob("*")) - {machines}), before)
 
 
 def test_version(tools):
