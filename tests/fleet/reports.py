@@ -183,6 +183,8 @@ def test_report(tools):
     test_differences(tools, folder)
     test_other_templates(tools, folder)
     test_own_links(tools, folder)
+    test_own_unread(tools, folder)
+    test_heads(tools, folder)
     test_failing_program(tools, folder)
     test_planted_program(tools, folder)
     test_planted_modules(tools, folder)
@@ -225,12 +227,29 @@ def test_whole_report(tools, folder):
     unknown = [row[0] for row in rows if "unknown" in row[2]]
     tools.check("unknown entries", (status, judged(page), unknown), (1, ("differ", False), ["93", "94", "97"]))
     test_two_known(tools, folder, boot)
+    test_notable(tools, folder, boot)
     tools.check("unknown entries are shown besides the first ones", [row[0] for row in rows[48:]], ["48", "49", "93", "94", "97"])
     tools.check("how many are not shown", any("46 more entries are not shown" in each.text for each in page.all("p")), True)
     _, page, _ = report_of(tools, boot, "--most", 5)
     shown = [len(rows_below(page, title)) for title in ("What the machine booted", "Events of the firmware log")]
     told = re.findall(r"(\d+) more (?:lines|events) are not shown", " ".join(each.text for each in page.all("p")))
     tools.check("--most: answers and events, and how many more there are", (shown, told), ([5, 5], [str(len(answers) - 5), str(len(log.events) - 5)]))
+
+
+def test_notable(tools, folder, boot):
+    """Besides the first entries each has a row that is unknown, or a violation, or not of its digest, be it one of these alone."""
+    changed = make_boot(folder / "changed beyond", ima=(REAL / "ima.list").read_bytes().replace(b"/bin/helper", b"/bin/helpex"))
+    first = [str(number) for number in range(4)]
+    cases = (
+        ("violations", (boot,), [*first, "93", "94", "97"]),
+        ("an entry that is unknown, and violations", (boot, "--known", most_known(folder)), [*first, "7", "93", "94", "97"]),
+        ("an entry that was changed, and violations", (changed,), [*first, "5", "93", "94", "97"]),
+    )
+    for (title, _, wanted), (_, page, _) in zip(cases, reports_of(tools, [(*call, "--most", len(first)) for _, call, _ in cases])):
+        rows, kinds = rows_below(page, "Entries of the measurement list"), ("unknown", "violation", "does not match")
+        tools.check(f"shown besides the first entries: {title}", [row[0] for row in rows], wanted)
+        marked = [row[0] for row in rows if any(kind in row[2] for kind in kinds)]
+        tools.check(f"marked besides the first entries: {title}", marked, wanted[len(first):])
 
 
 def test_two_known(tools, folder, boot):
@@ -289,11 +308,15 @@ def test_unconfirmed_entries(tools, folder):
     low, weak = (
         b"".join(line for line in texts if line.startswith(bank) and int(line.split()[1]) <= last) for bank, last in ((b"sha256", 9), (b"sha1", 10))
     )
-    calls = (
+    *calls, of_both = (
         (make_boot(folder / "low", firmware=both.spelling(), expected=low), "--require", "none"),
         (make_boot(folder / "weak", firmware=both.spelling(), expected=weak), "--require", "sha1:0-10"),
+        (make_boot(folder / "of both", firmware=both.spelling(), expected=b"".join(texts)), "--require", "sha256:0-10,sha1:0-10"),
     )
-    for call, (status, page, _) in zip(calls, reports_of(tools, calls)):
+    *found, (status, page, _) = reports_of(tools, [*calls, of_both])
+    states = {row[2] for row in rows_below(page, "Entries of the measurement list")}
+    tools.check("entries that registers of both banks confirm", (status, states), (0, {"confirmed", "violation"}))
+    for call, (status, page, _) in zip(calls, found):
         states = {row[2] for row in rows_below(page, "Entries of the measurement list")}
         tools.check(f"entries that {call[0].name} registers do not confirm", (status, states), (0, {"claimed", "violation"}))
 
@@ -448,10 +471,11 @@ def test_broken_list(tools, folder):
             tools.check(f"a list {title}: what log and registers confirm", confirmed_in(page)[:2], confirmed_in(whole)[:2])
             tools.check(f"a list {title}: PCRs by the log alone", [row[:4] for row in rows_below(page, "PCRs")], registers)
             continue
-        differing = [row[1:3] for row in rows_below(page, "PCRs") if row[2] != "match"]
+        differing = [[*row[1:3], row[4]] for row in rows_below(page, "PCRs") if row[2] != "match"]
         booted = {row[0]: row[1] for row in rows_below(page, "What the machine booted")}
         seventh = {row[3] for row in rows_below(page, "Events of the firmware log") if row[1] == "7"}
-        tools.check(f"a list {title}: it confirms nothing", (differing, booted["secure boot"], seventh), ([["7", "differ"]], "unknown", {"claimed"}))
+        found = (differing, booted["secure boot"], seventh)
+        tools.check(f"a list {title}: it confirms nothing", found, ([["7", "differ", "nowhere"]], "unknown", {"claimed"}))
     test_broken_and_quoted(tools, folder, data, quoted)
 
 
@@ -592,6 +616,48 @@ def test_own_links(tools, folder):
     read = {row[0]: row[2] for row in rows_below(page, "The verdict") if row[0].startswith("own ")}
     wanted = {f"own {name}": hashlib.sha256(file.read_bytes()).hexdigest() for name, file in own.items()}
     tools.check("links that the operator names", (status, judged(page), read), (1, ("differ", False), wanted))
+
+
+def test_own_unread(tools, folder):
+    """A file that the operator names and that cannot be read is told by its name, and no page then looks like a match."""
+    boot, quoted = make_quoted(folder / "own unread"), quoted_by_nonce()
+    os.mkfifo(folder / "own pipe")
+    gone, pipe = "FileNotFoundError: [Errno 2] No such file or directory", "OSError: it is no regular file"
+    cases = (
+        ("known", (boot, "--known", folder / "not there"), "not there", gone), ("before", (boot, "--before", folder / "not there"), "not there", gone),
+        ("key", (boot, "--key", folder / "own pipe", *quoted[2:]), "own pipe", pipe), ("a second known", (boot, "--known", most_known(folder), "--known",
+         folder / "own pipe"), "own pipe", pipe),
+    )
+    for (title, _, name, cause), (status, page, _) in zip(cases, reports_of(tools, [call for _, call, *_ in cases])):
+        told, rows = [each.text for each in page.all("div")], [row for row in rows_below(page, "The verdict") if row[0] == name]
+        found = (status in (0, 1), judged(page)[1], f"{name} is not read: {cause}" in told, rows)
+        tools.check(f"a file of the operator that is not read: {title}", found, (False, False, True, [[name, "", cause]]))
+
+
+def test_heads(tools, folder):
+    """The head says by what a boot was judged, and what its page does not tell; and hostile titles are text."""
+    boot, quoted, known = make_quoted(folder / "heads"), quoted_by_nonce(), ("--known", SAMPLES / "known/SHA256SUMS")
+    by_quote, unquoted, compared = f"Judged by a quote, with the given key and the nonce {quoted[3]}.", "Not quoted: nobody signed", "Files were not compared"
+    title = "<b>\x1b[31m</b>"
+    plain, signed, free = reports_of(tools, [(boot,), (boot, *quoted, *known, "--title", title), (boot, "--require", "none")])
+    for name, (_, page, _), wanted in (
+        ("by registers", plain, (False, True, True, True, False)), ("by a quote and known files", signed, (True, False, False, True, False)),
+        ("by any registers", free, (False, True, True, False, True)),
+    ):
+        text = state_of(page)[0]
+        told = tuple(each in text for each in (by_quote, unquoted, compared, "Required: sha256:0-10.", "Required: nothing."))
+        tools.check(f"the head of a report {name}", told, wanted)
+    backed = [[kind for kind in ("expected", "quoted") if f"a PCR that has its {kind} value" in next(page.all("main")).text] for _, page, _ in (plain, signed)]
+    tools.check("what confirms events", backed, [["expected"], ["quoted"]])
+    page = signed[1]
+    names = [each for each in next(page.all("title")).inner if not isinstance(each, str)]
+    found = (next(page.all("title")).text, names, next(page.all("h1")).text, foreign(page))
+    tools.check("a hostile title of a report", found, (r"differ: <b>\x1b[31m</b>", [], r"Boot: <b>\x1b[31m</b>", []))
+    message = (QUOTED / "quote.msg").read_bytes()
+    signer = message[8:8 + int.from_bytes(message[6:8], "big")].hex()  # (TPM 2.0 Part 2, TPMS_ATTEST: after its magic and type)
+    said = dict(zip((each.text for each in page.all("dt")), (each.text for each in page.all("dd"))))
+    wanted = {"Quote": "log and list make the quoted PCRs; signature checked", "Key": signer, "Unknown entries": "3 (entries checked from 0)"}
+    tools.check("what a report says of a quote", {name: said[name] for name in wanted}, wanted)
 
 
 def test_failing_program(tools, folder):
