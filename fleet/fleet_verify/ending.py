@@ -1,9 +1,11 @@
 """How a call ends that has no verdicts to give: why, in a line on standard error, and its status. (It loads little: signals come early.)"""
 
+import errno
 import os
 import signal
 import sys
-from typing import Any
+from contextlib import contextmanager
+from typing import Any, Iterator, TextIO
 
 SIGNALS = (signal.SIGINT, signal.SIGTERM)
 STOPPED = "stopped: {}; the same command goes on"
@@ -32,6 +34,22 @@ def stop(cause: str, fault: BaseException) -> int:
     """The status of a run that stopped for this cause, which it complains of."""
     goes_on = not isinstance(fault, (CannotVerify, ImportError))
     return complain(STOPPED.format(cause) if goes_on else f"stopped: {cause}", 3)
+
+
+@contextmanager
+def telling() -> Iterator[TextIO]:
+    """Standard output, where all that is written meanwhile is written at the end; or there is an OSError. (Where it is closed Python has none, and
+    `print` says nothing of that. What could not be written Python would write once more as it ends, and end with a status of its own.)"""
+    if sys.stdout is None:
+        raise OSError(errno.EBADF, os.strerror(errno.EBADF))
+    try:
+        yield sys.stdout
+        sys.stdout.flush()
+    except OSError:
+        nothing = os.open(os.devnull, os.O_WRONLY)
+        os.dup2(nothing, sys.stdout.fileno())
+        os.close(nothing)
+        raise
 
 
 def stop_at_once(*_: Any) -> None:

@@ -4,14 +4,13 @@ import argparse
 import os
 import secrets
 import sqlite3
-import sys
 from contextlib import closing, suppress
 from datetime import datetime, timedelta
 from pathlib import Path
 from tempfile import mkstemp
 from typing import Dict, List, Sequence
 
-from .ending import NotStarted, complain
+from .ending import NotStarted, complain, telling
 from .machines import BadTable, Machine, read_machines
 from .opening import BadVerdicts, open_table
 from .options import Once, duration
@@ -120,8 +119,8 @@ def hand_out(words: Sequence[str]) -> int:
     with closing(connection):
         given = give_out(connection, machines, options.max_age or MAX_AGE)
     if options.folder is None:
-        sys.stdout.write("".join(f"{name}\t{nonce}\n" for name, nonce in given.items()))
-        sys.stdout.flush()
+        with telling() as output:
+            output.write("".join(f"{name}\t{nonce}\n" for name, nonce in given.items()))
         return 0
     faults = write_files(Path(options.folder), given)
     return complain(f"stopped: {len(faults)} nonces could not be written: {faults[0]}", 3) if faults else 0

@@ -6,12 +6,13 @@ control or one that turns the direction of a line, is spelled out. Templates pri
 import base64
 import hashlib
 import re
-import sys
 from itertools import groupby
 from typing import Any, Optional
 
 from jinja2 import Environment, PackageLoader, StrictUndefined
 from markupsafe import Markup, escape
+
+from .ending import telling
 
 # Python's mark of a byte that is not UTF-8, by `surrogateescape`.
 _BYTES = range(0xDC80, 0xDD00)
@@ -106,5 +107,5 @@ def render(template: str, **values: Any) -> bytes:
 
 def write_page(page: bytes) -> None:
     """Writes a page to standard output."""
-    sys.stdout.buffer.write(page)
-    sys.stdout.buffer.flush()
+    with telling() as output:
+        output.buffer.write(page)

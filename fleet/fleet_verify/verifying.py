@@ -10,7 +10,7 @@ from contextlib import closing, contextmanager, suppress
 from datetime import datetime, timedelta
 from typing import Dict, Iterator, Optional, Sequence
 
-from .ending import SIGNALLED, SIGNALS, CannotGoOn, NotStarted, complain, stop_simply
+from .ending import SIGNALLED, SIGNALS, CannotGoOn, NotStarted, complain, stop_simply, telling
 from .known import BadKnown, Known, read_known
 from .ledger import Ledger
 from .machines import BadTable, Machine, read_machines
@@ -166,7 +166,8 @@ def print_counts(options: Options, table: Verdicts, summary: Summary) -> int:
         raise CannotGoOn("another run records in this table")
     summary.look(table)
     summary.end(exit_status(summary.counts, sum(summary.counts.values())))
-    print(summary.json if options.json else "\n".join(f"{kind} {summary.counts[kind]}" for kind in VERDICTS), flush=True)
+    with telling() as output:
+        print(summary.json if options.json else "\n".join(f"{kind} {summary.counts[kind]}" for kind in VERDICTS), file=output)
     for cause in [] if options.json else summary.causes:
         complain(cause, 0)
     end = datetime.fromisoformat(summary.ended)
