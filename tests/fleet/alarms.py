@@ -1,5 +1,6 @@
 """Tests of what people and alarms are told, for tests/fleet/test: exit statuses, --json, --metrics, and how old files may be."""
 
+import errno
 import io
 import json
 import math
@@ -13,7 +14,7 @@ from datetime import datetime, timezone
 from tempfile import NamedTemporaryFile
 from unittest import mock
 
-from cluster import REQUIRE, SECONDS
+from cluster import REQUIRE, ROOT, SECONDS, has
 from fleet_verify import metrics
 from fleet_verify.machines import Machine
 from fleet_verify.main import noted
@@ -60,6 +61,7 @@ def test_alarms(tools):
     test_statuses(tools)
     test_json(tools)
     test_ages(tools)
+    test_outputs(tools)
     test_keys(tools)
 
 
@@ -74,6 +76,38 @@ def test_arguments(tools):
     ):
         status, output, errors = tools.verify("--workers", 1, machines, never, by=by)
         tools.check(f"refused: quotes or not, {title}", (status, output, told in errors, never.exists()), (2, "", True, False))
+
+
+# Starts a command without standard output.
+CLOSED = ("sh", "-c", 'exec "$@" >&-', "sh")
+
+
+def test_outputs(tools):
+    """What cannot be told is no success: on a full disk, in a pipe that nobody reads, and without standard output."""
+    folder = tools.folder / "outputs"
+    machines = make_machines(folder, 1)
+    run, buffered = ("--workers", "1", "--unquoted", "--require", REQUIRE, machines), {**tools.environment, "PYTHONUNBUFFERED": ""}
+    for title, number in (("a full disk", errno.ENOSPC), ("a pipe that nobody reads", errno.EPIPE), ("no output", errno.EBADF)):
+        table = folder / f"{title}.db"
+        calls = {
+            "a run": ("verify.py", *run, table), "a run, as JSON": ("verify.py", "--json", *run, folder / f"{title}, as JSON.db"),
+            "nonces": ("verify.py", "nonces", machines, table),
+        }
+        if has(tools.python, "jinja2"):
+            calls.update({"a page": ("verify.py", "page", table), "a report": ("report.py", "--program", "/nowhere/ima-agent", folder / "0")})
+        for name, (script, *words) in calls.items():
+            reading, writing = os.pipe()
+            os.close(reading)
+            with open("/dev/full", "wb") as full, open(writing, "wb") as pipe:
+                done = subprocess.run(
+                    [*map(str, (*(CLOSED if number == errno.EBADF else ()), tools.python, ROOT / "fleet" / script, *words))], text=True,
+                    env=buffered, cwd=tools.folder, stdout=full if number == errno.ENOSPC else pipe, stderr=subprocess.PIPE, timeout=SECONDS,
+                )
+            told = [line for line in done.stderr.splitlines() if " done: " not in line]
+            found = (done.returncode, len(told), f"[Errno {number}] {os.strerror(number)}" in told[-1] if told else False)
+            tools.check(f"{name}, and {title}", found, (3, 1, True))
+        found = query(table, "SELECT (SELECT count(*) FROM verdicts), (SELECT count(*) FROM ends)")
+        tools.check(f"a run, and {title}: it has no end", found, [(1, 0)])
 
 
 def test_keys(tools):
@@ -119,13 +153,15 @@ def test_json(tools):
     begun = datetime.now(timezone.utc)
     status, output, errors = tools.verify("--workers", 1, "--poll", "--json", machines, table, TZ="Asia/Kolkata")
     told = json.loads(output)
-    tools.check("--json: one line, and no causes beside it", (status, output.count("\n"), told["status"], "fleet-verify: " in errors), (1, 1, 1, False))
+    found = (status, output.count("\n"), told["status"], "fleet-verify: " in errors)
+    tools.check("--json: one line, and no causes beside it", found, (1, 1, 1, False))
     found = {name: told[name] for name in ("poll", "machines", "verdicts", "retired", "not_matching_more")}
     counts = dict(zip(KINDS, (1, 1, 1, 1, 0)))
     tools.check("--json: counts", found, {"poll": 1, "machines": 4, "verdicts": counts, "retired": 0, "not_matching_more": 0})
     end, now = datetime.fromisoformat(told["time"]), datetime.now(timezone.utc)
     tools.check("--json: the end", begun <= end <= now, True)
-    times = [told["time"], *(time for time, in query(table, "SELECT time FROM given UNION ALL SELECT time FROM polls UNION ALL SELECT time FROM ends"))]
+    recorded = query(table, "SELECT time FROM given UNION ALL SELECT time FROM polls UNION ALL SELECT time FROM ends")
+    times = [told["time"], *(time for time, in recorded)]
     are_right = [begun <= datetime.fromisoformat(time) <= now and time.endswith("+00:00") for time in times]
     tools.check("times are in UTC, whatever the time zone", are_right, 7 * [True])  # (of the end, four machines, a poll and its end)
     tools.check("--json: ages", 0 <= told["oldest_match_seconds"] <= told["seconds"] <= (now - begun).total_seconds(), True)
@@ -187,8 +223,8 @@ def test_told(tools):
         table.record([(Machine(name, (f"/{name}",)), {**answer, "time": "now"}) for name, answer in answers.items()], ())
         summary, faults = Summary(), Summary()
         summary.look(table)
-        cut = [(Machine(f"h{number}", (f"/h{number}",)), {"verdict": "refused", "cause": f"refused: log fault 1 at event {number}"}) for number in range(9)]
-        table.record([(machine, {**answer, "time": "now"}) for machine, answer in cut], ())
+        cut = {f"h{number}": {"verdict": "refused", "cause": f"refused: log fault 1 at event {number}", "time": "now"} for number in range(9)}
+        table.record([(Machine(name, (f"/{name}",)), answer) for name, answer in cut.items()], ())
         faults.look(table)
     first, *others = summary.named
     tools.check("--json: what a report says", first, {

@@ -54,6 +54,7 @@ def test_keeping(tools):
     test_prune(tools)
     test_pruned_polls(tools)
     test_retention(tools)
+    test_kept_poll(tools)
     test_quoted_report(tools)
 
 
@@ -274,6 +275,20 @@ def test_pruned_polls(tools):
     changes = query(table, "SELECT machine, poll, verdict FROM changes ORDER BY number")
     tools.check("polls that prune: the changes", changes, [("machine 0", 1, "match"), ("machine 1", 1, "match"), ("machine 1", 4, "match")])
     tools.check("polls that prune: the checkpoints", len(query(table, "SELECT 1 FROM checkpoints")), 2)
+
+
+def test_kept_poll(tools):
+    """A poll that began before all that is kept, and ended since, stays with its end; its changes go."""
+    machine = Machine("a", ("/a",))
+    with closing(Verdicts(str(tools.folder / "kept poll.db"), REQUIRE)) as table:
+        for oldest in (LONG_AGO, "2021-01-01T00:00:00.000+00:00"):
+            poll(table, [machine], [answer_of(machine)])
+            table.end(now(), oldest)
+            with table.connection:
+                table.connection.execute("UPDATE polls SET time = ?", (LONG_AGO,))
+        texts = ("SELECT number FROM polls", "SELECT poll FROM ends", "SELECT poll FROM changes")
+        found = [table.connection.execute(text).fetchall() for text in texts]
+    tools.check("a poll that began long ago, and ended since, is kept", found, [[(1,), (2,)], [(1,), (2,)], []])
 
 
 def test_retention(tools):

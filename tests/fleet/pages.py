@@ -82,6 +82,7 @@ def test_pages(tools):
     folder = tools.folder / "pages"
     folder.mkdir()
     test_listed(tools, folder)
+    test_parts_of(tools, folder)
     test_times(tools, folder)
     test_bars(tools, folder)
     test_plot(tools)
@@ -126,6 +127,7 @@ def test_listed(tools, folder):
     titles = [each.text for page_ in (page, shown_page(tools, table)) for each in page_.all("h1")]
     tools.check("a page: its title", titles, ["Fleet: a title", f"Fleet: {table}"])
     counts = [each.text.split() for each in next(page.all("ul")).all("li")]
+    tools.check("a page: the title of its window", next(page.all("title")).text, "2 of 10 machines match")
     tools.check("a page: counts", counts, [
         ["2", "match"], ["5", "differ"], ["2", "refused"], ["1", "unreadable"], ["0", "failed"], ["1", "retired"],
     ])
@@ -142,6 +144,27 @@ def test_listed(tools, folder):
     tools.check("a page: nothing foreign", foreign(page), [])
     test_shared(tools, page)
     test_changes(tools, table, page)
+
+
+def test_parts_of(tools, folder):
+    """Which parts a page has, and what it says where one is empty."""
+    good, bad, quoted = answer_of("match", 1), answer_of("differ", 2, others=(4,)), {"signer": "d" * 64, "quote_age": 1.0, "nonce": "00"}
+    always = ["Reasons", "Changes over time", "Machines that do not match", "Machines that match"]
+    no_reason, no_poll, nobody, none = (
+        "No machine has a verdict other than match.", "This table has no polls, and so no changes.", "None: no machine has a verdict.", "None.",
+    )
+    for title, polls, more, told in (
+        ("no machine", {}, [], [no_reason, no_poll, nobody, none]), ("a match", {"a": good}, [], [no_reason, no_poll, none]),
+        ("a match by a poll", [{"a": good}], [], [no_reason, none]), ("a refusal", {"a": answer_of("refused", cause="x")}, [], [no_poll, none]),
+        ("a register", {"a": good, "b": bad}, [(3, "PCRs that do not match")], [no_poll]),
+        ("a quote", {"a": {**good, **quoted}}, [(3, "Quotes")], [no_reason, no_poll, none]),
+        ("the same list", {"a": good, "b": good}, [(3, "Machines with the same list")], [no_reason, no_poll, none]),
+    ):
+        page, wanted = shown_page(tools, make_table(folder / f"parts {title}.db", polls)), [*always]
+        for place, name in more:
+            wanted.insert(place, name)
+        said = [each.text for each in page.all("p") if each.text in (no_reason, no_poll, nobody, none)]
+        tools.check(f"the parts of a page: {title}", ([each.text for each in page.all("h2")], said), (wanted, told))
 
 
 def test_shared(tools, page):
@@ -328,11 +351,15 @@ def test_quoted_table(tools, folder):
         for number, (name, signer, age) in enumerate((("a", "d" * 64, 4.0), ("b", "e" * 64, 3000.0), ("c", "e" * 64, 90.5)))
     }
     told = {"quote": "differ", "extends": [{"event": 25, "register": 10}, {"entry": 7, "register": 9}]}
+    answers["e"] = answer_of("match", 4)
     answers["d"] = answer_of("differ", 3, signer="f" * 64, quote_age=1.0, nonce="ff", told=told, **quote)
     page = shown_page(tools, make_table(folder / "quoted.db", answers))
     rows = rows_below(page, "Quotes")
     wanted = [["b", "50 min", "3", "1"], ["c", "90 s", "3", "1"], ["a", "4 s", "3", "1"], ["d", "1 s", "3", "1"]]
     tools.check("quotes: the oldest first", [row[:4] for row in rows], wanted)
+    tools.check("quotes: keys", [row[4] for row in rows], [letter * 64 for letter in "eedf"])
+    found = ("4 of 5 machines were judged by a quote." in next(page.all("main")).text, "Matches without a quote: 1." in state_of(page)[0])
+    tools.check("quotes: how many machines have one", found, (True, True))
     facts = [each.text for each in next(page.all("main")).all("li") if "PCR" in each.text]
     wanted = ["log and list do not make the quoted PCRs", "an event extends PCR 10: event 25", "an entry extends PCR 9: entry 7"]
     tools.check("quotes: why a machine differs", facts, wanted)

@@ -341,6 +341,13 @@ def test_nonce_files(tools):
     tools.check("nonces: which names are none of files", refused, ["b" * 256, "\u00fc" * 128, ".", "..", "b/c"])
     found = (write_files(folder, {longest: "22"}), (folder / longest).read_text(), len(list(folder.iterdir())))
     tools.check("nonces: a file with the longest name", found, ([], "22\n", 2))
+    (folder / "c").mkdir()
+    (folder / "d").write_bytes(b"\xff")
+    before = (folder / "a").stat().st_ino
+    faults = write_files(folder, {"a": "11", "c": "33", "d": "44"})
+    found = ([fault.partition(":")[0] for fault in faults], (folder / "d").read_text(), sorted(path.name for path in folder.iterdir()))
+    tools.check("nonces: one file that cannot be written holds up no other", found, (["c"], "44\n", ["a", longest, "c", "d"]))
+    tools.check("nonces: a file that has its nonce is not written again", (folder / "a").stat().st_ino, before)
 
 
 def test_taking_over(tools):

@@ -2,9 +2,11 @@
 
 The program is the one that is built, or `tests/reference/` in its place."""
 
+import errno
 import hashlib
 import os
 import re
+import resource
 import shutil
 import signal
 import struct
@@ -185,6 +187,7 @@ def test_report(tools):
     test_own_links(tools, folder)
     test_own_unread(tools, folder)
     test_heads(tools, folder)
+    test_full_disk(tools, folder)
     test_failing_program(tools, folder)
     test_planted_program(tools, folder)
     test_planted_modules(tools, folder)
@@ -624,9 +627,10 @@ def test_own_unread(tools, folder):
     os.mkfifo(folder / "own pipe")
     gone, pipe = "FileNotFoundError: [Errno 2] No such file or directory", "OSError: it is no regular file"
     cases = (
-        ("known", (boot, "--known", folder / "not there"), "not there", gone), ("before", (boot, "--before", folder / "not there"), "not there", gone),
-        ("key", (boot, "--key", folder / "own pipe", *quoted[2:]), "own pipe", pipe), ("a second known", (boot, "--known", most_known(folder), "--known",
-         folder / "own pipe"), "own pipe", pipe),
+        ("known", (boot, "--known", folder / "not there"), "not there", gone),
+        ("before", (boot, "--before", folder / "not there"), "not there", gone),
+        ("key", (boot, "--key", folder / "own pipe", *quoted[2:]), "own pipe", pipe),
+        ("a second known", (boot, "--known", most_known(folder), "--known", folder / "own pipe"), "own pipe", pipe),
     )
     for (title, _, name, cause), (status, page, _) in zip(cases, reports_of(tools, [call for _, call, *_ in cases])):
         told, rows = [each.text for each in page.all("div")], [row for row in rows_below(page, "The verdict") if row[0] == name]
@@ -637,7 +641,8 @@ def test_own_unread(tools, folder):
 def test_heads(tools, folder):
     """The head says by what a boot was judged, and what its page does not tell; and hostile titles are text."""
     boot, quoted, known = make_quoted(folder / "heads"), quoted_by_nonce(), ("--known", SAMPLES / "known/SHA256SUMS")
-    by_quote, unquoted, compared = f"Judged by a quote, with the given key and the nonce {quoted[3]}.", "Not quoted: nobody signed", "Files were not compared"
+    by_quote = f"Judged by a quote, with the given key and the nonce {quoted[3]}."
+    unquoted, compared = "Not quoted: nobody signed", "Files were not compared"
     title = "<b>\x1b[31m</b>"
     plain, signed, free = reports_of(tools, [(boot,), (boot, *quoted, *known, "--title", title), (boot, "--require", "none")])
     for name, (_, page, _), wanted in (
@@ -647,7 +652,8 @@ def test_heads(tools, folder):
         text = state_of(page)[0]
         told = tuple(each in text for each in (by_quote, unquoted, compared, "Required: sha256:0-10.", "Required: nothing."))
         tools.check(f"the head of a report {name}", told, wanted)
-    backed = [[kind for kind in ("expected", "quoted") if f"a PCR that has its {kind} value" in next(page.all("main")).text] for _, page, _ in (plain, signed)]
+    bodies = [next(page.all("main")).text for _, page, _ in (plain, signed)]
+    backed = [[kind for kind in ("expected", "quoted") if f"a PCR that has its {kind} value" in body] for body in bodies]
     tools.check("what confirms events", backed, [["expected"], ["quoted"]])
     page = signed[1]
     names = [each for each in next(page.all("title")).inner if not isinstance(each, str)]
@@ -658,6 +664,20 @@ def test_heads(tools, folder):
     said = dict(zip((each.text for each in page.all("dt")), (each.text for each in page.all("dd"))))
     wanted = {"Quote": "log and list make the quoted PCRs; signature checked", "Key": signer, "Unknown entries": "3 (entries checked from 0)"}
     tools.check("what a report says of a quote", {name: said[name] for name in wanted}, wanted)
+
+
+def test_full_disk(tools, folder):
+    """A page of which the last byte cannot be written is none."""
+    boot, page = make_boot(folder / "full disk"), folder / "full disk.html"
+    size = len(report_text(tools, boot)[1].encode()) - 1
+    words = [tools.python, ROOT / "fleet/report.py", "--program", tools.folder / "program/ima-agent", boot]
+    with open(page, "wb") as output:
+        done = subprocess.run(
+            words, env={**tools.environment, "PYTHONUNBUFFERED": ""}, stdout=output, stderr=subprocess.PIPE, text=True, timeout=SECONDS,
+            preexec_fn=lambda: resource.setrlimit(resource.RLIMIT_FSIZE, (size, size)),
+        )
+    wanted = (3, f"ima-report: no page: OSError: [Errno {errno.EFBIG}] {os.strerror(errno.EFBIG)}\n", size)
+    tools.check("a page whose last byte cannot be written", (done.returncode, done.stderr, page.stat().st_size), wanted)
 
 
 def test_failing_program(tools, folder):
