@@ -351,14 +351,14 @@ def test_quoted_table(tools, folder):
         for number, (name, signer, age) in enumerate((("a", "d" * 64, 4.0), ("b", "e" * 64, 3000.0), ("c", "e" * 64, 90.5)))
     }
     told = {"quote": "differ", "extends": [{"event": 25, "register": 10}, {"entry": 7, "register": 9}]}
-    answers["e"] = answer_of("match", 4)
+    answers.update(e=answer_of("match", 4), f=answer_of("match", 5))
     answers["d"] = answer_of("differ", 3, signer="f" * 64, quote_age=1.0, nonce="ff", told=told, **quote)
     page = shown_page(tools, make_table(folder / "quoted.db", answers))
     rows = rows_below(page, "Quotes")
     wanted = [["b", "50 min", "3", "1"], ["c", "90 s", "3", "1"], ["a", "4 s", "3", "1"], ["d", "1 s", "3", "1"]]
     tools.check("quotes: the oldest first", [row[:4] for row in rows], wanted)
     tools.check("quotes: keys", [row[4] for row in rows], [letter * 64 for letter in "eedf"])
-    found = ("4 of 5 machines were judged by a quote." in next(page.all("main")).text, "Matches without a quote: 1." in state_of(page)[0])
+    found = ("4 of 6 machines were judged by a quote." in next(page.all("main")).text, "Matches without a quote: 2." in state_of(page)[0])
     tools.check("quotes: how many machines have one", found, (True, True))
     facts = [each.text for each in next(page.all("main")).all("li") if "PCR" in each.text]
     wanted = ["log and list do not make the quoted PCRs", "an event extends PCR 10: event 25", "an entry extends PCR 9: entry 7"]
