@@ -23,7 +23,7 @@ NUMBERED = {
     "boot_log LogFault": ("Log", "event"),
     "ima_list ListFault": ("List", "entry"),
     "ima_list ReplayFault": ("Replay", "entry"),
-    "boot_verdict ExpectFault": ("Expected", "line"),
+    "pcr_values ExpectFault": ("Expected", "line"),
     "known_files KnownFault": ("Known", "line"),
     "tpm_quotes QuoteFault": ("Quote", None),
     "attestations QuoteRefusal": ("Quote", None),

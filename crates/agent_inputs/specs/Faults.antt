@@ -1,5 +1,8 @@
 -- How the faults of the parts become faults of the program. Out of memory is one fault, wherever it happens.
 use Rattle.std.specs.Prelude.{◌≡◌, ℕ, ◌⊎◌, List, Option, Some, None}
+use Rattle.pcr_values.specs.declared.expected.ExpectFault.{ExpectFault}
+use Rattle.pcr_values.specs.declared.expected.ExpectFault.TheVariants as expects
+use Rattle.pcr_values.specs.ExpectFaults.{expect_fault_line, expect_fault_number}
 use Rattle.agent_plans.specs.declared.fault.ArgumentsFault.{ArgumentsFault}
 use Rattle.agent_plans.specs.declared.fault.ArgumentsFault.TheVariants as arguments
 use Rattle.boot_log.specs.declared.fault.LogFault.{LogFault}
@@ -13,9 +16,6 @@ use Rattle.measure_book.specs.declared.fault.BookFault.{BookFault}
 use Rattle.measure_book.specs.declared.fault.BookFault.TheVariants as books
 use Rattle.measure_book.specs.declared.gathers.GatherFault.TheVariants as gathers
 use Rattle.measure_book.specs.Faults.{fault_number, gather_fault_number}
-use Rattle.boot_verdict.specs.declared.expected.ExpectFault.{ExpectFault}
-use Rattle.boot_verdict.specs.declared.expected.ExpectFault.TheVariants as expects
-use Rattle.boot_verdict.specs.ExpectFaults.{expect_fault_line, expect_fault_number}
 use Rattle.known_files.specs.declared.fault.KnownFault.{KnownFault}
 use Rattle.known_files.specs.declared.fault.KnownFault.TheVariants as known
 use Rattle.attestations.specs.Judging.{quote_refusal_number}

@@ -7,10 +7,11 @@ ghost use Rattle.agent_inputs.specs.declared.fault.RunFault.TheVariants.{Key, Kn
 use agent_plans::ArgumentsFault;
 use attestations::QuoteRefusal;
 use boot_log::LogFault;
-use boot_verdict::{CheckpointFault, ExpectFault, ResumeFault};
+use boot_verdict::{CheckpointFault, ResumeFault};
 use ima_list::{ListFault, ReplayFault};
 use known_files::KnownFault;
 use measure_book::{BookFault, GatherFault};
+use pcr_values::ExpectFault;
 use std::alloc::{AllocError, AllocFailed};
 use std::fmt;
 use thiserror::Error;

@@ -9,9 +9,11 @@ use Rattle.pcr_banks.specs.declared.banks.Banks.{Banks}
 use Rattle.pcr_banks.specs.Digests.{bytes_of}
 use Rattle.pcr_banks.specs.Hashing.{all_algs}
 use Rattle.pcr_banks.specs.Registers.{value_at}
+use Rattle.pcr_values.specs.declared.expected.Expected.{Expected}
+use Rattle.pcr_values.specs.declared.selection.BankRange.{BankRange}
+use Rattle.pcr_values.specs.RegisterTexts.{all_registers, differs, every_register}
 use Rattle.ima_list.specs.declared.fault.ListFault.TheVariants as lists
 use Rattle.ima_list.specs.declared.list_replay.ReplayFault.TheVariants as replays
-use Rattle.boot_verdict.specs.declared.expected.Expected.{Expected}
 use Rattle.boot_verdict.specs.declared.isolation.Stray.{Stray}
 use Rattle.boot_verdict.specs.declared.isolation.Strays.{Strays}
 use Rattle.boot_verdict.specs.declared.positions.Located.{Located}
@@ -22,10 +24,8 @@ use Rattle.boot_verdict.specs.declared.prefix_report.Unconfirmed.TheVariants as 
 use Rattle.boot_verdict.specs.declared.report.Row.{Row}
 use Rattle.boot_verdict.specs.declared.report.State.{State}
 use Rattle.boot_verdict.specs.declared.report.State.TheVariants.{Match, Differ, Absent}
-use Rattle.boot_verdict.specs.declared.selection.BankRange.{BankRange}
 use Rattle.boot_verdict.specs.Isolation.{are_none}
 use Rattle.boot_verdict.specs.ListVerdicts.{ListVerdict}
-use Rattle.boot_verdict.specs.RegisterTexts.{all_registers, differs, every_register}
 use Rattle.boot_verdict.specs.Requirements.{is_missing}
 use Rattle.boot_verdict.specs.Verdicts.{Verdict}
 use Rattle.boot_verdict.specs.Words.{unconfirmed_entry, unconfirmed_number}

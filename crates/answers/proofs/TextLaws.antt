@@ -7,16 +7,16 @@ use Rattle.pcr_banks.specs.declared.banks.Banks.{Banks}
 use Rattle.pcr_banks.specs.Digests.{bytes_of}
 use Rattle.pcr_banks.specs.Hashing.{name_of}
 use Rattle.pcr_banks.specs.Registers.{value_at}
-use Rattle.boot_verdict.specs.declared.expected.Expected.{Expected}
+use Rattle.pcr_values.specs.declared.expected.Expected.{Expected}
+use Rattle.pcr_values.specs.RegisterTexts.{change_line, differs, every_register, register_line, registers_text}
+use Rattle.pcr_values.specs.WrittenTexts.{expected_text}
 use Rattle.boot_verdict.specs.declared.positions.Located.{Located}
 use Rattle.boot_verdict.specs.declared.positions.Position.{Position}
 use Rattle.boot_verdict.specs.declared.positions.Position.TheVariants as positions
 use Rattle.boot_verdict.specs.declared.report.State.{State}
 use Rattle.boot_verdict.specs.declared.report.State.TheVariants.{Match, Differ, Absent}
 use Rattle.boot_verdict.specs.Positions.{all_found}
-use Rattle.boot_verdict.specs.RegisterTexts.{change_line, differs, every_register, register_line, registers_text}
 use Rattle.boot_verdict.specs.Verdicts.{Verdict}
-use Rattle.boot_verdict.specs.WrittenTexts.{expected_text}
 use Rattle.known_files.specs.declared.unknown.Unknown.{Unknown}
 use Rattle.known_files.specs.Unknown.{none_unknown}
 use Rattle.tpm_keys.specs.declared.kinds.KeyPart.{KeyPart}

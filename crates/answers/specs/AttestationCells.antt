@@ -2,8 +2,8 @@
 use Rattle.std.specs.Prelude.{ℕ, Bool, true, false, ◌&&◌, List, [], ◌∷◌, codes, Option, None, Some}
 use Rattle.json.specs.Json.{Json}
 use Rattle.pcr_banks.specs.Hashing.{name_of}
+use Rattle.pcr_values.specs.RegisterTexts.{all_registers}
 use Rattle.boot_verdict.specs.declared.report.Row.{Row}
-use Rattle.boot_verdict.specs.RegisterTexts.{all_registers}
 use Rattle.boot_verdict.specs.Verdicts.{Verdict}
 use Rattle.tpm_quotes.specs.declared.clock.Clock.{Clock}
 use Rattle.tpm_quotes.specs.Spelling.{BankSelection, is_selected, selects_one}

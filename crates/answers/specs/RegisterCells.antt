@@ -6,8 +6,8 @@ use Rattle.pcr_banks.specs.Digests.{bytes_of}
 use Rattle.pcr_banks.specs.Hashing.{name_of}
 use Rattle.pcr_banks.specs.Registers.{value_at}
 use Rattle.json.specs.Json.{Json}
-use Rattle.boot_verdict.specs.declared.expected.Expected.{Expected}
-use Rattle.boot_verdict.specs.RegisterTexts.{differs, every_register}
+use Rattle.pcr_values.specs.declared.expected.Expected.{Expected}
+use Rattle.pcr_values.specs.RegisterTexts.{differs, every_register}
 use Rattle.cells.specs.Values.{Member}
 use Rattle.cells.specs.Cells.{Cell, beside, each, hex, if_some, in_order, list_at, number, object, text, word}
 

@@ -2,6 +2,7 @@
 use Rattle.std.specs.Prelude.{ℕ, Bool, true, false, ◌&&◌, List, [], ◌∷◌, codes, length, if◌then◌else◌, Option, None, Some}
 use Rattle.pcr_banks.specs.Digests.{bytes_of}
 use Rattle.json.specs.Json.{Json}
+use Rattle.pcr_values.specs.declared.selection.BankRange.{BankRange}
 use Rattle.boot_verdict.specs.declared.isolation.Stray.{Stray}
 use Rattle.boot_verdict.specs.declared.isolation.Strays.{Strays}
 use Rattle.boot_verdict.specs.declared.prefix_report.Unconfirmed.{Unconfirmed}
@@ -9,7 +10,6 @@ use Rattle.boot_verdict.specs.declared.report.Aggregate.{Aggregate}
 use Rattle.boot_verdict.specs.declared.report.Row.{Row}
 use Rattle.boot_verdict.specs.declared.report.State.{State}
 use Rattle.boot_verdict.specs.declared.report.State.TheVariants.{Match, Differ, Absent}
-use Rattle.boot_verdict.specs.declared.selection.BankRange.{BankRange}
 use Rattle.boot_verdict.specs.Isolation.{are_none, list_register}
 use Rattle.boot_verdict.specs.ListVerdicts.{ListVerdict, list_matches, required_list_matches}
 use Rattle.boot_verdict.specs.Requirements.{required_matches}

@@ -3,13 +3,13 @@
 ghost use Rattle.std.specs.Prelude.{◌≡◌, ℕ, List, Option, option_map};
 ghost use Rattle.pcr_banks.specs.declared.alg.Alg.{Alg};
 ghost use Rattle.pcr_banks.specs.Digests.{bytes_of, digest_of};
-ghost use Rattle.boot_verdict.specs.RegisterTexts.{every_register};
+ghost use Rattle.pcr_values.specs.RegisterTexts.{every_register};
 ghost use Rattle.cells.specs.Cells.{ShowsItems, ShowsMembers, each};
 ghost use Rattle.answers.specs.RegisterCells.{change_cell, changed_value, expected_cell, register_cell, registers_cell, value_cell};
 
-use boot_verdict::{ALL_REGISTERS, Expected, register_numbered};
 use cells::{CellWriter, Written};
 use pcr_banks::{Alg, Banks, Digest};
+use pcr_values::{ALL_REGISTERS, Expected, register_numbered};
 use std::alloc::Global;
 
 /// Shows the registers whose value in `now` differs from that in `start`, or whose bank `start` lacks.

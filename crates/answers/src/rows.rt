@@ -8,9 +8,10 @@ ghost use Rattle.cells.specs.Values.{Member};
 ghost use Rattle.answers.specs.RowCells.{if_missing, missing_cell, missing_cells, row_cell, rows_cell};
 
 use crate::registers::show_register;
-use boot_verdict::{ALL_REGISTERS, Expected, HasExpected, Requirement, register_numbered};
+use boot_verdict::{HasExpected, Requirement};
 use cells::{CellWriter, Written};
 use pcr_banks::Alg;
+use pcr_values::{ALL_REGISTERS, Expected, register_numbered};
 use std::alloc::Global;
 
 /// A row that says something of an expected register.

@@ -13,6 +13,8 @@ use Rattle.pcr_banks.specs.declared.sets.AlgSet.{AlgSet}
 use Rattle.pcr_banks.specs.Hashing.{all_algs}
 use Rattle.pcr_banks.proofs.AlgLaws.{every_alg}
 use Rattle.pcr_banks.specs.Registers.{extended_by_all, register_count, value_at}
+use Rattle.pcr_values.specs.declared.selection.BankRange.{BankRange}
+use Rattle.pcr_values.specs.Selections.{names}
 use Rattle.boot_log.specs.declared.header.Row.{Row as TableRow}
 use Rattle.boot_log.specs.Spelling.{LogEvent, IsLog, algs_in}
 use Rattle.boot_log.specs.Replaying.{IsFirmware}
@@ -21,10 +23,8 @@ use Rattle.ima_list.specs.Spelling.{IsReading}
 use Rattle.ima_list.specs.Replaying.{AreGenuine, IsReplayed, digests_of}
 use Rattle.boot_verdict.specs.declared.report.Aggregate.{Aggregate}
 use Rattle.boot_verdict.specs.declared.report.Aggregate.TheVariants.{Good, Wrong, NoBank, Missing}
-use Rattle.boot_verdict.specs.declared.selection.BankRange.{BankRange}
 use Rattle.boot_verdict.specs.declared.verifier.VerifyFault.{VerifyFault}
 use Rattle.boot_verdict.specs.declared.verifier.VerifyFault.TheVariants as verdicts
-use Rattle.boot_verdict.specs.Selections.{names}
 use Rattle.boot_verdict.specs.Verdicts.{IsVerifyFault, aggregate_of, is_good, pcr_after_log_and_list, recorded_aggregate}
 use Rattle.tpm_quotes.specs.Spelling.{BankSelection, IsQuote, TpmQuote, all_registers, selects}
 use Rattle.tpm_quotes.specs.Quoting.{confirms}

@@ -1,7 +1,7 @@
 -- Expected registers that nobody has signed, beside a quote. All of this is this project's choice.
 use Rattle.std.specs.Prelude.{Bool, if◌then◌else◌, List, [], filter, find, option_map}
 use Rattle.pcr_banks.specs.Digests.{bytes_of}
-use Rattle.boot_verdict.specs.declared.expected.Expected.{Expected}
+use Rattle.pcr_values.specs.declared.expected.Expected.{Expected}
 use Rattle.boot_verdict.specs.Requirements.{is_of}
 use Rattle.tpm_quotes.specs.Spelling.{TpmQuote, selects}
 use Rattle.tpm_quotes.specs.Quoting.{Values, confirms}

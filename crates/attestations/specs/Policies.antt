@@ -6,8 +6,8 @@ use Rattle.pcr_banks.specs.declared.alg.Alg.{Alg}
 use Rattle.pcr_banks.specs.declared.alg.Alg.TheVariants.{Sha1}
 use Rattle.pcr_banks.specs.Hashing.{all_algs, same_alg}
 use Rattle.pcr_banks.specs.Registers.{register_count}
-use Rattle.boot_verdict.specs.declared.selection.BankRange.{BankRange}
-use Rattle.boot_verdict.specs.Selections.{names}
+use Rattle.pcr_values.specs.declared.selection.BankRange.{BankRange}
+use Rattle.pcr_values.specs.Selections.{names}
 use Rattle.tpm_quotes.specs.Spelling.{BankSelection, all_registers, selects}
 use Rattle.attestations.specs.declared.policy.Policy.{Policy}
 use Rattle.attestations.specs.declared.policy.PolicyFault.{PolicyFault}

@@ -4,8 +4,8 @@ ghost use Rattle.std.specs.Prelude.{◌≡◌, filter};
 ghost use Rattle.tpm_quotes.specs.Spelling.{quote_of, selects};
 ghost use Rattle.attestations.specs.Confirming.{are_confirmed, confirmed_by, expected_value, expected_values};
 
-use boot_verdict::Expected;
 use pcr_banks::{Alg, Digest};
+use pcr_values::Expected;
 use tpm_quotes::{Quote, RegisterValues};
 
 /// What came of the values of expected registers, which nobody has signed.
@@ -20,7 +20,7 @@ pub enum ExpectedValues {
 }
 
 /// Keeps of these registers those that count: if the quote is of their values those that it selects, in their order, since it says nothing of
-/// others; if it is not of them none. Of a register of a bank that comes twice the first value is meant; [`boot_verdict::read_expected`] gives
+/// others; if it is not of them none. Of a register of a bank that comes twice the first value is meant; [`pcr_values::read_expected`] gives
 /// none twice.
 pub fn keep_confirmed(quote: &Quote<'_>, expected: &mut Vec<Expected>) -> ExpectedValues
     ensures values { result ≡ expected_values (quote_of quote.now) expected.old.items }

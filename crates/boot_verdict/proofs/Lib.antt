@@ -1,6 +1,3 @@
-pub mod RegisterLaws
-pub mod StatedLaws
-pub mod ExpectedLaws
 pub mod VerdictLaws
 pub mod StepLaws
 pub mod PositionLaws
@@ -8,10 +5,4 @@ pub mod IsolationLaws
 pub mod ReplayLaws
 pub mod ListVerdictLaws
 pub mod AlgorithmLaws
-pub mod PcrReadLaws
-pub mod PrintedLaws
-pub mod RangeLaws
-pub mod WrittenLaws
-pub mod LineLaws
-pub mod SelectionLaws
 pub mod RequirementLaws

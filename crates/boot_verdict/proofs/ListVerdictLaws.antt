@@ -6,9 +6,9 @@ use Rattle.pcr_banks.specs.declared.alg.Alg.TheVariants.{Sha1, Sha256, Sha384, S
 use Rattle.pcr_banks.specs.declared.banks.Banks.{Banks}
 use Rattle.pcr_banks.specs.Sets.{has_alg}
 use Rattle.pcr_banks.specs.Registers.{register_count, extended_by_all, reset_value, value_at}
+use Rattle.pcr_values.specs.declared.expected.Expected.{Expected}
 use Rattle.ima_list.specs.ListEntry.{ListEntry}
 use Rattle.ima_list.specs.Replaying.{IsReplayed, digests_of}
-use Rattle.boot_verdict.specs.declared.expected.Expected.{Expected}
 use Rattle.boot_verdict.specs.declared.isolation.Stray.{Stray}
 use Rattle.boot_verdict.specs.declared.report.Row.{Row}
 use Rattle.boot_verdict.specs.Isolation.{first_stray}

@@ -11,11 +11,11 @@ use Rattle.pcr_banks.specs.declared.alg.Alg.{Alg}
 use Rattle.pcr_banks.specs.declared.banks.Banks.{Banks}
 use Rattle.pcr_banks.specs.declared.sets.AlgSet.{AlgSet}
 use Rattle.pcr_banks.specs.Registers.{reset_value, value_at}
+use Rattle.pcr_values.specs.declared.expected.Expected.{Expected}
 use Rattle.boot_log.specs.declared.header.Row.{Row as TableRow}
 use Rattle.boot_log.specs.Spelling.{LogEvent, IsLog, algs_in}
 use Rattle.boot_log.specs.Replaying.{startup_locality}
 use Rattle.ima_list.specs.ListEntry.{ListEntry}
-use Rattle.boot_verdict.specs.declared.expected.Expected.{Expected}
 use Rattle.boot_verdict.specs.declared.positions.Located.{Located}
 use Rattle.boot_verdict.specs.declared.positions.Position.{Position}
 use Rattle.boot_verdict.specs.declared.positions.Position.TheVariants.{Reset, Event, Entry, Nowhere, Absent}

@@ -10,25 +10,25 @@ use Rattle.pcr_banks.specs.declared.sets.AlgSet.{AlgSet}
 use Rattle.pcr_banks.specs.Hashing.{all_algs, same_alg}
 use Rattle.pcr_banks.specs.Registers.{register_count}
 use Rattle.pcr_banks.proofs.AlgLaws.{every_passes, same_alg_is}
+use Rattle.pcr_values.specs.declared.expected.Expected.{Expected}
+use Rattle.pcr_values.specs.declared.selection.BankRange.{BankRange}
+use Rattle.pcr_values.specs.RegisterRanges.{is_within}
+use Rattle.pcr_values.specs.RegisterTexts.{all_registers}
+use Rattle.pcr_values.specs.Selections.{AreBankRanges, IsBankRangeText, SpellsRanges, are_of_banks, is_bank, is_in, names, split_at_separators}
+use Rattle.pcr_values.proofs.RangeLaws.{range_exists}
+use Rattle.pcr_values.proofs.SelectionLaws.{ranges_once}
+use Rattle.pcr_values.proofs.RegisterLaws as registers
 use Rattle.boot_log.specs.Spelling.{LogEvent}
 use Rattle.ima_list.specs.ListEntry.{ListEntry}
-use Rattle.boot_verdict.specs.declared.expected.Expected.{Expected}
 use Rattle.boot_verdict.specs.declared.report.Row.{Row}
 use Rattle.boot_verdict.specs.declared.report.State.{State}
 use Rattle.boot_verdict.specs.declared.report.State.TheVariants.{Match, Differ, Absent}
-use Rattle.boot_verdict.specs.declared.selection.BankRange.{BankRange}
 use Rattle.boot_verdict.specs.declared.isolation.Strays.{Strays}
 use Rattle.boot_verdict.specs.Isolation.{IsListApart, IsLogApart, are_none, list_register}
-use Rattle.boot_verdict.specs.RegisterRanges.{is_within}
-use Rattle.boot_verdict.specs.RegisterTexts.{all_registers}
-use Rattle.boot_verdict.specs.Requirements.{HasMatch, IsRequirementText, are_of_banks, bind_list, expected_of_rows, is_complete, is_complete_in, is_missing, is_of, required_matches, states}
-use Rattle.boot_verdict.specs.Selections.{AreBankRanges, IsBankRangeText, SpellsRanges, is_bank, is_in, names, split_at_separators}
+use Rattle.boot_verdict.specs.Requirements.{HasMatch, IsRequirementText, bind_list, expected_of_rows, is_complete, is_complete_in, is_missing, is_of, required_matches, states}
 use Rattle.boot_verdict.specs.ListVerdicts.{list_matches, list_verdict_on, required_list_matches}
 use Rattle.boot_verdict.specs.Verdicts.{is_good, is_match, matches, state_matches, verdict_on}
 use Rattle.boot_verdict.proofs.IsolationLaws.{list_is_apart, log_is_apart}
-use Rattle.boot_verdict.proofs.RangeLaws.{range_exists}
-use Rattle.boot_verdict.proofs.SelectionLaws.{ranges_once}
-use Rattle.boot_verdict.proofs.RegisterLaws as registers
 
 -- ---- what is no requirement
 

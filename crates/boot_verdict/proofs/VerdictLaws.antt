@@ -8,6 +8,7 @@ use Rattle.pcr_banks.specs.Hashing.{hash_of}
 use Rattle.pcr_banks.specs.Digests.{alg_of, bytes_of, digest_of}
 use Rattle.pcr_banks.specs.Registers.{value_at, extended_by_all}
 use Rattle.pcr_banks.proofs.SetLaws.{same_bytes}
+use Rattle.pcr_values.specs.declared.expected.Expected.{Expected}
 use Rattle.boot_log.specs.declared.fault.LogFault.{LogFault}
 use Rattle.boot_log.specs.declared.fault.LogFault.TheVariants as logs
 use Rattle.boot_log.specs.declared.header.Row.{Row as TableRow}
@@ -18,7 +19,6 @@ use Rattle.ima_list.specs.ListEntry.{ListEntry}
 use Rattle.ima_list.specs.Aggregates.{aggregate_register_count, boot_aggregate_of, joined_values}
 use Rattle.ima_list.specs.Replaying.{IsReplayed, digests_of}
 use Rattle.boot_verdict.specs.declared.checkpoint.Checkpoint.{Checkpoint}
-use Rattle.boot_verdict.specs.declared.expected.Expected.{Expected}
 use Rattle.boot_verdict.specs.declared.report.Row.{Row}
 use Rattle.boot_verdict.specs.declared.verifier.VerifyFault.{VerifyFault}
 use Rattle.boot_verdict.specs.declared.verifier.VerifyFault.TheVariants as faults

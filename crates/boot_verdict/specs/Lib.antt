@@ -1,8 +1,3 @@
-pub mod RegisterTexts
-pub mod ExpectFaults
-pub mod Lines
-pub mod StatedRegisters
-pub mod ExpectedTexts
 pub mod Verdicts
 pub mod Isolation
 pub mod ListSources
@@ -10,13 +5,8 @@ pub mod Steps
 pub mod Positions
 pub mod Replays
 pub mod parts
-pub mod PcrReadTexts
-pub mod PrintedTexts
-pub mod RegisterRanges
-pub mod Selections
 pub mod Requirements
 pub mod ListVerdicts
-pub mod WrittenTexts
 pub mod Tracking
 pub mod Words
 pub mod ListReplays

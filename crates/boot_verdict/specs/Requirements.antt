@@ -1,22 +1,18 @@
 -- Registers that must be among the expected ones.
-use Rattle.std.specs.Prelude.{◌≡◌, ◌⊎◌, ℕ, ◌&&◌, ◌==◌, not, Bool, true, false, is_some, List, map}
+use Rattle.std.specs.Prelude.{◌≡◌, ◌⊎◌, ℕ, ◌&&◌, ◌==◌, not, Bool, true, false, List, map}
 use Rattle.std.specs.List.{Contains, list_all, list_any}
 use Rattle.pcr_banks.specs.declared.alg.Alg.{Alg}
 use Rattle.pcr_banks.specs.Hashing.{all_algs, same_alg}
-use Rattle.boot_verdict.specs.declared.expected.Expected.{Expected}
+use Rattle.pcr_values.specs.declared.expected.Expected.{Expected}
+use Rattle.pcr_values.specs.declared.selection.BankRange.{BankRange}
+use Rattle.pcr_values.specs.RegisterTexts.{all_registers}
+use Rattle.pcr_values.specs.Selections.{IsFirstWrong, SpellsRanges, are_of_banks, names}
 use Rattle.boot_verdict.specs.declared.positions.Located.{Located}
 use Rattle.boot_verdict.specs.declared.report.Row.{Row}
 use Rattle.boot_verdict.specs.declared.report.State.TheVariants.{Match}
-use Rattle.boot_verdict.specs.declared.selection.BankRange.{BankRange}
 use Rattle.boot_verdict.specs.Isolation.{are_none, list_register}
 use Rattle.boot_verdict.specs.Positions.{all_found}
-use Rattle.boot_verdict.specs.RegisterTexts.{all_registers}
-use Rattle.boot_verdict.specs.Selections.{IsFirstWrong, SpellsRanges, names}
 use Rattle.boot_verdict.specs.Verdicts.{Verdict, matches}
-
--- Whether each is of a bank that is named.
-abbrev pub are_of_banks : List BankRange → Bool
-are_of_banks ranges = list_all (λ bank. is_some bank.alg) ranges
 
 -- Whether they name the list's register in some bank: without it nothing that is required tells of the list.
 abbrev pub bind_list : List BankRange → Bool

@@ -10,6 +10,7 @@ use Rattle.pcr_banks.specs.Sets.{has_alg}
 use Rattle.pcr_banks.specs.Registers.{register_count, extended_by_all}
 use Rattle.byte_streams.specs.declared.pieces.ReadFault.{ReadFault}
 use Rattle.byte_streams.specs.declared.pieces.ReadFault.TheVariants as reads
+use Rattle.pcr_values.specs.declared.expected.Expected.{Expected}
 use Rattle.boot_log.specs.declared.fault.LogFault.{LogFault}
 use Rattle.boot_log.specs.declared.fault.LogFault.TheVariants as logs
 use Rattle.boot_log.specs.declared.header.Row.{Row as TableRow}
@@ -26,7 +27,6 @@ use Rattle.ima_list.specs.FieldKinds.{FileFields}
 use Rattle.ima_list.specs.Fields.{fields_of}
 use Rattle.ima_list.specs.Aggregates.{aggregate_register_count, boot_aggregate_path, joined_values}
 use Rattle.ima_list.specs.Replaying.{digests_of, AreGenuine, IsReplayFault}
-use Rattle.boot_verdict.specs.declared.expected.Expected.{Expected}
 use Rattle.boot_verdict.specs.declared.isolation.Strays.{Strays}
 use Rattle.boot_verdict.specs.declared.report.Row.{Row}
 use Rattle.boot_verdict.specs.declared.report.State.{State}

@@ -3,22 +3,17 @@
 ghost use Rattle.std.specs.Prelude.{◌≡◌, ℕ, ◌+◌, ◌<◌, ◌≤◌, List, length, true, false};
 ghost use Rattle.pcr_banks.specs.declared.alg.Alg.{Alg};
 ghost use Rattle.pcr_banks.specs.declared.sets.AlgSet.{AlgSet};
+ghost use Rattle.pcr_values.specs.declared.expected.Expected.{Expected};
+ghost use Rattle.pcr_values.specs.declared.selection.BankRange.{BankRange};
+ghost use Rattle.pcr_values.specs.Selections.{SpellsRanges, names};
 ghost use Rattle.boot_log.specs.Spelling.{LogEvent};
 ghost use Rattle.ima_list.specs.ListEntry.{ListEntry};
-ghost use Rattle.boot_verdict.specs.declared.expected.Expected.{Expected};
 ghost use Rattle.boot_verdict.specs.declared.positions.Position.TheVariants.{Nowhere};
 ghost use Rattle.boot_verdict.specs.declared.report.State.TheVariants.{Match};
 ghost use Rattle.boot_verdict.specs.Positions.{is_found, pcr_after, position_after, position_on, reached_after};
-ghost use Rattle.boot_verdict.specs.declared.register_range.RegisterRange.{RegisterRange};
-ghost use Rattle.boot_verdict.specs.declared.selection.BankRange.{BankRange};
-ghost use Rattle.boot_verdict.specs.ExpectedTexts.{IsExpectedText};
-ghost use Rattle.boot_verdict.specs.PrintedTexts.{IsPrintedText};
-ghost use Rattle.boot_verdict.specs.RegisterRanges.{IsRangeText};
 ghost use Rattle.boot_verdict.specs.Isolation.{IsListApart, IsLogApart, list_register};
 ghost use Rattle.boot_verdict.specs.Requirements.{HasMatch, IsRequirementText, required_matches};
-ghost use Rattle.boot_verdict.specs.Selections.{SpellsRanges, names, those_selected};
 ghost use Rattle.boot_verdict.specs.ListVerdicts.{list_verdict_on, required_list_matches};
-ghost use Rattle.boot_verdict.specs.WrittenTexts.{expected_text};
 ghost use Rattle.boot_verdict.specs.Verdicts.{pcr_after_log_and_list, row_on, verdict_on};
 
 /// The position of an expected register is where its value is first reached: after the steps of that position the register has the
@@ -38,20 +33,6 @@ pub fn position_is_where_the_value_is_first()
     ensures all { (algs : AlgSet) (events : List LogEvent) (entries : List ListEntry) (alg : Alg) (register : ℕ)
         → pcr_after algs events entries alg register (length events + length entries)
         ≡ pcr_after_log_and_list algs events entries alg register }
-{}
-
-/// A text has one reading: it states one list of registers at most, whether it is one that [`crate::read_expected`] reads
-/// (`expected`) or one that tpm2-tools printed (`printed`); and it spells one range of registers (`range`) and one selection of them
-/// (`selection`) at most.
-pub fn texts_have_one_reading()
-    ensures expected { (text : List ℕ) (first second : List Expected)
-        → IsExpectedText text first → IsExpectedText text second → first ≡ second }
-    ensures printed { (text : List ℕ) (first second : List Expected)
-        → IsPrintedText text first → IsPrintedText text second → first ≡ second }
-    ensures range { (text : List ℕ) (first second : RegisterRange)
-        → IsRangeText text first → IsRangeText text second → first ≡ second }
-    ensures selection { (text : List ℕ) (first second : List BankRange)
-        → SpellsRanges text first → SpellsRanges text second → first ≡ second }
 {}
 
 /// A verdict that meets a requirement has a `match` for each register that the requirement names (`matched`), in some bank for the list's
@@ -81,14 +62,4 @@ pub fn met_requirement_of_a_list_is_matched()
         → (alg : Alg) × HasMatch (list_verdict_on entries expected).rows alg list_register }
     ensures apart { (entries : List ListEntry) (expected : List Expected) (ranges : List BankRange)
         → required_list_matches ranges (list_verdict_on entries expected) ≡ true → IsListApart entries }
-{}
-
-/// What [`crate::read_printed`] read and [`crate::write_expected`] wrote, [`crate::read_expected`] reads back: if a text that
-/// tpm2-tools printed states some registers, then the text written of those that are selected states these, in order, and no
-/// others; and so does that of all (`all`).
-pub fn expected_lines_read_back()
-    ensures selected { (text : List ℕ) (expected : List Expected) (ranges : List BankRange) → IsPrintedText text expected
-        → IsExpectedText (expected_text (those_selected ranges expected)) (those_selected ranges expected) }
-    ensures all { (text : List ℕ) (expected : List Expected) → IsPrintedText text expected
-        → IsExpectedText (expected_text expected) expected }
 {}

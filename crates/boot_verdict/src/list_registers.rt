@@ -16,7 +16,7 @@ use pcr_banks::{Alg, AlgSet, Banks};
 use std::alloc::Global;
 
 /// The registers of all banks before a list: their reset values after a start from locality 0.
-/// [`crate::write_registers`] with these as `start` writes those that the list of [`replay_from`] changed.
+/// [`pcr_values::write_registers`] with these as `start` writes those that the list of [`replay_from`] changed.
 pub fn list_start() -> Banks
     ensures { IsListStart result }
 {

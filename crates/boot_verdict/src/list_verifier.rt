@@ -10,7 +10,6 @@ ghost use Rattle.boot_verdict.specs.ListVerdicts.{IsListVerdictFrom, WatchesList
 ghost use Rattle.boot_verdict.specs.Replays.{IsListReplayFault};
 
 use crate::checkpoint::Checkpoint;
-use crate::expected::Expected;
 use crate::isolation::Strays;
 use crate::list_registers::list_start;
 use crate::report::{Row, all_match};
@@ -18,6 +17,7 @@ use crate::requirement::Requirement;
 use crate::steps::Tracker;
 use crate::verifier::{VerifyFault, rows_on};
 use byte_streams::Source;
+use pcr_values::Expected;
 use std::alloc::Global;
 
 /// The report on a measurement list alone and expected registers.

@@ -3,10 +3,10 @@
 ghost use Rattle.std.specs.Prelude.{◌≡◌, ◌⊎◌, ℕ, List, [], Option, length, map, option_map, is_some, Ok, IfOk, IfErr, IsErrOf};
 ghost use Rattle.pcr_banks.specs.declared.banks.Banks.{Banks};
 ghost use Rattle.pcr_banks.specs.declared.sets.AlgSet.{AlgSet};
-ghost use Rattle.boot_verdict.specs.declared.expected.Expected.{Expected};
 ghost use Rattle.pcr_banks.specs.Digests.{digest_of};
 ghost use Rattle.byte_fields.specs.Reading.{ReadsInMemory};
 ghost use Rattle.byte_streams.specs.Streams.{LosesPrefix};
+ghost use Rattle.pcr_values.specs.declared.expected.Expected.{Expected};
 ghost use Rattle.boot_log.specs.declared.header.Row.{Row as TableRow};
 ghost use Rattle.boot_log.specs.LogViews.{HasBorrowed, log_bytes};
 ghost use Rattle.boot_log.specs.Spelling.{LogEvent, IsLog, algs_in};
@@ -19,7 +19,6 @@ ghost use Rattle.boot_verdict.specs.Positions.{AreLocated, AreLocatedFrom, locat
 ghost use Rattle.boot_verdict.specs.Verdicts.{IsSomeLog, IsVerifyFault, IsVerifyFaultFrom};
 ghost use Rattle.boot_verdict.specs.parts.LogPositions.{IsTracked, position_at_reset, row_at_reset};
 
-use crate::expected::Expected;
 use crate::list_replay::ListReplay;
 use crate::positions::{Located, Position, RowTracker};
 use crate::steps::{Step, Tracker};
@@ -27,6 +26,7 @@ use crate::verifier::VerifyFault;
 use boot_log::{LogEvents, LogView};
 use byte_streams::Source;
 use pcr_banks::{Banks, Digest};
+use pcr_values::Expected;
 use std::alloc::{AllocError, Global};
 
 /// Finds where each expected register first has its value: before the firmware event log's events, after one of them, or after an

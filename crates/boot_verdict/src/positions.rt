@@ -8,9 +8,9 @@ ghost use Rattle.boot_verdict.specs.Positions.{all_found, is_found, is_reached};
 ghost use Rattle.boot_verdict.specs.Requirements.{required_found};
 ghost use Rattle.boot_verdict.specs.parts.RowTrackers.{looked, looked_at};
 
-use crate::expected::Expected;
 use crate::requirement::Requirement;
 use pcr_banks::{Banks, Digest};
+use pcr_values::Expected;
 
 /// Where a register first has its expected value.
 #[derive(Clone, Copy, PartialEq, Eq)]

@@ -6,10 +6,10 @@ ghost use Rattle.boot_verdict.specs.Requirements.{required_matches};
 ghost use Rattle.boot_verdict.specs.Verdicts.{is_match, matches, verdict_of};
 ghost use Rattle.boot_verdict.specs.Words.{aggregate_word};
 
-use crate::expected::Expected;
 use crate::isolation::Strays;
 use crate::requirement::Requirement;
 use pcr_banks::Digest;
+use pcr_values::Expected;
 
 /// How a register compares with its expected value.
 #[derive(Clone, Copy, Debug, PartialEq, Eq)]

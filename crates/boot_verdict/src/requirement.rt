@@ -1,18 +1,17 @@
 //! Registers that must be among the expected ones.
 
 ghost use Rattle.std.specs.Prelude.{◌≡◌, ◌⊎◌, ℕ, List, map, IfOk, IfErr};
-ghost use Rattle.boot_verdict.specs.declared.expected.Expected.{Expected};
-ghost use Rattle.boot_verdict.specs.declared.selection.BankRange.{BankRange};
-ghost use Rattle.boot_verdict.specs.declared.selection.SelectionFault.TheVariants.{Malformed, Memory, Unbound};
+ghost use Rattle.pcr_values.specs.declared.expected.Expected.{Expected};
+ghost use Rattle.pcr_values.specs.declared.selection.BankRange.{BankRange};
+ghost use Rattle.pcr_values.specs.declared.selection.SelectionFault.TheVariants.{Malformed, Memory, Unbound};
+ghost use Rattle.pcr_values.specs.Selections.{BeginsWithBankRange, names};
 ghost use Rattle.boot_verdict.specs.Requirements.{IsRequirementText, IsUnbound, IsWrong, bind_list, is_complete, is_complete_in, is_missing, is_of, states};
-ghost use Rattle.boot_verdict.specs.Selections.{BeginsWithBankRange, names};
 
-use crate::expected::Expected;
 use crate::isolation::LIST_REGISTER;
 use crate::positions::Located;
 use crate::report::Row;
-use crate::selection::{Selection, SelectionFault};
 use pcr_banks::{Alg, REGISTERS};
+use pcr_values::{Expected, Selection, SelectionFault};
 use std::alloc::Global;
 use std::marker::Model;
 
@@ -24,7 +23,7 @@ pub struct Requirement {
 
 impl Model for Requirement {
     ghost use Rattle.std.specs.Prelude.{List};
-    ghost use Rattle.boot_verdict.specs.declared.selection.BankRange.{BankRange};
+    ghost use Rattle.pcr_values.specs.declared.selection.BankRange.{BankRange};
 
     ghost Value = { List BankRange };
 

@@ -19,7 +19,6 @@ ghost use Rattle.boot_verdict.specs.ListSources.{HoldsGenuineList, failures_afte
 ghost use Rattle.boot_verdict.specs.Checkpoints.{IsCheckpoint};
 
 use crate::checkpoint::Checkpoint;
-use crate::expected::Expected;
 use crate::isolation::{Strays, first_extending};
 use crate::report::{Aggregate, Report, Row, State};
 use crate::steps::Nobody;
@@ -27,6 +26,7 @@ use boot_log::{LogFault, LogView};
 use byte_streams::{ReadFault, Source};
 use ima_list::{ListFault, ReplayFault, boot_aggregate};
 use pcr_banks::{Banks, Digest};
+use pcr_values::Expected;
 use std::alloc::{AllocError, Global};
 use thiserror::Error;
 

@@ -23,25 +23,25 @@ use Rattle.pcr_banks.proofs.AlgLaws.{every_alg, same_alg_is}
 use Rattle.pcr_banks.proofs.BankLaws.{active_bank}
 use Rattle.pcr_banks.specs.Sets.{has_alg}
 use Rattle.pcr_banks.proofs.SetLaws.{bytes_again, has_where}
+use Rattle.pcr_values.specs.declared.expected.Expected.{Expected}
+use Rattle.pcr_values.specs.ExpectedTexts.{IsRegisterLine}
+use Rattle.pcr_values.specs.RegisterTexts.{all_registers, change_line, register_line}
+use Rattle.pcr_values.specs.Lines.{IsSplitOnce}
+use Rattle.pcr_values.proofs.ExpectedLaws.{Lacks, lacks_from, not_lacked, one_cut, one_line}
+use Rattle.pcr_values.proofs.RegisterLaws as registers
+use Rattle.pcr_values.proofs.WrittenLaws.{IsProper, body, body_shown, body_spells, decimal_above, encoded_above, lacks_feed, line_is, shown, shown_join}
+use Rattle.pcr_values.proofs.ExpectedLaws as names
+use Rattle.pcr_values.proofs.SelectionLaws as colons
+use Rattle.pcr_values.proofs.StatedLaws.{same_digest}
 use Rattle.boot_verdict.specs.declared.checkpoint.Checkpoint.{Checkpoint}
-use Rattle.boot_verdict.specs.declared.expected.Expected.{Expected}
 use Rattle.boot_verdict.specs.declared.isolation.Stray.{Stray}
 use Rattle.growing_lists.specs.CheckpointData.{HaveValues, IsBoot, IsHash, IsSameState, IsStrayOf, SameData, SameValues}
 use Rattle.growing_lists.specs.declared.saved_state.Boot.{Boot}
 use Rattle.growing_lists.specs.declared.saved_state.SavedState.{SavedState}
 use Rattle.growing_lists.specs.CheckpointTexts.{IsOfOtherVersion, bank_lines, banks_lines, boot_lines, checkpoint_text, checkpoint_body, data_lines, state_lines, number_line, seal_line, recorded_line, recorded_words, stray_entry, stray_lines, stray_register, value_line}
-use Rattle.boot_verdict.specs.ExpectedTexts.{IsRegisterLine}
-use Rattle.boot_verdict.specs.RegisterTexts.{all_registers, change_line, register_line}
 use Rattle.boot_verdict.specs.Replays as replays
 use Rattle.growing_lists.specs.parts.CheckpointParts.{HasBank, Sets, TakesBank, TakesSome}
-use Rattle.boot_verdict.specs.Lines.{IsSplitOnce}
-use Rattle.boot_verdict.proofs.ExpectedLaws.{Lacks, lacks_from, not_lacked, one_cut, one_line}
-use Rattle.boot_verdict.proofs.RegisterLaws as registers
-use Rattle.boot_verdict.proofs.WrittenLaws.{IsProper, body, body_shown, body_spells, decimal_above, encoded_above, lacks_feed, line_is, shown, shown_join}
 use Rattle.pcr_banks.proofs.AlgLaws as algs
-use Rattle.boot_verdict.proofs.ExpectedLaws as names
-use Rattle.boot_verdict.proofs.SelectionLaws as colons
-use Rattle.boot_verdict.proofs.StatedLaws.{same_digest}
 
 -- ---- lines
 

@@ -14,6 +14,7 @@ use Rattle.pcr_banks.specs.declared.banks.Banks.{Banks}
 use Rattle.pcr_banks.specs.declared.sets.AlgSet.{AlgSet}
 use Rattle.pcr_banks.specs.Digests.{alg_of, bytes_of}
 use Rattle.pcr_banks.specs.Registers.{extended_by_all, value_at}
+use Rattle.pcr_values.specs.declared.expected.Expected.{Expected}
 use Rattle.boot_log.specs.Replaying.{IsFirmware}
 use Rattle.boot_log.specs.Spelling.{LogEvent}
 use Rattle.ima_list.specs.ListEntry.{IsEntry, ListEntry}
@@ -22,7 +23,6 @@ use Rattle.ima_list.specs.Digesting.{IsGenuine}
 use Rattle.ima_list.specs.Replaying.{AreGenuine, digests_of}
 use Rattle.ima_list.proofs.PieceLaws.{reading_to_the_end}
 use Rattle.boot_verdict.specs.declared.checkpoint.Checkpoint.{Checkpoint}
-use Rattle.boot_verdict.specs.declared.expected.Expected.{Expected}
 use Rattle.boot_verdict.specs.declared.prefix_report.Unconfirmed.{Unconfirmed}
 use Rattle.boot_verdict.specs.declared.prefix_report.Unconfirmed.TheVariants as unconfirmed
 use Rattle.growing_lists.specs.declared.prefixes.Confirming.{Confirming}

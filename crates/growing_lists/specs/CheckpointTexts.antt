@@ -8,10 +8,10 @@ use Rattle.pcr_banks.specs.declared.digest.Digest.{Digest}
 use Rattle.pcr_banks.specs.Hashing.{all_algs, hash_of, name_of}
 use Rattle.pcr_banks.specs.Digests.{alg_of, bytes_of}
 use Rattle.pcr_banks.specs.Registers.{value_at}
+use Rattle.pcr_values.specs.RegisterTexts.{all_registers, change_line}
 use Rattle.boot_verdict.specs.declared.checkpoint.Checkpoint.{Checkpoint}
 use Rattle.boot_verdict.specs.declared.isolation.Stray.{Stray}
 use Rattle.boot_verdict.specs.Isolation.{list_register}
-use Rattle.boot_verdict.specs.RegisterTexts.{all_registers, change_line}
 use Rattle.growing_lists.specs.declared.saved_state.Boot.{Boot}
 use Rattle.growing_lists.specs.declared.saved_state.SavedState.{SavedState}
 

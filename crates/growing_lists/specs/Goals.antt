@@ -2,9 +2,9 @@
 use Rattle.std.specs.Prelude.{◌&&◌, Bool, List}
 use Rattle.std.specs.List.{list_all}
 use Rattle.pcr_banks.specs.declared.sets.AlgSet.{AlgSet}
+use Rattle.pcr_values.specs.declared.expected.Expected.{Expected}
 use Rattle.boot_log.specs.Spelling.{LogEvent}
 use Rattle.ima_list.specs.ListEntry.{ListEntry}
-use Rattle.boot_verdict.specs.declared.expected.Expected.{Expected}
 use Rattle.boot_verdict.specs.Positions.{is_reached}
 use Rattle.boot_verdict.specs.Verdicts.{aggregate_of, is_good, matches, pcr_after_log_and_list, recorded_aggregate, verdict_on}
 use Rattle.tpm_quotes.specs.Quoting.{Values, confirms}

@@ -8,9 +8,9 @@ ghost use Rattle.pcr_banks.specs.declared.digest.Digest.{Digest};
 ghost use Rattle.pcr_banks.specs.Hashing.{name_of};
 ghost use Rattle.pcr_banks.specs.Digests.{alg_of, bytes_of};
 ghost use Rattle.pcr_banks.specs.Registers.{is_active, register_count};
+ghost use Rattle.pcr_values.specs.RegisterTexts.{all_registers, register_line};
 ghost use Rattle.boot_verdict.specs.declared.checkpoint.Checkpoint.{Checkpoint};
 ghost use Rattle.boot_verdict.specs.declared.isolation.Stray.{Stray};
-ghost use Rattle.boot_verdict.specs.RegisterTexts.{all_registers, register_line};
 ghost use Rattle.growing_lists.specs.CheckpointData.{HasTakenNothing, HaveValues, IsBoot, IsCounted, IsHash, IsPossible, IsPossibleState, IsSameState, IsStrayOf, SameData, SameValues};
 ghost use Rattle.growing_lists.specs.CheckpointTexts.{IsOfOtherVersion, IsOfThisVersion, bank_lines, banks_lines, boot_lines, checkpoint_text, data_lines, state_lines, number_line, recorded_line, recorded_words, stray_entry, stray_lines, stray_register, value_line};
 ghost use Rattle.growing_lists.specs.declared.saved_state.Boot.{Boot};
@@ -22,11 +22,9 @@ use crate::same_banks::{are_same_active, are_same_banks};
 use crate::saved_state::{Boot, SavedState, boots_have_counts};
 use crate::session::leaves_room;
 use crate::texts::write_checkpoint;
-use boot_verdict::{
-    Checkpoint, CheckpointFault, LIST_REGISTER, Stray, after_prefix, list_start, register_on,
-    split_once,
-};
+use boot_verdict::{Checkpoint, CheckpointFault, LIST_REGISTER, Stray, list_start};
 use pcr_banks::{Alg, Banks, Digest, REGISTERS};
+use pcr_values::{after_prefix, register_on, split_once};
 use std::alloc::{AllocError, Global};
 
 /// Reads the text that [`crate::write_checkpoint`] makes of a checkpoint and its boot, and no other.

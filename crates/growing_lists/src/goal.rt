@@ -4,8 +4,9 @@ ghost use Rattle.std.specs.Prelude.{◌≡◌};
 ghost use Rattle.pcr_banks.specs.Registers.{value_at};
 ghost use Rattle.growing_lists.specs.Goals.{aim_of, are_reached, is_met};
 
-use boot_verdict::{Expected, is_reached};
+use boot_verdict::is_reached;
 use pcr_banks::Banks;
+use pcr_values::Expected;
 use tpm_quotes::Quote;
 
 /// What the registers after a prefix must be, for it to be confirmed.

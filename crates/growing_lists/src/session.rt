@@ -14,8 +14,9 @@ ghost use Rattle.growing_lists.specs.CheckpointData.{LeavesRoom};
 
 use crate::same_banks::are_same_banks;
 use boot_log::{LogFault, LogView};
-use boot_verdict::{Checkpoint, Expected, Report, ResumeFault, Tracker, VerifyFault, report_on};
+use boot_verdict::{Checkpoint, Report, ResumeFault, Tracker, VerifyFault, report_on};
 use byte_streams::Source;
+use pcr_values::Expected;
 use std::alloc::Global;
 
 /// A verification of a list that grows. It has looked through the log, and has taken some bytes of the list: it knows what they leave,

@@ -1,9 +1,9 @@
 -- What a person is told to do next. No line advises to expect or to require less.
 use Rattle.std.specs.Prelude.{ℕ, ◌++◌, ◌∷◌, ◌&&◌, ◌||◌, Bool, true, false, if◌then◌else◌, List, [], codes, decimal, Option, None, Some, option_map, is_some}
 use Rattle.pcr_banks.specs.Hashing.{name_of}
+use Rattle.pcr_values.specs.declared.expected.Expected.{Expected}
 use Rattle.attestations.specs.declared.expected.ExpectedValues.{ExpectedValues}
 use Rattle.attestations.specs.declared.expected.ExpectedValues.TheVariants as values
-use Rattle.boot_verdict.specs.declared.expected.Expected.{Expected}
 use Rattle.boot_verdict.specs.declared.report.Aggregate.{Aggregate}
 use Rattle.boot_verdict.specs.declared.report.Aggregate.TheVariants as aggregates
 use Rattle.boot_verdict.specs.declared.isolation.Stray.{Stray}

@@ -5,11 +5,12 @@ ghost use Rattle.hints.specs.Hints.{absent_place, absent_row, causes_at, causes_
 
 use attestations::{AttestReport, ExpectedValues};
 use boot_verdict::{
-    Aggregate, Expected, HasExpected, LIST_REGISTER, Located, Position, Report, Requirement, Row,
-    State, Strays,
+    Aggregate, HasExpected, LIST_REGISTER, Located, Position, Report, Requirement, Row, State,
+    Strays,
 };
 use judging::{Answer, Answered};
 use pcr_banks::{Alg, REGISTERS};
+use pcr_values::Expected;
 
 /// A list of which the values that are compared are those after a prefix.
 #[derive(Clone, Copy, PartialEq, Eq)]

@@ -10,9 +10,10 @@ use crate::causes::{Causes, Grown, JudgedBy};
 use crate::escapes::shown_line;
 use crate::mistakes::Mistake;
 use attestations::ExpectedValues;
-use boot_verdict::{Aggregate, Expected, Stray};
+use boot_verdict::{Aggregate, Stray};
 use itoa::Buffer;
 use pcr_banks::Alg;
+use pcr_values::Expected;
 use std::alloc::{AllocError, Global};
 
 /// How many lines there are at most.

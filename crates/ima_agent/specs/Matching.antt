@@ -8,12 +8,12 @@ use Rattle.pcr_banks.specs.declared.alg.Alg.TheVariants.{Sha1}
 use Rattle.pcr_banks.specs.declared.sets.AlgSet.{AlgSet}
 use Rattle.pcr_banks.specs.Hashing.{same_alg}
 use Rattle.pcr_banks.specs.Digests.{alg_of, bytes_of}
+use Rattle.pcr_values.specs.ExpectedTexts.{IsExpectedText}
+use Rattle.pcr_values.specs.declared.expected.Expected.{Expected}
 use Rattle.tpm_quotes.specs.Spelling.{BankSelection, all_registers, is_selected}
 use Rattle.attestations.specs.Quoted.{stated_of}
 use Rattle.boot_log.specs.declared.header.Row.{Row}
 use Rattle.boot_log.specs.Spelling.{IsLog, LogEvent, algs_in}
-use Rattle.boot_verdict.specs.ExpectedTexts.{IsExpectedText}
-use Rattle.boot_verdict.specs.declared.expected.Expected.{Expected}
 use Rattle.boot_verdict.specs.Isolation.{list_register}
 use Rattle.boot_verdict.specs.Verdicts.{is_value, IsSomeLog, pcr_after_log}
 use Rattle.cells.specs.declared.writer.Form.{Form}

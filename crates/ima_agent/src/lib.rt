@@ -1,6 +1,6 @@
 //! The agent as a library: the program, and what some of its commands show, of bytes in memory. Re-exports inputs and faults from
-//! `agent_inputs`, plans and tasks from `agent_plans`, what is said of faults from `rendering`, the verdict from `boot_verdict`,
-//! and its texts from `verdict_texts`.
+//! `agent_inputs`, plans and tasks from `agent_plans`, what is said of faults from `rendering`, expected registers from `pcr_values`, the
+//! verdict from `boot_verdict`, and its texts from `verdict_texts`.
 #![tactic(auto)]
 
 mod boot;
@@ -22,13 +22,15 @@ pub use agent_plans::{
     Question, Quoting, Scope, Task,
 };
 pub use boot_verdict::{
-    Aggregate, BankRange, ExpectFault, Expected, Located, Position, RegisterRange, Report,
-    Requirement, Row, Selection, SelectionFault, State, VerifyFault, all_found, list_start, locate,
-    locate_from, read_expected, read_printed, replay_from, required_found, verify, verify_from,
-    write_expected, write_registers,
+    Aggregate, Located, Position, Report, Requirement, Row, State, VerifyFault, all_found,
+    list_start, locate, locate_from, replay_from, required_found, verify, verify_from,
 };
 pub use command_line::arguments_after_name;
 pub use measuring::FileProgress;
+pub use pcr_values::{
+    BankRange, ExpectFault, Expected, RegisterRange, Selection, SelectionFault, read_expected,
+    read_printed, write_expected, write_registers,
+};
 pub use program::{exit_code, read_words, run, run_with_progress};
 pub use questions::{Failure, NoProgress, Progress};
 pub use rendering::{Output, json_fault_line, json_memory_line, status_of, write_fault};

@@ -17,10 +17,10 @@ use crate::streams::DONE;
 use agent_inputs::{AgentFiles, RunFault, load_input};
 use agent_plans::ConfirmedBy;
 use boot_log::LogView;
-use boot_verdict::{Expected, read_expected};
 use cells::Form;
 use measured_data::Place;
 use pcr_banks::{Alg, Banks};
+use pcr_values::{Expected, read_expected};
 use std::alloc::{AllocError, Global};
 
 /// What matches after a log.

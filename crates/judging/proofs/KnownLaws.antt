@@ -4,8 +4,8 @@ use Rattle.std.specs.Prelude.{IsSomeAnd}
 use Rattle.std.proofs.lemmas.Bool.{false≢true}
 use Rattle.std.proofs.Math.Seq.{take-suc}
 use Rattle.std.proofs.lemmas.List.{get_or-map, length-map, length-take-le}
+use Rattle.pcr_values.specs.declared.expected.Expected.{Expected}
 use Rattle.ima_list.specs.ListEntry.{ListEntry}
-use Rattle.boot_verdict.specs.declared.expected.Expected.{Expected}
 use Rattle.boot_verdict.specs.ListReplays.{AreTracked}
 use Rattle.boot_verdict.specs.ListVerdicts.{IsListVerdict, ListVerdict}
 use Rattle.known_files.specs.declared.known.KnownFiles.{KnownFiles}

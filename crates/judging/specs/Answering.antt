@@ -2,6 +2,13 @@
 use Rattle.std.specs.Prelude.{◌≡◌, ℕ, ◌<◌, ◌≤◌, ◌⊎◌, ◌==◌, not, ◌+◌, Bool, true, false, List, [], ◌∷◌, ◌++◌, length, take, Option, Some, None, Result, Ok, Err, IfSome, IsSomeAnd, MatchResult, ◌&&◌, if◌then◌else◌, MatchOption, option_map}
 use Rattle.std.specs.Option.{option_map_or}
 use Rattle.byte_streams.specs.Streams.{SourceState}
+use Rattle.pcr_values.specs.declared.expected.Expected.{Expected}
+use Rattle.pcr_values.specs.declared.selection.BankRange.{BankRange}
+use Rattle.pcr_values.specs.declared.expected.ExpectFault.{ExpectFault}
+use Rattle.pcr_values.specs.declared.expected.ExpectFault.TheVariants.{NoRegister}
+use Rattle.pcr_values.specs.ExpectedTexts.{BeginsWithRegister, HasFirstFault, IsExpectedText}
+use Rattle.pcr_values.specs.PrintedTexts.{HasPrintedFault, IsPrintedText, PrintsRegister}
+use Rattle.pcr_values.specs.Selections.{BeginsWithBankRange, SpellsRanges, those_selected}
 use Rattle.boot_log.specs.declared.header.Row.{Row as TableRow, Row}
 use Rattle.boot_log.specs.Spelling.{IsLog, LogEvent, algs_in}
 use Rattle.ima_list.specs.ListEntry.{ListEntry}
@@ -9,8 +16,6 @@ use Rattle.ima_list.specs.ListFaults.{list_fault_entry}
 use Rattle.ima_list.specs.Replaying.{AreGenuine, IsReplayFault, IsReplayed}
 use Rattle.ima_list.specs.Spelling.{BeginsWith, IsReading, list_spelling}
 use Rattle.boot_verdict.specs.declared.checkpoint.Checkpoint.{Checkpoint}
-use Rattle.boot_verdict.specs.declared.expected.Expected.{Expected}
-use Rattle.boot_verdict.specs.declared.selection.BankRange.{BankRange}
 use Rattle.boot_verdict.specs.declared.verifier.VerifyFault.{VerifyFault}
 use Rattle.boot_verdict.specs.declared.verifier.VerifyFault.TheVariants as verdicts
 use Rattle.boot_verdict.specs.Checkpoints.{IsCheckpoint, most_after}
@@ -73,12 +78,7 @@ use Rattle.judging.specs.Inputs.{IsFaultAt, IsNotOpened, MayFail, OfInput, Where
 use Rattle.pcr_banks.specs.declared.banks.Banks.{Banks}
 use Rattle.pcr_banks.specs.Registers.{IsReset, value_at}
 use Rattle.boot_log.specs.Replaying.{IsFirmware, startup_locality}
-use Rattle.boot_verdict.specs.declared.expected.ExpectFault.{ExpectFault}
-use Rattle.boot_verdict.specs.declared.expected.ExpectFault.TheVariants.{NoRegister}
-use Rattle.boot_verdict.specs.ExpectedTexts.{BeginsWithRegister, HasFirstFault, IsExpectedText}
-use Rattle.boot_verdict.specs.PrintedTexts.{HasPrintedFault, IsPrintedText, PrintsRegister}
 use Rattle.boot_verdict.specs.Replays.{IsListStart}
-use Rattle.boot_verdict.specs.Selections.{BeginsWithBankRange, SpellsRanges, those_selected}
 use Rattle.growing_lists.specs.CheckpointTexts.{IsOfOtherVersion, IsOfThisVersion, checkpoint_text}
 use Rattle.judging.specs.declared.request.Answered.{Answered}
 use Rattle.judging.specs.declared.answers.Evidence.{Evidence as HeldEvidence}

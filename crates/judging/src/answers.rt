@@ -17,12 +17,11 @@ use crate::request::{
 use crate::sessions::checkpoint_in;
 use agent_inputs::{AgentFiles, RunFault, not_read};
 use attestations::ExpectedValues;
-use boot_verdict::{
-    Checkpoint, Expected, Requirement, SelectionFault, locate_from, read_expected, verify_list_from,
-};
+use boot_verdict::{Checkpoint, Requirement, locate_from, verify_list_from};
 use byte_streams::{Failed, SliceSource, Source};
 use growing_lists::SavedState;
 use known_files::{KnownFiles, UnknownEntries};
+use pcr_values::{Expected, SelectionFault, read_expected};
 use std::alloc::Global;
 use tpm_quotes::Quote;
 

@@ -1,9 +1,9 @@
 //! The judgement on a log and a list by a quote.
 
 ghost use Rattle.std.specs.Prelude.{◌≡◌, ◌↔◌, ◌⊎◌, List, None, option_map, IfOk, IfErr, IfSome, IsTrue};
-ghost use Rattle.boot_verdict.specs.declared.selection.BankRange.{BankRange};
+ghost use Rattle.pcr_values.specs.declared.selection.BankRange.{BankRange};
+ghost use Rattle.pcr_values.specs.Selections.{BeginsWithBankRange};
 ghost use Rattle.boot_verdict.specs.Requirements.{IsRequirementText};
-ghost use Rattle.boot_verdict.specs.Selections.{BeginsWithBankRange};
 ghost use Rattle.tpm_quotes.specs.Spelling.{IsQuote, quote_of};
 ghost use Rattle.attestations.specs.declared.refusal.QuoteRefusal.{QuoteRefusal};
 ghost use Rattle.attestations.specs.Attesting.{IsQuoteRefusal};
@@ -22,8 +22,9 @@ use agent_inputs::{AgentFiles, NotResumed, RunFault};
 use attestations::{
     AttestReport, ExpectedValues, Policy, Quoted, Whole, keep_confirmed, quote_for,
 };
-use boot_verdict::{Checkpoint, Expected, Requirement, SelectionFault, read_expected};
+use boot_verdict::{Checkpoint, Requirement};
 use growing_lists::{Boot, SavedState};
+use pcr_values::{Expected, SelectionFault, read_expected};
 use std::alloc::Global;
 use tpm_quotes::Quote;
 

@@ -7,7 +7,7 @@ ghost use Rattle.judging.specs.Requests.{ExpectedOf, place_of};
 use crate::inputs::{Input, load_at};
 use crate::request::{Answer, Answered, Answering};
 use agent_inputs::{AgentFiles, RunFault};
-use boot_verdict::{ExpectFault, Expected, Selection, SelectionFault, read_printed};
+use pcr_values::{ExpectFault, Expected, Selection, SelectionFault, read_printed};
 use std::alloc::Global;
 
 /// The registers that the text in this input states, of those that another text selects, or all of them without one. The selection is read

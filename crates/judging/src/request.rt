@@ -10,12 +10,12 @@ use agent_inputs::RunFault;
 use agent_plans::Scope;
 use attestations::AttestReport;
 use boot_verdict::{
-    Checkpoint, Expected, ListReport, Located, PrefixReport, Report, Requirement, all_found,
-    required_found,
+    Checkpoint, ListReport, Located, PrefixReport, Report, Requirement, all_found, required_found,
 };
 use growing_lists::{Boot, SavedState};
 use known_files::{Unknown, none_unknown};
 use pcr_banks::Banks;
+use pcr_values::Expected;
 use tpm_keys::{KeyPart, KeyReport, Purpose};
 
 /// What the answer is, with what only it is of.

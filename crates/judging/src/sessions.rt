@@ -15,12 +15,13 @@ use crate::inputs::{Input, limit_of, refusal};
 use crate::request::{Answer, Found, Judged};
 use agent_inputs::{NotResumed, RunFault};
 use agent_plans::Scope;
-use boot_verdict::{Checkpoint, CheckpointFault, Expected, PrefixReport, Report, ResumeFault};
+use boot_verdict::{Checkpoint, CheckpointFault, PrefixReport, Report, ResumeFault};
 use byte_streams::Source;
 use growing_lists::laws::counted_checkpoint_is_possible;
 use growing_lists::{Goal, SavedState, Session, leaves_room, read_checkpoint};
 use ima_list::laws::{entries_to_the_end_are_the_reading, no_bytes_have_two_readings};
 use known_files::UnknownEntries;
+use pcr_values::Expected;
 use std::alloc::{AllocError, Global};
 
 /// The checkpoint whose text this is, and its boot.

@@ -1,6 +1,6 @@
 -- Answers as text or JSON, and their exit statuses.
 use Rattle.std.specs.Prelude.{ℕ, Bool, true, false, List, Option, Some, None, flat_map, ◌≡◌, ◌⊎◌, if◌then◌else◌, []}
-use Rattle.boot_verdict.specs.declared.selection.BankRange.{BankRange}
+use Rattle.pcr_values.specs.declared.selection.BankRange.{BankRange}
 use Rattle.boot_verdict.specs.ListVerdicts.{list_verdict_of}
 use Rattle.known_files.specs.declared.unknown.Unknown.{Unknown}
 use Rattle.attestations.specs.Reports.{attest_verdict_of}

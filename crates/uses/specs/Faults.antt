@@ -1,9 +1,9 @@
 -- Why a use of the libraries fails.
 use Rattle.std.specs.Prelude.{◌≡◌, ◌⊎◌, ℕ, List}
+use Rattle.pcr_values.specs.declared.expected.ExpectFault.TheVariants as expectations
+use Rattle.pcr_values.specs.ExpectedTexts.{HasFirstFault}
 use Rattle.boot_log.specs.declared.fault.LogFault.TheVariants as logs
 use Rattle.boot_log.specs.Spelling.{HasLogFault}
-use Rattle.boot_verdict.specs.declared.expected.ExpectFault.TheVariants as expectations
-use Rattle.boot_verdict.specs.ExpectedTexts.{HasFirstFault}
 use Rattle.boot_verdict.specs.Verdicts.{IsSomeLog, IsVerifyFault}
 use Rattle.uses.specs.declared.fault.UseFault.{UseFault}
 use Rattle.uses.specs.declared.fault.UseFault.TheVariants as faults

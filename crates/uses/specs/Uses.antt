@@ -6,6 +6,8 @@ use Rattle.pcr_banks.specs.declared.banks.Banks.{Banks}
 use Rattle.pcr_banks.specs.declared.digest.Digest.{Digest}
 use Rattle.pcr_banks.specs.Digests.{digest_of}
 use Rattle.pcr_banks.specs.Hashing.{hash_of}
+use Rattle.pcr_values.specs.declared.expected.Expected.{Expected}
+use Rattle.pcr_values.specs.ExpectedTexts.{IsExpectedText}
 use Rattle.boot_log.specs.declared.header.Row.{Row as TableRow}
 use Rattle.boot_log.specs.Spelling.{LogEvent, IsLog, algs_in}
 use Rattle.boot_log.specs.Replaying.{IsFirmware}
@@ -17,8 +19,6 @@ use Rattle.measure_book.specs.Runs.{RunsTo}
 use Rattle.measure_book.specs.Books.{BookState, IsBook}
 use Rattle.measure_book.specs.Groups.{AccountsForAll}
 use Rattle.hash_workers.specs.Batches.{IsBatch}
-use Rattle.boot_verdict.specs.declared.expected.Expected.{Expected}
-use Rattle.boot_verdict.specs.ExpectedTexts.{IsExpectedText}
 use Rattle.boot_verdict.specs.Verdicts.{Verdict, IsVerdict, pcr_after_log, matches}
 
 -- The bytes are a log, and this is what its events make of a register: none where the log has no such bank, or there is no such register.

@@ -4,9 +4,10 @@ ghost use Rattle.std.specs.Prelude.{◌≡◌};
 ghost use Rattle.uses.specs.declared.fault.UseFault.TheVariants as faults;
 
 use boot_log::LogFault;
-use boot_verdict::{ExpectFault, VerifyFault};
+use boot_verdict::VerifyFault;
 use hash_workers::AgentFault;
 use measure_book::{BookFault, GatherFault};
+use pcr_values::ExpectFault;
 use std::alloc::AllocError;
 use thiserror::Error;
 

@@ -5,7 +5,8 @@ ghost use Rattle.uses.specs.Faults.{IsNoVerdict};
 ghost use Rattle.uses.specs.Uses.{TellsWhetherMatch};
 
 use crate::fault::UseFault;
-use boot_verdict::{read_expected, verify};
+use boot_verdict::verify;
+use pcr_values::read_expected;
 use std::alloc::Global;
 
 /// Whether the firmware event log and the measurement list make the registers that the text states, as `sha256 4 f5a5..`, one on each

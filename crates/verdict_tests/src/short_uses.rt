@@ -3,11 +3,12 @@
 mod samples;
 
 use boot_log::LogFault;
-use boot_verdict::{ExpectFault, VerifyFault};
+use boot_verdict::VerifyFault;
 use hash_workers::Job;
 use ima_list::{ListFault, Sig};
 use measure_book::{Answer, BookFault, Outcome};
 use pcr_banks::{Alg, Digest};
+use pcr_values::ExpectFault;
 use samples::{AFTER_THREE, AFTER_TWO, EXPECTED, LIST, LOG, PCR_4};
 use std::alloc::{AllocError, Global};
 use std::test::Fail;

@@ -3,7 +3,7 @@ use Rattle.std.specs.Prelude.{ℕ, Bool, true, false, List, [], ◌++◌, codes,
 use Rattle.hex.specs.Hex.{encode_lower}
 use Rattle.pcr_banks.specs.Hashing.{name_of}
 use Rattle.pcr_banks.specs.Digests.{bytes_of}
-use Rattle.boot_verdict.specs.declared.expected.Expected.{Expected}
+use Rattle.pcr_values.specs.declared.expected.Expected.{Expected}
 use Rattle.boot_verdict.specs.declared.report.Row.{Row}
 use Rattle.boot_verdict.specs.declared.report.State.{State}
 use Rattle.boot_verdict.specs.declared.report.State.TheVariants.{Match, Differ, Absent}

@@ -6,10 +6,11 @@ ghost use Rattle.boot_verdict.specs.Verdicts.{verdict_of};
 ghost use Rattle.verdict_texts.specs.ReportTexts.{aggregate_text, counts_text, outcome_text, register_words, report_text, row_line, row_text, verdict_text};
 ghost use Rattle.boot_verdict.specs.Words.{aggregate_word};
 
-use boot_verdict::{Aggregate, Expected, Report, Row, State, aggregate_word, digits_of};
+use boot_verdict::{Aggregate, Report, Row, State, aggregate_word};
 use byte_streams::{Failed, Sink, send, send_pieces};
 use itoa::Buffer;
 use pcr_banks::MOST_DIGITS;
+use pcr_values::{Expected, digits_of};
 
 /// Writes a report: a line with the number of events and the locality, one with the number of entries, one with the state of the
 /// boot aggregate, one for each expected register, and the verdict.

@@ -5,14 +5,15 @@ ghost use Rattle.pcr_banks.specs.Digests.{bytes_of};
 ghost use Rattle.hex.specs.Hex.{encode_lower};
 ghost use Rattle.byte_streams.specs.Streams.{Sends};
 ghost use Rattle.std.specs.Prelude.{codes, decimal, flat_map};
-ghost use Rattle.boot_verdict.specs.RegisterTexts.{all_registers};
+ghost use Rattle.pcr_values.specs.RegisterTexts.{all_registers};
 ghost use Rattle.growing_lists.specs.CheckpointTexts.{bank_lines, banks_lines, boot_lines, checkpoint_body, checkpoint_text, data_lines, number_line, seal_line, recorded_line, stray_entry, stray_register, value_line};
 
 use crate::saved_state::{Boot, SavedState};
-use boot_verdict::{Checkpoint, LIST_REGISTER, Stray, digits_of, write_change};
+use boot_verdict::{Checkpoint, LIST_REGISTER, Stray};
 use byte_streams::{Failed, Sink, VecSink, send, send_pieces};
 use itoa::Buffer;
 use pcr_banks::{Alg, Banks, Digest, MOST_DIGITS, REGISTERS, hash};
+use pcr_values::{digits_of, write_change};
 use std::alloc::{AllocError, Global};
 
 /// Makes the text of a checkpoint and its boot: a line with the version of this form, one with the number of entries, one with that of
@@ -21,7 +22,7 @@ use std::alloc::{AllocError, Global};
 /// counts of resets and restarts, or one that no quote confirmed this; and last the SHA-256 of all this.
 /// [`crate::read_checkpoint`] reads it.
 ///
-/// Each bank is there, in the order of [`Alg::ALL`]: with a line for each register, as [`boot_verdict::write_registers`] writes it, or
+/// Each bank is there, in the order of [`Alg::ALL`]: with a line for each register, as [`pcr_values::write_registers`] writes it, or
 /// with the line `sha1 none` if it is not active. Fails only if memory runs out.
 pub fn write_checkpoint(alloc: Global, state: &SavedState) -> Result<Vec<u8>, AllocError>
     ensures { IfOk result (λ text. text.items ≡ checkpoint_text state.now) }

@@ -1,8 +1,9 @@
 //! Calls that want all their memory, each made once: on a log of very many events and a list of very many entries. A body that gives up without
 //! reason fails here.
 
-use boot_verdict::{locate, read_expected, verify, verify_from};
+use boot_verdict::{locate, verify, verify_from};
 use byte_streams::SliceSource;
+use pcr_values::read_expected;
 use std::test::Fail;
 use test_kit::lists::MEASUREMENT;
 use test_kit::logs::{EVENT, HEADER};

@@ -3,8 +3,9 @@
 use super::real_boot::{FIRMWARE_LOG, IMA_LIST};
 use attestations::{AttestFault, Cause, Policy, PolicyFault, QuoteRefusal, attest};
 use boot_log::LogFault;
-use boot_verdict::{Requirement, SelectionFault, VerifyFault};
+use boot_verdict::{Requirement, VerifyFault};
 use ima_list::ListFault;
+use pcr_values::SelectionFault;
 use std::alloc::{AllocError, Global};
 use std::test::Fail;
 use test_kit::samples::{LIST, LOG, QUOTE, QUOTE_NONCE};

@@ -2,10 +2,9 @@
 //! same call answers the latter. `tests/faults/sweep.py` refuses the allocations, one in each run.
 
 use super::texts::{Text, expected, positions, report};
-use boot_verdict::{
-    ExpectFault, VerifyFault, list_start, read_expected, read_printed, replay_from, verify_from,
-};
+use boot_verdict::{VerifyFault, list_start, replay_from, verify_from};
 use byte_streams::SliceSource;
+use pcr_values::{ExpectFault, read_expected, read_printed};
 use std::test::Fail;
 use test_kit::devices::PieceSource;
 use test_kit::lists::MEASUREMENT;

@@ -1,7 +1,8 @@
 //! Reports on expected registers that no text can state: registers that there are not, and more than all banks have.
 
-use boot_verdict::{Expected, Report, State, VerifyFault, verify};
+use boot_verdict::{Report, State, VerifyFault, verify};
 use pcr_banks::{Alg, Digest};
+use pcr_values::Expected;
 use std::alloc::{AllocError, Global};
 use std::test::Fail;
 use test_kit::once_more;

@@ -1,12 +1,10 @@
 //! Verdicts on the samples, the book that makes their list, and the texts of all this.
 
-use boot_verdict::{
-    ExpectFault, Expected, Located, Report, VerifyFault, locate, read_expected, verify,
-    write_expected, write_registers,
-};
+use boot_verdict::{Located, Report, VerifyFault, locate, verify};
 use byte_streams::{Failed, Sink, VecSink};
 use measure_book::{Book, ExportFault};
 use pcr_banks::Banks;
+use pcr_values::{ExpectFault, Expected, read_expected, write_expected, write_registers};
 use std::alloc::Global;
 use std::test::Fail;
 use test_kit::books::{applied, measure, opened, origin};

@@ -1,6 +1,6 @@
 use Rattle.std.proofs.Common.{arith}
-use Rattle.boot_verdict.specs.RegisterTexts.{all_registers}
-use Rattle.boot_verdict.proofs.RegisterLaws.{register_at, register_count}
+use Rattle.pcr_values.specs.RegisterTexts.{all_registers}
+use Rattle.pcr_values.proofs.RegisterLaws.{register_at, register_count}
 use Rattle.attestations.specs.Quoted.{bank_selection_of}
 use Rattle.answers.specs.AttestationCells.{number_cell}
 use Rattle.cells.proofs.CellLaws.{all_shown, no_rows, one_more}

@@ -1,6 +1,6 @@
 use Rattle.std.proofs.Common.{arith}
-use Rattle.boot_verdict.specs.RegisterTexts.{every_register}
-use Rattle.boot_verdict.proofs.RegisterLaws.{every_count}
+use Rattle.pcr_values.specs.RegisterTexts.{every_register}
+use Rattle.pcr_values.proofs.RegisterLaws.{every_count}
 use Rattle.answers.specs.RegisterCells.{change_cell}
 use Rattle.cells.proofs.CellLaws.{all_shown, no_rows, one_more}
 use Rattle.answers.proofs.registers.show_changed.Goals as goal

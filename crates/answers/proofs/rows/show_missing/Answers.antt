@@ -1,6 +1,6 @@
 use Rattle.std.proofs.Common.{arith, map}
-use Rattle.boot_verdict.specs.RegisterTexts.{every_register}
-use Rattle.boot_verdict.proofs.RegisterLaws.{every_count}
+use Rattle.pcr_values.specs.RegisterTexts.{every_register}
+use Rattle.pcr_values.proofs.RegisterLaws.{every_count}
 use Rattle.answers.specs.RowCells.{if_missing}
 use Rattle.cells.proofs.CellLaws.{all_shown, no_rows, one_more}
 use Rattle.answers.proofs.rows.show_missing.Goals as goal

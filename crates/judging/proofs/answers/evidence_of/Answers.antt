@@ -1,6 +1,6 @@
 use Rattle.std.proofs.Common.{Err, ap, inl, inr}
 use Rattle.std.proofs.lemmas.Result.{err_from_is_err_and}
-use Rattle.boot_verdict.specs.declared.expected.ExpectFault.{ExpectFault}
+use Rattle.pcr_values.specs.declared.expected.ExpectFault.{ExpectFault}
 use Rattle.judging.proofs.TextLaws.{not_expected}
 use Rattle.judging.proofs.answers.evidence_of.Goals as goal
 

@@ -1,8 +1,8 @@
 use Rattle.std.proofs.Common.{◌<◌, length, arith}
 use Rattle.byte_streams.proofs.PieceLaws.{item_sent, item_fails, all_sent}
-use Rattle.boot_verdict.specs.RegisterTexts.{all_registers}
+use Rattle.pcr_values.specs.RegisterTexts.{all_registers}
+use Rattle.pcr_values.proofs.RegisterLaws.{register_count, register_at}
 use Rattle.growing_lists.specs.CheckpointTexts.{value_line}
-use Rattle.boot_verdict.proofs.RegisterLaws.{register_count, register_at}
 use Rattle.growing_lists.proofs.texts.checkpoint.write_values.Goals as goal
 
 pub returns-in_err-write_value : goal.returns-in_err-write_value

@@ -1,9 +1,0 @@
-use Rattle.boot_verdict.specs.Selections.{names}
-use Rattle.boot_verdict.proofs.WrittenLaws.{all_read_back, those_read_back}
-use Rattle.boot_verdict.proofs.laws.expected_lines_read_back.Goals as goal
-
-pub returns-clause-selected : goal.returns-clause-selected
-returns-clause-selected c = λ text expected ranges. those_read_back text expected (λ e. names ranges e.alg e.register)
-
-pub returns-clause-all : goal.returns-clause-all
-returns-clause-all c = all_read_back

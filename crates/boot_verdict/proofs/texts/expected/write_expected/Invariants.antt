@@ -1,9 +1,0 @@
-use Rattle.std.proofs.Common.{take}
-use Rattle.std.specs.Prelude.{flat_map}
-use Rattle.byte_streams.proofs.SinkLaws.{Sent}
-use Rattle.boot_verdict.specs.WrittenTexts.{expected_line}
-use Rattle.boot_verdict.proofs.texts.expected.write_expected.Given as goal
-
-abbrev pub invariant-loop-register : goal.invariant-loop-register
-invariant-loop-register g l =
-    Sent (g.S.Sink.state l.initial.sink) (g.S.Sink.state l.sink) (flat_map expected_line (take l.register-index l.expected))

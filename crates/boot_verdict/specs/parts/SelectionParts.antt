@@ -1,8 +1,0 @@
--- A selection while it is read part after part.
-use Rattle.std.specs.Prelude.{ℕ, List, [], Option, Some, None}
-use Rattle.boot_verdict.specs.Selections.{split_at_separators}
-
--- The parts of the rest of a text; none after its last part.
-abbrev pub parts_left : Option (List ℕ) → List (List ℕ)
-parts_left None = []
-parts_left (Some text) = split_at_separators text

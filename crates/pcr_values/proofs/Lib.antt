@@ -1,0 +1,9 @@
+pub mod RegisterLaws
+pub mod StatedLaws
+pub mod ExpectedLaws
+pub mod PcrReadLaws
+pub mod PrintedLaws
+pub mod RangeLaws
+pub mod WrittenLaws
+pub mod LineLaws
+pub mod SelectionLaws

@@ -1,0 +1,11 @@
+pub mod RegisterTexts
+pub mod ExpectFaults
+pub mod Lines
+pub mod StatedRegisters
+pub mod ExpectedTexts
+pub mod parts
+pub mod PcrReadTexts
+pub mod PrintedTexts
+pub mod RegisterRanges
+pub mod Selections
+pub mod WrittenTexts

@@ -1,0 +1,3 @@
+pub mod StatedLines
+pub mod RangeEnds
+pub mod SelectionParts
