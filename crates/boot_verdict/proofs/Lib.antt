@@ -4,5 +4,4 @@ pub mod PositionLaws
 pub mod IsolationLaws
 pub mod ReplayLaws
 pub mod ListVerdictLaws
-pub mod AlgorithmLaws
 pub mod RequirementLaws

@@ -1,16 +1,10 @@
 -- Words that texts and JSON have in common.
-use Rattle.std.specs.Prelude.{ℕ, List, [], ◌++◌, ◌==◌, codes, decimal, find, Option, Some, None}
-use Rattle.pcr_banks.specs.declared.alg.Alg.{Alg}
-use Rattle.pcr_banks.specs.Hashing.{all_algs, tpm_id_of}
+use Rattle.std.specs.Prelude.{ℕ, List, [], ◌++◌, codes, decimal, Option, Some, None}
 use Rattle.ima_list.specs.ListFaults.{list_fault_number, list_fault_entry, replay_fault_number, replay_fault_entry}
 use Rattle.boot_verdict.specs.declared.prefix_report.Unconfirmed.{Unconfirmed}
 use Rattle.boot_verdict.specs.declared.prefix_report.Unconfirmed.TheVariants as faults
 use Rattle.boot_verdict.specs.declared.report.Aggregate.{Aggregate}
 use Rattle.boot_verdict.specs.declared.report.Aggregate.TheVariants.{Good, Wrong, NoBank, Missing}
-
--- The known algorithm with this identifier.
-abbrev pub algorithm_with : ℕ → Option Alg
-algorithm_with id = find (λ alg. tpm_id_of alg == id) all_algs
 
 -- The state of a boot aggregate.
 abbrev pub aggregate_word : Aggregate → List ℕ

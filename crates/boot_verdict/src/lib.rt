@@ -2,7 +2,6 @@
 //! registers first have their expected values.
 #![tactic(auto)]
 
-mod algorithms;
 mod checkpoint;
 mod checkpoint_fault;
 mod isolation;
@@ -18,7 +17,6 @@ mod requirement;
 mod steps;
 mod verifier;
 
-pub use algorithms::algorithm_with;
 pub use checkpoint::Checkpoint;
 pub use checkpoint_fault::{CheckpointFault, ResumeFault};
 pub use isolation::{LIST_REGISTER, Stray, Strays, first_extending};

@@ -6,11 +6,10 @@ use Rattle.json.specs.Json.{Json, string}
 use Rattle.hex.specs.Hex.{encode_lower}
 use Rattle.pcr_banks.specs.declared.alg.Alg.{Alg}
 use Rattle.pcr_banks.specs.declared.sets.PerBank.{PerBank}
-use Rattle.pcr_banks.specs.Hashing.{name_of}
+use Rattle.pcr_banks.specs.Hashing.{algorithm_with, name_of}
 use Rattle.pcr_banks.specs.Sets.{digest_in}
 use Rattle.boot_log.specs.declared.header.Row.{Row as TableRow}
 use Rattle.boot_log.specs.Spelling.{IsRow}
-use Rattle.boot_verdict.specs.Words.{algorithm_with}
 use Rattle.json_texts.specs.declared.faults.FaultPlace.{FaultPlace}
 use Rattle.json_texts.specs.declared.faults.FaultPlace.TheVariants.{Event, Entry}
 use Rattle.json_texts.specs.JsonValues.{IsCount, hex_json, items_of, number_json, optional}

@@ -1,11 +1,11 @@
 -- All algorithms: what holds of each in the list holds of every one.
-use Rattle.std.proofs.Common.{rules, ◌≡◌, ℕ, zero, suc, ◌+◌, ◌<◌, add-one, subst, length, take, get_or, arith, ◌==◌, ◌&&◌, Bool, true, false, List, [], ◌∷◌, Option, Some, refl, sym, ap, ◌∙◌, inl, inr}
+use Rattle.std.proofs.Common.{rules, ◌≡◌, ℕ, zero, suc, ◌+◌, ◌<◌, add-one, subst, length, take, get_or, arith, ◌&&◌, Bool, true, false, List, [], ◌∷◌, Option, Some, refl, sym, ap, ◌∙◌, inl, inr}
 use Rattle.std.specs.Prelude.{bytes_eq, find}
 use Rattle.std.specs.List.{list_all, list_any, AllByRecursion}
 use Rattle.std.proofs.lemmas.Bool.{and_parts, and_from, or_cases, or_left, or_right, eqb-true, eq-eqb, both_ways, false_from_ne_true, cases_Bool}
 use Rattle.pcr_banks.specs.declared.alg.Alg.{Alg}
 use Rattle.pcr_banks.specs.declared.alg.Alg.TheVariants.{Sha1, Sha256, Sha384, Sha512}
-use Rattle.pcr_banks.specs.Hashing.{name_of, tpm_id_of, all_algs, same_alg}
+use Rattle.pcr_banks.specs.Hashing.{name_of, tpm_id_of, all_algs, algorithm_with, same_alg}
 
 -- What holds of each algorithm in the list holds of every one.
 pub every_alg : (P : Alg → Type 0) → AllByRecursion P all_algs → (alg : Alg) → P alg
@@ -21,17 +21,13 @@ each_of P every (alg ∷ algs) = (every alg, each_of P every algs)
 
 -- ---- one algorithm
 
--- The algorithm with an identifier, where there is one.
-abbrev alg_by : ℕ → List Alg → Option Alg
-alg_by id algs = find (λ alg. tpm_id_of alg == id) algs
-
-found_by_identifier : (alg : Alg) → alg_by (tpm_id_of alg) all_algs ≡ Some alg
+found_by_identifier : (alg : Alg) → algorithm_with (tpm_id_of alg) ≡ Some alg
 found_by_identifier = every_alg _ (search rules)
 
 pub same_alg_is : (a b : Alg) → same_alg a b ≡ true → a ≡ b
 same_alg_is a b e =
     let ids : tpm_id_of a ≡ tpm_id_of b = eqb-true (tpm_id_of a) (tpm_id_of b) e in
-    let found : Some a ≡ Some b = sym (found_by_identifier a) ∙ ap (λ (id : ℕ). alg_by id all_algs) ids ∙ found_by_identifier b in
+    let found : Some a ≡ Some b = sym (found_by_identifier a) ∙ ap (λ (id : ℕ). algorithm_with id) ids ∙ found_by_identifier b in
     cc
 
 -- The algorithm with a name, where there is one.

@@ -1,5 +1,5 @@
 -- The hash algorithms of the banks: their hashes, their sizes, and how the TPM and texts name them.
-use Rattle.std.specs.Prelude.{ℕ, Bool, ◌==◌, List, [], ◌∷◌, codes}
+use Rattle.std.specs.Prelude.{ℕ, Bool, ◌==◌, List, [], ◌∷◌, codes, find, Option}
 use Rattle.sha1.specs.Sha1.{sha1}
 use Rattle.sha2.specs.Sha256.{sha256}
 use Rattle.sha2.specs.Sha512.{sha384, sha512}
@@ -38,6 +38,10 @@ name_of alg = (row_of alg).name
 -- All algorithms, in order.
 abbrev pub all_algs : List Alg
 all_algs = Sha1 ∷ Sha256 ∷ Sha384 ∷ Sha512 ∷ []
+
+-- The known algorithm with this identifier.
+abbrev pub algorithm_with : ℕ → Option Alg
+algorithm_with id = find (λ alg. tpm_id_of alg == id) all_algs
 
 -- Whether two algorithms are the same: they have the same identifier.
 abbrev pub same_alg : Alg → Alg → Bool

@@ -1,6 +1,6 @@
 ghost use Rattle.std.specs.Prelude.{◌≡◌, ◌≢◌, ◌≤◌, ◌↔◌, true, false, IfSome, IfNone, IsTrue};
 ghost use Rattle.pcr_banks.specs.declared.alg.Alg.{Alg};
-ghost use Rattle.pcr_banks.specs.Hashing.{size_of, tpm_id_of, name_of};
+ghost use Rattle.pcr_banks.specs.Hashing.{algorithm_with, size_of, tpm_id_of, name_of};
 
 /// A hash algorithm that a register bank may use. The variants are in the order of [`Alg::ALL`].
 #[derive(Clone, Copy, Debug, PartialEq, Eq)]
@@ -58,6 +58,7 @@ impl Alg {
 
     /// The algorithm with this `TPM_ALG_ID`, or `None` if no known algorithm has it.
     pub fn from_id(id: u16) -> Option<Self>
+        ensures value { result ≡ algorithm_with id }
         ensures found { IfSome result (λ alg. tpm_id_of alg ≡ id) }
         ensures unknown { IfNone result ((alg : Alg) → tpm_id_of alg ≢ id) }
     {
