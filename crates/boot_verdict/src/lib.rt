@@ -21,7 +21,7 @@ pub use checkpoint::Checkpoint;
 pub use checkpoint_fault::{CheckpointFault, ResumeFault};
 pub use isolation::{LIST_REGISTER, Stray, Strays, first_extending};
 pub use list_registers::{list_start, replay_from};
-pub use list_replay::ListReplay;
+pub use list_replay::{ListReplay, recorded_in};
 pub use list_verifier::{ListReport, verify_list_from};
 pub use location::{locate, locate_from};
 pub use positions::{Located, Position, all_found, is_reached, required_found};

@@ -3,7 +3,6 @@
 ghost use Rattle.std.specs.Prelude.{◌≡◌, ◌↔◌, option_map, IfOk, IsTrue};
 ghost use Rattle.pcr_banks.specs.Digests.{alg_of, bytes_of, digest_of};
 ghost use Rattle.pcr_banks.specs.Registers.{value_at};
-ghost use Rattle.boot_verdict.specs.Verdicts.{recorded_in};
 ghost use Rattle.hints.specs.OldAggregates.{BeginsWithOld, IsSaidOld, LogLeaves, is_old, old_aggregate, registers_in};
 ghost use Rattle.hints.specs.Refused.{list_of, log_of};
 
@@ -11,7 +10,8 @@ use crate::files_again::head_of;
 use crate::task_inputs::{list_of, log_of};
 use agent_inputs::{AgentFiles, RunFault};
 use agent_plans::Task;
-use ima_list::{BOOT_AGGREGATE_PATH, Entries, EntryRef};
+use boot_verdict::recorded_in;
+use ima_list::Entries;
 use judging::{Answer, Input, Request, answer_request};
 use pcr_banks::{Alg, Banks, Digest, Hasher};
 use std::alloc::{AllocError, Global};
@@ -85,17 +85,6 @@ fn begins_with_old(registers: &Banks, list: &[u8]) -> bool
         Ok(None) => false,
         Err(_) => false,
     }
-}
-
-// The boot aggregate that this entry records as the first of a list, if any.
-fn recorded_in(entry: &EntryRef<'_>) -> Option<Digest>
-    ensures { option_map (λ digest. (alg_of digest, bytes_of digest)) result ≡ recorded_in entry.now }
-{
-    if entry.is_violation() {
-        return None;
-    }
-    let fields = entry.fields()?;
-    (fields.path == BOOT_AGGREGATE_PATH).then_some(fields.file)
 }
 
 // Whether what is recorded is the old aggregate of these registers.
