@@ -1,70 +1,20 @@
 -- The first data that the machine hashed for a register is what the log shows as measured.
-use Rattle.std.proofs.Common.{rules, ◌≡◌, ℕ, cond, eqb, ◌&&◌, ◌-◌, Bool, true, false, List, [], ◌∷◌, ◌++◌, length, replicate, map, Some, refl, sym, ap, ◌∙◌, inl, inr}
-use Rattle.std.specs.Prelude.{◌⊎◌, bytes_eq, filter_map, nat_le}
+use Rattle.std.proofs.Common.{rules, ◌≡◌, ℕ, ◌-◌, List, [], ◌∷◌, ◌++◌, map, Some, refl, sym, ap, ◌∙◌, inl, inr}
+use Rattle.std.specs.Prelude.{◌⊎◌, filter_map}
 use Rattle.std.specs.List.{AllByRecursion}
-use Rattle.std.proofs.lemmas.Bool.{cases_Bool}
-use Rattle.std.proofs.lemmas.Bool.Decides.{not_from_Decides}
-use Rattle.std.proofs.lemmas.List.{length-replicate}
 use Rattle.std.proofs.lemmas.List.Elements.{filter_map-append}
-use Rattle.std.proofs.lemmas.Slice.Eq.{bytes_eq-Decides}
 use Rattle.pcr_banks.specs.declared.alg.Alg.{Alg}
-use Rattle.pcr_banks.specs.Hashing.{hash_of, size_of}
+use Rattle.pcr_banks.specs.Hashing.{hash_of}
 use Rattle.pcr_banks.specs.Registers.{reset_value}
 use Rattle.pcr_banks.specs.Sets.{digest_in}
-use Rattle.pcr_banks.proofs.AlgLaws.{every_alg}
 use Rattle.binding_laws.specs.BankBinding.{Collision}
-use Rattle.binding_laws.proofs.BankBindingLaws.{same_or_broken}
+use Rattle.binding_laws.proofs.BankBindingLaws.{collision_of, reset_size, same_or_broken, same_or_collide}
 use Rattle.boot_log.specs.Replaying.{digests_for, startup_locality}
 use Rattle.boot_log.specs.Spelling.{LogEvent}
 use Rattle.boot_answers.specs.Extending.{extended_events}
 use Rattle.answer_laws.specs.Hashed.{HasHashed, HashIsBroken, IsAmong, IsDataAmong, IsWhole, StartAlike, data_of}
 
--- ---- the size of a value at the start
-
-chosen_size : (size : ℕ) (b c : Bool) (first second third : List ℕ) → length first ≡ size → length second ≡ size → length third ≡ size
-    → length (cond b first (cond c second third)) ≡ size
-chosen_size size true c first second third one two three = one
-chosen_size size false true first second third one two three = two
-chosen_size size false false first second third one two three = three
-
-located_size : (alg : Alg) (locality : ℕ) → length (replicate (size_of alg - 1) 0 ++ locality ∷ []) ≡ size_of alg
-located_size = every_alg _ (search rules)
-
-pub reset_size : (alg : Alg) (register locality : ℕ) → length (reset_value alg register locality) ≡ size_of alg
-reset_size alg register locality =
-    chosen_size (size_of alg) (eqb register 0) (nat_le 17 register && nat_le register 22) (replicate (size_of alg - 1) 0 ++ locality ∷ [])
-    (replicate (size_of alg) 255) (replicate (size_of alg) 0) (located_size alg locality) (length-replicate (size_of alg) 255)
-    (length-replicate (size_of alg) 0)
-
 -- ---- bytes of one hash
-
--- They are the same, or collide.
-pub same_or_collide : (alg : Alg) (IsFirst IsSecond : List ℕ → Type 0) (first second : List ℕ) → IsFirst first → IsSecond second
-    → hash_of alg first ≡ hash_of alg second → (first ≡ second) ⊎ Collision alg IsFirst IsSecond
-same_or_collide alg IsFirst IsSecond first second is is_too one =
-    let decides = bytes_eq-Decides first second in
-    elim (cases_Bool (bytes_eq first second)) [
-      | inl same ↦ inl (decides.0 same)
-      | inr apart ↦ inr (record {
-        first = first;
-        second = second;
-        first_kind = is;
-        second_kind = is_too;
-        different = not_from_Decides (bytes_eq first second) decides apart;
-        one_hash = one;
-      })
-    ]
-
-pub collide_more : (alg : Alg) (P Q R S : List ℕ → Type 0) → ((b : List ℕ) → P b → R b) → ((b : List ℕ) → Q b → S b) → Collision alg P Q
-    → Collision alg R S
-collide_more alg P Q R S first second c = record {
-  first = c.first;
-  second = c.second;
-  first_kind = first c.first c.first_kind;
-  second_kind = second c.second c.second_kind;
-  different = c.different;
-  one_hash = c.one_hash;
-}
 
 pub among_more : (x : List ℕ) (all : List (List ℕ)) (b : List ℕ) → IsAmong all b → IsAmong (x ∷ all) b
 among_more x all b among = (x ∷ among.0, among.1, ap (λ (l : List (List ℕ)). x ∷ l) among.2)
@@ -114,7 +64,7 @@ walk alg (first ∷ hashed) later (event ∷ shown) rest same all =
     ([], event, shown ++ rest, refl, refl) heads) [
       | inl equal ↦ elim (walk alg hashed later shown rest tails all.1) [
         | inl alike ↦ inl (joined first event hashed shown equal alike)
-        | inr collide ↦ inr (collide_more alg (IsAmong hashed) (IsDataAmong (shown ++ rest)) (IsAmong (first ∷ hashed))
+        | inr collide ↦ inr (collision_of alg (IsAmong hashed) (IsDataAmong (shown ++ rest)) (IsAmong (first ∷ hashed))
             (IsDataAmong (event ∷ (shown ++ rest))) (among_more first hashed) (data_more event (shown ++ rest)) collide)
       ]
       | inr collide ↦ inr collide

@@ -10,7 +10,7 @@ use Rattle.boot_log.specs.Spelling.{LogEvent}
 use Rattle.event_data.specs.Forms.{IsSeparator, IsText, has_no_nul}
 use Rattle.boot_answers.specs.Images.{IsNoImage}
 use Rattle.answer_laws.specs.HashedImages.{IsImageBytes}
-use Rattle.answer_laws.proofs.HashedLaws.{same_or_collide}
+use Rattle.binding_laws.proofs.BankBindingLaws.{same_or_collide}
 
 and_none : (b c : Bool) → c ≡ false → (b && c) ≡ false
 and_none true c e = e

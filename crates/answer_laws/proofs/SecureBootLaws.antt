@@ -15,7 +15,8 @@ use Rattle.boot_answers.proofs.EventLaws.{added_last}
 use Rattle.boot_answers.proofs.SecureBootLaws.{one_value}
 use Rattle.answer_laws.specs.Hashed.{HasHashed, HashIsBroken, IsDataAmong, IsWhole, StartAlike, data_of}
 use Rattle.answer_laws.specs.HashedAnswers.{HashedDecision, HashedFirst, IsOther, LogsBreak}
-use Rattle.answer_laws.proofs.HashedLaws.{collide_more, data_more, digests_are, digests_of, first_digest, hashed_first, same_or_collide}
+use Rattle.binding_laws.proofs.BankBindingLaws.{collision_of, same_or_collide}
+use Rattle.answer_laws.proofs.HashedLaws.{data_more, digests_are, digests_of, first_digest, hashed_first}
 
 -- ---- what was hashed
 
@@ -122,7 +123,7 @@ two_logs alg (first ∷ before) after (second ∷ front) back event another valu
     let tails : digests_of alg (before ++ event ∷ after) ≡ digests_of alg (front ++ another ∷ back) = cc in
     elim (two_logs alg before after front back event another value other tails all.1 telling all_too.1 telling_too) [
       | inl equal ↦ inl equal
-      | inr collide ↦ inr (collide_more alg (IsDataAmong (before ++ event ∷ after)) (IsDataAmong (front ++ another ∷ back))
+      | inr collide ↦ inr (collision_of alg (IsDataAmong (before ++ event ∷ after)) (IsDataAmong (front ++ another ∷ back))
           (IsDataAmong (first ∷ (before ++ event ∷ after))) (IsDataAmong (second ∷ (front ++ another ∷ back)))
           (data_more first (before ++ event ∷ after)) (data_more second (front ++ another ∷ back)) collide)
     ]

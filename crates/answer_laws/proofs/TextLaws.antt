@@ -6,7 +6,7 @@ use Rattle.pcr_banks.specs.declared.alg.Alg.{Alg}
 use Rattle.pcr_banks.specs.Hashing.{hash_of}
 use Rattle.pcr_banks.specs.Registers.{reset_value}
 use Rattle.pcr_banks.specs.Sets.{digest_in}
-use Rattle.binding_laws.proofs.BankBindingLaws.{same_or_broken}
+use Rattle.binding_laws.proofs.BankBindingLaws.{reset_size, same_or_broken}
 use Rattle.boot_log.specs.Replaying.{digests_for, is_extended_into, startup_locality}
 use Rattle.boot_log.specs.Spelling.{LogEvent, no_action}
 use Rattle.event_data.specs.Forms.{CommandData, IsWideText}
@@ -22,7 +22,7 @@ use Rattle.boot_answers.specs.Commands.{CommandSaid, grub, text_by, wide}
 use Rattle.boot_answers.specs.Extending.{IsAnswering, extended_events}
 use Rattle.boot_answers.proofs.EventLaws.{own_and_later}
 use Rattle.answer_laws.specs.HashedTexts.{ExtendsBreak, HasExtended, HasHashOf, IsHashedText, TellsText}
-use Rattle.answer_laws.proofs.HashedLaws.{digests_are, digests_of, joined_digests, known_digest, reset_size}
+use Rattle.answer_laws.proofs.HashedLaws.{digests_are, digests_of, joined_digests, known_digest}
 
 some_is : {A : Type 0} (x y : A) → Some x ≡ Some y → x ≡ y
 some_is x y e = cc

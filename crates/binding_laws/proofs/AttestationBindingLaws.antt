@@ -1,17 +1,15 @@
 -- What an attestation tells of a log and a list.
-use Rattle.std.proofs.Common.{rules, ◌≡◌, ℕ, ◌<◌, Bool, true, false, cond, eqb, nat_lt, ◌&&◌, ◌-◌, List, [], ◌∷◌, ◌++◌, length, replicate, Option, Some, None, refl, sym, ap, subst, ◌∙◌, arith, inl, inr}
-use Rattle.std.specs.Prelude.{◌⊎◌, IfSome, IsSome, filter, option_map, nat_le}
+use Rattle.std.proofs.Common.{rules, ◌≡◌, ℕ, ◌<◌, Bool, true, false, cond, eqb, nat_lt, ◌&&◌, ◌-◌, List, [], ◌∷◌, length, Option, Some, None, refl, sym, ap, subst, ◌∙◌, arith, inl, inr}
+use Rattle.std.specs.Prelude.{◌⊎◌, IfSome, IsSome, filter, option_map}
 use Rattle.std.specs.List.{AllByRecursion}
 use Rattle.std.proofs.lemmas.Bool.{ne_eqb}
 use Rattle.std.proofs.lemmas.Bool.Decides.{eqb_tells}
-use Rattle.std.proofs.lemmas.List.{length-replicate}
 use Rattle.pcr_banks.specs.declared.alg.Alg.{Alg}
 use Rattle.pcr_banks.specs.declared.sets.AlgSet.{AlgSet}
 use Rattle.pcr_banks.specs.Hashing.{size_of}
 use Rattle.pcr_banks.specs.Sets.{has_alg}
 use Rattle.pcr_banks.specs.Registers.{extended_by_all, register_count, reset_value}
-use Rattle.pcr_banks.proofs.AlgLaws.{every_alg}
-use Rattle.binding_laws.proofs.BankBindingLaws.{value_size}
+use Rattle.binding_laws.proofs.BankBindingLaws.{reset_size, value_size}
 use Rattle.boot_log.specs.Spelling.{LogEvent, algs_in}
 use Rattle.boot_log.specs.Replaying.{digests_for, firmware_value, is_extended_into, startup_locality}
 use Rattle.binding_laws.proofs.LogBindingLaws.{alike_or_broken}
@@ -29,21 +27,6 @@ use Rattle.boot_verdict.specs.Isolation.{list_register}
 use Rattle.binding_laws.specs.AttestationBinding.{BreakHash, ExtendRegisterAlike, TwoAttestations, values_of}
 
 -- ---- sizes
-
-chosen_size : (size : ℕ) (b c : Bool) (first second third : List ℕ) → length first ≡ size → length second ≡ size → length third ≡ size
-    → length (cond b first (cond c second third)) ≡ size
-chosen_size size true c first second third one two three = one
-chosen_size size false true first second third one two three = two
-chosen_size size false false first second third one two three = three
-
-located_size : (alg : Alg) (locality : ℕ) → length (replicate (size_of alg - 1) 0 ++ locality ∷ []) ≡ size_of alg
-located_size = every_alg _ (search rules)
-
-reset_size : (alg : Alg) (register locality : ℕ) → length (reset_value alg register locality) ≡ size_of alg
-reset_size alg register locality =
-    chosen_size (size_of alg) (eqb register 0) (nat_le 17 register && nat_le register 22) (replicate (size_of alg - 1) 0 ++ locality ∷ [])
-    (replicate (size_of alg) 255) (replicate (size_of alg) 0) (located_size alg locality) (length-replicate (size_of alg) 255)
-    (length-replicate (size_of alg) 0)
 
 chosen_value_size : (alg : Alg) (b : Bool) (value : List ℕ) (digests : List (List ℕ)) → length value ≡ size_of alg
     → IfSome (option_map (λ v. extended_by_all alg v digests) (cond b (Some value) None)) (λ v. length v ≡ size_of alg)

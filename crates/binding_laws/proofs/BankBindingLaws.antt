@@ -1,16 +1,17 @@
 -- Extends that end in the same value are the same, or break the hash. This is shown from the last extend back, so that a preimage
 -- is always one of a value at the start, never of a value between two extends.
-use Rattle.std.proofs.Common.{subst, ◌≡◌, ℕ, ◌+◌, List, [], ◌∷◌, ◌++◌, length, refl, sym, ap, ◌∙◌, arith, inl, inr, append_assoc, length-append}
-use Rattle.std.specs.Prelude.{◌⊎◌, bytes_eq}
+use Rattle.std.proofs.Common.{rules, subst, ◌≡◌, ℕ, ◌+◌, ◌-◌, ◌&&◌, Bool, true, false, cond, eqb, List, [], ◌∷◌, ◌++◌, length, replicate, refl, sym, ap, ◌∙◌, arith, inl, inr, append_assoc, length-append}
+use Rattle.std.specs.Prelude.{◌⊎◌, bytes_eq, nat_le}
 use Rattle.std.proofs.lemmas.Bool.{cases_Bool, both_ways}
-use Rattle.std.proofs.lemmas.List.{append-nil}
+use Rattle.std.proofs.lemmas.List.{append-nil, length-replicate}
 use Rattle.std.proofs.lemmas.List.Sums.{fold-append}
 use Rattle.std.proofs.lemmas.Slice.Eq.{bytes_eq-Decides}
 use Rattle.std.proofs.Math.Seq.{append_snoc}
 use Rattle.pcr_banks.specs.declared.alg.Alg.{Alg}
 use Rattle.pcr_banks.specs.Hashing.{hash_of, size_of}
-use Rattle.pcr_banks.specs.Registers.{extended_value, extended_by_all}
+use Rattle.pcr_banks.specs.Registers.{extended_value, extended_by_all, reset_value}
 use Rattle.binding_laws.specs.BankBinding.{Collision, Preimage, IsExtendInput, ExtendsBreakHash}
+use Rattle.pcr_banks.proofs.AlgLaws.{every_alg}
 use Rattle.pcr_banks.proofs.HashLaws.{hash_size}
 
 -- ---- lists from their end
@@ -43,6 +44,40 @@ collision_of alg P Q R S first second hit = record {
 pub preimage_of : (alg : Alg) (P R : List ℕ → Type 0) (value : List ℕ) → ((bytes : List ℕ) → P bytes → R bytes)
     → Preimage alg P value → Preimage alg R value
 preimage_of alg P R value kind hit = record { bytes = hit.bytes; kind = kind hit.bytes hit.kind; hash_is = hit.hash_is }
+
+-- Bytes of one hash are the same, or collide.
+pub same_or_collide : (alg : Alg) (IsFirst IsSecond : List ℕ → Type 0) (first second : List ℕ) → IsFirst first → IsSecond second
+    → hash_of alg first ≡ hash_of alg second → (first ≡ second) ⊎ Collision alg IsFirst IsSecond
+same_or_collide alg IsFirst IsSecond first second is is_too one =
+    let decides = bytes_eq-Decides first second in
+    elim (cases_Bool (bytes_eq first second)) [
+      | inl same ↦ inl (decides.0 same)
+      | inr apart ↦ inr (record {
+        first = first;
+        second = second;
+        first_kind = is;
+        second_kind = is_too;
+        different = not_from_Decides (bytes_eq first second) decides apart;
+        one_hash = one;
+      })
+    ]
+
+-- ---- the value of a register at the start
+
+chosen_size : (size : ℕ) (b c : Bool) (first second third : List ℕ) → length first ≡ size → length second ≡ size → length third ≡ size
+    → length (cond b first (cond c second third)) ≡ size
+chosen_size size true c first second third one two three = one
+chosen_size size false true first second third one two three = two
+chosen_size size false false first second third one two three = three
+
+located_size : (alg : Alg) (locality : ℕ) → length (replicate (size_of alg - 1) 0 ++ locality ∷ []) ≡ size_of alg
+located_size = every_alg _ (search rules)
+
+pub reset_size : (alg : Alg) (register locality : ℕ) → length (reset_value alg register locality) ≡ size_of alg
+reset_size alg register locality =
+    chosen_size (size_of alg) (eqb register 0) (nat_le 17 register && nat_le register 22) (replicate (size_of alg - 1) 0 ++ locality ∷ [])
+    (replicate (size_of alg) 255) (replicate (size_of alg) 0) (located_size alg locality) (length-replicate (size_of alg) 255)
+    (length-replicate (size_of alg) 0)
 
 -- ---- the extends of a register
 

@@ -1,10 +1,8 @@
 -- What a register's value tells of measured data.
 use Rattle.std.proofs.Common.{◌≡◌, ℕ, zero, suc, Bool, true, false, cond, List, [], ◌∷◌, ◌++◌, length, Some, refl, sym, ap, ◌∙◌, inl, inr}
-use Rattle.std.specs.Prelude.{◌⊎◌, slice_get, bytes_eq, filter, filter_map}
-use Rattle.std.proofs.lemmas.Bool.{cases_Bool, eq-eqb, ne_eqb}
+use Rattle.std.specs.Prelude.{◌⊎◌, slice_get, filter, filter_map}
+use Rattle.std.proofs.lemmas.Bool.{eq-eqb, ne_eqb}
 use Rattle.std.specs.List.{Contains}
-use Rattle.std.proofs.lemmas.Bool.Decides.{not_from_Decides}
-use Rattle.std.proofs.lemmas.Slice.Eq.{bytes_eq-Decides}
 use Rattle.std.proofs.lemmas.List.Sums.{fold-append}
 use Rattle.pcr_banks.specs.declared.alg.Alg.{Alg}
 use Rattle.pcr_banks.specs.Hashing.{hash_of}
@@ -18,28 +16,11 @@ use Rattle.measured_data.specs.Confirming.{IsConfirmed}
 use Rattle.measured_data.specs.Measuring.{IsMeasured}
 use Rattle.binding_laws.specs.LogBinding.{LogsBreakHash}
 use Rattle.binding_laws.specs.MeasuredBinding.{Collide, Extensions, HasHashAfter, Matches, MeasuresAfter, WasHashed, WasHashedIn}
-use Rattle.binding_laws.proofs.BankBindingLaws.{same_or_broken}
-use Rattle.binding_laws.proofs.LogBindingLaws.{alike_or_broken, digests_joined, reset_size}
+use Rattle.binding_laws.proofs.BankBindingLaws.{reset_size, same_or_broken, same_or_collide}
+use Rattle.binding_laws.proofs.LogBindingLaws.{alike_or_broken, digests_joined}
 
 some_is : {A : Type 0} (x y : A) → Some x ≡ Some y → x ≡ y
 some_is x y e = cc
-
--- Bytes of one hash are the same, or collide.
-pub same_or_collide : (alg : Alg) (first second : List ℕ) → hash_of alg first ≡ hash_of alg second
-    → (first ≡ second) ⊎ Collide alg first second
-same_or_collide alg first second one =
-    let decides = bytes_eq-Decides first second in
-    elim (cases_Bool (bytes_eq first second)) [
-      | inl same ↦ inl (decides.0 same)
-      | inr apart ↦ inr (record {
-        first = first;
-        second = second;
-        first_kind = refl;
-        second_kind = refl;
-        different = not_from_Decides (bytes_eq first second) decides apart;
-        one_hash = one;
-      })
-    ]
 
 -- ---- the place of a measured event's digest
 
@@ -143,7 +124,7 @@ is_the_same alg register events others before front bytes other same n at there 
           ∙ ap (λ (ds : List (List ℕ)). slice_get ds (length (digests_for alg register before))) alike.digests
           ∙ ap (slice_get (digests_for alg register others)) n
           ∙ place alg register others front other there in
-          elim (same_or_collide alg bytes other (some_is (hash_of alg bytes) (hash_of alg other) one)) [
+          elim (same_or_collide alg (λ b. b ≡ bytes) (λ b. b ≡ other) bytes other refl refl (some_is (hash_of alg bytes) (hash_of alg other) one)) [
             | inl equal ↦ inl equal
             | inr collide ↦ inr (inl collide)
           ]

@@ -1,28 +1,22 @@
 -- What was sent is what is asked for, and is answered with its status.
-use Rattle.std.proofs.Common.{◌≡◌, ℕ, List, [], ◌∷◌, ◌++◌, true, Result, Ok, Err, refl, ap, ◌∙◌, append_assoc, append-nil, inl, inr}
-use Rattle.std.specs.Prelude.{IfErr, IfOk, OnErr, Option, None, Some, String, option_map, string_bytes}
-use Rattle.std.specs.Global.{Global, Vec}
+use Rattle.std.proofs.Common.{◌≡◌, ℕ, Bool, List, [], ◌++◌, Result, Ok, Err, refl, ap, ◌∙◌, append_assoc, append-nil, inl, inr}
+use Rattle.std.specs.Prelude.{IfErr, IfOk, OnErr, Option, None, Some, String, string_bytes}
+use Rattle.std.specs.Global.{Global}
 use Rattle.byte_streams.specs.declared.streams.Failed.{Failed}
 use Rattle.byte_streams.specs.Streams.{Sends, SinkState}
 use Rattle.byte_streams.proofs.SinkLaws.{Sends-none, Sends-then}
 use Rattle.agent_inputs.specs.declared.fault.RunFault.{RunFault}
 use Rattle.agent_inputs.specs.declared.fault.RunFault.TheVariants.{Memory}
 use Rattle.agent_inputs.specs.Loading.{Holds, Inputs, Saved}
-use Rattle.agent_plans.specs.Plans.{NamesKnown, TakesKnown}
 use Rattle.agent_plans.specs.declared.plan.ConfirmedBy.{ConfirmedBy}
 use Rattle.agent_plans.specs.declared.plan.DataShown.{DataShown}
 use Rattle.cells.specs.declared.writer.Form.{Form}
 use Rattle.cells.specs.declared.writer.Form.TheVariants.{Json, Text}
-use Rattle.agent_plans.specs.declared.plan.Judged.{Judged}
 use Rattle.agent_plans.specs.declared.plan.Judged.TheVariants as judged
 use Rattle.agent_plans.specs.declared.plan.Question.{Question}
 use Rattle.agent_plans.specs.declared.plan.Question.TheVariants as questions
-use Rattle.agent_plans.specs.declared.plan.Scope.{Scope}
 use Rattle.agent_plans.specs.declared.plan.Task.{Task}
 use Rattle.agent_plans.specs.declared.plan.Task.TheVariants as tasks
-use Rattle.judging.specs.Answering.{IsNoComparison}
-use Rattle.judging.specs.Inputs.{Where}
-use Rattle.judging.specs.Requests.{ListVerdictOf, These, VerdictOf, takes_known}
 use Rattle.rendering.specs.declared.renderer.Output.{Output}
 use Rattle.ima_agent.specs.declared.streams.StreamFault.{StreamFault}
 use Rattle.ima_agent.specs.declared.streams.StreamFault.TheVariants as streams
@@ -30,11 +24,9 @@ use Rattle.rendering.specs.FaultTexts.{IsFailure}
 use Rattle.questions.specs.Questions.{known_by}
 use Rattle.ima_agent.specs.Program.{Answers, IsFaultOf, IsOutcome, IsOutputFor, SendsOutput, SendsText, Streams, status_after}
 use Rattle.measured_data.specs.declared.place.Place.{Place}
-use Rattle.verdict_texts.specs.declared.events.EventData.{EventData}
-use Rattle.ima_agent.specs.declared.events.EventLines.TheVariants as lines
 use Rattle.ima_agent.specs.Matching.{AreMatched, IsKnownFor}
 use Rattle.ima_agent.specs.Showing.{ShowsEntriesOf}
-use Rattle.ima_agent.specs.ShowingEvents.{Form, IsReported, ShowsEventsIn, ShowsPlainEventsIn, ShowsToldOf, lines_for}
+use Rattle.ima_agent.specs.ShowingEvents.{Form, IsReported, ShowsEventsIn, ShowsPlainEventsIn, ShowsToldOf, plain_lines}
 
 -- A sink that failed in a text did not take more.
 sent_less : {A B E F : Type 0} (old new : SinkState) (fault : E) (other : F) (text more : List ℕ)
@@ -94,14 +86,14 @@ module _ (inputs : Inputs) (log : String Global) (requested : DataShown) (confir
   abbrev Outcome : List ℕ → ℕ → Type 0
   Outcome = IsOutcome inputs (tasks.Events log requested confirmed_by) form old new
 
-  pub plain_outcome : (shown : EventData) → lines_for form requested ≡ lines.Plain shown → (text : List ℕ) (status : ℕ)
-      → ShowsPlainEventsIn form shown bytes text status → Outcome text status
-  plain_outcome shown is text status (inl all) = inl ((bytes, held, rw is all), kept)
-  plain_outcome shown is text status (inr (fault, none, failure)) = inr (inl (fault, inr (bytes, held, rw is none), failure, kept))
+  pub plain_outcome : (with_data : Bool) → plain_lines form requested ≡ Some with_data → (text : List ℕ) (status : ℕ)
+      → ShowsPlainEventsIn form with_data bytes text status → Outcome text status
+  plain_outcome with_data is text status (inl all) = inl ((bytes, held, rw is all), kept)
+  plain_outcome with_data is text status (inr (fault, none, failure)) = inr (inl (fault, inr (bytes, held, rw is none), failure, kept))
 
-  module _ (told : Form) (is : lines_for form requested ≡ lines.Told told) where
-    events_outcome : IsKnownFor told bytes → (matched : Option (List Place)) (done : ℕ) → AreMatched inputs confirmed_by bytes matched done
-        → (text : List ℕ) (status : ℕ) → ShowsEventsIn form told matched done bytes text status → Outcome text status
+  module _ (is : plain_lines form requested ≡ None) where
+    events_outcome : IsKnownFor form bytes → (matched : Option (List Place)) (done : ℕ) → AreMatched inputs confirmed_by bytes matched done
+        → (text : List ℕ) (status : ℕ) → ShowsEventsIn form matched done bytes text status → Outcome text status
     events_outcome known matched done are text status (inl all) = inl ((bytes, held, rw is (known, (matched, done, are, inl all))), kept)
     events_outcome known matched done are text status (inr (begun, fault, line, inl fails, reported, ends)) =
         inl ((bytes, held, rw is (known, (matched, done, are, inr (begun, fault, line, fails, reported, ends)))), kept)
@@ -110,7 +102,7 @@ module _ (inputs : Inputs) (log : String Global) (requested : DataShown) (confir
     events_outcome known matched done are text status (inr (begun, fault, line, inr (inr (memory, none)), reported, ends)) =
         inr (inl (fault, inl (inr (inr memory)), rw (ends, none) (reported_so form fault line status reported), kept))
 
-    pub told_outcome : (text : List ℕ) (status : ℕ) → ShowsToldOf inputs form told confirmed_by bytes text status
+    pub told_outcome : (text : List ℕ) (status : ℕ) → ShowsToldOf inputs form confirmed_by bytes text status
         → Outcome text status
     told_outcome text status (inl (known, (matched, done, are, shown))) = events_outcome known matched done are text status shown
     told_outcome text status (inr (fault, none, failure)) = inr (inl (fault, inr (bytes, held, rw is none), failure, kept))

@@ -19,8 +19,6 @@ use Rattle.json_texts.specs.declared.entry_lines.EntriesFault.{EntriesFault}
 use Rattle.json_texts.specs.declared.entry_lines.EntriesFault.TheVariants as entries
 use Rattle.json_texts.specs.declared.event_lines.EventsFault.{EventsFault}
 use Rattle.json_texts.specs.declared.event_lines.EventsFault.TheVariants as events
-use Rattle.json_texts.specs.FaultJson.{fault_json}
-use Rattle.json_texts.specs.JsonValues.{line_of}
 use Rattle.json_texts.specs.SentEntries.{AreAllIn, SendsEntries}
 use Rattle.json_texts.specs.SentEvents.{SendsEvents, SendsLines}
 use Rattle.measured_data.specs.declared.place.Place.{Place}
@@ -32,7 +30,7 @@ use Rattle.agent_inputs.specs.Faults.{fault_of_list, fault_of_log}
 use Rattle.agent_inputs.specs.Loading.{Holds, Inputs, IsNotRead, IsTooLong, input_limit}
 use Rattle.ima_agent.specs.declared.streams.StreamFault.{StreamFault}
 use Rattle.ima_agent.specs.declared.streams.StreamFault.TheVariants as streams
-use Rattle.rendering.specs.FaultTexts.{IsFailure}
+use Rattle.rendering.specs.FaultTexts.{IsFailure, json_fault_line}
 use Rattle.ima_agent.specs.Showing.{AreAllInFile, EndsAfterEntries, ShowsEntriesOf, ShowsToFault, StopsInFile, entry_lines, list_lines}
 use Rattle.ima_agent.specs.ShowingEvents.{AreAllEvents, Form, IsReported, ShowsEventsIn, StopsInLog, log_lines}
 use Rattle.ima_agent.specs.Program.{Streams}
@@ -41,11 +39,11 @@ use Rattle.judging.proofs.InputLaws.{HasAll, held_more, held_whole}
 -- The line of `Memory`, of which there is always one.
 abbrev memory_line : Form → List ℕ
 memory_line Text = codes "failed: memory\n"
-memory_line Json = line_of (fault_json (codes "memory") None None (codes "failed: memory"))
+memory_line Json = json_fault_line runs.Memory
 
 memory_reported : (form : Form) → IsReported form runs.Memory (memory_line form) 3
 memory_reported Text = (refl, refl)
-memory_reported Json = (record { message = codes "failed: memory"; message_is = refl; text_is = refl }, refl)
+memory_reported Json = (refl, refl)
 
 -- What is written for a fault is its own line, or that of `Memory`.
 own_or_memory : (form : Form) (fault : RunFault) (line : List ℕ) (status : ℕ) → IsFailure form fault line status
@@ -108,42 +106,42 @@ streams_so P Q old new (Err (streams.Run fault)) so sent =
 
 -- ---- the events of a log
 
-module _ (form : Form) (told : Form) (matched : Option (List Place)) (done : ℕ) (log : List ℕ) (old new : SinkState) where
+module _ (form : Form) (matched : Option (List Place)) (done : ℕ) (log : List ℕ) (old new : SinkState) where
   abbrev lines : List Row → List LogEvent → List ℕ
-  lines = log_lines told matched log
+  lines = log_lines form matched log
 
   abbrev AreAll : List ℕ → Type 0
   AreAll = AreAllEvents lines log
 
   abbrev Stops : List ℕ → RunFault → Type 0
-  Stops = StopsInLog told matched log
+  Stops = StopsInLog form matched log
 
   abbrev Shown : List ℕ → ℕ → Type 0
-  Shown = ShowsEventsIn form told matched done log
+  Shown = ShowsEventsIn form matched done log
 
-  out : (result : Result (Unit {0}) EventsFault) (sent : SendsLines told matched log old new result) → Stops (lines sent.table sent.events) runs.Memory
+  out : (result : Result (Unit {0}) EventsFault) (sent : SendsLines form matched log old new result) → Stops (lines sent.table sent.events) runs.Memory
   out result sent = inr (inl (refl, (sent.table, sent.events, sent.rest, sent.begins, refl)))
 
-  pub events_shown : SendsEvents told matched log old new (Ok tt) → Streams form Shown old new (Ok done)
+  pub events_shown : SendsEvents form matched log old new (Ok tt) → Streams form Shown old new (Ok done)
   events_shown (inl sent) =
       all_sent form done AreAll Stops old new (lines sent.table sent.events) sent.sends
       (record { table = sent.table; events = sent.events; log_is = sent.ends; text_is = refl })
   events_shown (inr none) = absurd none.refused
 
-  pub events_cut : (failed : Failed) → SendsEvents told matched log old new (Err events.Sink) → Streams form Shown old new (Err (streams.Sink failed))
+  pub events_cut : (failed : Failed) → SendsEvents form matched log old new (Err events.Sink) → Streams form Shown old new (Err (streams.Sink failed))
   events_cut failed (inl sent) =
       cut_sent form done AreAll Stops old new (lines sent.table sent.events) events.Sink failed sent.sends (out (Err events.Sink) sent)
   events_cut failed (inr none) = absurd none.refused
 
   pub events_to_fault : (first : LogFault) (fault : RunFault) → fault ≡ fault_of_log first
-      → SendsEvents told matched log old new (Err (events.Log first)) → Streams form Shown old new (Err (streams.Run fault))
+      → SendsEvents form matched log old new (Err (events.Log first)) → Streams form Shown old new (Err (streams.Run fault))
   events_to_fault first fault says (inl sent) =
       fault_sent form done AreAll Stops old new (lines sent.table sent.events) fault sent.sends
       (inl (first, says, inr (sent.table, sent.events, sent.ends, refl))) (out (Err (events.Log first)) sent)
   events_to_fault first fault says (inr none) =
       fault_sent form done AreAll Stops old new [] fault none.sends (inl (first, says, inl (refl, none.refused))) (inr (inr (refl, refl)))
 
-  pub events_run_out : SendsEvents told matched log old new (Err events.Memory) → Streams form Shown old new (Err (streams.Run runs.Memory))
+  pub events_run_out : SendsEvents form matched log old new (Err events.Memory) → Streams form Shown old new (Err (streams.Run runs.Memory))
   events_run_out (inl sent) =
       fault_sent form done AreAll Stops old new (lines sent.table sent.events) runs.Memory sent.sends (out (Err events.Memory) sent)
       (out (Err events.Memory) sent)

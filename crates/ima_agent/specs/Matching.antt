@@ -21,13 +21,11 @@ use Rattle.cells.specs.declared.writer.Form.TheVariants as told
 use Rattle.measured_data.specs.declared.place.Place.{Place}
 use Rattle.agent_plans.specs.declared.plan.ConfirmedBy.{ConfirmedBy}
 use Rattle.agent_plans.specs.declared.plan.ConfirmedBy.TheVariants as confirmed
-use Rattle.agent_plans.specs.declared.plan.Quoting.{Quoting}
-use Rattle.agent_plans.specs.declared.plan.Scope.TheVariants.{Whole}
 use Rattle.judging.specs.declared.request.Answer.{Answer}
 use Rattle.judging.specs.declared.request.Answer.TheVariants as answers
 use Rattle.judging.specs.declared.request.Answered.{Answered}
 use Rattle.judging.specs.Answering.{IsAttestation, IsNotExpected}
-use Rattle.judging.specs.Inputs.{BytesOf, FileOf, Where}
+use Rattle.judging.specs.Inputs.{BytesOf}
 use Rattle.judging.specs.Requests.{Attested, Attests}
 use Rattle.rendering.specs.Rendering.{IsRefusalOn, answer_status}
 use Rattle.agent_inputs.specs.declared.fault.RunFault.{RunFault}
@@ -154,4 +152,4 @@ IsKnownFor told.Text log = IsSomeLog log
 -- Why no line is told: the bytes are no log, and no registers are compared; or the registers that match are not known.
 abbrev pub IsNotTold : Inputs → Form → ConfirmedBy → List ℕ → RunFault → Type 0
 IsNotTold inputs told.Text confirmed.Nothing log fault = HasLogFault log fault
-IsNotTold inputs events confirmed_by log fault = AreNotMatched inputs confirmed_by log fault
+IsNotTold inputs form confirmed_by log fault = AreNotMatched inputs confirmed_by log fault

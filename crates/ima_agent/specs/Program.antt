@@ -25,7 +25,7 @@ use Rattle.rendering.specs.FaultTexts.{fault_line, fault_status, IsFailure, IsRe
 use Rattle.questions.specs.Questions.{known_by, requested_by, save_by}
 use Rattle.ima_agent.specs.Showing.{AreAllEntries, BreaksOffAfterEntries, EndsWithFault, IsNoListFor, IsRefusedFor, ShowsEntries, ShowsHexadecimal, version_text}
 use Rattle.ima_agent.specs.ShowingBoot.{IsNoBootFor, ShowsBoot}
-use Rattle.ima_agent.specs.ShowingEvents.{BreaksOffAfterEvents, IsNoneShownFor, ShowsEvents, lines_for}
+use Rattle.ima_agent.specs.ShowingEvents.{BreaksOffAfterEvents, IsNoneShownFor, ShowsEvents, plain_lines}
 
 -- ---- a task
 
@@ -36,7 +36,7 @@ Shows inputs (tasks.Answer question) form shown status = ⊥
 Shows inputs (tasks.Measure request) form shown status =
     ((given : Measured) × IsMeasured inputs request given × (shown ≡ print_measured form request.print given)) × (status ≡ 0)
 Shows inputs (tasks.Events log requested confirmed_by) form shown status =
-    OfInput inputs (Some (string_bytes log)) (λ bytes. ShowsEvents inputs form (lines_for form requested) confirmed_by bytes shown status)
+    OfInput inputs (Some (string_bytes log)) (λ bytes. ShowsEvents inputs form (plain_lines form requested) confirmed_by bytes shown status)
 Shows inputs (tasks.Boot log confirmed_by before) form shown status =
     OfInput inputs (Some (string_bytes log)) (λ bytes. ShowsBoot inputs form confirmed_by (option_map string_bytes before) bytes shown status)
 Shows inputs (tasks.Entries list) forms.Text shown status =
@@ -63,7 +63,7 @@ IsFaultOf inputs (tasks.Answer question) form fault =
 IsFaultOf inputs (tasks.Measure request) form fault = IsMeasuringFault inputs request fault
 IsFaultOf inputs (tasks.Events log requested confirmed_by) form fault =
     IsInputFault inputs (Some (string_bytes log)) fault
-    ⊎ OfInput inputs (Some (string_bytes log)) (λ bytes. IsNoneShownFor inputs (lines_for form requested) confirmed_by bytes fault)
+    ⊎ OfInput inputs (Some (string_bytes log)) (λ bytes. IsNoneShownFor inputs form (plain_lines form requested) confirmed_by bytes fault)
 IsFaultOf inputs (tasks.Boot log confirmed_by before) form fault =
     IsInputFault inputs (Some (string_bytes log)) fault
     ⊎ OfInput inputs (Some (string_bytes log)) (λ bytes. IsNoBootFor inputs confirmed_by (option_map string_bytes before) bytes fault)
@@ -76,7 +76,7 @@ IsFaultOf inputs task form fault = ⊥
 abbrev pub IsBrokenOff : Inputs → Task → Form → List ℕ → ℕ → Type 0
 IsBrokenOff inputs (tasks.Events log requested confirmed_by) form text status =
     OfInput inputs (Some (string_bytes log)) (λ bytes.
-    BreaksOffAfterEvents inputs form (lines_for form requested) confirmed_by bytes text status)
+    BreaksOffAfterEvents inputs form (plain_lines form requested) confirmed_by bytes text status)
 IsBrokenOff inputs (tasks.Entries list) forms.Json text status = EndsWithFault (BreaksOffAfterEntries inputs (string_bytes list)) IsReportedAsJson text status
 IsBrokenOff inputs task form text status = ⊥
 

@@ -1,34 +1,30 @@
 -- How the events of a log are shown.
-use Rattle.std.specs.Prelude.{◌≡◌, ℕ, ◌⊎◌, List, [], Option}
+use Rattle.std.specs.Prelude.{◌≡◌, ℕ, Bool, true, false, ◌⊎◌, List, [], Option, Some, None}
 use Rattle.boot_log.specs.declared.header.Row.{Row}
 use Rattle.boot_log.specs.Spelling.{BeginsWith, LogEvent}
 use Rattle.measured_data.specs.declared.place.Place.{Place}
-use Rattle.verdict_texts.specs.declared.events.EventData.{EventData}
-use Rattle.verdict_texts.specs.declared.events.EventData.TheVariants as texts
 use Rattle.verdict_texts.specs.EventTexts.{events_text}
 pub use Rattle.cells.specs.declared.writer.Form.{Form}
 pub use Rattle.json_texts.specs.ItemLines.{AreAllEvents, EndsWithFault, FailsAfterEvents}
 pub use Rattle.json_texts.specs.SentEvents.{log_lines}
 use Rattle.agent_plans.specs.declared.plan.ConfirmedBy.{ConfirmedBy}
 use Rattle.agent_plans.specs.declared.plan.DataShown.{DataShown}
-use Rattle.agent_plans.specs.declared.plan.DataShown.TheVariants as arguments
+use Rattle.agent_plans.specs.declared.plan.DataShown.TheVariants.{Size, Bytes, Meaning}
 use Rattle.cells.specs.declared.writer.Form.TheVariants as forms
 use Rattle.agent_inputs.specs.declared.fault.RunFault.{RunFault}
 use Rattle.agent_inputs.specs.declared.fault.RunFault.TheVariants as runs
 use Rattle.agent_inputs.specs.Faults.{HasLogFault, fault_of_log}
 use Rattle.agent_inputs.specs.Loading.{Inputs}
 use Rattle.rendering.specs.FaultTexts.{fault_line, fault_status, IsFailure, IsReportedAsJson}
-use Rattle.ima_agent.specs.declared.events.EventLines.{EventLines}
-use Rattle.ima_agent.specs.declared.events.EventLines.TheVariants as lines
 use Rattle.ima_agent.specs.Matching.{AreMatched, IsKnownFor, IsNotTold}
 use Rattle.ima_agent.specs.Showing.{ShowsToFault}
 
--- How events are shown in this form, where this is requested of their data: in JSON with what it says in any case.
-abbrev pub lines_for : Form → DataShown → EventLines
-lines_for forms.Json requested = lines.Told forms.Json
-lines_for forms.Text arguments.Size = lines.Plain texts.Size
-lines_for forms.Text arguments.Bytes = lines.Plain texts.Bytes
-lines_for forms.Text arguments.Meaning = lines.Told forms.Text
+-- Whether plain lines have the data, where events are shown in plain lines in this form; in others what the data says is told.
+abbrev pub plain_lines : Form → DataShown → Option Bool
+plain_lines forms.Text Size = Some false
+plain_lines forms.Text Bytes = Some true
+plain_lines forms.Text Meaning = None
+plain_lines forms.Json requested = None
 
 -- The line of a fault in this form, and its status.
 abbrev pub IsReported : Form → RunFault → List ℕ → ℕ → Type 0
@@ -37,65 +33,65 @@ IsReported forms.Json fault text status = IsReportedAsJson fault text status
 
 -- What can be read of the bytes as a log is shown with what its data says, and with what the registers that match confirm; with this status, if
 -- that is all.
-abbrev pub ShowsTold : Form → Form → Option (List Place) → ℕ → List ℕ → List ℕ → ℕ → Type 0
-ShowsTold form events matched done log shown status =
-    ShowsToFault done (AreAllEvents (log_lines events matched log) log) (FailsAfterEvents (log_lines events matched log) fault_of_log log) (IsReported form) shown
+abbrev pub ShowsTold : Form → Option (List Place) → ℕ → List ℕ → List ℕ → ℕ → Type 0
+ShowsTold form matched done log shown status =
+    ShowsToFault done (AreAllEvents (log_lines form matched log) log) (FailsAfterEvents (log_lines form matched log) fault_of_log log) (IsReported form) shown
     status
 
 -- The text is the lines of a header and events that the bytes begin with, and then memory ran out.
 abbrev pub RunsOutAfterEvents : Form → Option (List Place) → List ℕ → List ℕ → RunFault → Type 0
-RunsOutAfterEvents events matched log text fault =
+RunsOutAfterEvents form matched log text fault =
     (fault ≡ runs.Memory)
-    × ((table : List Row) × (given : List LogEvent) × (rest : List ℕ) × BeginsWith log table given rest × (text ≡ log_lines events matched log table given))
+    × ((table : List Row) × (given : List LogEvent) × (rest : List ℕ) × BeginsWith log table given rest × (text ≡ log_lines form matched log table given))
 
 -- ---- a log whose bytes were loaded
 
--- Its events are shown in this form, and so: in plain lines all of them; else as far as they go, which for people is all of them, and with
+-- Its events are shown in this form: in plain lines all of them, with their data or without; else as far as they go, which for people is all of them, and with
 -- what the registers confirm that match, by what tells it.
-abbrev pub ShowsEvents : Inputs → Form → EventLines → ConfirmedBy → List ℕ → List ℕ → ℕ → Type 0
-ShowsEvents inputs form (lines.Plain shown) confirmed_by log text status = AreAllEvents (events_text shown) log text × (status ≡ 0)
-ShowsEvents inputs form (lines.Told events) confirmed_by log text status =
-    IsKnownFor events log
+abbrev pub ShowsEvents : Inputs → Form → Option Bool → ConfirmedBy → List ℕ → List ℕ → ℕ → Type 0
+ShowsEvents inputs form (Some with_data) confirmed_by log text status = AreAllEvents (events_text with_data) log text × (status ≡ 0)
+ShowsEvents inputs form None confirmed_by log text status =
+    IsKnownFor form log
     × ((matched : Option (List Place)) × (done : ℕ) × AreMatched inputs confirmed_by log matched done
-    × ShowsTold form events matched done log text status)
+    × ShowsTold form matched done log text status)
 
 -- Why no line of it is shown: the bytes are no log; or what is to be known before is not.
-abbrev pub IsNoneShownFor : Inputs → EventLines → ConfirmedBy → List ℕ → RunFault → Type 0
-IsNoneShownFor inputs (lines.Plain shown) confirmed_by log fault = HasLogFault log fault
-IsNoneShownFor inputs (lines.Told events) confirmed_by log fault = IsNotTold inputs events confirmed_by log fault
+abbrev pub IsNoneShownFor : Inputs → Form → Option Bool → ConfirmedBy → List ℕ → RunFault → Type 0
+IsNoneShownFor inputs form (Some with_data) confirmed_by log fault = HasLogFault log fault
+IsNoneShownFor inputs form None confirmed_by log fault = IsNotTold inputs form confirmed_by log fault
 
 -- Memory ran out after the lines of some of its events.
-abbrev pub BreaksOffAfterEvents : Inputs → Form → EventLines → ConfirmedBy → List ℕ → List ℕ → ℕ → Type 0
-BreaksOffAfterEvents inputs form (lines.Plain shown) confirmed_by log text status = ⊥
-BreaksOffAfterEvents inputs form (lines.Told events) confirmed_by log text status =
-    IsKnownFor events log
+abbrev pub BreaksOffAfterEvents : Inputs → Form → Option Bool → ConfirmedBy → List ℕ → List ℕ → ℕ → Type 0
+BreaksOffAfterEvents inputs form (Some with_data) confirmed_by log text status = ⊥
+BreaksOffAfterEvents inputs form None confirmed_by log text status =
+    IsKnownFor form log
     × ((matched : Option (List Place)) × (done : ℕ) × AreMatched inputs confirmed_by log matched done
-    × EndsWithFault (RunsOutAfterEvents events matched log) (IsReported form) text status)
+    × EndsWithFault (RunsOutAfterEvents form matched log) (IsReported form) text status)
 
 -- ---- what is shown while its input is read
 
 -- The plain lines of the log in these bytes are shown, or why not.
-abbrev pub ShowsPlainEventsIn : Form → EventData → List ℕ → List ℕ → ℕ → Type 0
-ShowsPlainEventsIn form shown log text status =
-    (AreAllEvents (events_text shown) log text × (status ≡ 0))
+abbrev pub ShowsPlainEventsIn : Form → Bool → List ℕ → List ℕ → ℕ → Type 0
+ShowsPlainEventsIn form with_data log text status =
+    (AreAllEvents (events_text with_data) log text × (status ≡ 0))
     ⊎ ((fault : RunFault) × HasLogFault log fault × IsFailure form fault text status)
 
 -- Why no more of the log in these bytes is shown than this text: it fails; or memory ran out, after some events or before the first line.
 abbrev pub StopsInLog : Form → Option (List Place) → List ℕ → List ℕ → RunFault → Type 0
-StopsInLog events matched log text fault =
-    FailsAfterEvents (log_lines events matched log) fault_of_log log text fault
-    ⊎ RunsOutAfterEvents events matched log text fault
+StopsInLog form matched log text fault =
+    FailsAfterEvents (log_lines form matched log) fault_of_log log text fault
+    ⊎ RunsOutAfterEvents form matched log text fault
     ⊎ ((fault ≡ runs.Memory) × (text ≡ []))
 
 -- The log in these bytes is shown with what its data says, as far as it goes; with this status, if that is all.
-abbrev pub ShowsEventsIn : Form → Form → Option (List Place) → ℕ → List ℕ → List ℕ → ℕ → Type 0
-ShowsEventsIn form events matched done log shown status =
-    ShowsToFault done (AreAllEvents (log_lines events matched log) log) (StopsInLog events matched log) (IsReported form) shown status
+abbrev pub ShowsEventsIn : Form → Option (List Place) → ℕ → List ℕ → List ℕ → ℕ → Type 0
+ShowsEventsIn form matched done log shown status =
+    ShowsToFault done (AreAllEvents (log_lines form matched log) log) (StopsInLog form matched log) (IsReported form) shown status
 
 -- It is, with what the registers confirm that match; or why it is not told.
-abbrev pub ShowsToldOf : Inputs → Form → Form → ConfirmedBy → List ℕ → List ℕ → ℕ → Type 0
-ShowsToldOf inputs form events confirmed_by log shown status =
-    (IsKnownFor events log
+abbrev pub ShowsToldOf : Inputs → Form → ConfirmedBy → List ℕ → List ℕ → ℕ → Type 0
+ShowsToldOf inputs form confirmed_by log shown status =
+    (IsKnownFor form log
     × ((matched : Option (List Place)) × (done : ℕ) × AreMatched inputs confirmed_by log matched done
-    × ShowsEventsIn form events matched done log shown status))
-    ⊎ ((fault : RunFault) × IsNotTold inputs events confirmed_by log fault × IsFailure form fault shown status)
+    × ShowsEventsIn form matched done log shown status))
+    ⊎ ((fault : RunFault) × IsNotTold inputs form confirmed_by log fault × IsFailure form fault shown status)

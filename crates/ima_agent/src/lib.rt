@@ -34,4 +34,4 @@ pub use pcr_values::{
 pub use program::{exit_code, read_words, run, run_with_progress};
 pub use questions::{Failure, NoProgress, Progress};
 pub use rendering::{Output, json_fault_line, json_memory_line, status_of, write_fault};
-pub use verdict_texts::{EventData, write_events, write_positions, write_report};
+pub use verdict_texts::{write_events, write_positions, write_report};

@@ -40,17 +40,17 @@ pub(crate) fn matched_in<F: AgentFiles>(
     alloc: Global,
     files: &mut F,
     log: &[u8],
-    told: Form,
+    form: Form,
     confirmed_by: &ConfirmedBy,
 ) -> Result<Matched, RunFault>
     ensures matched { IfOk result (λ matched. AreMatched (F.known files.old) confirmed_by.now log.now
         (option_map (λ places. places.items) matched.places) matched.status) }
-    ensures known { IfOk result (λ _. IsKnownFor told log.now) }
-    ensures fault { IfErr result (IsNotTold (F.known files.old) told confirmed_by.now log.now) }
+    ensures known { IfOk result (λ _. IsKnownFor form log.now) }
+    ensures fault { IfErr result (IsNotTold (F.known files.old) form confirmed_by.now log.now) }
     ensures inputs { F.known files.new ≡ F.known files.old }
     ensures saved { F.saved files.new ≡ F.saved files.old }
 {
-    match (told, confirmed_by) {
+    match (form, confirmed_by) {
         (_, ConfirmedBy::Expected(name)) => expected_in(alloc, files, log, name),
         (_, ConfirmedBy::Quote(quoting)) => quoted_in(alloc, files, log, quoting),
         (Form::Json, ConfirmedBy::Nothing) => Ok(NOTHING),

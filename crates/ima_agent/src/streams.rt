@@ -59,15 +59,15 @@ pub(crate) fn send_text<S: Sink>(text: &[u8], status: u8, sink: &mut S) -> Sent
 pub(crate) fn send_log<S: Sink>(
     alloc: Global,
     log: &[u8],
-    told: Form,
+    form: Form,
     matched: Option<&[Place]>,
     status: u8,
     sink: &mut S,
 ) -> Sent
-    ensures { (form : Form) → Streams form (ShowsEventsIn form told (option_map (λ places. places.now) matched.entry) status log.now)
+    ensures { Streams form (ShowsEventsIn form (option_map (λ places. places.now) matched.entry) status log.now)
         (S.state sink.old) (S.state sink.new) result }
 {
-    match send_events(alloc, log, told, matched, sink) {
+    match send_events(alloc, log, form, matched, sink) {
         Ok(()) => Ok(status),
         Err(EventsFault::Sink) => Err(StreamFault::Sink(Failed)),
         Err(EventsFault::Log(fault)) => Err(StreamFault::Run(fault.into())),

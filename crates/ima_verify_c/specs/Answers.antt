@@ -18,7 +18,7 @@ use Rattle.pieces.specs.declared.piece.End.TheVariants.{Last, Longer, More}
 use Rattle.pieces.specs.declared.piece.Piece.{Piece}
 use Rattle.pieces.specs.declared.piece.Position.{Position}
 use Rattle.pieces.specs.Pieces.{AreEntriesBefore, FailsAfterEntries, IsEntryPiece, AreEventsBefore, FailsAfterEvents, IsEventPiece, end_in, is_within}
-use Rattle.rendering.specs.FaultTexts.{fault_line, said_of, IsFaultAsJson}
+use Rattle.rendering.specs.FaultTexts.{fault_line, json_fault_line, said_of}
 use Rattle.tpm_keys.specs.declared.kinds.KeyPart.TheVariants.{All}
 use Rattle.tpm_keys.specs.declared.kinds.Purpose.{Purpose}
 use Rattle.tpm_keys.specs.declared.kinds.Purpose.TheVariants.{Attestation, Endorsement}
@@ -197,7 +197,7 @@ fault_answer fault = kind_answer (fault_head fault).kind
 -- The text is the line of the fault in this form, and the status is what a call returns after it.
 abbrev pub IsLineOf : Form → RunFault → List ℕ → ℕ → Type 0
 IsLineOf Text fault text status = (text ≡ fault_line fault) × (status ≡ fault_answer fault)
-IsLineOf Json fault text status = IsFaultAsJson fault text × (status ≡ fault_answer fault)
+IsLineOf Json fault text status = (text ≡ json_fault_line fault) × (status ≡ fault_answer fault)
 
 -- It is that of a fault with this reason, which is told.
 abbrev pub IsRefusal : (RunFault → Type 0) → Form → List ℕ → ℕ → Option RunFault → Type 0

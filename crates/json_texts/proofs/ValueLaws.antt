@@ -1,6 +1,6 @@
--- Parts of lines of faults and events.
+-- Parts of lines of events.
 use Rattle.std.proofs.Common.{ℕ, refl, List, [], ◌∷◌, map, Option, Some, None, codes, arith}
-use Rattle.std.specs.Prelude.{flat_map, option_map, IfSome}
+use Rattle.std.specs.Prelude.{flat_map, option_map}
 use Rattle.std.specs.List.{AllByRecursion}
 use Rattle.json.specs.Json.{Json, string}
 use Rattle.hex.specs.Hex.{encode_lower}
@@ -10,37 +10,14 @@ use Rattle.pcr_banks.specs.Hashing.{algorithm_with, name_of}
 use Rattle.pcr_banks.specs.Sets.{digest_in}
 use Rattle.boot_log.specs.declared.header.Row.{Row as TableRow}
 use Rattle.boot_log.specs.Spelling.{IsRow}
-use Rattle.json_texts.specs.declared.faults.FaultPlace.{FaultPlace}
-use Rattle.json_texts.specs.declared.faults.FaultPlace.TheVariants.{Event, Entry}
-use Rattle.json_texts.specs.JsonValues.{IsCount, hex_json, items_of, number_json, optional}
+use Rattle.json_texts.specs.JsonValues.{hex_json, items_of, optional}
 use Rattle.json_texts.specs.EventJson.{algorithm_json}
-use Rattle.json_texts.specs.FaultJson.{fault_members, number_at, place_members}
 use Rattle.cells.proofs.LineLaws.{ArePlain, IsPlain, ItemsArePlain, members_joined}
 
 pub mapped_plain : {A : Type 0} (Q : A → Type 0) (f : A → Json) → ((x : A) → Q x → IsPlain (f x) 1) → (xs : List A) → AllByRecursion Q xs
     → ItemsArePlain (items_of (map f xs)) 1
 mapped_plain Q f plain [] are = tt
 mapped_plain Q f plain (x ∷ xs) are = (plain x are.0, mapped_plain Q f plain xs are.1)
-
--- ---- faults
-
-number_plain : (number : Option ℕ) → IfSome number IsCount → ArePlain (optional (codes "number") (option_map number_json number)) 1
-number_plain None fits = tt
-number_plain (Some number) fits = ((number, fits, refl), tt)
-
-place_of_fault : (place : Option FaultPlace) → IfSome place (λ at. IsCount (number_at at)) → ArePlain (place_members place) 1
-place_of_fault None fits = tt
-place_of_fault (Some (Event number)) fits = ((number, fits, refl), tt)
-place_of_fault (Some (Entry number)) fits = ((number, fits, refl), tt)
-
--- What is told of a fault.
-pub told_plain : (kind : List ℕ) (number : Option ℕ) (place : Option FaultPlace) (message : List ℕ)
-    → IfSome number IsCount → IfSome place (λ at. IsCount (number_at at)) → ArePlain (fault_members kind number place message) 1
-told_plain kind number place message fits placed = (
-  tt,
-  members_joined 1 (optional (codes "number") (option_map number_json number)) _ (number_plain number fits)
-      (members_joined 1 (place_members place) _ (place_of_fault place placed) (tt, tt)),
-)
 
 -- ---- events
 

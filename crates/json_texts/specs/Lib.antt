@@ -1,7 +1,6 @@
 pub mod JsonValues
 pub mod EntryJson
 pub mod KernelFieldJson
-pub mod FaultJson
 pub mod SteeringTexts
 pub mod ContentTexts
 pub mod ValueJson

@@ -13,12 +13,10 @@ ghost use Rattle.ima_list.specs.Fields.{HasFields, fields_of};
 ghost use Rattle.event_data.specs.ContentReading.{content_in};
 ghost use Rattle.measured_data.specs.declared.place.Place.{Place};
 ghost use Rattle.json.specs.Find.{get};
-ghost use Rattle.json_texts.specs.declared.faults.FaultPlace.{FaultPlace};
-ghost use Rattle.json_texts.specs.JsonValues.{IsCount, IsOneLine, line_of, object_of};
+ghost use Rattle.json_texts.specs.JsonValues.{IsCount, IsOneLine, line_of};
 ghost use Rattle.json_texts.specs.ContentJson.{content_json};
 ghost use Rattle.json_texts.specs.EntryJson.{HasBytes, IsKnown, entry_count_json, entry_json, is_genuine};
 ghost use Rattle.json_texts.specs.EventJson.{event_json, header_json};
-ghost use Rattle.json_texts.specs.FaultJson.{fault_json, fault_members, number_at};
 ghost use Rattle.json_texts.specs.SteeringTexts.{is_plain, unsteered};
 
 use ima_list::EntryRef;
@@ -34,14 +32,10 @@ pub fn each_value_is_one_line()
     ensures content { (kind : ℕ) (bytes : List ℕ) → IsBytes bytes → IsOneLine (content_json kind (content_in kind bytes)) }
     ensures header { (said : Option SpecificationData) (rows : List TableRow)
         → IfSome said IsSpecification → AllByRecursion IsRow rows → IsOneLine (header_json said rows) }
-    ensures fault { (kind : List ℕ) (number : Option ℕ) (place : Option FaultPlace) (message : List ℕ)
-        → IfSome number IsCount → IfSome place (λ at. IsCount (number_at at)) → IsOneLine (fault_json kind number place message) }
 {}
 
-/// Only a fault's value has a member `fault`; so it is with answers (`answers::laws`).
-pub fn only_faults_have_a_fault()
-    ensures fault { (kind : List ℕ) (number : Option ℕ) (place : Option FaultPlace) (message : List ℕ)
-        → get (codes "fault") (fault_json kind number place message) ≡ Some (object_of (fault_members kind number place message)) }
+/// No line of an entry or an event has a member `fault`: only faults have one (`rendering::laws`).
+pub fn no_line_has_a_fault()
     ensures entry { (number : ℕ) (entry : ListEntry) → get (codes "fault") (entry_json number entry) ≡ None }
     ensures entry_count { (entries : ℕ) → get (codes "fault") (entry_count_json entries) ≡ None }
     ensures event { (matched : Option (List Place)) (number : ℕ) (event : LogEvent)

@@ -1,4 +1,4 @@
-//! Lines of JSON (RFC 8259): a log's events, a list's entries, and faults. Those of other answers are in `answers`.
+//! Lines of JSON (RFC 8259): a log's events, and a list's entries. Those of answers are in `answers`.
 //!
 //! Each value is an object on one line, in UTF-8. Its members have a fixed order. Numbers are JSON numbers; digests and data are strings
 //! of lower case hexadecimal digits. A line is appended to a vector of the caller's; [`send_entries`] sends the lines of a list to a sink,
@@ -14,7 +14,6 @@ mod event_form;
 mod event_lines;
 mod events;
 mod explained;
-mod faults;
 mod kernel_fields;
 pub mod laws;
 mod lines;
@@ -33,7 +32,6 @@ pub use entry_lines::{EntriesFault, send_entries};
 pub use event_lines::{EventsFault, send_events};
 pub use events::{append_event, append_header};
 pub use explained::append_content;
-pub use faults::{FaultPlace, FaultText, append_fault};
 pub use lines::{Written, begin_line, end_line};
 pub use members::{write_hex, write_number, write_shown, write_text};
 pub use steering::append_unsteered;

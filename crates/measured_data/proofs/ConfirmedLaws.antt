@@ -47,10 +47,10 @@ place_told places alg register =
 same_is : (a b : Alg) → Decides (same_alg a b) (a ≡ b)
 same_is a b = (same_alg_is a b, λ e. rw e (same_alg_here b))
 
-abbrev Counts : List Place → Alg → ℕ → Type 0
+abbrev pub Counts : List Place → Alg → ℕ → Type 0
 Counts matched alg register = (alg ≡ Sha1 → ⊥) × Contains matched (record { alg = alg; register = register })
 
-counts_told : (matched : List Place) (alg : Alg) (register : ℕ) → Decides (counts matched alg register) (Counts matched alg register)
+pub counts_told : (matched : List Place) (alg : Alg) (register : ℕ) → Decides (counts matched alg register) (Counts matched alg register)
 counts_told matched alg register =
     Decides-and (not (same_alg alg Sha1)) (has_place matched alg register) (Decides-not (same_alg alg Sha1) (same_is alg Sha1))
     (place_told matched alg register)

@@ -1,1 +1,2 @@
 pub mod EntryLineLaws
+pub mod FaultCellLaws

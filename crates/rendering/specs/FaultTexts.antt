@@ -1,14 +1,12 @@
 -- The line of a fault, and the exit status after it.
-use Rattle.std.specs.Prelude.{ℕ, List, [], ◌++◌, codes, decimal, Option, Some, None, string_bytes, ◌≡◌, ◌⊎◌}
+use Rattle.std.specs.Prelude.{ℕ, Bool, true, false, List, [], ◌∷◌, ◌++◌, codes, decimal, Option, Some, None, string_bytes, ◌≡◌, ◌⊎◌}
 use Rattle.agent_inputs.specs.declared.fault.FaultKind.{FaultKind}
 use Rattle.agent_inputs.specs.declared.fault.FaultKind.TheVariants as kinds
 use Rattle.agent_inputs.specs.declared.fault.RunFault.{RunFault}
 use Rattle.agent_inputs.specs.declared.fault.RunFault.TheVariants as runs
 use Rattle.agent_inputs.specs.Faults.{fault_head}
-use Rattle.json_texts.specs.declared.faults.FaultPlace.{FaultPlace}
-use Rattle.json_texts.specs.declared.faults.FaultPlace.TheVariants.{Event, Entry}
-use Rattle.json_texts.specs.FaultJson.{fault_json}
-use Rattle.json_texts.specs.JsonValues.{line_of}
+use Rattle.cells.specs.Cells.{Cell, beside, if_some, in_order, number_member, object_at, rendered, text, when, word, word_member}
+use Rattle.cells.specs.Values.{Member}
 use Rattle.cells.specs.declared.writer.Form.{Form}
 use Rattle.cells.specs.declared.writer.Form.TheVariants as forms
 
@@ -60,42 +58,64 @@ abbrev pub digits_of : Option ℕ → List ℕ
 digits_of None = []
 digits_of (Some number) = decimal number
 
--- The line of a fault of this kind, with this name and these numbers.
-abbrev pub line_with : FaultKind → List ℕ → Option ℕ × Option ℕ → List ℕ
-line_with kind name numbers =
-    (said_of kind).0
-    ++ (name ++ (digits_of numbers.0 ++ (place_words kind numbers.1 ++ (digits_of numbers.1 ++ codes "\n"))))
+-- What is said of a fault of this kind, with this name and these numbers.
+abbrev pub message_with : FaultKind → List ℕ → Option ℕ × Option ℕ → List ℕ
+message_with kind name numbers =
+    (said_of kind).0 ++ (name ++ (digits_of numbers.0 ++ (place_words kind numbers.1 ++ digits_of numbers.1)))
+
+-- What is said of a fault.
+abbrev pub message_of : RunFault → List ℕ
+message_of fault =
+    let head = fault_head fault in message_with head.kind (name_in fault) (numbers_in head.kind head.number head.place)
 
 -- The line that says why the program failed.
 abbrev pub fault_line : RunFault → List ℕ
-fault_line fault =
-    let head = fault_head fault in line_with head.kind (name_in fault) (numbers_in head.kind head.number head.place)
+fault_line fault = message_of fault ++ codes "\n"
 
 -- The exit status after a fault.
 abbrev pub fault_status : RunFault → ℕ
 fault_status fault = (said_of (fault_head fault).kind).2
 
--- ---- faults as JSON
+-- ---- the cell of a fault
 
--- The event or the entry that a fault of this kind names by this place. The line of expected registers, or of known files, stands in the
--- message alone.
-abbrev pub json_place : FaultKind → Option ℕ → Option FaultPlace
-json_place kinds.Log (Some event) = Some (Event event)
-json_place kinds.List (Some entry) = Some (Entry entry)
-json_place kinds.Replay (Some entry) = Some (Entry entry)
-json_place kind place = None
+-- Whether the place of a fault of this kind is an event of a log.
+abbrev pub names_event : FaultKind → Bool
+names_event kinds.Log = true
+names_event kind = false
 
--- The text is the fault as a line of JSON: its kind, in one word; where it has them, its number, and the event or the entry that it names; and
--- as its message the fault's plain line, without the line feed.
-pub record IsFaultAsJson (fault : RunFault) (text : List ℕ) : Type 0 where
-  pub message : List ℕ
-  pub message_is : message ++ codes "\n" ≡ fault_line fault
-  pub text_is : let head = fault_head fault in
-      text ≡ line_of (fault_json (said_of head.kind).1 head.number (json_place head.kind head.place) message)
+-- Whether it is an entry of a list. The line of expected registers, or of known files, stands in the message alone.
+abbrev pub names_entry : FaultKind → Bool
+names_entry kinds.List = true
+names_entry kinds.Replay = true
+names_entry kind = false
 
--- It is, and this is the status after the fault.
+-- The event or the entry that a fault of this kind names by this place.
+abbrev pub place_cell : FaultKind → Option ℕ → Cell Member
+place_cell kind place =
+    beside (when (names_event kind) (if_some place (number_member (codes "event"))))
+    (when (names_entry kind) (if_some place (number_member (codes "entry"))))
+
+-- What is told of a fault: its kind, in one word; where it has them, its number, and the event or the entry that it names; and what is said.
+abbrev pub told_cell : RunFault → Cell Member
+told_cell fault =
+    let head = fault_head fault in in_order (
+    word_member (codes "kind") (said_of head.kind).1
+    ∷ if_some head.number (number_member (codes "number"))
+    ∷ place_cell head.kind head.place
+    ∷ word [] (codes "message") (message_of fault)
+    ∷ text (codes "\n")
+    ∷ [])
+
+-- A fault: its line; as JSON an object of its own. A law says that no other value has a member `fault`.
+abbrev pub fault_cell : RunFault → Cell Member
+fault_cell fault = object_at (codes "fault") (told_cell fault)
+
+abbrev pub json_fault_line : RunFault → List ℕ
+json_fault_line fault = rendered forms.Json (fault_cell fault)
+
+-- The text is the fault as a line of JSON, and this is the status after the fault.
 abbrev pub IsReportedAsJson : RunFault → List ℕ → ℕ → Type 0
-IsReportedAsJson fault text status = IsFaultAsJson fault text × (status ≡ fault_status fault)
+IsReportedAsJson fault text status = (text ≡ json_fault_line fault) × (status ≡ fault_status fault)
 
 -- What is written for a fault in this form, and the status: its plain line; or the line of JSON, or that of `Memory` if memory runs out for
 -- it.

@@ -1,12 +1,13 @@
 //! The line of a fault with `--json`.
 
-ghost use Rattle.std.specs.Prelude.{◌≡◌, IfOk};
-ghost use Rattle.rendering.specs.FaultTexts.{IsFaultAsJson, json_place};
+ghost use Rattle.std.specs.Prelude.{◌≡◌, codes, IfOk};
+ghost use Rattle.cells.specs.Cells.{ShowsMembers, if_some, number_member};
+ghost use Rattle.rendering.specs.FaultTexts.{fault_cell, json_fault_line, place_cell, told_cell};
 ghost use Rattle.agent_inputs.specs.declared.fault.RunFault.TheVariants.{Memory};
 
 use crate::fault_lines::{message_of, said_of};
 use agent_inputs::{FaultHead, FaultKind, RunFault};
-use json_texts::{FaultPlace, FaultText, append_fault};
+use cells::{CellWriter, Form, Shown, Written, render};
 use std::alloc::{AllocError, Global};
 
 /// The line of a fault, as JSON, with its line feed. Its members are `kind`, one word; `number` and `event` or `entry`, each where the fault
@@ -14,35 +15,72 @@ use std::alloc::{AllocError, Global};
 ///
 /// Fails only if memory runs out.
 pub fn json_fault_line(alloc: Global, fault: &RunFault) -> Result<Vec<u8>, AllocError>
-    ensures { IfOk result (λ line. IsFaultAsJson fault.now line.items) }
+    ensures { IfOk result (λ line. line.items ≡ json_fault_line fault.now) }
 {
-    let message = message_of(alloc, fault)?;
-    let head = fault.head();
-    let shown = FaultText {
-        kind: said_of(head.kind).1,
-        number: head.number,
-        place: place_of(head),
-        message: &message,
-    };
-    let mut line = Vec::new(alloc);
-    append_fault(alloc, &shown, &mut line)?;
-    Ok(line)
+    render(alloc, Form::Json, &ShownFault { fault })
 }
 
 /// The line of [`RunFault::Memory`] as JSON, which takes no memory.
 pub fn json_memory_line() -> &'static [u8]
-    ensures { IsFaultAsJson Memory result.now }
+    ensures { result.now ≡ json_fault_line Memory }
 {
     b"{\"fault\":{\"kind\":\"memory\",\"message\":\"failed: memory\"}}\n"
 }
 
-// The event or the entry that a fault names.
-fn place_of(head: FaultHead) -> Option<FaultPlace>
-    ensures { result ≡ json_place head.kind head.place }
+// A fault that is shown.
+#[derive(Drop)]
+struct ShownFault<'a> {
+    fault: &'a RunFault,
+}
+
+impl Shown for ShownFault<'_> {
+    ghost cell_of = { λ shown. fault_cell shown.fault.now };
+
+    fn show(&self, alloc: Global, out: &mut CellWriter) -> Written {
+        show_fault(alloc, self.fault, out)
+    }
+}
+
+fn show_fault(alloc: Global, fault: &RunFault, out: &mut CellWriter) -> Written
+    ensures { ShowsMembers result out.old out.new (fault_cell fault.now) }
+{
+    out.object("fault")?;
+    show_told(alloc, fault, out)?;
+    out.end()
+}
+
+// Shows what is told of a fault.
+fn show_told(alloc: Global, fault: &RunFault, out: &mut CellWriter) -> Written
+    ensures { ShowsMembers result out.old out.new (told_cell fault.now) }
+{
+    let message = message_of(alloc, fault)?;
+    let head = fault.head();
+    out.word_member("kind", said_of(head.kind).1)?;
+    show_number(head.number, out)?;
+    show_place(head, out)?;
+    out.word("", "message", &message)?;
+    out.text("\n")
+}
+
+fn show_number(number: Option<u32>, out: &mut CellWriter) -> Written
+    ensures { ShowsMembers result out.old out.new (if_some number (number_member (codes "number"))) }
+{
+    match number {
+        Some(number) => out.number_member("number", number as u64),
+        None => Ok(()),
+    }
+}
+
+// Shows the event or the entry that a fault names.
+fn show_place(head: FaultHead, out: &mut CellWriter) -> Written
+    ensures { ShowsMembers result out.old out.new (place_cell head.kind head.place) }
 {
     match (head.place, head.kind) {
-        (Some(event), FaultKind::Log) => Some(FaultPlace::Event(event)),
-        (Some(entry), FaultKind::List | FaultKind::Replay) => Some(FaultPlace::Entry(entry)),
-        _ => None,
+        (Some(event), FaultKind::Log) => out.number_member("event", event as u64),
+        (Some(entry), FaultKind::List | FaultKind::Replay) => out.number_member(
+            "entry",
+            entry as u64,
+        ),
+        _ => Ok(()),
     }
 }

@@ -4,6 +4,7 @@
 mod checkpoints;
 mod fault_lines;
 mod json_faults;
+pub mod laws;
 mod no_files;
 mod outputs;
 mod printed_lists;

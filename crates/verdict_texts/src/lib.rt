@@ -6,6 +6,6 @@ mod events;
 mod positions;
 mod report;
 
-pub use events::{EventData, write_declared, write_event_head, write_events};
+pub use events::{write_declared, write_event_head, write_events};
 pub use positions::write_positions;
 pub use report::write_report;

@@ -6,12 +6,11 @@ use Rattle.ima_agent.proofs.events.tell_log.Goals as goal
 
 pub returns-in-Ok-clause-streams : goal.returns-in-Ok-clause-streams
 returns-in-Ok-clause-streams g c =
-    λ form.
     let matched = option_map (λ (places : Vec Place Global). places.items) c.in-Ok.matched.places in
     streams_so _ _ _ _ c.send_log.result
     (λ text status shown. inl (c.in-Ok.ensures.known, (matched, c.in-Ok.matched.status, c.in-Ok.ensures.matched, shown)))
-    (rw c.as_deref.ensures.value at (c.send_log.ensures form))
+    (rw c.as_deref.ensures.value at c.send_log.ensures)
 
 pub returns-in-Err-clause-streams : goal.returns-in-Err-clause-streams
 returns-in-Err-clause-streams g c =
-    λ form. none_said _ _ c.in-Err.fault (λ last status failure. inr (c.in-Err.fault, c.in-Err.ensures.fault, failure))
+    none_said _ _ c.in-Err.fault (λ last status failure. inr (c.in-Err.fault, c.in-Err.ensures.fault, failure))

@@ -25,7 +25,7 @@ returns-in-Ok-write_events g c =
     λ form.
     let (table, events, is) = c.in-Ok.ensures.sound in
     let viewed = subst (λ (bytes : List ℕ). IsLog bytes table events) (sym c.in-Ok.ensures.found) is in
-    text_sent _ (events_text c.args.shown table events) 0 _ _ _
+    text_sent _ (events_text c.args.with_data table events) 0 _ _ _
     (inl (record { table = table; events = events; log_is = is; text_is = refl }, refl))
     (rw c.in-Ok-write_events.is at (c.write_events.ensures table events viewed), refl)
 
@@ -34,6 +34,6 @@ returns-in-Err-write_events g c =
     λ form.
     let (table, events, is) = c.in-Ok.ensures.sound in
     let viewed = subst (λ (bytes : List ℕ). IsLog bytes table events) (sym c.in-Ok.ensures.found) is in
-    text_sent _ (events_text c.args.shown table events) 0 _ _ _
+    text_sent _ (events_text c.args.with_data table events) 0 _ _ _
     (inl (record { table = table; events = events; log_is = is; text_is = refl }, refl))
     (rw c.in-Err-write_events.is at (c.write_events.ensures table events viewed))

@@ -8,18 +8,17 @@ abbrev places_in : Option (Bor (List Place)) → Option (List Place)
 places_in matched = option_map (λ (places : Bor (List Place)). places.now) matched
 
 pub returns-in-Ok : goal.returns-in-Ok
-returns-in-Ok g c = λ form. events_shown form c.args.told (places_in c.args.matched) c.args.status _ _ _ c.in-Ok.ensures
+returns-in-Ok g c = events_shown c.args.form (places_in c.args.matched) c.args.status _ _ _ c.in-Ok.ensures
 
 pub returns-in-Err-Sink : goal.returns-in-Err-Sink
 returns-in-Err-Sink g c =
-    λ form. events_cut form c.args.told (places_in c.args.matched) c.args.status _ _ _ _ (rw c.in-Err-Sink.field-0-is at c.in-Err-Sink.ensures)
+    events_cut c.args.form (places_in c.args.matched) c.args.status _ _ _ _ (rw c.in-Err-Sink.field-0-is at c.in-Err-Sink.ensures)
 
 pub returns-in-Err-Log : goal.returns-in-Err-Log
 returns-in-Err-Log g c =
-    λ form.
-    events_to_fault form c.args.told (places_in c.args.matched) c.args.status _ _ _ c.in-Err-Log.fault c.into.result c.into.ensures
+    events_to_fault c.args.form (places_in c.args.matched) c.args.status _ _ _ c.in-Err-Log.fault c.into.result c.into.ensures
     (rw c.in-Err-Log.field-0-is at c.in-Err-Log.ensures)
 
 pub returns-in-Err-Memory : goal.returns-in-Err-Memory
 returns-in-Err-Memory g c =
-    λ form. events_run_out form c.args.told (places_in c.args.matched) c.args.status _ _ _ (rw c.in-Err-Memory.field-0-is at c.in-Err-Memory.ensures)
+    events_run_out c.args.form (places_in c.args.matched) c.args.status _ _ _ (rw c.in-Err-Memory.field-0-is at c.in-Err-Memory.ensures)

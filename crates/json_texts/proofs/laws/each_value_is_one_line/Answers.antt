@@ -4,7 +4,7 @@ use Rattle.json_texts.specs.EventJson.{algorithm_json}
 use Rattle.json_texts.proofs.EntryLaws.{entry_line}
 use Rattle.json_texts.proofs.EventLaws.{content_one_line, event_one_line, said_plain}
 use Rattle.cells.proofs.LineLaws.{one_line}
-use Rattle.json_texts.proofs.ValueLaws.{algorithm_plain, mapped_plain, told_plain}
+use Rattle.json_texts.proofs.ValueLaws.{algorithm_plain, mapped_plain}
 use Rattle.json_texts.proofs.laws.each_value_is_one_line.Goals as goal
 
 pub returns : goal.returns
@@ -15,5 +15,4 @@ returns c = record {
   content = content_one_line;
   header = λ said rows fit are.
       one_line _ (mapped_plain IsRow algorithm_json algorithm_plain rows are, said_plain said fit);
-  fault = λ kind number place message fits placed. one_line _ (told_plain kind number place message fits placed, tt);
 }

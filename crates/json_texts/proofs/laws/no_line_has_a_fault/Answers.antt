@@ -1,6 +1,6 @@
 use Rattle.json_texts.proofs.EntryMemberLaws.{entry_lacks}
 use Rattle.json_texts.proofs.EventLaws.{event_lacks, header_lacks}
-use Rattle.json_texts.proofs.laws.only_faults_have_a_fault.Goals as goal
+use Rattle.json_texts.proofs.laws.no_line_has_a_fault.Goals as goal
 
 pub returns-clause-entry : goal.returns-clause-entry
 returns-clause-entry c = entry_lacks
