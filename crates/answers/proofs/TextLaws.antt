@@ -30,8 +30,8 @@ use Rattle.answers.specs.PositionCells.{found_cell, position_cell, positions_cel
 use Rattle.answers.specs.RegisterCells.{changed_value, expected_cell, registers_cell, value_cell}
 use Rattle.answers.specs.ReportCells.{outcome_cell, report_cell, state_cell, verdict_cell}
 use Rattle.answers.specs.RowCells.{row_cell, rows_cell}
-use Rattle.verdict_texts.specs.PositionTexts.{found_text, located_text, position_digits, position_words, positions_text}
-use Rattle.verdict_texts.specs.ReportTexts.{aggregate_text, counts_text, outcome_text, row_line, row_text, state_digits, state_word, verdict_text}
+use Rattle.answers.specs.PositionTexts.{found_text, located_text, position_digits, position_words, positions_text}
+use Rattle.answers.specs.ReportTexts.{aggregate_text, counts_text, outcome_text, row_line, row_text, state_digits, state_word, verdict_text}
 
 -- What two functions give that agree.
 same_of_each : {X A : Type 0} (f g : X → List A) → ((x : X) → f x ≡ g x) → (xs : List X) → flat_map f xs ≡ flat_map g xs

@@ -5,3 +5,5 @@ pub mod PositionCells
 pub mod RegisterCells
 pub mod ReportCells
 pub mod RowCells
+pub mod ReportTexts
+pub mod PositionTexts

@@ -18,8 +18,8 @@ ghost use Rattle.attestations.specs.Reports.{AttestVerdict};
 ghost use Rattle.tpm_keys.specs.declared.kinds.KeyPart.{KeyPart};
 ghost use Rattle.tpm_keys.specs.declared.report.KeyReport.{KeyReport};
 ghost use Rattle.tpm_keys.specs.Reports.{key_text, kind_bits};
-ghost use Rattle.verdict_texts.specs.PositionTexts.{positions_text};
-ghost use Rattle.verdict_texts.specs.ReportTexts.{report_text};
+ghost use Rattle.answers.specs.PositionTexts.{positions_text};
+ghost use Rattle.answers.specs.ReportTexts.{report_text};
 ghost use Rattle.cells.specs.Cells.{rendered};
 ghost use Rattle.cells.specs.Values.{IsCount, IsOneLine, object_of};
 ghost use Rattle.cells.specs.declared.writer.Form.TheVariants.{Text};
@@ -62,7 +62,7 @@ pub fn each_answer_is_one_line()
         → IsOneLine (object_of (positions_cell required located).json) }
 {}
 
-/// No answer has a member `fault`: only faults have one (`json_texts::laws`).
+/// No answer has a member `fault`: only faults have one (`rendering::laws`).
 pub fn no_answer_has_a_fault()
     ensures registers { (now start : Banks) → get (codes "fault") (object_of (registers_cell now start).json) ≡ None }
     ensures expected { (expected : List Expected) → get (codes "fault") (object_of (expected_cell expected).json) ≡ None }
@@ -80,7 +80,7 @@ pub fn no_answer_has_a_fault()
         → get (codes "fault") (object_of (positions_cell required located).json) ≡ None }
 {}
 
-/// The texts that are sent without memory, as by `verdict_texts::write_report`, are those of the cells.
+/// The texts that are sent without memory, as by `answers::write_report`, are those of the cells.
 pub fn sent_texts_are_of_cells()
     ensures report { (verdict : Verdict) → report_text verdict ≡ rendered Text (report_cell None None (matches verdict) verdict) }
     ensures positions { (located : List Located) → positions_text located ≡ rendered Text (positions_cell None located) }

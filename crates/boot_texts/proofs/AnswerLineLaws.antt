@@ -1,10 +1,10 @@
 -- Each line as JSON is one value.
-use Rattle.std.proofs.Common.{ℕ, arith, List, [], ◌∷◌, ◌++◌, Option, Some, None, codes, refl}
-use Rattle.std.specs.Prelude.{flat_map, option_map}
-use Rattle.hex.specs.Hex.{IsBytes, encode_lower}
+use Rattle.std.proofs.Common.{ℕ, arith, List, [], ◌∷◌, Option, Some, None, codes, refl}
+use Rattle.std.specs.Prelude.{flat_map}
+use Rattle.hex.specs.Hex.{IsBytes}
 use Rattle.pcr_banks.specs.declared.alg.Alg.{Alg}
 use Rattle.pcr_banks.specs.declared.sets.PerBank.{PerBank}
-use Rattle.pcr_banks.specs.Hashing.{all_algs, name_of}
+use Rattle.pcr_banks.specs.Hashing.{all_algs}
 use Rattle.pcr_banks.specs.Sets.{digest_in}
 use Rattle.boot_log.specs.Spelling.{LogEvent}
 use Rattle.event_data.specs.ContentReading.{content_in}
@@ -15,10 +15,10 @@ use Rattle.boot_answers.specs.FirmwareVersion.{version_type}
 use Rattle.cells.proofs.LineLaws.{ArePlain, IsPlain, line_within, members_joined}
 use Rattle.cells.specs.Cells.{beside, each, hex, if_some, object_at}
 use Rattle.cells.specs.Values.{IsCount, IsOneLine, object_of}
-use Rattle.json_texts.specs.ContentJson.{content_json}
-use Rattle.json_texts.specs.ContentTexts.{text_or_hex}
-use Rattle.json_texts.proofs.ContentLaws.{content_plain}
-use Rattle.json_texts.proofs.CountLaws.{content_counted}
+use Rattle.event_lines.specs.ContentJson.{content_json}
+use Rattle.event_lines.specs.ContentTexts.{text_or_hex}
+use Rattle.event_lines.proofs.ContentLaws.{content_plain}
+use Rattle.event_lines.proofs.CountLaws.{content_counted}
 use Rattle.boot_texts.specs.declared.difference_lines.Boot.{Boot}
 use Rattle.boot_texts.specs.declared.policies.ImaPolicy.TheVariants.{Asked, Possible}
 use Rattle.boot_texts.specs.AnswerCells.{answered_digest, boot_variable_type, command_cell, digest_cell, image_cell, kind_cell, text_member, untold_cell, variable_cell, version_cell, word_cell}

@@ -12,8 +12,8 @@ use Rattle.measured_data.specs.Confirming.{counts}
 use Rattle.boot_answers.specs.CommonEvents.{unmarked}
 use Rattle.boot_answers.specs.Differences.{IsFirstDifference}
 use Rattle.cells.specs.declared.writer.Form.{Form}
-use Rattle.json_texts.specs.ItemLines.{numbered_lines}
-use Rattle.json_texts.proofs.SentLaws.{numbered_joined}
+use Rattle.cells.specs.ItemLines.{numbered_lines}
+use Rattle.cells.proofs.ItemLineLaws.{numbered_joined}
 use Rattle.boot_texts.specs.declared.difference_lines.Boot.{Boot}
 use Rattle.boot_texts.specs.declared.difference_lines.EventLine.{EventLine}
 use Rattle.boot_texts.specs.declared.differences.Difference.{Difference}

@@ -1,5 +1,5 @@
 -- The cells of the answers. The members and words are this project's choice.
-use Rattle.std.specs.Prelude.{ℕ, if◌then◌else◌, List, [], ◌∷◌, ◌++◌, codes, Option, Some, None, option_map}
+use Rattle.std.specs.Prelude.{ℕ, if◌then◌else◌, List, [], ◌∷◌, ◌++◌, codes, Option, Some, None}
 use Rattle.json.specs.Json.{Json}
 use Rattle.pcr_banks.specs.declared.alg.Alg.{Alg}
 use Rattle.pcr_banks.specs.declared.sets.PerBank.{PerBank}
@@ -16,12 +16,11 @@ use Rattle.boot_answers.specs.Commands.{CommandSaid, grub, wide}
 use Rattle.boot_answers.specs.FirmwareVersion.{version_type}
 use Rattle.boot_answers.specs.Images.{image_register}
 use Rattle.cells.specs.Cells.{Cell, each, hex, if_some, in_order, nothing, number, object_at, text, word, word_member}
-use Rattle.cells.specs.Values.{Member, line_of, object_of}
-use Rattle.json_texts.specs.ContentJson.{command_word, content_json}
-use Rattle.json_texts.specs.ContentTexts.{wide_member}
-use Rattle.json_texts.specs.EventJson.{event_content_json}
-use Rattle.json_texts.specs.JsonValues.{shown_member}
-use Rattle.json_texts.specs.SteeringTexts.{unsteered}
+use Rattle.cells.specs.Values.{Member, line_of, object_of, shown_member}
+use Rattle.event_lines.specs.ContentJson.{command_word, content_json}
+use Rattle.event_lines.specs.ContentTexts.{wide_member}
+use Rattle.event_lines.specs.EventJson.{event_content_json}
+use Rattle.event_lines.specs.SteeringTexts.{unsteered}
 
 -- An answer in one word.
 abbrev pub word_cell : List ℕ → List ℕ → Cell Member

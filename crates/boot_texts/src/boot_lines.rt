@@ -24,7 +24,7 @@ use std::alloc::Global;
 
 /// Appends the lines of all answers on the boot that the log tells, by the registers in `matched`, those that match. A bank answers for a register
 /// that matches in it, if it is no bank of SHA-1 ([`boot_answers::is_answering`]). Each line is an object of JSON; or, for people
-/// ([`Form::Text`]), words, some with JSON at the end, in which no character steers a terminal, as in [`json_texts::send_events`].
+/// ([`Form::Text`]), words, some with JSON at the end, in which no character steers a terminal, as in [`event_lines::send_events`].
 ///
 /// - `secure_boot on`, `off` or `unknown` ([`boot_answers::secure_boot`]);
 /// - `firmware_version`, and what the first event says, or `unknown` ([`boot_answers::firmware_version`]);

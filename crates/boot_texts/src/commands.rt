@@ -4,16 +4,15 @@ ghost use Rattle.std.specs.Prelude.{◌≡◌, [], ◌∷◌, ◌++◌, codes, O
 ghost use Rattle.boot_answers.specs.Commands.{said_of};
 ghost use Rattle.cells.specs.Cells as cells;
 ghost use Rattle.cells.specs.Cells.{ShowsMembers, if_some, object_at, word_member};
-ghost use Rattle.cells.specs.Values.{line_of, object_of};
-ghost use Rattle.json_texts.specs.JsonValues.{AppendsLine};
-ghost use Rattle.json_texts.specs.SteeringTexts.{unsteered};
-ghost use Rattle.json_texts.specs.parts.WrittenParts.{WritesMembers, WritesValue};
+ghost use Rattle.cells.specs.Values.{line_of, object_of, AppendsLine};
+ghost use Rattle.event_lines.specs.SteeringTexts.{unsteered};
+ghost use Rattle.cells.specs.Writing.{WritesMembers, WritesValue};
 ghost use Rattle.boot_texts.specs.AnswerCells.{command_cell, kind_cell, said_cell, text_member, untold_cell};
 
 use boot_answers::CommandText;
-use cells::{CellWriter, Shown, Written};
+use cells::{CellWriter, Shown, Written, begin_line, end_line, write_shown};
+use event_lines::{append_unsteered, command_word, write_wide};
 use json::Writer;
-use json_texts::{append_unsteered, begin_line, command_word, end_line, write_shown, write_wide};
 use std::alloc::Global;
 
 /// The line of the text that an event tells.

@@ -4,17 +4,14 @@ ghost use Rattle.std.specs.Prelude.{◌≡◌, ◌++◌, OnOk};
 ghost use Rattle.event_data.specs.ContentReading.{content_in};
 ghost use Rattle.event_data.specs.EventForms.{content_of};
 ghost use Rattle.cells.specs.Cells.{ShowsMembers};
-ghost use Rattle.cells.specs.Values.{line_of};
-ghost use Rattle.json_texts.specs.ContentJson.{content_json};
-ghost use Rattle.json_texts.specs.JsonValues.{AppendsLine};
-ghost use Rattle.json_texts.specs.SteeringTexts.{unsteered};
+ghost use Rattle.cells.specs.Values.{line_of, AppendsLine};
+ghost use Rattle.event_lines.specs.ContentJson.{content_json};
+ghost use Rattle.event_lines.specs.SteeringTexts.{unsteered};
 ghost use Rattle.boot_texts.specs.AnswerCells.{value_cell};
 
-use cells::{CellWriter, Written};
+use cells::{CellWriter, Written, begin_line, end_line};
 use event_data::EventContent;
-use json_texts::{
-    append_content, append_unsteered, begin_line, end_line, write_content, write_form,
-};
+use event_lines::{append_content, append_unsteered, write_content, write_form};
 use std::alloc::Global;
 
 /// Shows what data of this type says.

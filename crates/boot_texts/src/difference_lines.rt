@@ -7,7 +7,7 @@ ghost use Rattle.boot_log.specs.LogViews.{log_bytes};
 ghost use Rattle.boot_log.specs.Replaying.{is_extended_into};
 ghost use Rattle.boot_log.specs.Spelling.{IsLog, LogEvent, log_event_of};
 ghost use Rattle.cells.specs.Cells.{ShowsMembers, hex, if_some};
-ghost use Rattle.json_texts.specs.EventJson.{event_content_json};
+ghost use Rattle.event_lines.specs.EventJson.{event_content_json};
 ghost use Rattle.boot_texts.specs.AnswerCells.{value_cell};
 ghost use Rattle.boot_texts.specs.Differences.{alike_cell, apart_cell, boot_word, event_cell, event_line, lines_from, place_cell};
 

@@ -1,3 +1,5 @@
 pub mod CellLaws
 pub mod FaultMemberLaws
+pub mod ItemLineLaws
 pub mod LineLaws
+pub mod WrittenLaws

@@ -1,2 +1,4 @@
 pub mod Cells
+pub mod ItemLines
 pub mod Values
+pub mod Writing

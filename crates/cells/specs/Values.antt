@@ -1,6 +1,7 @@
 -- Values of JSON (RFC 8259), by their members and items, and their lines.
-use Rattle.std.specs.Prelude.{◌≡◌, ℕ, ◌^◌, ◌<◌, nat_le, Bool, true, List, [], ◌∷◌, ◌++◌, codes, decimal, Some}
+use Rattle.std.specs.Prelude.{◌≡◌, ℕ, ◌^◌, ◌<◌, nat_le, Bool, true, if◌then◌else◌, List, [], ◌∷◌, ◌++◌, codes, decimal, Option, Some, None, Result, OnOk, OnErr}
 use Rattle.std.specs.List.{list_all}
+use Rattle.std.specs.Str.{IsUtf8, is_utf8}
 use Rattle.hex.specs.Hex.{encode_lower}
 use Rattle.json.specs.Token.{Token, key}
 use Rattle.json.specs.Json.{Json, Items, Members, document}
@@ -60,3 +61,31 @@ has_no_control bytes = list_all (λ byte. nat_le 32 byte) bytes
 pub record IsOneLine (value : Json) : Type 0 where
   pub reads_back : document (print (json_tokens value)) ≡ Some value
   pub in_line : has_no_control (print (json_tokens value)) ≡ true
+
+-- ---- members that may lack
+
+-- The member of this name, if it has a value.
+abbrev pub optional : List ℕ → Option Json → List Member
+optional name None = []
+optional name (Some value) = (name, value) ∷ []
+
+-- ---- bytes that are text, mostly
+
+-- The name of a member that shows bytes: the other one where they are not UTF-8.
+abbrev pub shown_name : List ℕ → List ℕ → List ℕ → List ℕ
+shown_name name hex_name bytes = if is_utf8 bytes then name else hex_name
+
+-- The text that it shows: the bytes; their hexadecimal digits where they are not UTF-8.
+abbrev pub shown_text : List ℕ → List ℕ
+shown_text bytes = if is_utf8 bytes then bytes else encode_lower bytes
+
+abbrev pub shown_member : List ℕ → List ℕ → List ℕ → Member
+shown_member name hex_name bytes = (shown_name name hex_name bytes, json.string (shown_text bytes))
+
+-- ---- appended lines
+
+-- The value's line was appended, unless memory ran out: then all is as before.
+pub record AppendsLine {E : Type 0} (result : Result (Unit {0}) E) (old new : List ℕ) (value : Json) : Type 0 where
+  pub ok : OnOk result (new ≡ old ++ line_of value)
+  pub utf8 : OnOk result (IsUtf8 (line_of value))
+  pub err : OnErr result (new ≡ old)

@@ -15,12 +15,12 @@ use Rattle.ima_list.specs.ListEntry.{ListEntry}
 use Rattle.ima_list.specs.ListFaults.{list_fault_entry}
 use Rattle.ima_list.specs.Spelling.{BeginsWith, IsReading, list_spelling}
 use Rattle.boot_verdict.specs.ListSources.{CameFrom, FailsFor}
-use Rattle.json_texts.specs.declared.entry_lines.EntriesFault.{EntriesFault}
-use Rattle.json_texts.specs.declared.entry_lines.EntriesFault.TheVariants as entries
-use Rattle.json_texts.specs.declared.event_lines.EventsFault.{EventsFault}
-use Rattle.json_texts.specs.declared.event_lines.EventsFault.TheVariants as events
-use Rattle.json_texts.specs.SentEntries.{AreAllIn, SendsEntries}
-use Rattle.json_texts.specs.SentEvents.{SendsEvents, SendsLines}
+use Rattle.entry_lines.specs.declared.entry_lines.EntriesFault.{EntriesFault}
+use Rattle.entry_lines.specs.declared.entry_lines.EntriesFault.TheVariants as entries
+use Rattle.event_lines.specs.declared.event_lines.EventsFault.{EventsFault}
+use Rattle.event_lines.specs.declared.event_lines.EventsFault.TheVariants as events
+use Rattle.entry_lines.specs.SentEntries.{AreAllIn, SendsEntries}
+use Rattle.event_lines.specs.SentEvents.{SendsEvents, SendsLines}
 use Rattle.measured_data.specs.declared.place.Place.{Place}
 use Rattle.cells.specs.declared.writer.Form.{Form}
 use Rattle.cells.specs.declared.writer.Form.TheVariants.{Json, Text}

@@ -5,8 +5,9 @@ use Rattle.ima_list.specs.declared.fault.ListFault.{ListFault}
 use Rattle.ima_list.specs.ListEntry.{ListEntry}
 use Rattle.ima_list.specs.Spelling.{BeginsWith, IsReading}
 use Rattle.boot_verdict.specs.Verdicts.{IsSomeLog}
-pub use Rattle.json_texts.specs.ItemLines.{entry_lines, list_lines, numbered_lines, AreAllEntries, EndsWithFault, FailsAfterEntries}
-use Rattle.json_texts.specs.SentEntries.{AreAllIn}
+pub use Rattle.cells.specs.ItemLines.{numbered_lines, EndsWithFault}
+pub use Rattle.entry_lines.specs.ListLines.{entry_lines, list_lines, AreAllEntries, FailsAfterEntries}
+use Rattle.entry_lines.specs.SentEntries.{AreAllIn}
 use Rattle.cells.specs.declared.writer.Form.{Form}
 use Rattle.agent_inputs.specs.declared.fault.RunFault.{RunFault}
 use Rattle.agent_inputs.specs.declared.fault.RunFault.TheVariants as runs
@@ -71,7 +72,7 @@ ShowsEntries list shown status =
 
 -- Why no more entries of the file of this name are shown, of which the bytes `came` were read. It could not be opened or read, or it is
 -- longer than an input may be and its first bytes came, as many as one may have: then these are all entries of what came, of which none was refused (how much of a file
--- came before a read failed, only json_texts' `SendsEntries` says). Or memory ran out.
+-- came before a read failed, only `SendsEntries` of entry_lines says). Or memory ran out.
 abbrev pub EndsAfterEntries : Inputs → List ℕ → List ℕ → List ListEntry → RunFault → Type 0
 EndsAfterEntries inputs name came entries fault =
     (IsReadFailure inputs (Some name) fault × AreAllIn came entries)

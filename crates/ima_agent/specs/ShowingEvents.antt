@@ -3,10 +3,11 @@ use Rattle.std.specs.Prelude.{◌≡◌, ℕ, Bool, true, false, ◌⊎◌, List
 use Rattle.boot_log.specs.declared.header.Row.{Row}
 use Rattle.boot_log.specs.Spelling.{BeginsWith, LogEvent}
 use Rattle.measured_data.specs.declared.place.Place.{Place}
-use Rattle.verdict_texts.specs.EventTexts.{events_text}
+use Rattle.event_lines.specs.EventTexts.{events_text}
 pub use Rattle.cells.specs.declared.writer.Form.{Form}
-pub use Rattle.json_texts.specs.ItemLines.{AreAllEvents, EndsWithFault, FailsAfterEvents}
-pub use Rattle.json_texts.specs.SentEvents.{log_lines}
+pub use Rattle.cells.specs.ItemLines.{EndsWithFault}
+pub use Rattle.event_lines.specs.LogLines.{AreAllEvents, FailsAfterEvents}
+pub use Rattle.event_lines.specs.SentEvents.{log_lines}
 use Rattle.agent_plans.specs.declared.plan.ConfirmedBy.{ConfirmedBy}
 use Rattle.agent_plans.specs.declared.plan.DataShown.{DataShown}
 use Rattle.agent_plans.specs.declared.plan.DataShown.TheVariants.{Size, Bytes, Meaning}

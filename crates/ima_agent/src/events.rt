@@ -12,8 +12,8 @@ use agent_inputs::{AgentFiles, load_input};
 use agent_plans::{ConfirmedBy, DataShown, Form};
 use boot_log::LogView;
 use byte_streams::Sink;
+use event_lines::write_events;
 use std::alloc::Global;
-use verdict_texts::write_events;
 
 /// Sends the header and the events of the log in the file of this name, in this form. Where what data says is told, this tells which of it is
 /// confirmed.

@@ -1,6 +1,6 @@
 //! The agent as a library: the program, and what some of its commands show, of bytes in memory. Re-exports inputs and faults from
 //! `agent_inputs`, plans and tasks from `agent_plans`, what is said of faults from `rendering`, expected registers from `pcr_values`, the
-//! verdict from `boot_verdict`, and its texts from `verdict_texts`.
+//! verdict from `boot_verdict`, and its texts from `answers`.
 #![tactic(auto)]
 
 mod boot;
@@ -21,11 +21,13 @@ pub use agent_plans::{
     Attest, ConfirmedBy, DataShown, Form, Judge, Judged, Measurement, NameEnd, Names, Plan, Print,
     Question, Quoting, Scope, Task,
 };
+pub use answers::{write_positions, write_report};
 pub use boot_verdict::{
     Aggregate, Located, Position, Report, Requirement, Row, State, VerifyFault, all_found,
     list_start, locate, locate_from, replay_from, required_found, verify, verify_from,
 };
 pub use command_line::arguments_after_name;
+pub use event_lines::write_events;
 pub use measuring::FileProgress;
 pub use pcr_values::{
     BankRange, ExpectFault, Expected, RegisterRange, Selection, SelectionFault, read_expected,
@@ -34,4 +36,3 @@ pub use pcr_values::{
 pub use program::{exit_code, read_words, run, run_with_progress};
 pub use questions::{Failure, NoProgress, Progress};
 pub use rendering::{Output, json_fault_line, json_memory_line, status_of, write_fault};
-pub use verdict_texts::{write_events, write_positions, write_report};

@@ -12,11 +12,11 @@ use Rattle.ima_list.specs.Lines.{line_of}
 use Rattle.ima_list.specs.ListEntry.{ListEntry}
 use Rattle.ima_list.specs.ListFaults.{list_fault_entry}
 use Rattle.ima_list.specs.Spelling.{BeginsWith, IsReading, list_spelling}
-use Rattle.json_texts.specs.EntryJson.{entry_json}
-use Rattle.json_texts.specs.JsonValues as json
-use Rattle.json_texts.specs.ItemLines.{AreAllEntries, entry_count_line, entry_lines}
+use Rattle.entry_lines.specs.EntryJson.{entry_json}
+use Rattle.cells.specs.Values as json
+use Rattle.entry_lines.specs.ListLines.{AreAllEntries, entry_count_line, entry_lines}
 use Rattle.pieces.specs.declared.piece.Position.{Position}
-use Rattle.pieces.specs.Pieces.{AreCounted, AreEntriesBefore, AreItemsBefore, FailsAfterEntries, HasEntryLine, end_in, is_within, line_in, lines_in, whole_in}
+use Rattle.pieces.specs.Pieces.{AreEntriesBefore, AreItemsBefore, FailsAfterEntries, HasEntryLine, end_in, is_within, line_in, lines_in, whole_in}
 use Rattle.pieces.proofs.LineLaws.{next_item, numbered_last, part_is}
 
 pub lines_last : (form : Form) (entries : List ListEntry) (entry : ListEntry)

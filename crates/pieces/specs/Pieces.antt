@@ -12,16 +12,17 @@ use Rattle.cells.specs.declared.writer.Form.TheVariants.{Json, Text}
 use Rattle.ima_list.specs.Lines.{line_of}
 use Rattle.ima_list.specs.ListEntry.{ListEntry}
 use Rattle.ima_list.specs.Spelling.{BeginsWith, IsReading}
-use Rattle.json_texts.specs.EntryJson.{entry_json}
-use Rattle.json_texts.specs.JsonValues as json
-use Rattle.json_texts.specs.ItemLines as shown
+use Rattle.entry_lines.specs.EntryJson.{entry_json}
+use Rattle.cells.specs.Values as json
+use Rattle.entry_lines.specs.ListLines as shown
+use Rattle.event_lines.specs.LogLines as logged
 use Rattle.boot_log.specs.declared.header.Row.{Row}
 use Rattle.boot_log.specs.Reading.{specification_in}
 use Rattle.boot_log.specs.Spelling as logs
 use Rattle.boot_log.specs.Spelling.{LogEvent}
-use Rattle.json_texts.specs.EventJson.{header_json, event_json}
+use Rattle.event_lines.specs.EventJson.{header_json, event_json}
 use Rattle.cells.specs.declared.writer.Form.TheVariants as events
-use Rattle.json_texts.specs.SentEvents as sent
+use Rattle.event_lines.specs.SentEvents as sent
 
 -- Where the first line begins.
 abbrev pub start : Position
@@ -203,14 +204,14 @@ HasEventLine log text line =
 
 -- The bytes are no log: the text is the lines of the header and of the events after it, and after these they have this fault.
 abbrev pub FailsAfterEvents : List ℕ → List ℕ → RunFault → Type 0
-FailsAfterEvents log text fault = shown.FailsAfterEvents (log_lines log) fault_of_log log text fault
+FailsAfterEvents log text fault = logged.FailsAfterEvents (log_lines log) fault_of_log log text fault
 
 -- The lines of a log one after another.
 abbrev pub events_of : List ℕ → Series
 events_of log = record {
   AreBefore = AreEventsBefore log;
   HasLine = HasEventLine log;
-  AreAll = shown.AreAllEvents (log_lines log) log;
+  AreAll = logged.AreAllEvents (log_lines log) log;
   FailsAfter = FailsAfterEvents log;
 }
 

@@ -6,7 +6,9 @@ ghost use Rattle.cells.specs.declared.writer.Form.{Form};
 ghost use Rattle.pieces.specs.declared.piece.End.TheVariants.{Last};
 ghost use Rattle.pieces.specs.declared.piece.Piece.{Piece as APiece};
 ghost use Rattle.pieces.specs.declared.piece.Position.{Position as APosition};
-ghost use Rattle.json_texts.specs.ItemLines.{AreAllEntries, AreAllEvents, EndsWithFault};
+ghost use Rattle.cells.specs.ItemLines.{EndsWithFault};
+ghost use Rattle.entry_lines.specs.ListLines.{AreAllEntries};
+ghost use Rattle.event_lines.specs.LogLines.{AreAllEvents};
 ghost use Rattle.pieces.specs.Pieces.{AreEntriesBefore, FailsAfterEntries, entries_of, whole_in, AreEventsBefore, FailsAfterEvents, events_of, AreInTurn, IsGiven, IsLineOf, log_lines, start};
 
 /// No line comes before the first position.

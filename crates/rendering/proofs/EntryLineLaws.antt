@@ -1,7 +1,7 @@
 -- The lines of entries, one after another.
 use Rattle.std.proofs.Common.{◌≡◌, ℕ, ◌+◌, ◌<◌, List, [], ◌∷◌, ◌++◌, length, get_or, take, sym, ap, ◌∙◌, append_assoc, arith}
 use Rattle.std.proofs.lemmas.List.{append-nil, length-take-le, take_more}
-use Rattle.json_texts.specs.ItemLines.{numbered_lines}
+use Rattle.cells.specs.ItemLines.{numbered_lines}
 
 numbered_last : {A : Type 0} (line : ℕ → A → List ℕ) (number : ℕ) (items : List A) (item : A)
     → numbered_lines line number (items ++ item ∷ []) ≡ numbered_lines line number items ++ line (number + length items) item

@@ -20,7 +20,7 @@ use Rattle.cells.specs.declared.writer.Form.TheVariants as forms
 use Rattle.agent_plans.specs.declared.plan.Print.{Print}
 use Rattle.agent_plans.specs.declared.plan.Print.TheVariants as prints
 use Rattle.ima_list.specs.Lines.{line_of as entry_text}
-use Rattle.json_texts.specs.ItemLines.{entry_lines}
+use Rattle.entry_lines.specs.ListLines.{entry_lines}
 use Rattle.measure_book.specs.Books.{exported}
 use Rattle.measuring.specs.declared.file_book.Measured.{Measured}
 use Rattle.growing_lists.specs.declared.saved_state.SavedState.{SavedState}

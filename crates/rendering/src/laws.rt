@@ -10,7 +10,7 @@ ghost use Rattle.cells.specs.declared.writer.Form.TheVariants.{Text};
 ghost use Rattle.rendering.specs.FaultTexts.{fault_cell, fault_line, told_cell};
 
 /// The JSON of a fault is one line: its text reads back as the value, and has no line feed. Its numbers are such as code holds. It has a
-/// member `fault`, which no other value has (`json_texts::laws`, `answers::laws`, `boot_texts::laws`).
+/// member `fault`, which no other value has (`event_lines::laws`, `entry_lines::laws`, `answers::laws`).
 pub fn each_fault_is_one_line()
     ensures line { (fault : RunFault) → IfSome (fault_head fault).number IsCount → IfSome (fault_head fault).place IsCount
         → IsOneLine (object_of (fault_cell fault).json) }

@@ -2,15 +2,15 @@
 
 ghost use Rattle.std.specs.Prelude.{◌≡◌, flat_map, IfOk};
 ghost use Rattle.ima_list.specs.Lines.{line_of};
-ghost use Rattle.json_texts.specs.ItemLines.{entry_lines};
+ghost use Rattle.entry_lines.specs.ListLines.{entry_lines};
 ghost use Rattle.measure_book.specs.Books.{exported};
 ghost use Rattle.rendering.specs.Rendering.{print_measured};
 
 use crate::renderer::{Output, render};
 use agent_plans::{Form, Print};
 use byte_streams::VecSink;
+use entry_lines::append_entry;
 use ima_list::Entry;
-use json_texts::append_entry;
 use judging::{Answer, Answered, Registers};
 use measure_book::Book;
 use measuring::Measured;

@@ -1,5 +1,6 @@
 //! Verdicts on the samples, the book that makes their list, and the texts of all this.
 
+use answers::{write_positions, write_report};
 use boot_verdict::{Located, Report, VerifyFault, locate, verify};
 use byte_streams::{Failed, Sink, VecSink};
 use measure_book::{Book, ExportFault};
@@ -12,7 +13,6 @@ use test_kit::logs::log_of;
 use test_kit::once_more;
 use test_kit::registers::sha256;
 use test_kit::samples::{EXPECTED, LIST, LOG};
-use verdict_texts::{write_positions, write_report};
 
 /// What has a text.
 #[derive(Drop)]

@@ -1,4 +1,4 @@
-use Rattle.json_texts.proofs.WrittenLaws.{in_object}
+use Rattle.cells.proofs.WrittenLaws.{in_object}
 use Rattle.boot_texts.proofs.commands.write_object.Goals as goal
 
 pub returns : goal.returns

@@ -1,7 +1,7 @@
 use Rattle.std.proofs.Common.{List, ℕ, [], refl, sym, subst, inl, inr}
 use Rattle.boot_log.specs.Spelling.{IsLog}
 use Rattle.byte_streams.proofs.SinkLaws.{Sends-none}
-use Rattle.verdict_texts.specs.EventTexts.{events_text}
+use Rattle.event_lines.specs.EventTexts.{events_text}
 use Rattle.ima_agent.proofs.OutcomeLaws.{text_sent}
 use Rattle.ima_agent.proofs.events.write_log.Goals as goal
 

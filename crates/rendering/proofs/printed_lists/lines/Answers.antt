@@ -1,7 +1,7 @@
 use Rattle.std.proofs.Common.{ℕ, List, ◌++◌, get_or, ap, ◌∙◌}
 use Rattle.ima_list.specs.ListEntry.{ListEntry}
-use Rattle.json_texts.specs.EntryJson.{entry_json}
-use Rattle.json_texts.specs.JsonValues.{line_of}
+use Rattle.entry_lines.specs.EntryJson.{entry_json}
+use Rattle.cells.specs.Values.{line_of}
 use Rattle.rendering.proofs.EntryLineLaws.{numbered_more}
 use Rattle.rendering.proofs.printed_lists.lines.Goals as goal
 

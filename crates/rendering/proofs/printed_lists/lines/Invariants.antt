@@ -1,5 +1,5 @@
 use Rattle.std.proofs.Common.{◌≡◌, take}
-use Rattle.json_texts.specs.ItemLines.{entry_lines}
+use Rattle.entry_lines.specs.ListLines.{entry_lines}
 use Rattle.rendering.proofs.printed_lists.lines.Given as goal
 
 abbrev pub invariant-loop-number : goal.invariant-loop-number

@@ -1,0 +1,5 @@
+pub mod KernelFieldLaws
+pub mod EntryLaws
+pub mod SameEntryLaws
+pub mod EntryMemberLaws
+pub mod SentLaws

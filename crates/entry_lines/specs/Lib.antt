@@ -1,0 +1,4 @@
+pub mod KernelFieldJson
+pub mod EntryJson
+pub mod ListLines
+pub mod SentEntries

@@ -1,0 +1,195 @@
+-- The numbers that an event's data tells as those of JSON fit: each takes four bytes at most, or counts what the bytes hold.
+use Rattle.std.proofs.Common.{◌≡◌, ℕ, zero, suc, ◌+◌, ◌≤◌, Bool, true, false, cond, List, [], ◌∷◌, ◌++◌, length, Option, Some, None, refl, ap, subst, ◌∙◌, arith}
+use Rattle.std.specs.Prelude.{◌==◌, IfSome, option_map, unwrap_or}
+use Rattle.std.specs.Int.{to_le_bytes, w64}
+use Rattle.std.specs.List.{AllByRecursion}
+use Rattle.std.specs.Option.{option_map_or, option_or}
+use Rattle.std.proofs.lemmas.List.{length-append}
+use Rattle.hex.specs.Hex.{IsBytes}
+use Rattle.event_data.specs.BlobReading.{described_blob_in, plain_blob_in, tagged_in}
+use Rattle.event_data.specs.ContentReading.{content_in, form_content, text_content}
+use Rattle.event_data.specs.EventForms as contents
+use Rattle.event_data.specs.EventForms.{Content, described_blob_types, form_of, gpt_types, image_types, is_among, text_types, variable_types}
+use Rattle.event_data.specs.Forms.{IsVariable, VariableData}
+use Rattle.event_data.specs.GptReading.{gpt_in}
+use Rattle.event_data.specs.Reading.{image_in, separator_in, variable_in}
+use Rattle.event_data.specs.Results.{command_in, guid_in, locality_in, text_in, wide_text_in}
+use Rattle.event_data.specs.ValueForms.{AreSignatureLists, AreSignatures, IsSignatureList, ListData, SignatureData}
+use Rattle.event_data.specs.ValueReading.{all_taken, lists_in, load_option_in, numbers_in, signature_in, signatures_of}
+use Rattle.event_data.specs.Values as values
+use Rattle.event_data.specs.Values.{ValueSays, flag_says, is_authority, is_flag, is_lists, is_load_option, is_order, says_in, value_in}
+use Rattle.event_data.proofs.BlobLaws.{tagged_finds}
+use Rattle.event_data.proofs.FormLaws.{separator_finds, variable_finds}
+use Rattle.event_data.proofs.ListLaws.{list_exact, list_into, list_out, list_signatures, some_list}
+use Rattle.event_data.proofs.TakenLaws.{all_takes}
+use Rattle.event_data.proofs.TextLaws.{locality_finds}
+use Rattle.event_data.proofs.ValueLaws.{load_option_takes}
+use Rattle.event_lines.specs.ContentJson.{IsCountedContent}
+use Rattle.cells.specs.Values.{IsCount}
+use Rattle.event_lines.specs.ValueJson.{IsCountedValue}
+
+-- ---- parts of bytes
+
+before : (front rest : List ℕ) → IsBytes (front ++ rest) → IsBytes front
+before [] rest fits i = omega arith
+before (byte ∷ front) rest fits zero = fits zero
+before (byte ∷ front) rest fits (suc i) = before front rest (λ j. fits (suc j)) i
+
+behind : (front rest : List ℕ) → IsBytes (front ++ rest) → IsBytes rest
+behind [] rest fits = fits
+behind (byte ∷ front) rest fits = behind front rest (λ i. fits (suc i))
+
+-- ---- one form, else another
+
+if_either : {F : Type 0} (P : F → Type 0) (b : Bool) (f g : F) → P f → P g → P (cond b f g)
+if_either P true f g first second = first
+if_either P false f g first second = second
+
+-- ---- a variable's value
+
+-- Bytes hold no more signatures than bytes.
+few_signatures : (size : ℕ) (bytes : List ℕ) (signatures : List SignatureData) → AreSignatures size bytes signatures
+    → length signatures ≤ length bytes
+few_signatures size bytes [] are = omega arith
+few_signatures size bytes (first ∷ signatures) are =
+    let whole : length bytes ≡ length are.0 + length are.1 = ap length are.2 ∙ length-append are.0 are.1 in
+    let own : length are.0 ≡ length first.owner + length first.payload =
+    ap length are.3.0.spelled ∙ length-append first.owner first.payload in
+    omega (arith, whole, own, are.3.0.owner_size, few_signatures size are.1 signatures are.4)
+
+lists_counted : (bytes : List ℕ) (lists : List ListData) → IsBytes bytes → AreSignatureLists bytes lists
+    → AllByRecursion (λ list. IsCount (length (signatures_of list))) lists
+lists_counted bytes [] fits are = tt
+lists_counted bytes (list ∷ lists) fits are =
+    let both : IsBytes (are.0 ++ are.1) = subst IsBytes are.2 fits in
+    let signatures = list_signatures are.0 list (λ i. omega (arith, before are.0 are.1 both i)) are.3 in (
+      omega (arith, are.3.list_fits, few_signatures list.signature_size list.signatures (signatures_of list) signatures),
+      lists_counted are.1 lists (behind are.0 are.1 both) are.4,
+    )
+
+flag_counted : (bytes : List ℕ) → IsBytes bytes → IsCountedValue (flag_says bytes)
+flag_counted [] fits = tt
+flag_counted (value ∷ []) fits = omega (arith, fits 0)
+flag_counted (value ∷ more ∷ bytes) fits = tt
+
+found_counted : {X : Type 0} (to : X → ValueSays) (found : Option X) → ((x : X) → found ≡ Some x → IsCountedValue (to x))
+    → IsCountedValue (option_map_or to found values.unknown)
+found_counted to (Some x) fits = fits x refl
+found_counted to None fits = tt
+
+value_counted : (kind : ℕ) (v : VariableData) → IsBytes v.value → IsCountedValue (value_in kind v)
+value_counted kind v fits =
+    if_either (λ form. IsCountedValue (says_in form v.value)) (is_authority kind v) _ _
+    (found_counted values.signature (signature_in v.value) (λ x e. tt))
+    (if_either (λ form. IsCountedValue (says_in form v.value)) (is_flag v) _ _ (flag_counted v.value fits)
+    (if_either (λ form. IsCountedValue (says_in form v.value)) (is_order v) _ _
+    (found_counted values.order (all_taken (numbers_in v.value)) (λ x e. tt))
+    (if_either (λ form. IsCountedValue (says_in form v.value)) (is_load_option v) _ _
+    (found_counted values.option (load_option_in v.value)
+    (λ option e. omega (arith, (load_option_takes v.value option (λ i. omega (arith, fits i)) e).attributes_fit)))
+    (if_either (λ form. IsCountedValue (says_in form v.value)) (is_lists v) _ _
+    (found_counted values.lists (all_taken (lists_in v.value))
+    (λ lists e. lists_counted v.value lists fits
+    (all_takes list_exact some_list IsSignatureList list_into list_out v.value lists (λ i. omega (arith, fits i)) e)))
+    tt))))
+
+-- The value of a variable that bytes are is bytes too.
+value_is_bytes : (bytes : List ℕ) (v : VariableData) → IsBytes bytes → IsVariable bytes v → IsBytes v.value
+value_is_bytes bytes v fits is =
+    let content = v.name ++ v.value in
+    let sized = to_le_bytes w64 (length v.value) ++ content in
+    let whole : IsBytes (v.guid ++ (to_le_bytes w64 is.units ++ sized)) = subst IsBytes is.spelled fits in
+    behind v.name v.value
+    (behind (to_le_bytes w64 (length v.value)) content
+    (behind (to_le_bytes w64 is.units) sized (behind v.guid (to_le_bytes w64 is.units ++ sized) whole)))
+
+-- ---- data of each form
+
+abbrev AreCounted : ℕ → Option Content → Type 0
+AreCounted kind found = IfSome found (IsCountedContent kind)
+
+mapped_counted : {X : Type 0} (kind : ℕ) (to : X → Content) (found : Option X)
+    → ((x : X) → found ≡ Some x → IsCountedContent kind (to x)) → AreCounted kind (option_map to found)
+mapped_counted kind to (Some x) fits = fits x refl
+mapped_counted kind to None fits = tt
+
+or_counted : (kind : ℕ) (first second : Option Content) → AreCounted kind first → AreCounted kind second
+    → AreCounted kind (option_or first second)
+or_counted kind (Some content) second fits others = fits
+or_counted kind None second fits others = others
+
+unwrapped : (kind : ℕ) (bytes : List ℕ) (found : Option Content) → AreCounted kind found
+    → IsCountedContent kind (unwrap_or found (contents.unknown bytes))
+unwrapped kind bytes (Some content) fits = fits
+unwrapped kind bytes None fits = tt
+
+text_counted : (kind : ℕ) (bytes : List ℕ) → AreCounted kind (text_content bytes)
+text_counted kind bytes =
+    or_counted kind (option_map contents.text (text_in bytes)) (option_map contents.wide_text (wide_text_in bytes))
+    (mapped_counted kind contents.text (text_in bytes) (λ x e. tt))
+    (mapped_counted kind contents.wide_text (wide_text_in bytes) (λ x e. tt))
+
+version_counted : (kind : ℕ) (bytes : List ℕ) → AreCounted kind (option_or (text_content bytes) (option_map contents.guid (guid_in bytes)))
+version_counted kind bytes =
+    or_counted kind (text_content bytes) (option_map contents.guid (guid_in bytes)) (text_counted kind bytes)
+    (mapped_counted kind contents.guid (guid_in bytes) (λ x e. tt))
+
+loader_counted : (kind : ℕ) (bytes : List ℕ)
+    → AreCounted kind (option_or (option_map contents.command (command_in bytes)) (text_content bytes))
+loader_counted kind bytes =
+    or_counted kind (option_map contents.command (command_in bytes)) (text_content bytes)
+    (mapped_counted kind contents.command (command_in bytes) (λ x e. tt)) (text_counted kind bytes)
+
+blob_counted : (kind : ℕ) (bytes : List ℕ) → AreCounted kind (option_map contents.blob (plain_blob_in bytes))
+blob_counted kind bytes = mapped_counted kind contents.blob (plain_blob_in bytes) (λ x e. tt)
+
+post_code_counted : (kind : ℕ) (bytes : List ℕ)
+    → AreCounted kind (option_or (option_map contents.text (text_in bytes)) (option_map contents.blob (plain_blob_in bytes)))
+post_code_counted kind bytes =
+    or_counted kind (option_map contents.text (text_in bytes)) (option_map contents.blob (plain_blob_in bytes))
+    (mapped_counted kind contents.text (text_in bytes) (λ x e. tt)) (blob_counted kind bytes)
+
+separator_counted : (kind : ℕ) (bytes : List ℕ) → IsBytes bytes → AreCounted kind (option_map contents.separator (separator_in bytes))
+separator_counted kind bytes fits =
+    mapped_counted kind contents.separator (separator_in bytes)
+    (λ x e. omega (arith, ((separator_finds bytes (λ i. omega (arith, fits i))).is x e).fits))
+
+tagged_counted : (kind : ℕ) (bytes : List ℕ) → IsBytes bytes → AreCounted kind (option_map contents.tagged (tagged_in bytes))
+tagged_counted kind bytes fits =
+    mapped_counted kind contents.tagged (tagged_in bytes)
+    (λ x e. omega (arith, ((tagged_finds bytes (λ i. omega (arith, fits i))).is x e).id_fits))
+
+locality_counted : (kind : ℕ) (bytes : List ℕ) → IsBytes bytes → AreCounted kind (option_map contents.locality (locality_in bytes))
+locality_counted kind bytes fits =
+    mapped_counted kind contents.locality (locality_in bytes)
+    (λ x e. omega (arith, ((locality_finds bytes (λ i. omega (arith, fits i))).is x e).fits))
+
+variable_counted : (kind : ℕ) (bytes : List ℕ) → IsBytes bytes → AreCounted kind (option_map contents.variable (variable_in bytes))
+variable_counted kind bytes fits =
+    mapped_counted kind contents.variable (variable_in bytes)
+    (λ v e. value_counted kind v
+    (value_is_bytes bytes v fits ((variable_finds bytes (λ i. omega (arith, fits i))).is v e)))
+
+-- ---- any type
+
+form_counted : (kind : ℕ) (bytes : List ℕ) → IsBytes bytes → AreCounted kind (form_content (form_of kind) bytes)
+form_counted kind bytes fits =
+    if_either (λ form. AreCounted kind (form_content form bytes)) (kind == 0x00000001) _ _ (post_code_counted kind bytes)
+    (if_either (λ form. AreCounted kind (form_content form bytes)) (kind == 0x00000003) _ _ (locality_counted kind bytes fits)
+    (if_either (λ form. AreCounted kind (form_content form bytes)) (kind == 0x00000004) _ _ (separator_counted kind bytes fits)
+    (if_either (λ form. AreCounted kind (form_content form bytes)) (kind == 0x00000006) _ _ (tagged_counted kind bytes fits)
+    (if_either (λ form. AreCounted kind (form_content form bytes)) (kind == 0x00000008) _ _ (version_counted kind bytes)
+    (if_either (λ form. AreCounted kind (form_content form bytes)) (kind == 0x0000000d) _ _ (loader_counted kind bytes)
+    (if_either (λ form. AreCounted kind (form_content form bytes)) (kind == 0x80000008) _ _ (blob_counted kind bytes)
+    (if_either (λ form. AreCounted kind (form_content form bytes)) (is_among text_types kind) _ _ (text_counted kind bytes)
+    (if_either (λ form. AreCounted kind (form_content form bytes)) (is_among variable_types kind) _ _ (variable_counted kind bytes fits)
+    (if_either (λ form. AreCounted kind (form_content form bytes)) (is_among image_types kind) _ _
+    (mapped_counted kind contents.image (image_in bytes) (λ x e. tt))
+    (if_either (λ form. AreCounted kind (form_content form bytes)) (is_among gpt_types kind) _ _
+    (mapped_counted kind contents.gpt (gpt_in bytes) (λ x e. tt))
+    (if_either (λ form. AreCounted kind (form_content form bytes)) (is_among described_blob_types kind) _ _
+    (mapped_counted kind contents.blob (described_blob_in bytes) (λ x e. tt)) tt)))))))))))
+
+-- What an event's data says has numbers that fit.
+pub content_counted : (kind : ℕ) (bytes : List ℕ) → IsBytes bytes → IsCountedContent kind (content_in kind bytes)
+content_counted kind bytes fits = unwrapped kind bytes (form_content (form_of kind) bytes) (form_counted kind bytes fits)

@@ -1,0 +1,11 @@
+pub mod SteeringTexts
+pub mod ContentTexts
+pub mod ValueJson
+pub mod VariableJson
+pub mod ContentJson
+pub mod EventJson
+pub mod EventTexts
+pub mod Gathering
+pub mod ExplainedTexts
+pub mod LogLines
+pub mod SentEvents

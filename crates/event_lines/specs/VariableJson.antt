@@ -1,0 +1,16 @@
+-- A UEFI variable as JSON. The members and their order are this project's choice.
+use Rattle.std.specs.Prelude.{ℕ, ◌∷◌, codes}
+use Rattle.json.specs.Json.{Json}
+use Rattle.event_data.specs.Forms.{VariableData}
+use Rattle.event_data.specs.Values.{value_in}
+use Rattle.event_lines.specs.ContentTexts.{guid_json, wide_member}
+use Rattle.cells.specs.Values.{hex_json, object_of}
+use Rattle.event_lines.specs.ValueJson.{value_members}
+
+-- A variable that an event of this type has: the vendor's GUID, the name, the value, and what the value says.
+abbrev pub variable_json : ℕ → VariableData → Json
+variable_json kind variable = object_of (
+    (codes "guid", guid_json variable.guid)
+    ∷ wide_member (codes "name") (codes "name_hex") variable.name
+    ∷ (codes "value", hex_json variable.value)
+    ∷ value_members (value_in kind variable))

@@ -1,0 +1,149 @@
+//! What an event's data says.
+
+ghost use Rattle.std.specs.Prelude.{◌≡◌, [], ◌∷◌, codes, option_map};
+ghost use Rattle.event_data.specs.Blobs.{blob_of, tagged_of};
+ghost use Rattle.event_data.specs.ContentReading.{content_in};
+ghost use Rattle.event_data.specs.EventForms.{content_of};
+ghost use Rattle.event_data.specs.Forms.{command_of, image_of};
+ghost use Rattle.event_data.specs.Results.{text_in};
+ghost use Rattle.event_lines.specs.ContentTexts.{text_or_hex};
+ghost use Rattle.event_lines.specs.ContentJson.{blob_json, command_json, command_word, content_json, content_members, description_members, image_json, tagged_json};
+ghost use Rattle.cells.specs.Writing.{WritesMembers, WritesValue};
+
+use crate::content_texts::{write_address, write_guid, write_path, write_wide};
+use crate::partitions::write_gpt;
+use crate::variables::write_variable;
+use cells::{Written, write_flag, write_hex, write_number, write_shown, write_text};
+use event_data::{
+    Blob, Command, CommandKind, EventContent, Image, Tagged, event_content, read_text,
+};
+use json::Writer;
+use std::alloc::Global;
+
+/// Writes what the data of an event of this type says: an object with one member, which is named by the data's form, as
+/// [`crate::append_event`] has it under `content`. Fails only if memory runs out.
+pub fn write_content(alloc: Global, kind: u32, payload: &[u8], writer: &mut Writer) -> Written
+    ensures { WritesValue result writer.old writer.new (content_json kind (content_in kind payload.now)) }
+{
+    let content = event_content(kind, payload);
+    write_form(alloc, kind, &content, writer)
+}
+
+/// Writes what decoded data of an event of this type says: as [`write_content`] does, where the data is already decoded. Fails only if
+/// memory runs out.
+pub fn write_form(
+    alloc: Global,
+    kind: u32,
+    content: &EventContent<'_>,
+    writer: &mut Writer,
+) -> Written
+    ensures { WritesValue result writer.old writer.new (content_json kind (content_of content.now)) }
+{
+    writer.begin_object()?;
+    write_member(alloc, kind, content, writer)?;
+    writer.end_object()?;
+    Ok(())
+}
+
+// Writes the member of the data's form.
+fn write_member(
+    alloc: Global,
+    kind: u32,
+    content: &EventContent<'_>,
+    writer: &mut Writer,
+) -> Written
+    ensures { WritesMembers result writer.old writer.new (content_members kind (content_of content.now)) }
+{
+    match content {
+        EventContent::Separator(value) => write_number("separator", *value as u64, writer),
+        EventContent::Text(text) => write_text("text", text, writer),
+        EventContent::WideText(text) => write_wide(alloc, "text", "text_hex", text, writer),
+        EventContent::Guid(guid) => write_guid(alloc, "guid", guid.bytes, writer),
+        EventContent::Command(command) => write_command(alloc, command, writer),
+        EventContent::Variable(variable) => write_variable(alloc, kind, variable, writer),
+        EventContent::Image(image) => write_image(alloc, image, writer),
+        EventContent::Gpt(gpt) => write_gpt(alloc, gpt, writer),
+        EventContent::Blob(blob) => write_blob(alloc, blob, writer),
+        EventContent::Tagged(tagged) => write_tagged(alloc, tagged, writer),
+        EventContent::Locality(locality) => write_number("locality", *locality as u64, writer),
+        EventContent::Unknown(_) => write_flag("unknown", true, writer),
+    }
+}
+
+fn write_command(alloc: Global, command: &Command<'_>, writer: &mut Writer) -> Written
+    ensures { WritesMembers result writer.old writer.new ((codes "command", command_json (command_of command.now)) ∷ []) }
+{
+    writer.key("command")?;
+    writer.begin_object()?;
+    write_text("kind", command_word(command.kind), writer)?;
+    write_shown(alloc, "text", "text_hex", command.text, writer)?;
+    writer.end_object()?;
+    Ok(())
+}
+
+/// The word for a kind of command: `grub`, `kernel` or `module`.
+pub fn command_word(kind: CommandKind) -> &'static str
+    ensures { result.now ≡ command_word kind }
+{
+    match kind {
+        CommandKind::Grub => "grub",
+        CommandKind::Kernel => "kernel",
+        CommandKind::Module => "module",
+    }
+}
+
+fn write_image(alloc: Global, image: &Image<'_>, writer: &mut Writer) -> Written
+    ensures { WritesMembers result writer.old writer.new ((codes "image", image_json (image_of image.now)) ∷ []) }
+{
+    writer.key("image")?;
+    writer.begin_object()?;
+    write_address(alloc, "location", image.location, writer)?;
+    write_address(alloc, "size", image.size, writer)?;
+    write_address(alloc, "link_address", image.link_address, writer)?;
+    write_path(alloc, image.path, writer)?;
+    writer.end_object()?;
+    Ok(())
+}
+
+fn write_blob(alloc: Global, blob: &Blob<'_>, writer: &mut Writer) -> Written
+    ensures { WritesMembers result writer.old writer.new ((codes "blob", blob_json (blob_of blob.now)) ∷ []) }
+{
+    writer.key("blob")?;
+    writer.begin_object()?;
+    write_description(alloc, blob.description, writer)?;
+    write_address(alloc, "base", blob.base, writer)?;
+    write_address(alloc, "length", blob.size, writer)?;
+    writer.end_object()?;
+    Ok(())
+}
+
+fn write_description(alloc: Global, description: Option<&[u8]>, writer: &mut Writer) -> Written
+    ensures { WritesMembers result writer.old writer.new (description_members (option_map (λ text. text.now) description.entry)) }
+{
+    match description {
+        Some(text) => write_shown(alloc, "description", "description_hex", text, writer),
+        None => Ok(()),
+    }
+}
+
+fn write_tagged(alloc: Global, tagged: &Tagged<'_>, writer: &mut Writer) -> Written
+    ensures { WritesMembers result writer.old writer.new ((codes "tagged", tagged_json (tagged_of tagged.now)) ∷ []) }
+{
+    writer.key("tagged")?;
+    writer.begin_object()?;
+    write_number("id", tagged.id as u64, writer)?;
+    write_payload(alloc, tagged.payload, writer)?;
+    writer.end_object()?;
+    Ok(())
+}
+
+// Writes the data of a tagged event, as a text if it is one.
+fn write_payload(alloc: Global, payload: &[u8], writer: &mut Writer) -> Written
+    ensures { WritesMembers result writer.old writer.new
+        (text_or_hex (codes "text") (codes "data") payload.now (text_in payload.now) ∷ []) }
+{
+    match read_text(payload) {
+        Some(text) => write_text("text", text, writer),
+        None => write_hex(alloc, "data", payload, writer),
+    }
+}

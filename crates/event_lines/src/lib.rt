@@ -1,0 +1,29 @@
+//! The lines of a log's events: plain, with what the data says and what is confirmed of it, and as JSON (RFC 8259).
+//!
+//! As JSON each value is an object on one line, in UTF-8. Its members have a fixed order. Numbers are JSON numbers; digests and data are strings
+//! of lower case hexadecimal digits. A line is appended to a vector of the caller's; [`send_events`] sends the lines of a log to a sink, while it
+//! is read. Plain lines ([`write_events`]) take no memory that is not given back.
+#![tactic(auto)]
+
+mod content_texts;
+mod contents;
+mod event_form;
+mod event_lines;
+mod events;
+mod explained;
+pub mod laws;
+mod marks;
+mod measured;
+mod partitions;
+mod plain_events;
+mod steering;
+mod values;
+mod variables;
+
+pub use content_texts::write_wide;
+pub use contents::{command_word, write_content, write_form};
+pub use event_lines::{EventsFault, send_events};
+pub use events::{append_event, append_header};
+pub use explained::append_content;
+pub use plain_events::{write_declared, write_event_head, write_events};
+pub use steering::append_unsteered;

@@ -1,7 +1,0 @@
-use Rattle.json_texts.proofs.WrittenLaws.{in_object, joined, named}
-use Rattle.json_texts.proofs.contents.write_blob.Goals as goal
-
-pub returns : goal.returns
-returns c =
-    let members = joined c.in_ok-write_description.ensures (joined c.in_ok-write_address.ensures c.in_ok-write_address-2.ensures) in
-    named c.in_ok-key.ensures (in_object c.in_ok-begin_object.ensures members c.in_ok-end_object.ensures)

@@ -1,4 +1,0 @@
-use Rattle.json_texts.proofs.contents.write_description.Goals as goal
-
-pub returns-in-Some : goal.returns-in-Some
-returns-in-Some c = rw c.in-Some.is c.write_shown.ensures

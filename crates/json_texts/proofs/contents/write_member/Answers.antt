@@ -1,4 +1,0 @@
-use Rattle.json_texts.proofs.contents.write_member.Goals as goal
-
-pub returns-in-Image : goal.returns-in-Image
-returns-in-Image c = rw c.in-Image.is c.write_image.ensures

@@ -1,6 +1,0 @@
-use Rattle.std.proofs.Common.{refl}
-use Rattle.json_texts.proofs.WrittenLaws.{single}
-use Rattle.json_texts.proofs.members.write_text.Goals as goal
-
-pub returns : goal.returns
-returns c = single c.in_ok-key.ensures c.in_ok-string.ensures refl

@@ -1,8 +1,0 @@
-use Rattle.json_texts.proofs.WrittenLaws.{in_object, joined, named}
-use Rattle.json_texts.proofs.values.write_load_option.Goals as goal
-
-pub returns : goal.returns
-returns c =
-    let members = joined c.in_ok-write_number.ensures
-    (joined c.in_ok-write_wide.ensures (joined c.in_ok-write_path.ensures c.in_ok-write_hex.ensures)) in
-    named c.in_ok-key.ensures (in_object c.in_ok-begin_object.ensures members c.in_ok-end_object.ensures)

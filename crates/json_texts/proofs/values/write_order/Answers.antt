@@ -1,6 +1,0 @@
-use Rattle.json_texts.proofs.WrittenLaws.{in_array, named}
-use Rattle.json_texts.proofs.values.write_order.Goals as goal
-
-pub returns : goal.returns
-returns c =
-    named c.in_ok-key.ensures (in_array c.in_ok-begin_array.ensures c.in_ok-write_numbers.ensures c.in_ok-end_array.ensures)

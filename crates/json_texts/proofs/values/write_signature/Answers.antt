@@ -1,7 +1,0 @@
-use Rattle.json_texts.proofs.WrittenLaws.{in_object, joined, named}
-use Rattle.json_texts.proofs.values.write_signature.Goals as goal
-
-pub returns : goal.returns
-returns c =
-    named c.in_ok-key.ensures
-    (in_object c.in_ok-begin_object.ensures (joined c.in_ok-write_guid.ensures c.in_ok-write_hex.ensures) c.in_ok-end_object.ensures)

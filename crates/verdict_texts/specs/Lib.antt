@@ -1,4 +1,0 @@
-pub mod EventTexts
-pub mod Gathering
-pub mod ReportTexts
-pub mod PositionTexts
