@@ -1,5 +1,5 @@
 -- The bytes that a source lost, and why it was not loaded.
-use Rattle.std.proofs.Common.{◌≡◌, ℕ, ◌<◌, List, [], ◌++◌, length, Option, None, Some, Ok, Err, refl, sym, ap, subst, ◌∙◌, inl, inr, Result, string_bytes, append-nil, length-append, arith}
+use Rattle.std.proofs.Common.{◌≡◌, ℕ, ◌+◌, ◌-◌, ◌<◌, ◌≤◌, List, [], ◌++◌, length, Option, None, Some, Ok, Err, refl, sym, ap, subst, ◌∙◌, inl, inr, Result, string_bytes, append-nil, length-append, arith}
 use Rattle.std.specs.Prelude.{◌⊎◌, IfOk, IfSome, MatchResult, String, is_some}
 use Rattle.std.specs.Global.{Global}
 use Rattle.std.specs.Io.KnownBytes.{Consumes, IsAtEnd, Keeps}
@@ -37,6 +37,25 @@ pub lost_piece : (old mid new : SourceState) {before : List ℕ} (after : List �
     → GivesPiece mid.remaining new.remaining before after count → is_some new.remaining ≡ is_some mid.remaining
     → new.failures ≡ mid.failures → HasLost old new after
 lost_piece old mid new after has gives telling failures = rw gives.added (lost_more old mid new gives.came has gives.lost telling failures)
+
+-- It lost some bytes, and `room` more are allowed.
+pub record HasPassed (limit room : ℕ) (old new : SourceState) : Type 0 where
+  pub content : List ℕ
+  pub has : HasLost old new content
+  pub size : length content + room ≡ limit
+
+pub passed_none : (limit : ℕ) (old : SourceState) → HasPassed limit limit old old
+passed_none limit old = record { content = []; has = lost_nothing old [] refl; size = omega arith }
+
+-- One more piece was lost.
+pub passed_more : {limit room more : ℕ} (old mid new : SourceState) {before after : List ℕ} {count : ℕ} → HasPassed limit room old mid
+    → GivesPiece mid.remaining new.remaining before after count → is_some new.remaining ≡ is_some mid.remaining
+    → new.failures ≡ mid.failures → count ≤ room → more ≡ room - count → HasPassed limit more old new
+passed_more old mid new passed gives telling failures within is = record {
+  content = passed.content ++ gives.came;
+  has = lost_more old mid new gives.came passed.has gives.lost telling failures;
+  size = omega (arith, passed.size, gives.count_is, within, is, length-append passed.content gives.came);
+}
 
 -- A source that has nothing left lost all of its bytes.
 pub whole : (old new : Option (List ℕ)) (content : List ℕ) → Consumes old new content → IsAtEnd new → IfSome old (λ all. content ≡ all)

@@ -48,6 +48,9 @@ pub trait AgentFiles: Files<Src: Drop> {
         ensures kept { OnErr result (Self.saved self.new ≡ Self.saved self.old) }
         ensures known { Self.known self.new ≡ Self.known self.old };
 
+    /// Whether the file of this name is a regular one: it can be opened again, and then gives its bytes once more. A pipe or a device does not.
+    fn is_regular(&self, name: &str) -> bool;
+
     /// These files, for several threads at once.
     fn shared(&self) -> &Self::Shared
         ensures held { (name : List ℕ) → Self.Shared.held result.now name ≡ (Self.known self.now).held (Some name) }

@@ -10,7 +10,8 @@ mod system;
 pub use fault::{FaultHead, FaultKind, NotResumed, RunFault};
 pub use files::{AgentFiles, Files, SharedFiles};
 pub use loader::{
-    INPUT_LIMIT, LoadFault, load, load_input, not_read, not_utf8, not_written, too_long,
+    INPUT_LIMIT, LoadFault, load, load_input, not_read, not_utf8, not_written, read_through,
+    too_long,
 };
 pub use source_hash::hash_from;
-pub use system::{Input, ReadSource, SystemFiles, WriteSink};
+pub use system::{Input, ReadSource, SystemFiles, WriteSink, is_regular};

@@ -75,6 +75,29 @@ pub fn load<R: Source>(alloc: Global, source: &mut R, limit: u64) -> Result<Vec<
     }
 }
 
+/// Reads all bytes that a source has left, at most `limit`, and keeps none.
+///
+/// Fails as [`load`] does.
+pub fn read_through<R: Source>(alloc: Global, source: &mut R, limit: u64) -> Result<(), LoadFault>
+    ensures more { IsErrOf result LoadFault.TooLong → IfSome (R.state source.old).remaining (λ left. limit < length left) }
+    ensures drains { Drains limit (R.state source.old) (R.state source.new) result }
+{
+    let mut pieces = PieceReader::new(alloc);
+    let mut piece = Vec::new(alloc);
+    let mut room = limit;
+    loop {
+        let count = pieces.read(source, &mut piece)? as u64;
+        if count == 0 {
+            return Ok(());
+        }
+        if count > room {
+            return Err(LoadFault::TooLong);
+        }
+        room -= count;
+        piece.clear();
+    }
+}
+
 /// The most bytes that an input may have: 64 MiB.
 pub const INPUT_LIMIT: u64 = 64 * 1024 * 1024;
 

@@ -182,11 +182,23 @@ impl<R: FileSystem + io::Input + Sync> AgentFiles for SystemFiles<'_, R> {
         replace_file(self.runtime, name, bytes).map_err(|_| Failed)
     }
 
+    fn is_regular(&self, name: &str) -> bool {
+        is_regular(self.runtime, name)
+    }
+
     /// These files.
     fn shared(&self) -> &Self
         ensures { result.now ≡ self.now }
     {
         self
+    }
+}
+
+/// Whether the file of this name is a regular one, or a link to such a file.
+pub fn is_regular<R: FileSystem>(rt: &R, name: &str) -> bool {
+    match fs::metadata(rt, name) {
+        Ok(present) => present.is_file(),
+        Err(_) => false,
     }
 }
 

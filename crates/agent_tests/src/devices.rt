@@ -100,6 +100,11 @@ impl AgentFiles for PieceFiles<'_> {
         Ok(())
     }
 
+    /// Each gives its bytes again.
+    fn is_regular(&self, _name: &str) -> bool {
+        true
+    }
+
     fn shared(&self) -> &Self {
         self
     }

@@ -5,11 +5,11 @@ ghost use Rattle.byte_streams.specs.declared.pieces.ReadFault.{ReadFault};
 ghost use Rattle.agent_inputs.specs.Loading.{HasFailed};
 ghost use Rattle.hints.specs.Heads.{IsHead, IsLookedAt};
 
-use agent_inputs::{AgentFiles, Files, LoadFault, ReadSource, SharedFiles};
+use agent_inputs::{AgentFiles, Files, LoadFault, ReadSource, SharedFiles, is_regular};
 use byte_streams::{Failed, PieceReader, ReadFault, Source};
 use pcr_banks::{Alg, Digest};
 use std::alloc::{AllocError, Global};
-use std::fs::{self, File};
+use std::fs::File;
 use std::rt::Files as FileSystem;
 
 /// The files of a runtime, which are only read: none is replaced, and none is hashed. There is no standard input, and no file that is not a
@@ -43,19 +43,15 @@ impl<R: FileSystem> Files for FilesAgain<'_, R> {
     }
 }
 
-// Whether the file of this name is a regular one.
-fn is_regular<R: FileSystem>(rt: &R, name: &str) -> bool {
-    match fs::metadata(rt, name) {
-        Ok(present) => present.is_file(),
-        Err(_) => false,
-    }
-}
-
 impl<R: FileSystem> AgentFiles for FilesAgain<'_, R> {
     type Shared = NoneShared;
 
     fn replace(&mut self, _name: &str, _bytes: &[u8]) -> Result<(), Failed> {
         Err(Failed)
+    }
+
+    fn is_regular(&self, name: &str) -> bool {
+        is_regular(self.runtime, name)
     }
 
     fn shared(&self) -> &NoneShared {

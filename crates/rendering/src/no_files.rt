@@ -24,6 +24,10 @@ impl AgentFiles for NoFiles {
         Err(Failed)
     }
 
+    fn is_regular(&self, _name: &str) -> bool {
+        false
+    }
+
     fn shared(&self) -> &NoFiles {
         self
     }
