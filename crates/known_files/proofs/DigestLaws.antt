@@ -12,7 +12,7 @@ use Rattle.pcr_banks.specs.Hashing.{all_algs, size_of}
 use Rattle.pcr_banks.specs.Digests.{alg_of, bytes_of, digest_of}
 use Rattle.pcr_banks.proofs.AlgLaws.{every_alg}
 use Rattle.pcr_banks.proofs.SetLaws.{digest_again}
-use Rattle.known_files.proofs.LineLaws.{Lacks}
+use Rattle.pcr_values.proofs.ExpectedLaws.{Lacks}
 
 -- ---- options and results
 

@@ -14,7 +14,7 @@ use Rattle.pcr_banks.specs.Hashing.{all_algs, size_of}
 use Rattle.pcr_banks.specs.Digests.{alg_of, bytes_of, digest_of}
 use Rattle.pcr_banks.proofs.SetLaws.{digest_again}
 use Rattle.known_files.specs.DigestLines.{IsDigestLine, IsEscape, IsMark, begins_with_mark, digest_by, digest_on, without_escape}
-use Rattle.known_files.proofs.LineLaws.{Lacks, one_cut}
+use Rattle.pcr_values.proofs.ExpectedLaws.{Lacks, one_cut}
 use Rattle.known_files.proofs.DigestLaws.{the_some, chosen, mapped, same_size_is, some_bytes, alg_made, bytes_made, hex_not, digits_lack, hex_digest, found_by, first_is}
 
 -- ---- a line without its escape

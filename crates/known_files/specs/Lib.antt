@@ -1,4 +1,3 @@
-pub mod Lines
 pub mod DigestLines
 pub mod Listing
 pub mod Known
