@@ -15,7 +15,7 @@ use Rattle.event_data.proofs.CommandLaws.{command_finds}
 use Rattle.event_data.proofs.TextLaws.{wide_text_finds}
 use Rattle.measured_data.specs.declared.part.Part.{Part}
 use Rattle.measured_data.specs.declared.part.Part.TheVariants as parts
-use Rattle.measured_data.specs.declared.place.Place.{Place}
+use Rattle.measured_data.specs.declared.pcr.Pcr.{Pcr}
 use Rattle.measured_data.specs.Confirming.{IsConfirmed}
 use Rattle.measured_data.specs.Measuring.{IsFirstPart, IsMeasured}
 use Rattle.boot_answers.specs.Commands.{CommandSaid, grub, text_by, wide}
@@ -56,7 +56,7 @@ by_whole alg event text measured told = record {
   digest = measured.digest ∙ ap (λ (b : List ℕ). Some (hash_of alg b)) measured.are;
 }
 
-of_part : (alg : Alg) (event : LogEvent) (part : Option Part) (text : CommandSaid) (matched : List Place)
+of_part : (alg : Alg) (event : LogEvent) (part : Option Part) (text : CommandSaid) (matched : List Pcr)
     → IsFirstPart (IsConfirmed matched event) part → text_by part event.payload ≡ Some text → IsAnswering matched alg event.register
     → HasDigestOf alg event text
 of_part alg event None text matched first told answering = absurd cc
@@ -66,7 +66,7 @@ of_part alg event (Some parts.Command) text matched first told answering =
 of_part alg event (Some parts.Whole) text matched first told answering =
     by_whole alg event text (first.0.every alg answering.strong answering.matches) told
 
-pub event_digest : (matched : List Place) (event : LogEvent) (register : ℕ) (alg : Alg) (part : Option Part) (text : CommandSaid)
+pub event_digest : (matched : List Pcr) (event : LogEvent) (register : ℕ) (alg : Alg) (part : Option Part) (text : CommandSaid)
     → IsFirstPart (IsConfirmed matched event) part → text_by part event.payload ≡ Some text → is_extended_into register event ≡ true
     → IsAnswering matched alg register → HasDigestOf alg event text
 event_digest matched event register alg part text first told own answering =
@@ -76,7 +76,7 @@ event_digest matched event register alg part text first told own answering =
 
 -- ---- the machine's digests
 
-pub was_hashed : {matched : List Place} (alg : Alg) (register locality : ℕ) (events : List LogEvent) (digests : List (List ℕ)) (text : CommandSaid)
+pub was_hashed : {matched : List Pcr} (alg : Alg) (register locality : ℕ) (events : List LogEvent) (digests : List (List ℕ)) (text : CommandSaid)
     → (tells : TellsText matched register events text) → HasDigestOf alg tells.event text → HasExtended alg register locality digests events
     → HasHashOf alg text digests ⊎ ExtendsBreak alg register locality digests events
 was_hashed alg register locality events digests text tells has same =

@@ -8,11 +8,11 @@ use Rattle.binding_laws.specs.BankBinding.{ExtendsBreakHash}
 use Rattle.boot_log.specs.Replaying.{digests_for, firmware_value, is_extended_into, startup_locality}
 use Rattle.boot_log.specs.Spelling.{LogEvent}
 use Rattle.event_data.specs.Forms.{IsWideText}
-use Rattle.measured_data.specs.declared.place.Place.{Place}
+use Rattle.measured_data.specs.declared.pcr.Pcr.{Pcr}
 use Rattle.boot_answers.specs.Commands.{CommandSaid, grub, told_text, wide}
 
 -- An event of the log, extended into the register, tells this text.
-pub record TellsText (matched : List Place) (register : ℕ) (events : List LogEvent) (text : CommandSaid) : Type 0 where
+pub record TellsText (matched : List Pcr) (register : ℕ) (events : List LogEvent) (text : CommandSaid) : Type 0 where
   pub before : List LogEvent
   pub event : LogEvent
   pub after : List LogEvent

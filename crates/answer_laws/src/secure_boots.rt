@@ -4,7 +4,7 @@ ghost use Rattle.std.specs.Prelude.{◌≡◌, ◌⊎◌, ℕ, List};
 ghost use Rattle.pcr_banks.specs.declared.alg.Alg.{Alg};
 ghost use Rattle.boot_log.specs.Replaying.{firmware_value};
 ghost use Rattle.boot_log.specs.Spelling.{LogEvent};
-ghost use Rattle.measured_data.specs.declared.place.Place.{Place};
+ghost use Rattle.measured_data.specs.declared.pcr.Pcr.{Pcr};
 ghost use Rattle.boot_answers.specs.Extending.{IsAnswering};
 ghost use Rattle.boot_answers.specs.SecureBoot.{IsTold, TellsSecureBoot, policy_register};
 ghost use Rattle.answer_laws.specs.Hashed.{HasHashed, HashIsBroken};
@@ -12,7 +12,7 @@ ghost use Rattle.answer_laws.specs.HashedAnswers.{HashedDecision, HashedFirst, L
 
 /// A log tells one value of SecureBoot, whichever registers match: it is never both on and off.
 pub fn log_tells_one_value()
-    ensures { (matched others : List Place) (events : List LogEvent) (value other : ℕ) → IsTold matched events value
+    ensures { (matched others : List Pcr) (events : List LogEvent) (value other : ℕ) → IsTold matched events value
         → IsTold others events other → value ≡ other }
 {}
 
@@ -25,7 +25,7 @@ pub fn secure_boot_was_hashed()
     ensures bank { (alg : Alg) (locality value : ℕ) (events : List LogEvent) (hashed later : List (List ℕ)) → HashedDecision hashed
         → TellsSecureBoot alg events value → HasHashed alg policy_register locality hashed later events
         → HashedFirst hashed value ⊎ HashIsBroken alg policy_register locality hashed later events }
-    ensures answer { (matched : List Place) (alg : Alg) (locality value : ℕ) (events : List LogEvent) (hashed later : List (List ℕ))
+    ensures answer { (matched : List Pcr) (alg : Alg) (locality value : ℕ) (events : List LogEvent) (hashed later : List (List ℕ))
         → IsTold matched events value → IsAnswering matched alg policy_register → HashedDecision hashed
         → HasHashed alg policy_register locality hashed later events
         → HashedFirst hashed value ⊎ HashIsBroken alg policy_register locality hashed later events }

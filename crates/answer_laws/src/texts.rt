@@ -3,7 +3,7 @@
 ghost use Rattle.std.specs.Prelude.{◌⊎◌, ℕ, List};
 ghost use Rattle.pcr_banks.specs.declared.alg.Alg.{Alg};
 ghost use Rattle.boot_log.specs.Spelling.{LogEvent};
-ghost use Rattle.measured_data.specs.declared.place.Place.{Place};
+ghost use Rattle.measured_data.specs.declared.pcr.Pcr.{Pcr};
 ghost use Rattle.boot_answers.specs.Commands.{CommandSaid};
 ghost use Rattle.boot_answers.specs.Extending.{IsAnswering};
 ghost use Rattle.answer_laws.specs.HashedTexts.{ExtendsBreak, HasExtended, HasHashOf, TellsText};
@@ -14,7 +14,7 @@ use measured_data::parts_are_the_first;
 /// text's hash, if its value is the log's; or the hash is broken. Such a text is in each line `command` with a number, and in the event that
 /// `ima_policy` names. Who extended the register, and what the text was for, is claimed.
 pub fn text_was_hashed()
-    ensures { (matched : List Place) (alg : Alg) (register locality : ℕ) (events : List LogEvent) (text : CommandSaid) (digests : List (List ℕ))
+    ensures { (matched : List Pcr) (alg : Alg) (register locality : ℕ) (events : List LogEvent) (text : CommandSaid) (digests : List (List ℕ))
         → TellsText matched register events text → IsAnswering matched alg register → HasExtended alg register locality digests events
         → HasHashOf alg text digests ⊎ ExtendsBreak alg register locality digests events }
 {

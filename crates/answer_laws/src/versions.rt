@@ -4,7 +4,7 @@ ghost use Rattle.std.specs.Prelude.{◌≡◌, ◌⊎◌, ℕ, List, ◌∷◌};
 ghost use Rattle.pcr_banks.specs.declared.alg.Alg.{Alg};
 ghost use Rattle.boot_log.specs.Spelling.{LogEvent};
 ghost use Rattle.event_data.specs.EventForms.{Content, Says};
-ghost use Rattle.measured_data.specs.declared.place.Place.{Place};
+ghost use Rattle.measured_data.specs.declared.pcr.Pcr.{Pcr};
 ghost use Rattle.boot_answers.specs.Extending.{IsAnswering};
 ghost use Rattle.boot_answers.specs.FirmwareVersion.{IsFirmwareVersion, TellsVersion, firmware_register, version_type};
 ghost use Rattle.answer_laws.specs.Hashed.{HasHashed, HashIsBroken};
@@ -15,7 +15,7 @@ pub fn version_was_hashed()
     ensures bank { (alg : Alg) (locality : ℕ) (events : List LogEvent) (content : Content) (first : List ℕ) (hashed later : List (List ℕ))
         → TellsVersion alg events content → HasHashed alg firmware_register locality (first ∷ hashed) later events
         → Says version_type first content ⊎ HashIsBroken alg firmware_register locality (first ∷ hashed) later events }
-    ensures answer { (matched : List Place) (alg : Alg) (locality : ℕ) (events : List LogEvent) (content : Content) (first : List ℕ)
+    ensures answer { (matched : List Pcr) (alg : Alg) (locality : ℕ) (events : List LogEvent) (content : Content) (first : List ℕ)
         (hashed later : List (List ℕ)) → IsFirmwareVersion matched events content → IsAnswering matched alg firmware_register
         → HasHashed alg firmware_register locality (first ∷ hashed) later events
         → Says version_type first content ⊎ HashIsBroken alg firmware_register locality (first ∷ hashed) later events }

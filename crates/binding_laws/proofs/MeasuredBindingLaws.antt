@@ -11,7 +11,7 @@ use Rattle.pcr_banks.specs.Sets.{digest_in}
 use Rattle.boot_log.specs.Replaying.{digests_for, firmware_value, is_extended_into, startup_locality}
 use Rattle.boot_log.specs.Spelling.{LogEvent, no_action}
 use Rattle.measured_data.specs.declared.part.Part.{Part}
-use Rattle.measured_data.specs.declared.place.Place.{Place}
+use Rattle.measured_data.specs.declared.pcr.Pcr.{Pcr}
 use Rattle.measured_data.specs.Confirming.{IsConfirmed}
 use Rattle.measured_data.specs.Measuring.{IsMeasured}
 use Rattle.binding_laws.specs.LogBinding.{LogsBreakHash}
@@ -99,9 +99,9 @@ hashed_in alg events before after event part machine parts is same = record {
       same;
 }
 
-pub confirmed : (matched : List Place) (events before after : List LogEvent) (event : LogEvent) (part : Part) (machine : Extensions)
+pub confirmed : (matched : List Pcr) (events before after : List LogEvent) (event : LogEvent) (part : Part) (machine : Extensions)
     → events ≡ before ++ event ∷ after → IsConfirmed matched event part
-    → ((place : Place) → Contains matched place → Matches events machine place)
+    → ((place : Pcr) → Contains matched place → Matches events machine place)
     → WasHashed matched events before event part machine
 confirmed matched events before after event part machine parts is same = record {
   alg = is.alg;

@@ -8,7 +8,7 @@ use Rattle.pcr_banks.specs.Registers.{extended_by_all, reset_value}
 use Rattle.boot_log.specs.Replaying.{digests_for, firmware_value, is_extended_into, startup_locality}
 use Rattle.boot_log.specs.Spelling.{LogEvent}
 use Rattle.measured_data.specs.declared.part.Part.{Part}
-use Rattle.measured_data.specs.declared.place.Place.{Place}
+use Rattle.measured_data.specs.declared.pcr.Pcr.{Pcr}
 use Rattle.measured_data.specs.Measuring.{IsMeasured, IsPart}
 use Rattle.binding_laws.specs.BankBinding.{Collision, ExtendsBreakHash}
 
@@ -44,7 +44,7 @@ pub record Extensions : Type 0 where
   pub later : Alg → ℕ → List (List ℕ)
 
 -- The machine's register has the value that the log gives it, extended by what is later than the log.
-abbrev pub Matches : List LogEvent → Extensions → Place → Type 0
+abbrev pub Matches : List LogEvent → Extensions → Pcr → Type 0
 Matches events machine place =
     extended_by_all place.alg (reset_value place.alg place.register machine.locality) (machine.digests place.alg place.register)
     ≡ extended_by_all place.alg (firmware_value events place.alg place.register) (machine.later place.alg place.register)
@@ -58,7 +58,7 @@ pub record WasHashedIn (alg : Alg) (events before : List LogEvent) (event : LogE
       (machine.later alg event.register)
 
 -- In every bank other than SHA-1 whose register of the event matches this part was hashed; and there is such a bank.
-pub record WasHashed (matched : List Place) (events before : List LogEvent) (event : LogEvent) (part : Part) (machine : Extensions)
+pub record WasHashed (matched : List Pcr) (events before : List LogEvent) (event : LogEvent) (part : Part) (machine : Extensions)
     : Type 0 where
   pub alg : Alg
   pub strong : alg ≡ Sha1 → ⊥

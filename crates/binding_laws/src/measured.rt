@@ -9,7 +9,7 @@ ghost use Rattle.boot_log.specs.Replaying.{digests_for, firmware_value};
 ghost use Rattle.boot_log.specs.Spelling.{LogEvent, no_action};
 ghost use Rattle.event_data.specs.Forms.{CommandData, IsCommand, IsVariable, VariableData};
 ghost use Rattle.measured_data.specs.declared.part.Part.{Part};
-ghost use Rattle.measured_data.specs.declared.place.Place.{Place};
+ghost use Rattle.measured_data.specs.declared.pcr.Pcr.{Pcr};
 ghost use Rattle.measured_data.specs.Confirming.{IsConfirmed};
 ghost use Rattle.measured_data.specs.Measuring.{IsMeasured, commands_register, settings_register};
 ghost use Rattle.binding_laws.specs.LogBinding.{LogsBreakHash};
@@ -33,9 +33,9 @@ pub fn measured_data_was_hashed()
 /// bank other than SHA-1 whose register of the event is among them, and there is one, the machine extended by the hash of this part of the
 /// event's data, at the event's place, or the extends of this register break the hash.
 pub fn confirmed_data_was_hashed()
-    ensures { (matched : List Place) (events before after : List LogEvent) (event : LogEvent) (part : Part) (machine : Extensions)
+    ensures { (matched : List Pcr) (events before after : List LogEvent) (event : LogEvent) (part : Part) (machine : Extensions)
         → events ≡ before ++ event ∷ after → IsConfirmed matched event part
-        → ((place : Place) → Contains matched place → Matches events machine place)
+        → ((place : Pcr) → Contains matched place → Matches events machine place)
         → WasHashed matched events before event part machine }
 {}
 

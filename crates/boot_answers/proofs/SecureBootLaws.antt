@@ -5,7 +5,7 @@ use Rattle.pcr_banks.specs.declared.alg.Alg.{Alg}
 use Rattle.boot_log.specs.Spelling.{LogEvent}
 use Rattle.event_data.proofs.FormLaws.{one_variable}
 use Rattle.measured_data.specs.declared.part.Part.TheVariants.{Whole}
-use Rattle.measured_data.specs.declared.place.Place.{Place}
+use Rattle.measured_data.specs.declared.pcr.Pcr.{Pcr}
 use Rattle.measured_data.specs.Measuring.{IsMeasured}
 use Rattle.boot_answers.specs.declared.secure_boot_state.SecureBoot.{SecureBoot}
 use Rattle.boot_answers.specs.declared.secure_boot_state.SecureBoot.TheVariants.{On, Off, Unknown}
@@ -106,7 +106,7 @@ one_told_in alg events Unknown Unknown is is_too = refl
 
 -- ---- all banks
 
-pub told_by_all : (matched : List Place) (alg : Alg) (events : List LogEvent) (answer : SecureBoot)
+pub told_by_all : (matched : List Pcr) (alg : Alg) (events : List LogEvent) (answer : SecureBoot)
     → IsAnswering matched alg policy_register → AllAgree matched events answer → IsSecureBoot matched events answer
 told_by_all matched alg events On answering agree = record { alg = alg; answering = answering; tells = agree }
 told_by_all matched alg events Off answering agree = record { alg = alg; answering = answering; tells = agree }
@@ -116,7 +116,7 @@ told_by_all matched alg events Unknown answering agree = (
 )
 
 -- Where a bank gives an answer that not all give, none is told.
-pub told_by_some : (matched : List Place) (alg : Alg) (events : List LogEvent) (answer : SecureBoot)
+pub told_by_some : (matched : List Pcr) (alg : Alg) (events : List LogEvent) (answer : SecureBoot)
     → IsAnswering matched alg policy_register → IsToldIn alg events answer → (AllAgree matched events answer → ⊥)
     → IsSecureBoot matched events Unknown
 told_by_some matched alg events answer answering is disagree = (
@@ -124,6 +124,6 @@ told_by_some matched alg events answer answering is disagree = (
   λ told. disagree (subst (AllAgree matched events) (one_told_in alg events Off answer (told.tells alg answering) is) told.tells),
 )
 
-pub told_by_none : (matched : List Place) (events : List LogEvent) → ((alg : Alg) → IsAnswering matched alg policy_register → ⊥)
+pub told_by_none : (matched : List Pcr) (events : List LogEvent) → ((alg : Alg) → IsAnswering matched alg policy_register → ⊥)
     → IsSecureBoot matched events Unknown
 told_by_none matched events none = (λ told. none told.alg told.answering, λ told. none told.alg told.answering)

@@ -4,7 +4,7 @@ use Rattle.pcr_banks.specs.declared.alg.Alg.{Alg}
 use Rattle.boot_log.specs.Spelling.{LogEvent}
 use Rattle.event_data.specs.EventForms.{Content, Says}
 use Rattle.event_data.proofs.ContentLaws.{says_once}
-use Rattle.measured_data.specs.declared.place.Place.{Place}
+use Rattle.measured_data.specs.declared.pcr.Pcr.{Pcr}
 use Rattle.boot_answers.specs.Extending.{IsAnswering, extended_events}
 use Rattle.boot_answers.specs.FirmwareVersion.{IsFirmwareVersion, IsOfVersion, IsVersion, TellsVersion, firmware_register, version_type}
 use Rattle.boot_answers.specs.parts.FirmwareVersion.{AllAgree, TellsAny}
@@ -44,7 +44,7 @@ pub any_told : (alg : Alg) (events : List LogEvent) (content : Content) → IsOf
     → TellsAny alg events
 any_told alg events content is = (content, is)
 
-pub told_by_all : (matched : List Place) (alg : Alg) (events : List LogEvent) (answer : Option Content)
+pub told_by_all : (matched : List Pcr) (alg : Alg) (events : List LogEvent) (answer : Option Content)
     → IsAnswering matched alg firmware_register → AllAgree matched events → IsOfVersion (TellsVersion alg events) answer
     → IsOfVersion (IsFirmwareVersion matched events) answer
 told_by_all matched alg events answer answering agree is =
@@ -59,11 +59,11 @@ told_by_all matched alg events answer answering agree is =
     (λ x told. told.tells alg answering) answer is
 
 -- Where not all tell one, none is told.
-pub told_by_some : (matched : List Place) (events : List LogEvent) → (AllAgree matched events → ⊥) → (content : Content)
+pub told_by_some : (matched : List Pcr) (events : List LogEvent) → (AllAgree matched events → ⊥) → (content : Content)
     → IsFirmwareVersion matched events content → ⊥
 told_by_some matched events disagree content is = disagree (λ alg answering. (content, is.tells alg answering))
 
-pub told_by_none : (matched : List Place) (events : List LogEvent) → ((alg : Alg) → IsAnswering matched alg firmware_register → ⊥)
+pub told_by_none : (matched : List Pcr) (events : List LogEvent) → ((alg : Alg) → IsAnswering matched alg firmware_register → ⊥)
     → (content : Content) → IsFirmwareVersion matched events content → ⊥
 told_by_none matched events none content is = none is.alg is.answering
 

@@ -11,7 +11,7 @@ use Rattle.event_data.specs.Forms.{CommandData, IsCommand, IsWideText, command_o
 use Rattle.event_data.specs.Results.{command_in, wide_text_in}
 use Rattle.measured_data.specs.declared.part.Part.{Part}
 use Rattle.measured_data.specs.declared.part.Part.TheVariants as parts
-use Rattle.measured_data.specs.declared.place.Place.{Place}
+use Rattle.measured_data.specs.declared.pcr.Pcr.{Pcr}
 use Rattle.measured_data.specs.Confirming.{confirmed_part}
 use Rattle.measured_data.specs.Measuring.{IsMeasured}
 use Rattle.boot_answers.specs.declared.commands.CommandText.{CommandText}
@@ -33,7 +33,7 @@ text_by (Some parts.Whole) payload = option_map wide (wide_text_in payload)
 text_by part payload = None
 
 -- The text that the event tells: one that is measured in each bank that answers for its register.
-abbrev pub told_text : List Place → LogEvent → Option CommandSaid
+abbrev pub told_text : List Pcr → LogEvent → Option CommandSaid
 told_text matched event = text_by (confirmed_part matched event) event.payload
 
 -- ---- what contracts see of the code's values

@@ -8,7 +8,7 @@ use Rattle.pcr_banks.specs.declared.alg.Alg.{Alg}
 use Rattle.pcr_banks.specs.declared.alg.Alg.TheVariants.{Sha1}
 use Rattle.boot_log.specs.Replaying.{is_extended_into}
 use Rattle.boot_log.specs.Spelling.{LogEvent}
-use Rattle.measured_data.specs.declared.place.Place.{Place}
+use Rattle.measured_data.specs.declared.pcr.Pcr.{Pcr}
 
 -- The events that are extended into the register, in order.
 abbrev pub extended_events : ℕ → List LogEvent → List LogEvent
@@ -16,6 +16,6 @@ extended_events register events = filter (is_extended_into register) events
 
 -- The bank answers for the register: the register of this bank matches, and it is no bank of SHA-1, of which collisions are made in
 -- practice.
-pub record IsAnswering (matched : List Place) (alg : Alg) (register : ℕ) : Type 0 where
+pub record IsAnswering (matched : List Pcr) (alg : Alg) (register : ℕ) : Type 0 where
   pub strong : alg ≡ Sha1 → ⊥
   pub matches : Contains matched (record { alg = alg; register = register })

@@ -10,7 +10,7 @@ use Rattle.boot_log.specs.Spelling.{LogEvent}
 use Rattle.event_data.specs.EventForms.{Content, Says, unknown}
 use Rattle.event_data.specs.Forms.{IsSeparator}
 use Rattle.measured_data.specs.declared.part.Part.TheVariants.{Whole}
-use Rattle.measured_data.specs.declared.place.Place.{Place}
+use Rattle.measured_data.specs.declared.pcr.Pcr.{Pcr}
 use Rattle.measured_data.specs.Measuring.{IsMeasured}
 use Rattle.boot_answers.specs.Extending.{IsAnswering, extended_events}
 
@@ -41,7 +41,7 @@ pub record TellsVersion (alg : Alg) (events : List LogEvent) (content : Content)
   pub version : IsVersion alg event content
 
 -- A bank answers for register 0, and it says so in each bank that answers: a bank that the firmware did not extend is root's.
-pub record IsFirmwareVersion (matched : List Place) (events : List LogEvent) (content : Content) : Type 0 where
+pub record IsFirmwareVersion (matched : List Pcr) (events : List LogEvent) (content : Content) : Type 0 where
   pub alg : Alg
   pub answering : IsAnswering matched alg firmware_register
   pub tells : (bank : Alg) → IsAnswering matched bank firmware_register → TellsVersion bank events content

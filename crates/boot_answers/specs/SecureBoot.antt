@@ -11,7 +11,7 @@ use Rattle.std.specs.List.{AllByRecursion}
 use Rattle.pcr_banks.specs.declared.alg.Alg.{Alg}
 use Rattle.boot_log.specs.Spelling.{LogEvent}
 use Rattle.measured_data.specs.declared.part.Part.TheVariants.{Whole}
-use Rattle.measured_data.specs.declared.place.Place.{Place}
+use Rattle.measured_data.specs.declared.pcr.Pcr.{Pcr}
 use Rattle.measured_data.specs.Measuring.{IsMeasured}
 use Rattle.boot_answers.specs.declared.secure_boot_state.SecureBoot.{SecureBoot}
 use Rattle.boot_answers.specs.declared.secure_boot_state.SecureBoot.TheVariants.{On, Off, Unknown}
@@ -48,13 +48,13 @@ pub record TellsSecureBoot (alg : Alg) (events : List LogEvent) (value : ℕ) : 
 
 -- A bank answers for register 7, and each bank that answers tells this value. A bank that the firmware did not extend is root's: it tells
 -- nothing against one that the firmware did extend.
-pub record IsTold (matched : List Place) (events : List LogEvent) (value : ℕ) : Type 0 where
+pub record IsTold (matched : List Pcr) (events : List LogEvent) (value : ℕ) : Type 0 where
   pub alg : Alg
   pub answering : IsAnswering matched alg policy_register
   pub tells : (bank : Alg) → IsAnswering matched bank policy_register → TellsSecureBoot bank events value
 
 -- The answer: on where 1 is told, off where 0 is told, unknown where neither is.
-abbrev pub IsSecureBoot : List Place → List LogEvent → SecureBoot → Type 0
+abbrev pub IsSecureBoot : List Pcr → List LogEvent → SecureBoot → Type 0
 IsSecureBoot matched events On = IsTold matched events 1
 IsSecureBoot matched events Off = IsTold matched events 0
 IsSecureBoot matched events Unknown = (IsTold matched events 1 → ⊥) × (IsTold matched events 0 → ⊥)

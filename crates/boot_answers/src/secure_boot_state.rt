@@ -12,7 +12,7 @@ use crate::register_events::RegisterEvents;
 use crate::variables::global_value;
 use crate::wholes::is_whole;
 use boot_log::{Event, LogView};
-use measured_data::Place;
+use measured_data::Pcr;
 use pcr_banks::Alg;
 
 /// The register of Secure Boot.
@@ -86,7 +86,7 @@ fn is_same(answer: SecureBoot, other: SecureBoot) -> bool
 }
 
 // Whether the bank gives this answer, if it answers.
-fn agrees(log: &LogView<'_>, matched: &[Place], alg: Alg, answer: SecureBoot) -> bool
+fn agrees(log: &LogView<'_>, matched: &[Pcr], alg: Alg, answer: SecureBoot) -> bool
     ensures { (table : List Row) (events : List LogEvent) → IsLog (log_bytes log.now) table events
         → (IsTrue result ↔ Agrees matched.now events answer alg) }
 {
@@ -98,7 +98,7 @@ fn agrees(log: &LogView<'_>, matched: &[Place], alg: Alg, answer: SecureBoot) ->
 }
 
 // Whether each bank that answers gives this answer.
-fn all_agree(log: &LogView<'_>, matched: &[Place], answer: SecureBoot) -> bool
+fn all_agree(log: &LogView<'_>, matched: &[Pcr], answer: SecureBoot) -> bool
     ensures { (table : List Row) (events : List LogEvent) → IsLog (log_bytes log.now) table events
         → (IsTrue result ↔ AllAgree matched.now events answer) }
 {
@@ -113,7 +113,7 @@ fn all_agree(log: &LogView<'_>, matched: &[Place], answer: SecureBoot) -> bool
 /// Whether Secure Boot was on, by the log and the registers in `matched`, those that match. In a bank other than SHA-1 whose register 7
 /// matches, the first event of register 7 that is SecureBoot tells it, if all data before it was measured whole and is no separator; and
 /// where its value is one byte, 1 or 0. No event's type counts, and nothing after it. Each such bank must tell it, and there must be one.
-pub fn secure_boot(log: &LogView<'_>, matched: &[Place]) -> SecureBoot
+pub fn secure_boot(log: &LogView<'_>, matched: &[Pcr]) -> SecureBoot
     ensures { (table : List Row) (events : List LogEvent) → IsLog (log_bytes log.now) table events → IsSecureBoot matched.now events result }
 {
     let Some(alg) = answering_bank(matched, POLICY_REGISTER) else {

@@ -13,7 +13,7 @@ use crate::register_events::RegisterEvents;
 use crate::wholes::is_whole;
 use boot_log::{Event, LogView};
 use event_data::{EventContent, event_content, read_separator};
-use measured_data::Place;
+use measured_data::Pcr;
 use pcr_banks::Alg;
 
 /// The register of the firmware's code.
@@ -73,7 +73,7 @@ fn tells_any(log: &LogView<'_>, alg: Alg) -> bool
 }
 
 // Whether the bank tells a version, if it answers.
-fn agrees(log: &LogView<'_>, matched: &[Place], alg: Alg) -> bool
+fn agrees(log: &LogView<'_>, matched: &[Pcr], alg: Alg) -> bool
     ensures { (table : List Row) (events : List LogEvent) → IsLog (log_bytes log.now) table events
         → (IsTrue result ↔ Agrees matched.now events alg) }
 {
@@ -85,7 +85,7 @@ fn agrees(log: &LogView<'_>, matched: &[Place], alg: Alg) -> bool
 }
 
 // Whether each bank that answers tells a version.
-fn all_agree(log: &LogView<'_>, matched: &[Place]) -> bool
+fn all_agree(log: &LogView<'_>, matched: &[Pcr]) -> bool
     ensures { (table : List Row) (events : List LogEvent) → IsLog (log_bytes log.now) table events
         → (IsTrue result ↔ AllAgree matched.now events) }
 {
@@ -100,7 +100,7 @@ fn all_agree(log: &LogView<'_>, matched: &[Place]) -> bool
 /// The firmware's version, by the log and the registers in `matched`, those that match: what the first event of register 0 says, a text, a
 /// text in units of two bytes or a GUID; `None` where it is not known. The event's data must be measured whole in each bank other than SHA-1
 /// whose register 0 matches, and there must be one. The event's type does not count.
-pub fn firmware_version<'a>(log: &LogView<'a>, matched: &[Place]) -> Option<EventContent<'a>>
+pub fn firmware_version<'a>(log: &LogView<'a>, matched: &[Pcr]) -> Option<EventContent<'a>>
     ensures { (table : List Row) (events : List LogEvent) → IsLog (log_bytes log.now) table events
         → IsOfVersion (IsFirmwareVersion matched.now events) (option_map content_of result) }
 {

@@ -9,7 +9,7 @@ use Rattle.pcr_banks.specs.Sets.{digest_in}
 use Rattle.boot_log.specs.Spelling.{LogEvent}
 use Rattle.event_data.specs.ContentReading.{content_in}
 use Rattle.event_texts.specs.WideTexts.{wide_text}
-use Rattle.measured_data.specs.declared.place.Place.{Place}
+use Rattle.measured_data.specs.declared.pcr.Pcr.{Pcr}
 use Rattle.boot_answers.specs.Commands.{CommandSaid, grub, wide}
 use Rattle.boot_answers.specs.FirmwareVersion.{version_type}
 use Rattle.cells.proofs.LineLaws.{ArePlain, IsPlain, line_within, members_joined}
@@ -51,14 +51,14 @@ unfolding beside
 digest_plain alg None = tt
 digest_plain alg (Some bytes) = (tt, tt)
 
-answered_plain : (matched : List Place) (digests : PerBank) (algs : List Alg)
+answered_plain : (matched : List Pcr) (digests : PerBank) (algs : List Alg)
     → ArePlain (flat_map (λ alg. (if_some (answered_digest matched digests alg) (digest_cell alg)).json) algs) 5
 answered_plain matched digests [] = tt
 answered_plain matched digests (alg ∷ algs) =
     members_joined 5 (if_some (answered_digest matched digests alg) (digest_cell alg)).json _
     (digest_plain alg (answered_digest matched digests alg)) (answered_plain matched digests algs)
 
-pub image_is_one : (matched : List Place) (number : ℕ) (event : LogEvent) → IsCount number → IsBytes event.payload
+pub image_is_one : (matched : List Pcr) (number : ℕ) (event : LogEvent) → IsCount number → IsBytes event.payload
     → IsOneLine (object_of (image_cell matched number event).json)
 unfolding beside each object_at
 image_is_one matched number event count fits =

@@ -2,7 +2,7 @@
 use Rattle.std.proofs.Common.{◌≡◌, List, ℕ, Bool, true, false, refl, sym}
 use Rattle.std.specs.Prelude.{◌↔◌, IsTrue}
 use Rattle.pcr_banks.specs.declared.alg.Alg.{Alg}
-use Rattle.measured_data.specs.declared.place.Place.{Place}
+use Rattle.measured_data.specs.declared.pcr.Pcr.{Pcr}
 use Rattle.measured_data.specs.Confirming.{counts}
 use Rattle.measured_data.proofs.ConfirmedLaws.{counts_told}
 use Rattle.boot_answers.specs.Extending.{IsAnswering}
@@ -12,7 +12,7 @@ same_bool true b to from = sym (to refl)
 same_bool false true to from = from refl
 same_bool false false to from = refl
 
-pub answers_is : (told : Bool) (matched : List Place) (alg : Alg) (register : ℕ) → (IsTrue told ↔ IsAnswering matched alg register)
+pub answers_is : (told : Bool) (matched : List Pcr) (alg : Alg) (register : ℕ) → (IsTrue told ↔ IsAnswering matched alg register)
     → told ≡ counts matched alg register
 answers_is told matched alg register tells =
     let counted = counts_told matched alg register in
@@ -20,5 +20,5 @@ answers_is told matched alg register tells =
     (λ yes. let is = tells.0 yes in counted.1 (is.strong, is.matches))
     (λ yes. let is = counted.0 yes in tells.1 (record { strong = is.0; matches = is.1 }))
 
-pub answering_counts : (matched : List Place) (alg : Alg) (register : ℕ) → IsAnswering matched alg register → counts matched alg register ≡ true
+pub answering_counts : (matched : List Pcr) (alg : Alg) (register : ℕ) → IsAnswering matched alg register → counts matched alg register ≡ true
 answering_counts matched alg register is = (counts_told matched alg register).1 (is.strong, is.matches)

@@ -7,7 +7,7 @@ use Rattle.std.proofs.lemmas.List.Concat.{flat_map-append}
 use Rattle.pcr_banks.specs.declared.alg.Alg.{Alg}
 use Rattle.boot_log.specs.Replaying.{is_extended_into}
 use Rattle.boot_log.specs.Spelling.{LogEvent}
-use Rattle.measured_data.specs.declared.place.Place.{Place}
+use Rattle.measured_data.specs.declared.pcr.Pcr.{Pcr}
 use Rattle.measured_data.specs.Confirming.{counts}
 use Rattle.boot_answers.specs.CommonEvents.{unmarked}
 use Rattle.boot_answers.specs.Differences.{IsFirstDifference}
@@ -155,7 +155,7 @@ parted algs index d within =
     sym (take-append-drop index algs) ∙ ap (λ (l : List Alg). take index algs ++ l) (drop-cons algs index d within)
 
 -- How the boots are compared in a bank that answers.
-pub compared : (matched : List Place) (register : ℕ) (events others : List LogEvent) (alg : Alg) (found : Option ℕ)
+pub compared : (matched : List Pcr) (register : ℕ) (events others : List LogEvent) (alg : Alg) (found : Option ℕ)
     → counts matched alg register ≡ true → IsFirstDifference alg register events others found
     → IsComparedIn matched register events others alg found
 compared matched register events others alg None answers is = λ _. is
@@ -163,7 +163,7 @@ compared matched register events others alg (Some place) answers is = record { a
 
 -- ---- registers
 
-module _ (matched : List Place) (events others : List LogEvent) where
+module _ (matched : List Pcr) (events others : List LogEvent) where
   pub one_register : (number : ℕ) (differences : List Difference) (difference : Difference) → AreOfRegisters matched events others number differences
       → IsDifference matched (number + length differences) events others difference
       → AreOfRegisters matched events others number (differences ++ difference ∷ [])

@@ -18,7 +18,7 @@ use Rattle.event_data.proofs.FormLaws.{variable_finds}
 use Rattle.event_data.proofs.TextLaws.{wide_text_finds}
 use Rattle.measured_data.specs.declared.part.Part.{Part}
 use Rattle.measured_data.specs.declared.part.Part.TheVariants as parts
-use Rattle.measured_data.specs.declared.place.Place.{Place}
+use Rattle.measured_data.specs.declared.pcr.Pcr.{Pcr}
 use Rattle.measured_data.specs.Confirming.{IsConfirmed, counts}
 use Rattle.measured_data.specs.Measuring.{IsFirstPart, is_measured, settings_register}
 use Rattle.measured_data.proofs.MeasuredLaws.{measured_told}
@@ -37,12 +37,12 @@ named f Is (Some a) b finds e =
     let same : f a ≡ b = cc in
     (a, finds.is a refl, same)
 
-told_by : (matched : List Place) (event : LogEvent) (part : Part) (text : CommandSaid) → IsConfirmed matched event part
+told_by : (matched : List Pcr) (event : LogEvent) (part : Part) (text : CommandSaid) → IsConfirmed matched event part
     → ((bank : Alg) → IsAnswering matched bank event.register → IsCommandText bank event text) → TellText matched event text
 told_by matched event part text confirmed tells =
     record { alg = confirmed.alg; answering = record { strong = confirmed.strong; matches = confirmed.matches }; tells = tells }
 
-pub each_tells : (matched : List Place) (event : LogEvent) (part : Option Part) (text : CommandSaid)
+pub each_tells : (matched : List Pcr) (event : LogEvent) (part : Option Part) (text : CommandSaid)
     → IsFirstPart (IsConfirmed matched event) part → text_by part event.payload ≡ Some text → TellText matched event text
 each_tells matched event None text first e = absurd cc
 each_tells matched event (Some parts.Value) text first e = absurd cc
@@ -66,7 +66,7 @@ measured_so : (counted whole value : Bool) → counted ≡ true → (not counted
 measured_so true whole value holds e = e
 measured_so false whole value holds e = absurd cc
 
-pub each_tells_variable : (matched : List Place) (event : LogEvent) → IsBytes event.payload → is_told_variable matched event ≡ true
+pub each_tells_variable : (matched : List Pcr) (event : LogEvent) → IsBytes event.payload → is_told_variable matched event ≡ true
     → (variable : VariableData) × (is_boot_variable variable ≡ true) × TellVariable matched settings_register event variable
 each_tells_variable matched event fits e =
     let allows = λ (alg : Alg). allows_variable matched event alg in

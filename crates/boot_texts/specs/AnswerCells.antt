@@ -8,7 +8,7 @@ use Rattle.pcr_banks.specs.Sets.{digest_in}
 use Rattle.boot_log.specs.Spelling.{LogEvent}
 use Rattle.event_data.specs.ContentReading.{content_in}
 use Rattle.event_data.specs.EventForms.{Content}
-use Rattle.measured_data.specs.declared.place.Place.{Place}
+use Rattle.measured_data.specs.declared.pcr.Pcr.{Pcr}
 use Rattle.measured_data.specs.Confirming.{counts}
 use Rattle.boot_answers.specs.declared.secure_boot_state.SecureBoot.{SecureBoot}
 use Rattle.boot_answers.specs.declared.secure_boot_state.SecureBoot.TheVariants.{On, Off, Unknown}
@@ -47,18 +47,18 @@ version_cell (Some content) = value_cell (codes "firmware_version ") (codes "fir
 -- ---- images
 
 -- The event's digest in the bank, if the bank answers for images.
-abbrev pub answered_digest : List Place → PerBank → Alg → Option (List ℕ)
+abbrev pub answered_digest : List Pcr → PerBank → Alg → Option (List ℕ)
 answered_digest matched digests alg = if counts matched alg image_register then digest_in digests alg else None
 
 abbrev pub digest_cell : Alg → List ℕ → Cell Member
 digest_cell alg bytes = in_order (text (name_of alg) ∷ hex (codes " ") (name_of alg) bytes ∷ text (codes " ") ∷ [])
 
 -- The digests in the banks that answer, in the order of algorithms.
-abbrev pub answered_cell : List Place → PerBank → Cell Member
+abbrev pub answered_cell : List Pcr → PerBank → Cell Member
 answered_cell matched digests = each (λ alg. if_some (answered_digest matched digests alg) (digest_cell alg)) all_algs
 
 -- The event with this number as an image: its digests, and what its data claims.
-abbrev pub image_cell : List Place → ℕ → LogEvent → Cell Member
+abbrev pub image_cell : List Pcr → ℕ → LogEvent → Cell Member
 image_cell matched n event = in_order (
     number (codes "image ") (codes "image") n
     ∷ text (codes " ")

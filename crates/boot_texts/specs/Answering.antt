@@ -3,12 +3,12 @@ use Rattle.std.specs.Prelude.{ℕ, ◌&&◌, Bool, true, false, List, [], ◌∷
 use Rattle.std.specs.List.{list_any}
 use Rattle.pcr_banks.specs.Hashing.{all_algs}
 use Rattle.boot_log.specs.Spelling.{LogEvent}
-use Rattle.measured_data.specs.declared.place.Place.{Place}
+use Rattle.measured_data.specs.declared.pcr.Pcr.{Pcr}
 use Rattle.measured_data.specs.Confirming.{counts}
 use Rattle.boot_answers.specs.Extending.{extended_events}
 
 -- Whether some bank answers for the register.
-abbrev pub has_answer : List Place → ℕ → Bool
+abbrev pub has_answer : List Pcr → ℕ → Bool
 has_answer matched register = list_any (λ alg. counts matched alg register) all_algs
 
 abbrev pub has_any : List LogEvent → Bool
@@ -16,7 +16,7 @@ has_any [] = false
 has_any (event ∷ events) = true
 
 -- Whether some bank answers for the register, and the log extends it. One without events has its value at reset: the boot left it to root.
-abbrev pub is_answered : List Place → ℕ → List LogEvent → Bool
+abbrev pub is_answered : List Pcr → ℕ → List LogEvent → Bool
 is_answered matched register events = has_answer matched register && has_any (extended_events register events)
 
 -- The first where the test holds, the second where it fails.

@@ -2,7 +2,7 @@
 use Rattle.std.specs.Prelude.{◌≡◌, ℕ, List, ◌++◌, codes, Option, None}
 use Rattle.boot_log.specs.Spelling.{LogEvent}
 use Rattle.event_data.specs.EventForms.{Content}
-use Rattle.measured_data.specs.declared.place.Place.{Place}
+use Rattle.measured_data.specs.declared.pcr.Pcr.{Pcr}
 use Rattle.measured_data.specs.Measuring.{settings_register}
 use Rattle.boot_answers.specs.declared.secure_boot_state.SecureBoot.{SecureBoot}
 use Rattle.boot_answers.specs.FirmwareVersion.{IsFirmwareVersion, IsOfVersion}
@@ -19,21 +19,21 @@ use Rattle.boot_texts.specs.Policies.{IsImaPolicy, policy_cell}
 use Rattle.boot_texts.specs.Telling.{Tells, ToldOf}
 
 -- The text is what the events tell of the subject, if this register is answered for; else it is the other.
-abbrev pub AreSubjectLines : Subject → ℕ → List ℕ → Form → List Place → List LogEvent → List ℕ → Type 0
+abbrev pub AreSubjectLines : Subject → ℕ → List ℕ → Form → List Pcr → List LogEvent → List ℕ → Type 0
 AreSubjectLines subject register other form matched events text =
     Chosen (is_answered matched register events) (Tells (ToldOf subject form matched) 1 events text) (text ≡ other)
 
-abbrev pub AreImageLines : Form → List Place → List LogEvent → List ℕ → Type 0
+abbrev pub AreImageLines : Form → List Pcr → List LogEvent → List ℕ → Type 0
 AreImageLines form = AreSubjectLines Images image_register (rendered form (word_cell (codes "image") (codes "unknown"))) form
 
-abbrev pub AreCommandLines : ℕ → Form → List Place → List LogEvent → List ℕ → Type 0
+abbrev pub AreCommandLines : ℕ → Form → List Pcr → List LogEvent → List ℕ → Type 0
 AreCommandLines register form = AreSubjectLines (Commands register) register (rendered form (untold_cell register None)) form
 
-abbrev pub AreVariableLines : Form → List Place → List LogEvent → List ℕ → Type 0
+abbrev pub AreVariableLines : Form → List Pcr → List LogEvent → List ℕ → Type 0
 AreVariableLines form = AreSubjectLines Variables settings_register (rendered form (word_cell (codes "boot_variable") (codes "unknown"))) form
 
 -- The lines of all answers, in this order, of a log with these events, and the registers that match.
-pub record AreBootLines (form : Form) (matched : List Place) (events : List LogEvent) (text : List ℕ) : Type 0 where
+pub record AreBootLines (form : Form) (matched : List Pcr) (events : List LogEvent) (text : List ℕ) : Type 0 where
   pub state : SecureBoot
   pub is_state : IsSecureBoot matched events state
   pub version : Option Content

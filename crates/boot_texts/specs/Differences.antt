@@ -7,7 +7,7 @@ use Rattle.pcr_banks.specs.Hashing.{all_algs, name_of}
 use Rattle.pcr_banks.specs.Sets.{digest_in}
 use Rattle.boot_log.specs.Replaying.{is_extended_into}
 use Rattle.boot_log.specs.Spelling.{LogEvent}
-use Rattle.measured_data.specs.declared.place.Place.{Place}
+use Rattle.measured_data.specs.declared.pcr.Pcr.{Pcr}
 use Rattle.measured_data.specs.Confirming.{counts}
 use Rattle.boot_answers.specs.declared.alike_events.Common.{Common}
 use Rattle.boot_answers.specs.CommonEvents.{IsLongestCommon, compared, unmarked}
@@ -29,21 +29,21 @@ use Rattle.boot_texts.specs.declared.differences.Difference.TheVariants.{Unanswe
 -- ---- how two boots extended a register
 
 -- The bank answers for the register, and the boots differ in it after this many events.
-pub record IsApartIn (matched : List Place) (register : ℕ) (events others : List LogEvent) (alg : Alg) (place : ℕ) : Type 0 where
+pub record IsApartIn (matched : List Pcr) (register : ℕ) (events others : List LogEvent) (alg : Alg) (place : ℕ) : Type 0 where
   pub answers : counts matched alg register ≡ true
   pub apart : IsFirstDifference alg register events others (Some place)
 
 -- The boots extended the register alike in the bank, if it answers.
-abbrev pub IsAlikeIn : List Place → ℕ → List LogEvent → List LogEvent → Alg → Type 0
+abbrev pub IsAlikeIn : List Pcr → ℕ → List LogEvent → List LogEvent → Alg → Type 0
 IsAlikeIn matched register events others alg = counts matched alg register ≡ true → IsFirstDifference alg register events others None
 
 -- In the bank they differ after this many events, or are alike, if it answers.
-abbrev pub IsComparedIn : List Place → ℕ → List LogEvent → List LogEvent → Alg → Option ℕ → Type 0
+abbrev pub IsComparedIn : List Pcr → ℕ → List LogEvent → List LogEvent → Alg → Option ℕ → Type 0
 IsComparedIn matched register events others alg None = IsAlikeIn matched register events others alg
 IsComparedIn matched register events others alg (Some place) = IsApartIn matched register events others alg place
 
 -- Of the banks that answer it is the first in which the boots differ.
-pub record IsFirstApart (matched : List Place) (register : ℕ) (events others : List LogEvent) (alg : Alg) (place : ℕ) : Type 0 where
+pub record IsFirstApart (matched : List Pcr) (register : ℕ) (events others : List LogEvent) (alg : Alg) (place : ℕ) : Type 0 where
   pub before : List Alg
   pub after : List Alg
   pub parts : all_algs ≡ before ++ alg ∷ after
@@ -56,7 +56,7 @@ AreCommon register events others alg place common =
     IsLongestCommon (compared alg register place events) (compared alg register place others) common.now.items common.before.items
 
 -- How the boots with these events, and the earlier one with the others, extended the register.
-abbrev pub IsDifference : List Place → ℕ → List LogEvent → List LogEvent → Difference → Type 0
+abbrev pub IsDifference : List Pcr → ℕ → List LogEvent → List LogEvent → Difference → Type 0
 IsDifference matched register events others Unanswered = has_answer matched register ≡ false
 IsDifference matched register events others Alike = (has_answer matched register ≡ true) × ((alg : Alg) → IsAlikeIn matched register events others alg)
 IsDifference matched register events others (Apart alg place common) =
@@ -147,13 +147,13 @@ register_lines form register (Apart alg place common) events others =
 -- ---- all registers
 
 -- These are the differences of as many registers, from this one on.
-abbrev pub AreOfRegisters : List Place → List LogEvent → List LogEvent → ℕ → List Difference → Type 0
+abbrev pub AreOfRegisters : List Pcr → List LogEvent → List LogEvent → ℕ → List Difference → Type 0
 AreOfRegisters matched events others register [] = Unit {0}
 AreOfRegisters matched events others register (difference ∷ differences) =
     IsDifference matched register events others difference × AreOfRegisters matched events others (register + 1) differences
 
 -- These are the differences of the registers 0 to 23, in order.
-pub record AreDifferences (matched : List Place) (events others : List LogEvent) (differences : List Difference) : Type 0 where
+pub record AreDifferences (matched : List Pcr) (events others : List LogEvent) (differences : List Difference) : Type 0 where
   pub count : length differences ≡ 24
   pub each : AreOfRegisters matched events others 0 differences
 
@@ -161,6 +161,6 @@ abbrev pub difference_lines : Form → List LogEvent → List LogEvent → List 
 difference_lines form events others differences = numbered_lines (λ register difference. register_lines form register difference events others) 0 differences
 
 -- The text is the lines of the differences of all registers.
-abbrev pub AreDifferenceLines : Form → List Place → List LogEvent → List LogEvent → List ℕ → Type 0
+abbrev pub AreDifferenceLines : Form → List Pcr → List LogEvent → List LogEvent → List ℕ → Type 0
 AreDifferenceLines form matched events others text =
     (differences : List Difference) × AreDifferences matched events others differences × (text ≡ difference_lines form events others differences)

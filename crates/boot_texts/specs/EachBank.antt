@@ -3,17 +3,17 @@ use Rattle.std.specs.Prelude.{List, ℕ}
 use Rattle.pcr_banks.specs.declared.alg.Alg.{Alg}
 use Rattle.boot_log.specs.Spelling.{LogEvent}
 use Rattle.event_data.specs.Forms.{VariableData}
-use Rattle.measured_data.specs.declared.place.Place.{Place}
+use Rattle.measured_data.specs.declared.pcr.Pcr.{Pcr}
 use Rattle.boot_answers.specs.BootVariables.{IsBootVariable}
 use Rattle.boot_answers.specs.Commands.{CommandSaid, IsCommandText}
 use Rattle.boot_answers.specs.Extending.{IsAnswering}
 
 -- A bank answers for the event's register, and each bank that does tells this text.
-pub record TellText (matched : List Place) (event : LogEvent) (text : CommandSaid) : Type 0 where
+pub record TellText (matched : List Pcr) (event : LogEvent) (text : CommandSaid) : Type 0 where
   pub alg : Alg
   pub answering : IsAnswering matched alg event.register
   pub tells : (bank : Alg) → IsAnswering matched bank event.register → IsCommandText bank event text
 
 -- Each bank that answers for the register tells this variable.
-abbrev pub TellVariable : List Place → ℕ → LogEvent → VariableData → Type 0
+abbrev pub TellVariable : List Pcr → ℕ → LogEvent → VariableData → Type 0
 TellVariable matched register event variable = (bank : Alg) → IsAnswering matched bank register → IsBootVariable bank event variable

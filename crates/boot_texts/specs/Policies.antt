@@ -8,7 +8,7 @@ use Rattle.std.specs.Str.{is_utf8}
 use Rattle.boot_log.specs.Replaying.{is_extended_into}
 use Rattle.boot_log.specs.Spelling.{LogEvent}
 use Rattle.event_texts.specs.WideTexts.{wide_text}
-use Rattle.measured_data.specs.declared.place.Place.{Place}
+use Rattle.measured_data.specs.declared.pcr.Pcr.{Pcr}
 use Rattle.boot_answers.specs.Commands.{CommandSaid, grub, told_text, wide}
 use Rattle.boot_answers.specs.Extending.{extended_events}
 use Rattle.boot_answers.specs.ImaMeasuring.{AsksToMeasure}
@@ -42,14 +42,14 @@ Asks Policy (Some text) = MaySetImaPolicy text
 -- ---- the events of a register
 
 -- The event tells a text that does not ask this.
-pub record Passes (asked : Asked) (matched : List Place) (event : LogEvent) : Type 0 where
+pub record Passes (asked : Asked) (matched : List Pcr) (event : LogEvent) : Type 0 where
   pub text : CommandSaid
   pub told : told_text matched event ≡ Some text
   pub other : Asks asked (read_text text) → ⊥
 
 -- The log's event with this number, which counts from 1, is the first of the register that tells a text that asks this. Each event of the
 -- register before it tells a text.
-pub record IsFirstAsking (asked : Asked) (matched : List Place) (register : ℕ) (events : List LogEvent) (number : ℕ) : Type 0 where
+pub record IsFirstAsking (asked : Asked) (matched : List Pcr) (register : ℕ) (events : List LogEvent) (number : ℕ) : Type 0 where
   pub before : List LogEvent
   pub event : LogEvent
   pub after : List LogEvent
@@ -62,31 +62,31 @@ pub record IsFirstAsking (asked : Asked) (matched : List Place) (register : ℕ)
   pub asks : Asks asked (read_text text)
 
 -- No text of the register that is told asks this.
-abbrev pub NoneAsks : Asked → List Place → ℕ → List LogEvent → Type 0
+abbrev pub NoneAsks : Asked → List Pcr → ℕ → List LogEvent → Type 0
 NoneAsks asked matched register events = (number : ℕ) → IsFirstAsking asked matched register events number → ⊥
 
 -- The number is that of the register's first event that asks this, or there is none.
-abbrev pub IsAskingIn : Asked → List Place → ℕ → List LogEvent → Option ℕ → Type 0
+abbrev pub IsAskingIn : Asked → List Pcr → ℕ → List LogEvent → Option ℕ → Type 0
 IsAskingIn asked matched register events None = NoneAsks asked matched register events
 IsAskingIn asked matched register events (Some number) = IsFirstAsking asked matched register events number
 
 -- ---- both registers
 
 -- The number is that of the first event that asks this, of register 8 or else of register 12.
-abbrev pub IsAsking : Asked → List Place → List LogEvent → ℕ → Type 0
+abbrev pub IsAsking : Asked → List Pcr → List LogEvent → ℕ → Type 0
 IsAsking asked matched events number =
     IsFirstAsking asked matched 8 events number ⊎ (NoneAsks asked matched 8 events × IsFirstAsking asked matched 12 events number)
 
 -- No told text of either register asks this.
-abbrev pub NeitherAsks : Asked → List Place → List LogEvent → Type 0
+abbrev pub NeitherAsks : Asked → List Pcr → List LogEvent → Type 0
 NeitherAsks asked matched events = NoneAsks asked matched 8 events × NoneAsks asked matched 12 events
 
-abbrev pub IsAskingEvent : Asked → List Place → List LogEvent → Option ℕ → Type 0
+abbrev pub IsAskingEvent : Asked → List Pcr → List LogEvent → Option ℕ → Type 0
 IsAskingEvent asked matched events None = NeitherAsks asked matched events
 IsAskingEvent asked matched events (Some number) = IsAsking asked matched events number
 
 -- The answer: a text asks to measure files; else a text may ask for a policy; else it is unknown.
-abbrev pub IsImaPolicy : List Place → List LogEvent → ImaPolicy → Type 0
+abbrev pub IsImaPolicy : List Pcr → List LogEvent → ImaPolicy → Type 0
 IsImaPolicy matched events (policies.Asked number) = IsAsking Measuring matched events number
 IsImaPolicy matched events (policies.Possible number) = NeitherAsks Measuring matched events × IsAsking Policy matched events number
 IsImaPolicy matched events policies.Unknown = NeitherAsks Measuring matched events × NeitherAsks Policy matched events

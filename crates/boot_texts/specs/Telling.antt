@@ -12,7 +12,7 @@ use Rattle.event_data.specs.Forms.{VariableData}
 use Rattle.event_data.specs.Reading.{variable_in}
 use Rattle.event_data.specs.Values.{value_form}
 use Rattle.measured_data.specs.declared.part.Part.TheVariants.{Value, Whole}
-use Rattle.measured_data.specs.declared.place.Place.{Place}
+use Rattle.measured_data.specs.declared.pcr.Pcr.{Pcr}
 use Rattle.measured_data.specs.Confirming.{counts}
 use Rattle.measured_data.specs.Measuring.{is_measured, settings_register}
 use Rattle.boot_answers.specs.Commands.{CommandSaid, told_text}
@@ -39,16 +39,16 @@ Tells Told number (event ∷ events) text =
 -- ---- images
 
 -- The bank answers for images, and by it the event may be one.
-pub record IsImageBy (matched : List Place) (event : LogEvent) (alg : Alg) : Type 0 where
+pub record IsImageBy (matched : List Pcr) (event : LogEvent) (alg : Alg) : Type 0 where
   pub answers : counts matched alg image_register ≡ true
   pub image : MayBeImage alg event
 
 -- The event may be an image by some bank that answers.
-abbrev pub MayBeImageIn : List Place → LogEvent → Type 0
+abbrev pub MayBeImageIn : List Pcr → LogEvent → Type 0
 MayBeImageIn matched event = (alg : Alg) × IsImageBy matched event alg
 
 -- Each event that may be an image is told.
-abbrev pub TellsImage : Form → List Place → ℕ → LogEvent → Bool → List ℕ → Type 0
+abbrev pub TellsImage : Form → List Pcr → ℕ → LogEvent → Bool → List ℕ → Type 0
 TellsImage form matched number event goes text =
     (goes ≡ true)
     × ((MayBeImageIn matched event × (text ≡ rendered form (image_cell matched number event))) ⊎ ((MayBeImageIn matched event → ⊥) × (text ≡ [])))
@@ -61,19 +61,19 @@ command_answer register form number (Some text) = (true, rendered form (command_
 command_answer register form number None = (false, rendered form (untold_cell register (Some number)))
 
 -- The texts of the register's events are told, up to the first event that tells none.
-abbrev pub TellsCommand : ℕ → Form → List Place → ℕ → LogEvent → Bool → List ℕ → Type 0
+abbrev pub TellsCommand : ℕ → Form → List Pcr → ℕ → LogEvent → Bool → List ℕ → Type 0
 TellsCommand register form matched number event goes text =
     Are goes text (if is_extended_into register event then command_answer register form number (told_text matched event) else (true, []))
 
 -- ---- boot variables
 
 -- The bank answers for settings, and by it the event may be a separator.
-pub record IsSeparatorBy (matched : List Place) (event : LogEvent) (alg : Alg) : Type 0 where
+pub record IsSeparatorBy (matched : List Pcr) (event : LogEvent) (alg : Alg) : Type 0 where
   pub answers : counts matched alg settings_register ≡ true
   pub separator : MayBeSeparator alg event
 
 -- The event may be a separator by some bank that answers.
-abbrev pub MayBeSeparatorIn : List Place → LogEvent → Type 0
+abbrev pub MayBeSeparatorIn : List Pcr → LogEvent → Type 0
 MayBeSeparatorIn matched event = (alg : Alg) × IsSeparatorBy matched event alg
 
 -- The forms of the values of BootOrder and of Boot####.
@@ -87,19 +87,19 @@ abbrev pub is_boot_variable : VariableData → Bool
 is_boot_variable variable = is_boot_form (value_form 0 variable)
 
 -- Whether the bank does not answer for settings, or in it the event's data is measured, or the variable's value.
-abbrev pub allows_variable : List Place → LogEvent → Alg → Bool
+abbrev pub allows_variable : List Pcr → LogEvent → Alg → Bool
 allows_variable matched event alg = not (counts matched alg settings_register) || (is_measured alg event Whole || is_measured alg event Value)
 
 -- Whether the event's data is a boot variable, and is measured so in each bank that answers.
-abbrev pub is_told_variable : List Place → LogEvent → Bool
+abbrev pub is_told_variable : List Pcr → LogEvent → Bool
 is_told_variable matched event =
     list_all (λ alg. allows_variable matched event alg) all_algs && option_map_or is_boot_variable (variable_in event.payload) false
 
-abbrev pub told_variable : Form → List Place → ℕ → LogEvent → List ℕ
+abbrev pub told_variable : Form → List Pcr → ℕ → LogEvent → List ℕ
 told_variable form matched number event = if is_told_variable matched event then rendered form (variable_cell number event) else []
 
 -- The boot variables of the register of settings are told, up to its first event that may be a separator.
-abbrev pub TellsSetting : Form → List Place → ℕ → LogEvent → Bool → List ℕ → Type 0
+abbrev pub TellsSetting : Form → List Pcr → ℕ → LogEvent → Bool → List ℕ → Type 0
 TellsSetting form matched number event goes text =
     (MayBeSeparatorIn matched event × Are goes text (false, []))
     ⊎ ((MayBeSeparatorIn matched event → ⊥) × Are goes text (true, told_variable form matched number event))
@@ -108,13 +108,13 @@ abbrev pub TellsIf : Bool → Type 0 → Bool → List ℕ → Type 0
 TellsIf true Told goes text = Told
 TellsIf false Told goes text = Are goes text (true, [])
 
-abbrev pub TellsVariable : Form → List Place → ℕ → LogEvent → Bool → List ℕ → Type 0
+abbrev pub TellsVariable : Form → List Pcr → ℕ → LogEvent → Bool → List ℕ → Type 0
 TellsVariable form matched number event goes text =
     TellsIf (is_extended_into settings_register event) (TellsSetting form matched number event goes text) goes text
 
 -- ---- all
 
-abbrev pub ToldOf : Subject → Form → List Place → ℕ → LogEvent → Bool → List ℕ → Type 0
+abbrev pub ToldOf : Subject → Form → List Pcr → ℕ → LogEvent → Bool → List ℕ → Type 0
 ToldOf Images form matched number event goes text = TellsImage form matched number event goes text
 ToldOf (Commands register) form matched number event goes text = TellsCommand register form matched number event goes text
 ToldOf Variables form matched number event goes text = TellsVariable form matched number event goes text

@@ -10,18 +10,18 @@ ghost use Rattle.boot_texts.specs.Answering.{has_answer, has_any, is_answered};
 
 use boot_answers::{RegisterEvents, is_answering};
 use boot_log::LogView;
-use measured_data::Place;
+use measured_data::Pcr;
 use pcr_banks::Alg;
 
 /// Whether the bank answers for the register.
-pub(crate) fn answers(matched: &[Place], alg: Alg, register: u32) -> bool
+pub(crate) fn answers(matched: &[Pcr], alg: Alg, register: u32) -> bool
     ensures { result ≡ counts matched.now alg register }
 {
     is_answering(matched, alg, register)
 }
 
 /// Whether some bank answers for the register.
-pub(crate) fn has_answer(matched: &[Place], register: u32) -> bool
+pub(crate) fn has_answer(matched: &[Pcr], register: u32) -> bool
     ensures { result ≡ has_answer matched.now register }
 {
     Alg::ALL.iter().any(|alg| answers(matched, *alg, register))
@@ -39,7 +39,7 @@ fn has_event(log: &LogView<'_>, register: u32) -> bool
 }
 
 /// Whether some bank answers for the register, and the log extends it.
-pub(crate) fn is_answered(log: &LogView<'_>, matched: &[Place], register: u32) -> bool
+pub(crate) fn is_answered(log: &LogView<'_>, matched: &[Pcr], register: u32) -> bool
     ensures { (table : List Row) (events : List LogEvent) → IsLog (log_bytes log.now) table events
         → result ≡ is_answered matched.now register events }
 {

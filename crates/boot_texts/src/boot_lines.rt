@@ -19,7 +19,7 @@ use crate::words::WordLine;
 use boot_answers::{SETTINGS_REGISTER, SecureBoot, firmware_version, secure_boot};
 use boot_log::LogView;
 use cells::{Form, Written, append};
-use measured_data::Place;
+use measured_data::Pcr;
 use std::alloc::Global;
 
 /// Appends the lines of all answers on the boot that the log tells, by the registers in `matched`, those that match. A bank answers for a register
@@ -44,7 +44,7 @@ use std::alloc::Global;
 pub fn append_boot(
     alloc: Global,
     log: &LogView<'_>,
-    matched: &[Place],
+    matched: &[Pcr],
     form: Form,
     lines: &mut Vec<u8>,
 ) -> Written
@@ -62,7 +62,7 @@ pub fn append_boot(
 fn append_answers(
     alloc: Global,
     log: &LogView<'_>,
-    matched: &[Place],
+    matched: &[Pcr],
     form: Form,
     lines: &mut Vec<u8>,
 ) -> Written
@@ -109,7 +109,7 @@ fn append_images(
     alloc: Global,
     form: Form,
     log: &LogView<'_>,
-    matched: &[Place],
+    matched: &[Pcr],
     lines: &mut Vec<u8>,
 ) -> Written
     ensures { OnOk result ((table : List Row) (events : List LogEvent) → IsLog (log_bytes log.now) table events
@@ -128,7 +128,7 @@ fn append_commands(
     alloc: Global,
     form: Form,
     log: &LogView<'_>,
-    matched: &[Place],
+    matched: &[Pcr],
     register: u32,
     lines: &mut Vec<u8>,
 ) -> Written
@@ -159,7 +159,7 @@ fn append_variables(
     alloc: Global,
     form: Form,
     log: &LogView<'_>,
-    matched: &[Place],
+    matched: &[Pcr],
     lines: &mut Vec<u8>,
 ) -> Written
     ensures { OnOk result ((table : List Row) (events : List LogEvent) → IsLog (log_bytes log.now) table events

@@ -12,7 +12,7 @@ use crate::difference_lines::{AlikeLine, ApartLine, Boot, EventLine, append_even
 use boot_answers::{Common, RegisterEvents, common_events, first_difference};
 use boot_log::LogView;
 use cells::{Form, Written, append};
-use measured_data::Place;
+use measured_data::Pcr;
 use pcr_banks::{Alg, REGISTERS};
 use std::alloc::{AllocError, Global};
 
@@ -36,7 +36,7 @@ pub(crate) enum Difference {
 fn place_in(
     log: &LogView<'_>,
     before: &LogView<'_>,
-    matched: &[Place],
+    matched: &[Pcr],
     alg: Alg,
     register: u32,
 ) -> Option<usize>
@@ -55,7 +55,7 @@ fn difference_of(
     alloc: Global,
     log: &LogView<'_>,
     before: &LogView<'_>,
-    matched: &[Place],
+    matched: &[Pcr],
     register: u32,
 ) -> Result<Difference, AllocError>
     ensures { IfOk result (λ difference. (table rows : List Row) (events others : List LogEvent) → IsLog (log_bytes log.now) table events
@@ -182,7 +182,7 @@ fn append_registers(
     alloc: Global,
     log: &LogView<'_>,
     before: &LogView<'_>,
-    matched: &[Place],
+    matched: &[Pcr],
     form: Form,
     lines: &mut Vec<u8>,
 ) -> Written
@@ -219,7 +219,7 @@ pub fn append_differences(
     alloc: Global,
     log: &LogView<'_>,
     before: &LogView<'_>,
-    matched: &[Place],
+    matched: &[Pcr],
     form: Form,
     lines: &mut Vec<u8>,
 ) -> Written

@@ -12,7 +12,7 @@ use crate::contents::show_content;
 use boot_answers::may_be_image;
 use boot_log::Event;
 use cells::{CellWriter, Form, Shown, Written, append};
-use measured_data::Place;
+use measured_data::Pcr;
 use pcr_banks::{Alg, Digest, PerBank};
 use std::alloc::Global;
 
@@ -20,7 +20,7 @@ use std::alloc::Global;
 pub(crate) const IMAGE_REGISTER: u32 = 4;
 
 // Whether the event may be an image by some bank that answers.
-fn may_be_image_in(event: &Event<'_>, matched: &[Place]) -> bool
+fn may_be_image_in(event: &Event<'_>, matched: &[Pcr]) -> bool
     ensures { IsTrue result ↔ MayBeImageIn matched.now (log_event_of event.now) }
 {
     for alg in Alg::ALL {
@@ -32,7 +32,7 @@ fn may_be_image_in(event: &Event<'_>, matched: &[Place]) -> bool
 }
 
 // Whether the bank answers, and the event may be an image by it.
-fn is_image_by(event: &Event<'_>, matched: &[Place], alg: Alg) -> bool
+fn is_image_by(event: &Event<'_>, matched: &[Pcr], alg: Alg) -> bool
     ensures { IsTrue result ↔ IsImageBy matched.now (log_event_of event.now) alg }
 {
     answers(matched, alg, IMAGE_REGISTER) && may_be_image(event, alg)
@@ -42,7 +42,7 @@ fn is_image_by(event: &Event<'_>, matched: &[Place], alg: Alg) -> bool
 pub(crate) fn append_if_image(
     alloc: Global,
     form: Form,
-    matched: &[Place],
+    matched: &[Pcr],
     number: usize,
     event: &Event<'_>,
     lines: &mut Vec<u8>,
@@ -64,7 +64,7 @@ pub(crate) fn append_if_image(
 // The line of an image.
 #[derive(Drop)]
 struct ImageLine<'a> {
-    matched: &'a [Place],
+    matched: &'a [Pcr],
     number: usize,
     event: &'a Event<'a>,
 }
@@ -79,7 +79,7 @@ impl Shown for ImageLine<'_> {
 
 fn show_image(
     alloc: Global,
-    matched: &[Place],
+    matched: &[Pcr],
     number: usize,
     event: &Event<'_>,
     out: &mut CellWriter,
@@ -94,7 +94,7 @@ fn show_image(
 
 fn show_digests(
     alloc: Global,
-    matched: &[Place],
+    matched: &[Pcr],
     digests: &PerBank,
     out: &mut CellWriter,
 ) -> Written
@@ -108,7 +108,7 @@ fn show_digests(
 // Shows the digests in the banks that answer.
 fn show_answered(
     alloc: Global,
-    matched: &[Place],
+    matched: &[Pcr],
     digests: &PerBank,
     out: &mut CellWriter,
 ) -> Written
@@ -121,7 +121,7 @@ fn show_answered(
 }
 
 // The digest in the bank, if the bank answers for images.
-fn answered_digest(matched: &[Place], digests: &PerBank, alg: Alg) -> Option<Digest>
+fn answered_digest(matched: &[Pcr], digests: &PerBank, alg: Alg) -> Option<Digest>
     ensures { option_map bytes_of result ≡ answered_digest matched.now digests.now alg }
 {
     if answers(matched, alg, IMAGE_REGISTER) {

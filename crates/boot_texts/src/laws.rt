@@ -7,7 +7,7 @@ ghost use Rattle.pcr_banks.specs.declared.alg.Alg.{Alg};
 ghost use Rattle.boot_log.specs.Spelling.{LogEvent};
 ghost use Rattle.event_data.specs.ContentReading.{content_in};
 ghost use Rattle.event_data.specs.Forms.{VariableData};
-ghost use Rattle.measured_data.specs.declared.place.Place.{Place};
+ghost use Rattle.measured_data.specs.declared.pcr.Pcr.{Pcr};
 ghost use Rattle.measured_data.specs.Measuring.{settings_register};
 ghost use Rattle.boot_answers.specs.Commands.{CommandSaid, told_text};
 ghost use Rattle.boot_answers.specs.FirmwareVersion.{version_type};
@@ -24,7 +24,7 @@ use measured_data::parts_are_the_first;
 
 /// The text that is told of an event is one that each bank tells which answers for the event's register, and there is such a bank.
 pub fn each_bank_tells_the_text()
-    ensures { (matched : List Place) (event : LogEvent) (text : CommandSaid) → IsBytes event.payload → told_text matched event ≡ Some text
+    ensures { (matched : List Pcr) (event : LogEvent) (text : CommandSaid) → IsBytes event.payload → told_text matched event ≡ Some text
         → TellText matched event text }
 {
     parts_are_the_first();
@@ -32,7 +32,7 @@ pub fn each_bank_tells_the_text()
 
 /// The boot variable that is told of an event is one that each bank tells which answers for the register of settings.
 pub fn each_bank_tells_the_variable()
-    ensures { (matched : List Place) (event : LogEvent) → IsBytes event.payload → is_told_variable matched event ≡ true
+    ensures { (matched : List Pcr) (event : LogEvent) → IsBytes event.payload → is_told_variable matched event ≡ true
         → (variable : VariableData) × (is_boot_variable variable ≡ true) × TellVariable matched settings_register event variable }
 {}
 
@@ -41,7 +41,7 @@ pub fn each_bank_tells_the_variable()
 pub fn each_line_is_one_value()
     ensures word { (name word : List ℕ) → IsOneLine (object_of (word_cell name word).json) }
     ensures version { (bytes : List ℕ) → AreBytes bytes → IsOneLine (object_of (version_cell (Some (content_in version_type bytes))).json) }
-    ensures image { (matched : List Place) (number : ℕ) (event : LogEvent) → IsCount number → AreBytes event.payload
+    ensures image { (matched : List Pcr) (number : ℕ) (event : LogEvent) → IsCount number → AreBytes event.payload
         → IsOneLine (object_of (image_cell matched number event).json) }
     ensures command { (register number : ℕ) (text : CommandSaid) → IsCount register → IsCount number
         → IsOneLine (object_of (command_cell register number text).json) }

@@ -15,7 +15,7 @@ use crate::steps::is_extended_into;
 use boot_answers::told_text;
 use boot_log::LogView;
 use cells::{CellWriter, Form, Shown, Written, append};
-use measured_data::Place;
+use measured_data::Pcr;
 use std::alloc::{AllocError, Global};
 
 /// The register of GRUB's commands.
@@ -44,7 +44,7 @@ fn first_asking(
     alloc: Global,
     asked: Asked,
     log: &LogView<'_>,
-    matched: &[Place],
+    matched: &[Pcr],
     register: u32,
 ) -> Result<Option<usize>, AllocError>
     ensures { IfOk result (λ found. (table : List Row) (events : List LogEvent) → IsLog (log_bytes log.now) table events
@@ -70,7 +70,7 @@ fn asking_event(
     alloc: Global,
     asked: Asked,
     log: &LogView<'_>,
-    matched: &[Place],
+    matched: &[Pcr],
 ) -> Result<Option<usize>, AllocError>
     ensures { IfOk result (λ found. (table : List Row) (events : List LogEvent) → IsLog (log_bytes log.now) table events
         → IsAskingEvent asked matched.now events found) }
@@ -84,7 +84,7 @@ fn asking_event(
 }
 
 // What the told texts ask.
-fn ima_policy(alloc: Global, log: &LogView<'_>, matched: &[Place]) -> Result<ImaPolicy, AllocError>
+fn ima_policy(alloc: Global, log: &LogView<'_>, matched: &[Pcr]) -> Result<ImaPolicy, AllocError>
     ensures { IfOk result (λ policy. (table : List Row) (events : List LogEvent) → IsLog (log_bytes log.now) table events
         → IsImaPolicy matched.now events policy) }
 {
@@ -104,7 +104,7 @@ pub(crate) fn append_policy(
     alloc: Global,
     form: Form,
     log: &LogView<'_>,
-    matched: &[Place],
+    matched: &[Pcr],
     lines: &mut Vec<u8>,
 ) -> Written
     ensures { OnOk result ((table : List Row) (events : List LogEvent) → IsLog (log_bytes log.now) table events

@@ -14,7 +14,7 @@ use crate::variables::append_if_variable;
 use boot_answers::told_text;
 use boot_log::{Event, LogView};
 use cells::{Form, Written, append};
-use measured_data::Place;
+use measured_data::Pcr;
 use std::alloc::{AllocError, Global};
 
 /// The type of an event that is not extended.
@@ -32,7 +32,7 @@ pub(crate) fn append_each(
     alloc: Global,
     form: Form,
     log: &LogView<'_>,
-    matched: &[Place],
+    matched: &[Pcr],
     subject: Subject,
     lines: &mut Vec<u8>,
 ) -> Written
@@ -54,7 +54,7 @@ pub(crate) fn append_each(
 fn append_told(
     alloc: Global,
     form: Form,
-    matched: &[Place],
+    matched: &[Pcr],
     subject: Subject,
     number: usize,
     event: &Event<'_>,
@@ -79,7 +79,7 @@ fn append_told(
 fn append_if_command(
     alloc: Global,
     form: Form,
-    matched: &[Place],
+    matched: &[Pcr],
     register: u32,
     number: usize,
     event: &Event<'_>,

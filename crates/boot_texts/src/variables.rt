@@ -18,7 +18,7 @@ use boot_answers::{SETTINGS_REGISTER, may_be_separator};
 use boot_log::Event;
 use cells::{CellWriter, Form, Shown, Written, append};
 use event_data::{ValueForm, Variable, read_variable, value_form};
-use measured_data::{Part, Place, is_measured};
+use measured_data::{Part, Pcr, is_measured};
 use pcr_banks::Alg;
 use std::alloc::{AllocError, Global};
 
@@ -29,7 +29,7 @@ const EV_EFI_VARIABLE_BOOT: u32 = 0x8000_0002;
 pub(crate) fn append_if_variable(
     alloc: Global,
     form: Form,
-    matched: &[Place],
+    matched: &[Pcr],
     number: usize,
     event: &Event<'_>,
     lines: &mut Vec<u8>,
@@ -48,7 +48,7 @@ pub(crate) fn append_if_variable(
 fn append_setting(
     alloc: Global,
     form: Form,
-    matched: &[Place],
+    matched: &[Pcr],
     number: usize,
     event: &Event<'_>,
     lines: &mut Vec<u8>,
@@ -64,7 +64,7 @@ fn append_setting(
 }
 
 // Whether the event may be a separator by some bank that answers.
-fn may_be_separator_in(event: &Event<'_>, matched: &[Place]) -> bool
+fn may_be_separator_in(event: &Event<'_>, matched: &[Pcr]) -> bool
     ensures { IsTrue result ↔ MayBeSeparatorIn matched.now (log_event_of event.now) }
 {
     for alg in Alg::ALL {
@@ -76,7 +76,7 @@ fn may_be_separator_in(event: &Event<'_>, matched: &[Place]) -> bool
 }
 
 // Whether the bank answers, and the event may be a separator by it.
-fn is_separator_by(event: &Event<'_>, matched: &[Place], alg: Alg) -> bool
+fn is_separator_by(event: &Event<'_>, matched: &[Pcr], alg: Alg) -> bool
     ensures { IsTrue result ↔ IsSeparatorBy matched.now (log_event_of event.now) alg }
 {
     answers(matched, alg, SETTINGS_REGISTER) && may_be_separator(event, alg)
@@ -86,7 +86,7 @@ fn is_separator_by(event: &Event<'_>, matched: &[Place], alg: Alg) -> bool
 fn append_if_told(
     alloc: Global,
     form: Form,
-    matched: &[Place],
+    matched: &[Pcr],
     number: usize,
     event: &Event<'_>,
     lines: &mut Vec<u8>,
@@ -101,14 +101,14 @@ fn append_if_told(
 }
 
 // Whether the event's data is a boot variable, and is measured so in each bank that answers.
-fn is_told_variable(event: &Event<'_>, matched: &[Place]) -> bool
+fn is_told_variable(event: &Event<'_>, matched: &[Pcr]) -> bool
     ensures { result ≡ is_told_variable matched.now (log_event_of event.now) }
 {
     all_allow(event, matched) && is_boot_data(event.payload)
 }
 
 // Whether no bank that answers tells anything against the event as a variable.
-fn all_allow(event: &Event<'_>, matched: &[Place]) -> bool
+fn all_allow(event: &Event<'_>, matched: &[Pcr]) -> bool
     ensures { result ≡ list_all (λ alg. allows_variable matched.now (log_event_of event.now) alg) all_algs }
 {
     Alg::ALL
@@ -117,7 +117,7 @@ fn all_allow(event: &Event<'_>, matched: &[Place]) -> bool
 }
 
 // Whether the bank does not answer, or in it the event's data is measured, or the variable's value.
-fn allows_variable(event: &Event<'_>, matched: &[Place], alg: Alg) -> bool
+fn allows_variable(event: &Event<'_>, matched: &[Pcr], alg: Alg) -> bool
     ensures { result ≡ allows_variable matched.now (log_event_of event.now) alg }
 {
     !answers(matched, alg, SETTINGS_REGISTER)

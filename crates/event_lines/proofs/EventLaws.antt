@@ -11,7 +11,7 @@ use Rattle.boot_log.specs.EventTypes.{event_type_name}
 use Rattle.boot_log.specs.declared.header.Row.{Row}
 use Rattle.boot_log.specs.Spelling.{IsSpecification, LogEvent, SpecificationData}
 use Rattle.event_data.specs.ContentReading.{content_in}
-use Rattle.measured_data.specs.declared.place.Place.{Place}
+use Rattle.measured_data.specs.declared.pcr.Pcr.{Pcr}
 use Rattle.measured_data.specs.Confirming.{confirmed_part}
 use Rattle.measured_data.specs.Measuring.{measured_part}
 use Rattle.event_lines.specs.ContentJson.{content_json}
@@ -47,7 +47,7 @@ content_is_plain : (kind : ℕ) (bytes : List ℕ) → IsBytes bytes → IsPlain
 content_is_plain kind bytes fits =
     content_plain kind (content_in kind bytes) (content_counted kind bytes fits)
 
-content_members_plain : (matched : Option (List Place)) (event : LogEvent) → IsBytes event.payload → ArePlain (content_members matched event) 6
+content_members_plain : (matched : Option (List Pcr)) (event : LogEvent) → IsBytes event.payload → ArePlain (content_members matched event) 6
 content_members_plain matched event fits = (
   measured_plain event all_algs,
   members_joined 6 (confirmed_members matched event) _
@@ -55,7 +55,7 @@ content_members_plain matched event fits = (
       (content_is_plain event.kind event.payload fits, tt),
 )
 
-pub event_one_line : (matched : Option (List Place)) (number : ℕ) (event : LogEvent) → IsCount number → IsCount event.register → IsCount event.kind
+pub event_one_line : (matched : Option (List Pcr)) (number : ℕ) (event : LogEvent) → IsCount number → IsCount event.register → IsCount event.kind
     → IsBytes event.payload → IsOneLine (event_json matched number event)
 event_one_line matched number event count register kind fits =
     line_within 7 (event_json matched number event) (omega arith)
@@ -94,7 +94,7 @@ other : {A : Type 0} (name : List ℕ) (text : A → List ℕ) (value : Option A
 other name text None is_other = tt
 other name text (Some x) is_other = (is_other, tt)
 
-pub event_lacks : (matched : Option (List Place)) (number : ℕ) (event : LogEvent) → get (codes "fault") (event_json matched number event) ≡ None
+pub event_lacks : (matched : Option (List Pcr)) (number : ℕ) (event : LogEvent) → get (codes "fault") (event_json matched number event) ≡ None
 event_lacks matched number event =
     let type = others_joined (optional (codes "type") (option_map string (event_type_name event.kind))) _
     (other (codes "type") (λ name. name) (event_type_name event.kind) refl) (refl, tt) in

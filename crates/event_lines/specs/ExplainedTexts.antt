@@ -6,7 +6,7 @@ use Rattle.pcr_banks.specs.Hashing.{all_algs, name_of}
 use Rattle.boot_log.specs.Spelling.{LogEvent}
 use Rattle.event_lines.specs.EventTexts.{event_head}
 use Rattle.measured_data.specs.declared.part.Part.{Part}
-use Rattle.measured_data.specs.declared.place.Place.{Place}
+use Rattle.measured_data.specs.declared.pcr.Pcr.{Pcr}
 use Rattle.measured_data.specs.Confirming.{confirmed_part}
 use Rattle.measured_data.specs.Measuring.{measured_part}
 use Rattle.event_lines.specs.EventJson.{event_content_json, part_name}
@@ -35,14 +35,14 @@ confirmed_mark None = codes "claimed"
 confirmed_mark (Some part) = codes "confirmed " ++ part_name part
 
 -- What the registers which match confirm of the data; where none were compared, what is measured.
-abbrev pub event_mark : Option (List Place) → LogEvent → List ℕ
+abbrev pub event_mark : Option (List Pcr) → LogEvent → List ℕ
 event_mark None event = measured_mark event
 event_mark (Some places) event = confirmed_mark (confirmed_part places event)
 
 -- The event's number, register and type, what is confirmed, and the two spaces of the next line.
-abbrev pub marked_text : Option (List Place) → ℕ → LogEvent → List ℕ
+abbrev pub marked_text : Option (List Pcr) → ℕ → LogEvent → List ℕ
 marked_text matched number event = event_head number event ++ (codes " " ++ (event_mark matched event ++ codes "\n  "))
 
 -- The two lines of the event with this number. The second is what its data says, as JSON in which no character steers what shows it.
-abbrev pub explained_text : Option (List Place) → ℕ → LogEvent → List ℕ
+abbrev pub explained_text : Option (List Pcr) → ℕ → LogEvent → List ℕ
 explained_text matched number event = marked_text matched number event ++ unsteered (line_of (event_content_json event))

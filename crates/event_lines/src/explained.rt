@@ -17,7 +17,7 @@ use crate::steering::append_unsteered;
 use boot_log::{Event, Row};
 use byte_streams::{Failed, Sink, VecSink, send};
 use cells::{Written, begin_line, end_line};
-use measured_data::Place;
+use measured_data::Pcr;
 use std::alloc::{AllocError, Global};
 use std::mem;
 
@@ -40,7 +40,7 @@ pub(crate) fn append_explained(
     alloc: Global,
     number: usize,
     event: &Event<'_>,
-    matched: Option<&[Place]>,
+    matched: Option<&[Pcr]>,
     lines: &mut Vec<u8>,
 ) -> Written
     ensures ok { OnOk result (lines.new.items
@@ -75,7 +75,7 @@ fn append_mark(
     alloc: Global,
     number: usize,
     event: &Event<'_>,
-    matched: Option<&[Place]>,
+    matched: Option<&[Pcr]>,
     lines: &mut Vec<u8>,
 ) -> Written
     ensures ok { OnOk result (lines.new.items
@@ -114,7 +114,7 @@ fn write_content_line(alloc: Global, kind: u32, payload: &[u8], line: &mut Vec<u
 fn write_marked<S: Sink>(
     number: usize,
     event: &Event<'_>,
-    matched: Option<&[Place]>,
+    matched: Option<&[Pcr]>,
     sink: &mut S,
 ) -> Result<(), Failed>
     ensures { Sends (S.state sink.old) (S.state sink.new) result

@@ -7,7 +7,7 @@ ghost use Rattle.hex.specs.Hex.{IsBytes};
 ghost use Rattle.boot_log.specs.declared.header.Row.{Row as TableRow};
 ghost use Rattle.boot_log.specs.Spelling.{IsRow, IsSpecification, LogEvent, SpecificationData};
 ghost use Rattle.event_data.specs.ContentReading.{content_in};
-ghost use Rattle.measured_data.specs.declared.place.Place.{Place};
+ghost use Rattle.measured_data.specs.declared.pcr.Pcr.{Pcr};
 ghost use Rattle.json.specs.Find.{get};
 ghost use Rattle.cells.specs.Values.{IsCount, IsOneLine};
 ghost use Rattle.event_lines.specs.ContentJson.{content_json};
@@ -17,7 +17,7 @@ ghost use Rattle.event_lines.specs.SteeringTexts.{is_plain, unsteered};
 /// The line of each event, that of the header, and what the data of an event says are each one line: its text reads back as the value, and has
 /// no line feed. Numbers are such as code holds (`IsCount`), and an event's data is bytes.
 pub fn each_value_is_one_line()
-    ensures event { (matched : Option (List Place)) (number : ℕ) (event : LogEvent)
+    ensures event { (matched : Option (List Pcr)) (number : ℕ) (event : LogEvent)
         → IsCount number → IsCount event.register → IsCount event.kind → IsBytes event.payload
         → IsOneLine (event_json matched number event) }
     ensures content { (kind : ℕ) (bytes : List ℕ) → IsBytes bytes → IsOneLine (content_json kind (content_in kind bytes)) }
@@ -27,7 +27,7 @@ pub fn each_value_is_one_line()
 
 /// No line of an event, and not that of the header, has a member `fault`: only faults have one (`rendering::laws`).
 pub fn no_line_has_a_fault()
-    ensures event { (matched : Option (List Place)) (number : ℕ) (event : LogEvent)
+    ensures event { (matched : Option (List Pcr)) (number : ℕ) (event : LogEvent)
         → get (codes "fault") (event_json matched number event) ≡ None }
     ensures header { (said : Option SpecificationData) (rows : List TableRow) → get (codes "fault") (header_json said rows) ≡ None }
 {}

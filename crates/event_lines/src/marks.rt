@@ -8,13 +8,13 @@ ghost use Rattle.event_lines.specs.ExplainedTexts.{confirmed_mark, event_mark, i
 use crate::measured::part_name;
 use boot_log::Event;
 use byte_streams::{Failed, Sink, send, send_pieces};
-use measured_data::{Part, Place, confirmed_part, measured_part};
+use measured_data::{Part, Pcr, confirmed_part, measured_part};
 use pcr_banks::Alg;
 
 /// Writes what the registers which match confirm; where none were compared, what is measured.
 pub(crate) fn write_mark<S: Sink>(
     event: &Event<'_>,
-    matched: Option<&[Place]>,
+    matched: Option<&[Pcr]>,
     sink: &mut S,
 ) -> Result<(), Failed>
     ensures { Sends (S.state sink.old) (S.state sink.new) result

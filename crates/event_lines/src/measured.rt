@@ -11,7 +11,7 @@ ghost use Rattle.cells.specs.Writing.{WritesMembers};
 use boot_log::Event;
 use cells::{Written, write_text};
 use json::Writer;
-use measured_data::{Part, Place, confirmed_part, measured_part};
+use measured_data::{Part, Pcr, confirmed_part, measured_part};
 use pcr_banks::Alg;
 
 /// The part in one word.
@@ -51,7 +51,7 @@ fn write_part(alg: Alg, part: Option<Part>, writer: &mut Writer) -> Written
 /// Writes the member of the part that the registers which match confirm, if any were compared.
 pub(crate) fn write_confirmed(
     event: &Event<'_>,
-    matched: Option<&[Place]>,
+    matched: Option<&[Pcr]>,
     writer: &mut Writer,
 ) -> Written
     ensures { WritesMembers result writer.old writer.new

@@ -21,7 +21,7 @@ use Rattle.pcr_banks.specs.Registers.{value_at}
 use Rattle.boot_verdict.specs.Verdicts.{IsSomeLog, is_value, pcr_after_log}
 use Rattle.cells.specs.declared.writer.Form.{Form}
 use Rattle.cells.specs.declared.writer.Form.TheVariants.{Json, Text}
-use Rattle.measured_data.specs.declared.place.Place.{Place}
+use Rattle.measured_data.specs.declared.pcr.Pcr.{Pcr}
 use Rattle.ima_agent.specs.Matching.{HasExpected, IsKnownFor, IsMatched, Values, counts, has_value, is_refuted, matched_places, place_of, refutes}
 
 -- ---- one row more
@@ -66,16 +66,16 @@ module _ (row : Expected) where
 
 module _ (p : Expected → Bool) where
   -- A row that passes, whose place this is.
-  abbrev Passes : List Expected → Place → Type 0
+  abbrev Passes : List Expected → Pcr → Type 0
   Passes rows place = (row : Expected) × Contains rows row × (place ≡ place_of row) × (p row ≡ true)
 
-  further : (first : Expected) (rows : List Expected) (place : Place) → Passes rows place → Passes (first ∷ rows) place
+  further : (first : Expected) (rows : List Expected) (place : Pcr) → Passes rows place → Passes (first ∷ rows) place
   further first rows place (it, among, is, passes) = (it, Contains-append_right (first ∷ []) rows it among, is, passes)
 
-  only : (first place : Place) → Contains (first ∷ []) place → place ≡ first
+  only : (first place : Pcr) → Contains (first ∷ []) place → place ≡ first
   only first place (k, lt, is) = let none : k ≡ 0 = omega (arith, lt) in sym (subst (λ (n : ℕ). get_or (first ∷ []) n place ≡ place) none is)
 
-  kept_first : (first : Expected) (rows : List Expected) (place : Place) → (Contains (map place_of (filter p rows)) place → Passes rows place)
+  kept_first : (first : Expected) (rows : List Expected) (place : Pcr) → (Contains (map place_of (filter p rows)) place → Passes rows place)
       → (b : Bool) → p first ≡ b → Contains (map place_of (cond b (first ∷ filter p rows) (filter p rows))) place → Passes (first ∷ rows) place
   kept_first first rows place so false fails has = further first rows place (so has)
   kept_first first rows place so true passes has = elim (Contains-append_cases (place_of first ∷ []) (map place_of (filter p rows)) place has) [
@@ -83,12 +83,12 @@ module _ (p : Expected → Bool) where
     | inr later ↦ further first rows place (so later)
   ]
 
-  kept : (rows : List Expected) (place : Place) → Contains (map place_of (filter p rows)) place → Passes rows place
+  kept : (rows : List Expected) (place : Pcr) → Contains (map place_of (filter p rows)) place → Passes rows place
   kept [] place (k, lt, is) = absurd (omega (arith, lt))
   kept (first ∷ rows) place has = kept_first first rows place (kept rows place) (p first) refl has
 
   -- What is among the later rows' places is among those with the first.
-  later : (b : Bool) (first : Expected) (rows : List Expected) (place : Place) → Contains (map place_of (filter p rows)) place
+  later : (b : Bool) (first : Expected) (rows : List Expected) (place : Pcr) → Contains (map place_of (filter p rows)) place
       → Contains (map place_of (cond b (first ∷ filter p rows) (filter p rows))) place
   later false first rows place has = has
   later true first rows place has = Contains-append_right (place_of first ∷ []) (map place_of (filter p rows)) place has
@@ -181,7 +181,7 @@ module _ (algs : AlgSet) (events : List LogEvent) where
       none_by (refutes value register) expected (λ other among. refuted_if (same_alg other.alg Sha1) (other.register == register)
       (has_value value other) (λ weak here. of_it other (so other among (eqb-true other.register register here) (not_sha1 other weak))))
 
-pub matched_are : (algs : AlgSet) (events : List LogEvent) (expected : List Expected) (place : Place)
+pub matched_are : (algs : AlgSet) (events : List LogEvent) (expected : List Expected) (place : Pcr)
     → Contains (matched_places algs events expected) place ↔ IsMatched algs events expected place
 matched_are algs events expected place =
     let value : Values = pcr_after_log algs events in (

@@ -23,7 +23,7 @@ use Rattle.ima_agent.specs.declared.streams.StreamFault.TheVariants as streams
 use Rattle.rendering.specs.FaultTexts.{IsFailure}
 use Rattle.questions.specs.Questions.{known_by}
 use Rattle.ima_agent.specs.Program.{Answers, IsFaultOf, IsOutcome, IsOutputFor, SendsOutput, SendsText, Streams, status_after}
-use Rattle.measured_data.specs.declared.place.Place.{Place}
+use Rattle.measured_data.specs.declared.pcr.Pcr.{Pcr}
 use Rattle.ima_agent.specs.Matching.{AreMatched, IsKnownFor}
 use Rattle.ima_agent.specs.Showing.{ShowsEntriesOf}
 use Rattle.ima_agent.specs.ShowingEvents.{Form, IsReported, ShowsEventsIn, ShowsPlainEventsIn, ShowsToldOf, plain_lines}
@@ -92,7 +92,7 @@ module _ (inputs : Inputs) (log : String Global) (requested : DataShown) (confir
   plain_outcome with_data is text status (inr (fault, none, failure)) = inr (inl (fault, inr (bytes, held, rw is none), failure, kept))
 
   module _ (is : plain_lines form requested ≡ None) where
-    events_outcome : IsKnownFor form bytes → (matched : Option (List Place)) (done : ℕ) → AreMatched inputs confirmed_by bytes matched done
+    events_outcome : IsKnownFor form bytes → (matched : Option (List Pcr)) (done : ℕ) → AreMatched inputs confirmed_by bytes matched done
         → (text : List ℕ) (status : ℕ) → ShowsEventsIn form matched done bytes text status → Outcome text status
     events_outcome known matched done are text status (inl all) = inl ((bytes, held, rw is (known, (matched, done, are, inl all))), kept)
     events_outcome known matched done are text status (inr (begun, fault, line, inl fails, reported, ends)) =

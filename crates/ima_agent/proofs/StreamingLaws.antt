@@ -21,7 +21,7 @@ use Rattle.event_lines.specs.declared.event_lines.EventsFault.{EventsFault}
 use Rattle.event_lines.specs.declared.event_lines.EventsFault.TheVariants as events
 use Rattle.entry_lines.specs.SentEntries.{AreAllIn, SendsEntries}
 use Rattle.event_lines.specs.SentEvents.{SendsEvents, SendsLines}
-use Rattle.measured_data.specs.declared.place.Place.{Place}
+use Rattle.measured_data.specs.declared.pcr.Pcr.{Pcr}
 use Rattle.cells.specs.declared.writer.Form.{Form}
 use Rattle.cells.specs.declared.writer.Form.TheVariants.{Json, Text}
 use Rattle.agent_inputs.specs.declared.fault.RunFault.{RunFault}
@@ -106,7 +106,7 @@ streams_so P Q old new (Err (streams.Run fault)) so sent =
 
 -- ---- the events of a log
 
-module _ (form : Form) (matched : Option (List Place)) (done : ℕ) (log : List ℕ) (old new : SinkState) where
+module _ (form : Form) (matched : Option (List Pcr)) (done : ℕ) (log : List ℕ) (old new : SinkState) where
   abbrev lines : List Row → List LogEvent → List ℕ
   lines = log_lines form matched log
 

@@ -18,7 +18,7 @@ use Rattle.boot_verdict.specs.Isolation.{list_register}
 use Rattle.boot_verdict.specs.Verdicts.{is_value, IsSomeLog, pcr_after_log}
 use Rattle.cells.specs.declared.writer.Form.{Form}
 use Rattle.cells.specs.declared.writer.Form.TheVariants as told
-use Rattle.measured_data.specs.declared.place.Place.{Place}
+use Rattle.measured_data.specs.declared.pcr.Pcr.{Pcr}
 use Rattle.agent_plans.specs.declared.plan.ConfirmedBy.{ConfirmedBy}
 use Rattle.agent_plans.specs.declared.plan.ConfirmedBy.TheVariants as confirmed
 use Rattle.judging.specs.declared.request.Answer.{Answer}
@@ -35,7 +35,7 @@ use Rattle.questions.specs.Questions.{attested_with}
 use Rattle.ima_agent.specs.Showing.{IsNoLogFor}
 
 -- The register that is expected to have a value.
-abbrev pub place_of : Expected → Place
+abbrev pub place_of : Expected → Pcr
 place_of expected = record { alg = expected.alg; register = expected.register }
 
 -- The value of each register of each bank; none of one that is not there.
@@ -60,11 +60,11 @@ abbrev pub counts : Values → List Expected → Expected → Bool
 counts value expected row = has_value value row && not (is_refuted value expected row.register)
 
 -- Those of the rows that count, in their order.
-abbrev pub matched_among : Values → List Expected → List Expected → List Place
+abbrev pub matched_among : Values → List Expected → List Expected → List Pcr
 matched_among value expected rows = map place_of (filter (counts value expected) rows)
 
 -- Those of the expected registers that match after the log's events: a register that none extends has its reset value.
-abbrev pub matched_places : AlgSet → List LogEvent → List Expected → List Place
+abbrev pub matched_places : AlgSet → List LogEvent → List Expected → List Pcr
 matched_places algs events expected = matched_among (pcr_after_log algs events) expected expected
 
 -- After the log the expected register has its value, of its bank.
@@ -74,7 +74,7 @@ pub record HasExpected (algs : AlgSet) (events : List LogEvent) (row : Expected)
 
 -- Some value is expected of the register, and it is the one that the register has after the log; and so it is in each bank other than
 -- SHA-1 in which one is expected of the register.
-pub record IsMatched (algs : AlgSet) (events : List LogEvent) (expected : List Expected) (place : Place) : Type 0 where
+pub record IsMatched (algs : AlgSet) (events : List LogEvent) (expected : List Expected) (place : Pcr) : Type 0 where
   pub row : Expected
   pub among : Contains expected row
   pub place_is : place ≡ place_of row
@@ -89,22 +89,22 @@ abbrev pub is_of_log : List ℕ → ℕ → Bool
 is_of_log bits register = not (register == list_register) && is_selected bits register
 
 -- Those of a bank, ascending.
-abbrev pub places_in : BankSelection → List Place
+abbrev pub places_in : BankSelection → List Pcr
 places_in selection =
     filter (λ place. is_of_log selection.bits place.register)
     (map (λ register. record { alg = selection.alg; register = register }) all_registers)
 
 -- Those of all banks that are selected from.
-abbrev pub quoted_places : List BankSelection → List Place
+abbrev pub quoted_places : List BankSelection → List Pcr
 quoted_places selections = flat_map places_in selections
 
 -- The registers that match by an answer: none, unless all is well with it.
-abbrev pub places_by : Bool → Answer → List Place
+abbrev pub places_by : Bool → Answer → List Pcr
 places_by true (answers.Attestation report) = quoted_places (stated_of report.quoted).selections
 places_by is_well answer = []
 
 -- These match by the answer to what is asked of a quote; and the status is that of the answer.
-abbrev pub AreMatchedByQuote : Inputs → Attested → List Place → ℕ → Type 0
+abbrev pub AreMatchedByQuote : Inputs → Attested → List Pcr → ℕ → Type 0
 AreMatchedByQuote inputs asked places status =
     (given : Answered) × IsAttestation inputs asked given × (places ≡ places_by given.is_well given.answer)
     × (status ≡ answer_status given.is_well given.answer)
@@ -112,7 +112,7 @@ AreMatchedByQuote inputs asked places status =
 -- ---- in files
 
 -- The bytes are a log, the text states expected registers, and these of them match.
-pub record MatchIn (log text : List ℕ) (places : List Place) : Type 0 where
+pub record MatchIn (log text : List ℕ) (places : List Pcr) : Type 0 where
   pub table : List Row
   pub events : List LogEvent
   pub expected : List Expected
@@ -121,7 +121,7 @@ pub record MatchIn (log text : List ℕ) (places : List Place) : Type 0 where
   pub places_are : places ≡ matched_places (algs_in table) events expected
 
 -- The registers that match after the log, if something tells it; none are compared if nothing does. And the status once all is told.
-abbrev pub AreMatched : Inputs → ConfirmedBy → List ℕ → Option (List Place) → ℕ → Type 0
+abbrev pub AreMatched : Inputs → ConfirmedBy → List ℕ → Option (List Pcr) → ℕ → Type 0
 AreMatched inputs confirmed.Nothing log matched status = (matched ≡ None) × (status ≡ 0)
 AreMatched inputs (confirmed.Expected name) log matched status =
     IsSomeAnd matched (λ places. OfInput inputs (Some (string_bytes name)) (λ text. MatchIn log text places)) × (status ≡ 0)

@@ -2,7 +2,7 @@
 use Rattle.std.specs.Prelude.{◌≡◌, ◌⊎◌, ℕ, List, [], ◌++◌, Option, None, Some}
 use Rattle.boot_log.specs.declared.header.Row.{Row}
 use Rattle.boot_log.specs.Spelling.{IsLog, LogEvent}
-use Rattle.measured_data.specs.declared.place.Place.{Place}
+use Rattle.measured_data.specs.declared.pcr.Pcr.{Pcr}
 use Rattle.boot_texts.specs.BootLines.{AreBootLines}
 use Rattle.boot_texts.specs.Differences.{AreDifferenceLines}
 use Rattle.agent_plans.specs.declared.plan.ConfirmedBy.{ConfirmedBy}
@@ -14,13 +14,13 @@ use Rattle.ima_agent.specs.Matching.{AreMatched, AreNotMatched}
 use Rattle.ima_agent.specs.Showing.{IsNoLogFor}
 
 -- The registers that match; none where none were compared.
-abbrev pub places_of : Option (List Place) → List Place
+abbrev pub places_of : Option (List Pcr) → List Pcr
 places_of None = []
 places_of (Some places) = places
 
 -- The text tells how far the boot with these events, and the earlier one that left the log in the file of this name, extended each register
 -- alike; without a name it is empty.
-abbrev pub AreCompared : Inputs → Form → List Place → List LogEvent → Option (List ℕ) → List ℕ → Type 0
+abbrev pub AreCompared : Inputs → Form → List Pcr → List LogEvent → Option (List ℕ) → List ℕ → Type 0
 AreCompared inputs form matched events None text = text ≡ []
 AreCompared inputs form matched events (Some name) text =
     OfInput inputs (Some name) (λ earlier. (table : List Row) × (others : List LogEvent) × IsLog earlier table others
@@ -33,7 +33,7 @@ pub record ShowsBoot (inputs : Inputs) (form : Form) (confirmed_by : ConfirmedBy
   pub table : List Row
   pub events : List LogEvent
   pub log_is : IsLog log table events
-  pub matched : Option (List Place)
+  pub matched : Option (List Pcr)
   pub are_matched : AreMatched inputs confirmed_by log matched status
   pub answers : List ℕ
   pub are_answers : AreBootLines form (places_of matched) events answers

@@ -2,7 +2,7 @@
 use Rattle.std.specs.Prelude.{◌≡◌, ℕ, Bool, true, false, ◌⊎◌, List, [], Option, Some, None}
 use Rattle.boot_log.specs.declared.header.Row.{Row}
 use Rattle.boot_log.specs.Spelling.{BeginsWith, LogEvent}
-use Rattle.measured_data.specs.declared.place.Place.{Place}
+use Rattle.measured_data.specs.declared.pcr.Pcr.{Pcr}
 use Rattle.event_lines.specs.EventTexts.{events_text}
 pub use Rattle.cells.specs.declared.writer.Form.{Form}
 pub use Rattle.cells.specs.ItemLines.{EndsWithFault}
@@ -34,13 +34,13 @@ IsReported forms.Json fault text status = IsReportedAsJson fault text status
 
 -- What can be read of the bytes as a log is shown with what its data says, and with what the registers that match confirm; with this status, if
 -- that is all.
-abbrev pub ShowsTold : Form → Option (List Place) → ℕ → List ℕ → List ℕ → ℕ → Type 0
+abbrev pub ShowsTold : Form → Option (List Pcr) → ℕ → List ℕ → List ℕ → ℕ → Type 0
 ShowsTold form matched done log shown status =
     ShowsToFault done (AreAllEvents (log_lines form matched log) log) (FailsAfterEvents (log_lines form matched log) fault_of_log log) (IsReported form) shown
     status
 
 -- The text is the lines of a header and events that the bytes begin with, and then memory ran out.
-abbrev pub RunsOutAfterEvents : Form → Option (List Place) → List ℕ → List ℕ → RunFault → Type 0
+abbrev pub RunsOutAfterEvents : Form → Option (List Pcr) → List ℕ → List ℕ → RunFault → Type 0
 RunsOutAfterEvents form matched log text fault =
     (fault ≡ runs.Memory)
     × ((table : List Row) × (given : List LogEvent) × (rest : List ℕ) × BeginsWith log table given rest × (text ≡ log_lines form matched log table given))
@@ -53,7 +53,7 @@ abbrev pub ShowsEvents : Inputs → Form → Option Bool → ConfirmedBy → Lis
 ShowsEvents inputs form (Some with_data) confirmed_by log text status = AreAllEvents (events_text with_data) log text × (status ≡ 0)
 ShowsEvents inputs form None confirmed_by log text status =
     IsKnownFor form log
-    × ((matched : Option (List Place)) × (done : ℕ) × AreMatched inputs confirmed_by log matched done
+    × ((matched : Option (List Pcr)) × (done : ℕ) × AreMatched inputs confirmed_by log matched done
     × ShowsTold form matched done log text status)
 
 -- Why no line of it is shown: the bytes are no log; or what is to be known before is not.
@@ -66,7 +66,7 @@ abbrev pub BreaksOffAfterEvents : Inputs → Form → Option Bool → ConfirmedB
 BreaksOffAfterEvents inputs form (Some with_data) confirmed_by log text status = ⊥
 BreaksOffAfterEvents inputs form None confirmed_by log text status =
     IsKnownFor form log
-    × ((matched : Option (List Place)) × (done : ℕ) × AreMatched inputs confirmed_by log matched done
+    × ((matched : Option (List Pcr)) × (done : ℕ) × AreMatched inputs confirmed_by log matched done
     × EndsWithFault (RunsOutAfterEvents form matched log) (IsReported form) text status)
 
 -- ---- what is shown while its input is read
@@ -78,14 +78,14 @@ ShowsPlainEventsIn form with_data log text status =
     ⊎ ((fault : RunFault) × HasLogFault log fault × IsFailure form fault text status)
 
 -- Why no more of the log in these bytes is shown than this text: it fails; or memory ran out, after some events or before the first line.
-abbrev pub StopsInLog : Form → Option (List Place) → List ℕ → List ℕ → RunFault → Type 0
+abbrev pub StopsInLog : Form → Option (List Pcr) → List ℕ → List ℕ → RunFault → Type 0
 StopsInLog form matched log text fault =
     FailsAfterEvents (log_lines form matched log) fault_of_log log text fault
     ⊎ RunsOutAfterEvents form matched log text fault
     ⊎ ((fault ≡ runs.Memory) × (text ≡ []))
 
 -- The log in these bytes is shown with what its data says, as far as it goes; with this status, if that is all.
-abbrev pub ShowsEventsIn : Form → Option (List Place) → ℕ → List ℕ → List ℕ → ℕ → Type 0
+abbrev pub ShowsEventsIn : Form → Option (List Pcr) → ℕ → List ℕ → List ℕ → ℕ → Type 0
 ShowsEventsIn form matched done log shown status =
     ShowsToFault done (AreAllEvents (log_lines form matched log) log) (StopsInLog form matched log) (IsReported form) shown status
 
@@ -93,6 +93,6 @@ ShowsEventsIn form matched done log shown status =
 abbrev pub ShowsToldOf : Inputs → Form → ConfirmedBy → List ℕ → List ℕ → ℕ → Type 0
 ShowsToldOf inputs form confirmed_by log shown status =
     (IsKnownFor form log
-    × ((matched : Option (List Place)) × (done : ℕ) × AreMatched inputs confirmed_by log matched done
+    × ((matched : Option (List Pcr)) × (done : ℕ) × AreMatched inputs confirmed_by log matched done
     × ShowsEventsIn form matched done log shown status))
     ⊎ ((fault : RunFault) × IsNotTold inputs form confirmed_by log fault × IsFailure form fault shown status)

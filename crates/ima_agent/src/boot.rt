@@ -15,7 +15,7 @@ use agent_inputs::{AgentFiles, RunFault, load_input};
 use agent_plans::{ConfirmedBy, Form};
 use boot_log::LogView;
 use boot_texts::{append_boot, append_differences};
-use measured_data::Place;
+use measured_data::Pcr;
 use rendering::Output;
 use std::alloc::Global;
 
@@ -42,7 +42,7 @@ pub(crate) fn boot_for<F: AgentFiles>(
 }
 
 // The registers that match; none where none were compared.
-fn places_of(matched: &Option<Vec<Place>>) -> &[Place]
+fn places_of(matched: &Option<Vec<Pcr>>) -> &[Pcr]
     ensures { result.now ≡ places_of (option_map (λ places. places.items) matched.now) }
 {
     match matched {
@@ -82,7 +82,7 @@ fn append_compared<F: AgentFiles>(
     alloc: Global,
     files: &mut F,
     view: &LogView<'_>,
-    matched: &[Place],
+    matched: &[Pcr],
     form: Form,
     before: Option<&str>,
     lines: &mut Vec<u8>,

@@ -8,7 +8,7 @@ ghost use Rattle.boot_log.specs.declared.header.Row.{Row};
 ghost use Rattle.boot_log.specs.LogViews.{log_bytes};
 ghost use Rattle.boot_log.specs.Spelling.{LogEvent, IsLog, algs_in};
 ghost use Rattle.pcr_banks.specs.Registers.{value_at};
-ghost use Rattle.measured_data.specs.declared.place.Place.{Place};
+ghost use Rattle.measured_data.specs.declared.pcr.Pcr.{Pcr};
 ghost use Rattle.ima_agent.specs.Showing.{IsNoLogFor};
 ghost use Rattle.ima_agent.specs.Matching.{AreMatched, AreNotExpected, IsKnownFor, IsMatched, IsNotTold, counts, has_value, is_refuted, matched_among, matched_places, place_of, refutes};
 
@@ -18,7 +18,7 @@ use agent_inputs::{AgentFiles, RunFault, load_input};
 use agent_plans::ConfirmedBy;
 use boot_log::LogView;
 use cells::Form;
-use measured_data::Place;
+use measured_data::Pcr;
 use pcr_banks::{Alg, Banks};
 use pcr_values::{Expected, read_expected};
 use std::alloc::{AllocError, Global};
@@ -27,7 +27,7 @@ use std::alloc::{AllocError, Global};
 #[derive(Drop)]
 pub(crate) struct Matched {
     /// The registers that match; `None` where none are compared.
-    pub places: Option<Vec<Place>>,
+    pub places: Option<Vec<Pcr>>,
     /// The exit status once all is told.
     pub status: u8,
 }
@@ -90,7 +90,7 @@ fn expected_in<F: AgentFiles>(
 }
 
 // Those of the expected registers that match after the log in these bytes.
-fn places_in(alloc: Global, log: &[u8], expected: &[Expected]) -> Result<Vec<Place>, RunFault>
+fn places_in(alloc: Global, log: &[u8], expected: &[Expected]) -> Result<Vec<Pcr>, RunFault>
     ensures matched { IfOk result (λ places. (table : List Row) × (events : List LogEvent) × IsLog log.now table events
         × (places.items ≡ matched_places (algs_in table) events expected.now)) }
     ensures fault { IfErr result (IsNoLogFor log.now) }
@@ -106,11 +106,11 @@ pub(crate) fn matched_places(
     alloc: Global,
     log: &LogView<'_>,
     expected: &[Expected],
-) -> Result<Vec<Place>, AllocError>
+) -> Result<Vec<Pcr>, AllocError>
     ensures places { IfOk result (λ places. (table : List Row) (events : List LogEvent) → IsLog (log_bytes log.now) table events
         → places.items ≡ matched_places (algs_in table) events expected.now) }
     // Exactly these are among them.
-    ensures each { IfOk result (λ places. (table : List Row) (events : List LogEvent) (place : Place) → IsLog (log_bytes log.now) table events
+    ensures each { IfOk result (λ places. (table : List Row) (events : List LogEvent) (place : Pcr) → IsLog (log_bytes log.now) table events
         → Contains places.items place ↔ IsMatched (algs_in table) events expected.now place) }
 {
     let registers = log.registers();
@@ -123,7 +123,7 @@ fn matched_among(
     alloc: Global,
     registers: &Banks,
     expected: &[Expected],
-) -> Result<Vec<Place>, AllocError>
+) -> Result<Vec<Pcr>, AllocError>
     ensures { IfOk result (λ places. places.items ≡ matched_among (value_at registers.now) expected.now expected.now) }
 {
     let mut places = Vec::new(alloc);
@@ -163,10 +163,10 @@ fn has_value(registers: &Banks, expected: &Expected) -> bool
 }
 
 // The register that is expected to have a value.
-fn place_of(expected: &Expected) -> Place
+fn place_of(expected: &Expected) -> Pcr
     ensures { result ≡ place_of expected.now }
 {
-    Place {
+    Pcr {
         alg: expected.alg,
         register: expected.register,
     }

@@ -16,7 +16,7 @@ use agent_plans::Quoting;
 use attestations::Selected;
 use boot_verdict::LIST_REGISTER;
 use judging::{Answer, Answered, Input, Request, answer_request};
-use measured_data::Place;
+use measured_data::Pcr;
 use pcr_banks::REGISTERS;
 use questions::attesting_by;
 use rendering::status_of_answer;
@@ -46,7 +46,7 @@ pub(crate) fn quoted_in<F: AgentFiles>(
 }
 
 // The registers that match by an answer: none, unless all is well with it.
-fn places_by(alloc: Global, given: &Answered) -> Result<Vec<Place>, AllocError>
+fn places_by(alloc: Global, given: &Answered) -> Result<Vec<Pcr>, AllocError>
     ensures { IfOk result (λ places. places.items ≡ places_by given.now.is_well given.now.answer) }
 {
     match (given.is_well, &given.answer) {
@@ -56,7 +56,7 @@ fn places_by(alloc: Global, given: &Answered) -> Result<Vec<Place>, AllocError>
 }
 
 // The registers that these selections are of, but for the list's.
-fn quoted_places(alloc: Global, selections: &[Selected]) -> Result<Vec<Place>, AllocError>
+fn quoted_places(alloc: Global, selections: &[Selected]) -> Result<Vec<Pcr>, AllocError>
     ensures { IfOk result (λ places. places.items ≡ quoted_places (map bank_selection_of selections.now)) }
 {
     let mut places = Vec::new(alloc);
@@ -67,12 +67,12 @@ fn quoted_places(alloc: Global, selections: &[Selected]) -> Result<Vec<Place>, A
 }
 
 // Appends those of one bank.
-fn push_places(selection: &Selected, places: &mut Vec<Place>) -> Result<(), AllocError>
+fn push_places(selection: &Selected, places: &mut Vec<Pcr>) -> Result<(), AllocError>
     ensures { OnOk result (places.new.items ≡ places.old.items ++ places_in (bank_selection_of selection.now)) }
 {
     for register in 0..REGISTERS {
         if is_of_log(selection, register) {
-            places.push(Place {
+            places.push(Pcr {
                 alg: selection.alg,
                 register,
             })?;

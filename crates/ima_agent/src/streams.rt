@@ -13,7 +13,7 @@ use byte_streams::{Failed, Sink, send};
 use entry_lines::{EntriesFault, send_entries};
 use event_lines::{EventsFault, send_events};
 use ima_list::laws::entries_to_the_end_are_the_reading;
-use measured_data::Place;
+use measured_data::Pcr;
 use rendering::Output;
 use std::alloc::Global;
 
@@ -61,7 +61,7 @@ pub(crate) fn send_log<S: Sink>(
     alloc: Global,
     log: &[u8],
     form: Form,
-    matched: Option<&[Place]>,
+    matched: Option<&[Pcr]>,
     status: u8,
     sink: &mut S,
 ) -> Sent

@@ -13,15 +13,15 @@ use Rattle.pcr_banks.specs.Hashing.{all_algs, same_alg}
 use Rattle.pcr_banks.proofs.AlgLaws.{every_passes, list_has, list_passes, same_alg_here, same_alg_is, some_passes}
 use Rattle.boot_log.specs.Spelling.{LogEvent}
 use Rattle.measured_data.specs.declared.part.Part.{Part}
-use Rattle.measured_data.specs.declared.place.Place.{Place}
+use Rattle.measured_data.specs.declared.pcr.Pcr.{Pcr}
 use Rattle.measured_data.specs.Measuring.{has_digest_of, is_measured, part_in}
-use Rattle.measured_data.specs.Confirming.{IsConfirmed, counts, has_place, is_confirmed}
+use Rattle.measured_data.specs.Confirming.{IsConfirmed, counts, has_pcr, is_confirmed}
 use Rattle.byte_fields.specs.Spelling.{IsBytes}
 use Rattle.measured_data.proofs.MeasuredLaws.{measured_told}
 
 -- ---- places
 
-place_is : (place : Place) (alg : Alg) (register : ℕ) → (same_alg place.alg alg && (place.register == register)) ≡ true
+place_is : (place : Pcr) (alg : Alg) (register : ℕ) → (same_alg place.alg alg && (place.register == register)) ≡ true
     → place ≡ record { alg = alg; register = register }
 place_is place alg register e =
     let both = and_parts (same_alg place.alg alg) (place.register == register) e in
@@ -29,15 +29,15 @@ place_is place alg register e =
     let registers : place.register ≡ register = eqb-true place.register register both.1 in
     ap (λ (a : Alg). record { alg = a; register = place.register }) algs ∙ ap (λ (r : ℕ). record { alg = alg; register = r }) registers
 
-place_told : (places : List Place) (alg : Alg) (register : ℕ)
-    → Decides (has_place places alg register) (Contains places (record { alg = alg; register = register }))
+place_told : (places : List Pcr) (alg : Alg) (register : ℕ)
+    → Decides (has_pcr places alg register) (Contains places (record { alg = alg; register = register }))
 place_told places alg register =
-    let test = λ (place : Place). same_alg place.alg alg && (place.register == register) in
-    let here : Place = record { alg = alg; register = register } in (
+    let test = λ (place : Pcr). same_alg place.alg alg && (place.register == register) in
+    let here : Pcr = record { alg = alg; register = register } in (
       λ e.
           let found = Any-from_list_any test places e in
           let is = place_is found.1 alg register found.4 in
-          (found.0, found.2, subst (λ (place : Place). slice_index_or places found.0 place ≡ place) is found.3),
+          (found.0, found.2, subst (λ (place : Pcr). slice_index_or places found.0 place ≡ place) is found.3),
       λ is. list_any_at test places is.0 here is.1
           (rw (is.2) (and_from (same_alg alg alg) (register == register) (same_alg_here alg) (eq-eqb register register refl))),
     )
@@ -47,12 +47,12 @@ place_told places alg register =
 same_is : (a b : Alg) → Decides (same_alg a b) (a ≡ b)
 same_is a b = (same_alg_is a b, λ e. rw e (same_alg_here b))
 
-abbrev pub Counts : List Place → Alg → ℕ → Type 0
+abbrev pub Counts : List Pcr → Alg → ℕ → Type 0
 Counts matched alg register = (alg ≡ Sha1 → ⊥) × Contains matched (record { alg = alg; register = register })
 
-pub counts_told : (matched : List Place) (alg : Alg) (register : ℕ) → Decides (counts matched alg register) (Counts matched alg register)
+pub counts_told : (matched : List Pcr) (alg : Alg) (register : ℕ) → Decides (counts matched alg register) (Counts matched alg register)
 counts_told matched alg register =
-    Decides-and (not (same_alg alg Sha1)) (has_place matched alg register) (Decides-not (same_alg alg Sha1) (same_is alg Sha1))
+    Decides-and (not (same_alg alg Sha1)) (has_pcr matched alg register) (Decides-not (same_alg alg Sha1) (same_is alg Sha1))
     (place_told matched alg register)
 
 -- A test of what is so where another holds.
@@ -60,7 +60,7 @@ follows : {A B : Type 0} (a b : Bool) → Decides a A → Decides b B → Decide
 follows true b first second = (λ e one. second.0 e, λ from. second.1 (from (first.0 refl)))
 follows false b first second = (λ e one. let no = first.1 one in absurd cc, λ from. refl)
 
-pub confirmed_told : (matched : List Place) (event : LogEvent) (part : Part) → IsBytes event.payload
+pub confirmed_told : (matched : List Pcr) (event : LogEvent) (part : Part) → IsBytes event.payload
     → Decides (is_confirmed matched event part) (IsConfirmed matched event part)
 confirmed_told matched event part fits =
     let counted = λ (alg : Alg). counts matched alg event.register in
@@ -84,7 +84,7 @@ confirmed_told matched event part fits =
     )
 
 -- The same test, of bytes that are the part's, or where the event has none.
-pub confirmed_bytes : (matched : List Place) (event : LogEvent) (part : Part) (bytes : List ℕ) → Some bytes ≡ part_in part event
+pub confirmed_bytes : (matched : List Pcr) (event : LogEvent) (part : Part) (bytes : List ℕ) → Some bytes ≡ part_in part event
     → (list_any (λ alg. counts matched alg event.register) all_algs
     && list_all (λ alg. not (counts matched alg event.register) || has_digest_of alg event bytes) all_algs) ≡ is_confirmed matched event part
 confirmed_bytes matched event part bytes e =
@@ -99,7 +99,7 @@ opposed true true here lacks e = absurd cc
 opposed true false here lacks e = absurd cc
 opposed false b here lacks e = absurd cc
 
-none_confirmed : (matched : List Place) (event : LogEvent) (part : Part) → None ≡ part_in part event
+none_confirmed : (matched : List Pcr) (event : LogEvent) (part : Part) → None ≡ part_in part event
     → is_confirmed matched event part ≡ true → ⊥
 none_confirmed matched event part e all =
     let counted = λ (alg : Alg). counts matched alg event.register in
@@ -109,7 +109,7 @@ none_confirmed matched event part e all =
     opposed (counted found.0) (is_measured found.0 event part) found.1 (not_measured found.0 event part e)
     (every_passes allows both.1 found.0)
 
-pub confirmed_none : (matched : List Place) (event : LogEvent) (part : Part) → None ≡ part_in part event
+pub confirmed_none : (matched : List Pcr) (event : LogEvent) (part : Part) → None ≡ part_in part event
     → false ≡ is_confirmed matched event part
 confirmed_none matched event part e =
     sym (false_from_ne_true (is_confirmed matched event part) (none_confirmed matched event part e))

@@ -6,13 +6,13 @@ use Rattle.pcr_banks.specs.declared.alg.Alg.TheVariants.{Sha1}
 use Rattle.pcr_banks.specs.Hashing.{all_algs, same_alg}
 use Rattle.boot_log.specs.Spelling.{LogEvent}
 use Rattle.measured_data.specs.declared.part.Part.{Part}
-use Rattle.measured_data.specs.declared.place.Place.{Place}
+use Rattle.measured_data.specs.declared.pcr.Pcr.{Pcr}
 use Rattle.measured_data.specs.Measuring.{IsMeasured, all_parts, is_measured}
 
 -- The event's register is among those that match in some bank other than SHA-1, of which collisions are made in practice; and this part of
 -- the event's data is measured in every such bank. One bank is not enough: a bank that the firmware leaves unextended matches whatever a
 -- program extends into it later (CVE-2021-42299).
-pub record IsConfirmed (matched : List Place) (event : LogEvent) (part : Part) : Type 0 where
+pub record IsConfirmed (matched : List Pcr) (event : LogEvent) (part : Part) : Type 0 where
   pub alg : Alg
   pub strong : alg ≡ Sha1 → ⊥
   pub matches : Contains matched (record { alg = alg; register = event.register })
@@ -22,19 +22,19 @@ pub record IsConfirmed (matched : List Place) (event : LogEvent) (part : Part) :
 -- ---- as functions
 
 -- Whether the bank's register is among the places.
-abbrev pub has_place : List Place → Alg → ℕ → Bool
-has_place places alg register = list_any (λ place. same_alg place.alg alg && (place.register == register)) places
+abbrev pub has_pcr : List Pcr → Alg → ℕ → Bool
+has_pcr places alg register = list_any (λ place. same_alg place.alg alg && (place.register == register)) places
 
 -- Whether the bank counts: it is not that of SHA-1, and its register is among the places.
-abbrev pub counts : List Place → Alg → ℕ → Bool
-counts matched alg register = not (same_alg alg Sha1) && has_place matched alg register
+abbrev pub counts : List Pcr → Alg → ℕ → Bool
+counts matched alg register = not (same_alg alg Sha1) && has_pcr matched alg register
 
 -- Whether some bank counts, and this part of the event's data is measured in every bank that does.
-abbrev pub is_confirmed : List Place → LogEvent → Part → Bool
+abbrev pub is_confirmed : List Pcr → LogEvent → Part → Bool
 is_confirmed matched event part =
     list_any (λ alg. counts matched alg event.register) all_algs
     && list_all (λ alg. not (counts matched alg event.register) || is_measured alg event part) all_algs
 
 -- The first part of the event's data that is confirmed.
-abbrev pub confirmed_part : List Place → LogEvent → Option Part
+abbrev pub confirmed_part : List Pcr → LogEvent → Option Part
 confirmed_part matched event = find (is_confirmed matched event) all_parts

@@ -5,17 +5,17 @@ ghost use Rattle.std.specs.List.{list_all, list_any};
 ghost use Rattle.pcr_banks.specs.Hashing.{all_algs};
 ghost use Rattle.boot_log.specs.Spelling.{log_event_of};
 ghost use Rattle.measured_data.specs.Measuring.{IsFirstPart, has_digest_of};
-ghost use Rattle.measured_data.specs.Confirming.{IsConfirmed, confirmed_part, counts, has_place, is_confirmed};
+ghost use Rattle.measured_data.specs.Confirming.{IsConfirmed, confirmed_part, counts, has_pcr, is_confirmed};
 
 use crate::measured::{has_digest_of, part_of};
 use crate::part::Part;
-use crate::place::Place;
+use crate::pcr::Pcr;
 use boot_log::Event;
 use pcr_banks::Alg;
 
 // Whether the bank's register is among the places.
-fn has_place(places: &[Place], alg: Alg, register: u32) -> bool
-    ensures { result ≡ has_place places.now alg register }
+fn has_pcr(places: &[Pcr], alg: Alg, register: u32) -> bool
+    ensures { result ≡ has_pcr places.now alg register }
 {
     places
         .iter()
@@ -23,28 +23,28 @@ fn has_place(places: &[Place], alg: Alg, register: u32) -> bool
 }
 
 // Whether the bank counts: it is not that of SHA-1, and its register is among the places.
-fn counts(matched: &[Place], alg: Alg, register: u32) -> bool
+fn counts(matched: &[Pcr], alg: Alg, register: u32) -> bool
     ensures { result ≡ counts matched.now alg register }
 {
-    alg != Alg::Sha1 && has_place(matched, alg, register)
+    alg != Alg::Sha1 && has_pcr(matched, alg, register)
 }
 
 // Whether some bank counts.
-fn some_counts(matched: &[Place], register: u32) -> bool
+fn some_counts(matched: &[Pcr], register: u32) -> bool
     ensures { result ≡ list_any (λ alg. counts matched.now alg register) all_algs }
 {
     Alg::ALL.iter().any(|alg| counts(matched, *alg, register))
 }
 
 // Whether the bank tells nothing against these bytes of the event: it does not count, or they are measured in it.
-fn allows(event: &Event<'_>, matched: &[Place], bytes: &[u8], alg: Alg) -> bool
+fn allows(event: &Event<'_>, matched: &[Pcr], bytes: &[u8], alg: Alg) -> bool
     ensures { result ≡ (not (counts matched.now alg event.now.register) || has_digest_of alg (log_event_of event.now) bytes.now) }
 {
     !counts(matched, alg, event.register) || has_digest_of(event, alg, bytes)
 }
 
 // Whether no bank tells anything against these bytes of the event.
-fn every_allows(event: &Event<'_>, matched: &[Place], bytes: &[u8]) -> bool
+fn every_allows(event: &Event<'_>, matched: &[Pcr], bytes: &[u8]) -> bool
     ensures { result ≡ list_all (λ alg. not (counts matched.now alg event.now.register)
         || has_digest_of alg (log_event_of event.now) bytes.now) all_algs }
 {
@@ -54,7 +54,7 @@ fn every_allows(event: &Event<'_>, matched: &[Place], bytes: &[u8]) -> bool
 }
 
 // Whether some bank counts, and these bytes of the event are measured in every bank that does.
-fn has_confirmed(event: &Event<'_>, matched: &[Place], bytes: &[u8]) -> bool
+fn has_confirmed(event: &Event<'_>, matched: &[Pcr], bytes: &[u8]) -> bool
     ensures { result ≡ (list_any (λ alg. counts matched.now alg event.now.register) all_algs
         && list_all (λ alg. not (counts matched.now alg event.now.register)
         || has_digest_of alg (log_event_of event.now) bytes.now) all_algs) }
@@ -63,7 +63,7 @@ fn has_confirmed(event: &Event<'_>, matched: &[Place], bytes: &[u8]) -> bool
 }
 
 // Whether some bank counts, and this part of the event's data is measured in every bank that does.
-fn is_confirmed(event: &Event<'_>, matched: &[Place], part: Part) -> bool
+fn is_confirmed(event: &Event<'_>, matched: &[Pcr], part: Part) -> bool
     ensures value { result ≡ is_confirmed matched.now (log_event_of event.now) part }
     ensures confirmed { IsTrue result ↔ IsConfirmed matched.now (log_event_of event.now) part }
 {
@@ -76,7 +76,7 @@ fn is_confirmed(event: &Event<'_>, matched: &[Place], part: Part) -> bool
 /// The part of the event's data that the registers in `matched` confirm, those that match: all of it, else the variable's value, else the
 /// command's text. A part is confirmed where the event's register matches in some bank other than SHA-1, and the part is measured in every
 /// such bank. So a bank that the firmware does not extend confirms nothing that another matching bank contradicts.
-pub fn confirmed_part(event: &Event<'_>, matched: &[Place]) -> Option<Part>
+pub fn confirmed_part(event: &Event<'_>, matched: &[Pcr]) -> Option<Part>
     ensures value { result ≡ confirmed_part matched.now (log_event_of event.now) }
     ensures first { IsFirstPart (IsConfirmed matched.now (log_event_of event.now)) result }
 {

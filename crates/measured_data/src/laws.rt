@@ -4,7 +4,7 @@ ghost use Rattle.std.specs.Prelude.{List};
 ghost use Rattle.pcr_banks.specs.declared.alg.Alg.{Alg};
 ghost use Rattle.byte_fields.specs.Spelling.{IsBytes};
 ghost use Rattle.boot_log.specs.Spelling.{LogEvent};
-ghost use Rattle.measured_data.specs.declared.place.Place.{Place};
+ghost use Rattle.measured_data.specs.declared.pcr.Pcr.{Pcr};
 ghost use Rattle.measured_data.specs.Confirming.{IsConfirmed, confirmed_part};
 ghost use Rattle.measured_data.specs.Measuring.{IsFirstPart, IsMeasured, measured_part};
 
@@ -13,6 +13,6 @@ ghost use Rattle.measured_data.specs.Measuring.{IsFirstPart, IsMeasured, measure
 pub fn parts_are_the_first()
     ensures measured { (alg : Alg) (event : LogEvent) → IsBytes event.payload
         → IsFirstPart (IsMeasured alg event) (measured_part alg event) }
-    ensures confirmed { (matched : List Place) (event : LogEvent) → IsBytes event.payload
+    ensures confirmed { (matched : List Pcr) (event : LogEvent) → IsBytes event.payload
         → IsFirstPart (IsConfirmed matched event) (confirmed_part matched event) }
 {}

@@ -8,10 +8,10 @@ mod confirmed;
 mod laws;
 mod measured;
 mod part;
-mod place;
+mod pcr;
 
 pub use confirmed::confirmed_part;
 pub use laws::parts_are_the_first;
 pub use measured::{is_measured, measured_part};
 pub use part::Part;
-pub use place::Place;
+pub use pcr::Pcr;

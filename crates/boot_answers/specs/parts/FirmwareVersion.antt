@@ -3,7 +3,7 @@ use Rattle.std.specs.Prelude.{List}
 use Rattle.pcr_banks.specs.declared.alg.Alg.{Alg}
 use Rattle.boot_log.specs.Spelling.{LogEvent}
 use Rattle.event_data.specs.EventForms.{Content}
-use Rattle.measured_data.specs.declared.place.Place.{Place}
+use Rattle.measured_data.specs.declared.pcr.Pcr.{Pcr}
 use Rattle.boot_answers.specs.Extending.{IsAnswering}
 use Rattle.boot_answers.specs.FirmwareVersion.{TellsVersion, firmware_register}
 
@@ -12,9 +12,9 @@ abbrev pub TellsAny : Alg → List LogEvent → Type 0
 TellsAny alg events = (content : Content) × TellsVersion alg events content
 
 -- The bank tells one, if it answers for register 0.
-abbrev pub Agrees : List Place → List LogEvent → Alg → Type 0
+abbrev pub Agrees : List Pcr → List LogEvent → Alg → Type 0
 Agrees matched events alg = IsAnswering matched alg firmware_register → TellsAny alg events
 
 -- Each bank that answers tells a version. They tell one, since it is what one event's data says.
-abbrev pub AllAgree : List Place → List LogEvent → Type 0
+abbrev pub AllAgree : List Pcr → List LogEvent → Type 0
 AllAgree matched events = (alg : Alg) → Agrees matched events alg

@@ -4,7 +4,7 @@ use Rattle.pcr_banks.specs.declared.alg.Alg.{Alg}
 use Rattle.boot_log.specs.Spelling.{LogEvent}
 use Rattle.boot_answers.specs.declared.secure_boot_state.SecureBoot.{SecureBoot}
 use Rattle.boot_answers.specs.declared.secure_boot_state.SecureBoot.TheVariants.{On, Off, Unknown}
-use Rattle.measured_data.specs.declared.place.Place.{Place}
+use Rattle.measured_data.specs.declared.pcr.Pcr.{Pcr}
 use Rattle.boot_answers.specs.Extending.{IsAnswering}
 use Rattle.boot_answers.specs.SecureBoot.{IsBefore, IsTelling, TellsSecureBoot, policy_register}
 
@@ -19,11 +19,11 @@ abbrev pub IsToldIn : Alg → List LogEvent → SecureBoot → Type 0
 IsToldIn alg events answer = IsOf (TellsSecureBoot alg events) answer
 
 -- The bank's answer is this, if it answers for register 7.
-abbrev pub Agrees : List Place → List LogEvent → SecureBoot → Alg → Type 0
+abbrev pub Agrees : List Pcr → List LogEvent → SecureBoot → Alg → Type 0
 Agrees matched events answer alg = IsAnswering matched alg policy_register → IsToldIn alg events answer
 
 -- Each bank that answers gives this answer.
-abbrev pub AllAgree : List Place → List LogEvent → SecureBoot → Type 0
+abbrev pub AllAgree : List Pcr → List LogEvent → SecureBoot → Type 0
 AllAgree matched events answer = (alg : Alg) → Agrees matched events answer alg
 
 -- The event's answer. It comes before no other.

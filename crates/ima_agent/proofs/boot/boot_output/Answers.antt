@@ -2,7 +2,7 @@ use Rattle.std.proofs.Common.{Bor, List, ℕ, Option, Vec, Global, ap, inl, inr,
 use Rattle.std.specs.Prelude.{option_map}
 use Rattle.std.proofs.lemmas.Result.{err_from_is_err_and}
 use Rattle.boot_log.specs.Spelling.{IsLog}
-use Rattle.measured_data.specs.declared.place.Place.{Place}
+use Rattle.measured_data.specs.declared.pcr.Pcr.{Pcr}
 use Rattle.ima_agent.proofs.BootLaws.{not_told}
 use Rattle.ima_agent.proofs.boot.boot_output.Goals as goal
 
@@ -42,7 +42,7 @@ returns-clause-shown g c =
       table = table;
       events = events;
       log_is = is;
-      matched = option_map (λ (places : Vec Place Global). places.items) c.in_ok-matched.matched.places;
+      matched = option_map (λ (places : Vec Pcr Global). places.items) c.in_ok-matched.matched.places;
       are_matched = c.in_ok-matched.ensures.matched;
       answers = answers;
       are_answers = rw c.places_of-places.ensures at are;

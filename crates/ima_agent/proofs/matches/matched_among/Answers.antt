@@ -1,6 +1,6 @@
 use Rattle.std.proofs.Common.{List, [], ◌∷◌, ◌++◌, ◌∙◌, ap, sym, take, take_all}
 use Rattle.pcr_banks.specs.Registers.{value_at}
-use Rattle.measured_data.specs.declared.place.Place.{Place}
+use Rattle.measured_data.specs.declared.pcr.Pcr.{Pcr}
 use Rattle.ima_agent.specs.Matching.{counts, matched_among}
 use Rattle.ima_agent.proofs.MatchingLaws.{matched_more, unmatched_more}
 use Rattle.ima_agent.proofs.matches.matched_among.Goals.{then-counts+in_ok-push, else-counts}
@@ -12,8 +12,8 @@ loop-row-preserved c =
     let expected = c.args.expected.now in
     elim c.if-counts.branch [
       | then-counts+in_ok-push w ↦
-          rw w.places-is (w.in_ok-push.ensures.items ∙ ap (λ (l : List Place). l ++ w.place_of.result ∷ []) c.loop-row.invariant
-          ∙ ap (λ (place : Place). matched_among value expected (take c.loop-row.row-index expected) ++ place ∷ []) w.place_of.ensures
+          rw w.places-is (w.in_ok-push.ensures.items ∙ ap (λ (l : List Pcr). l ++ w.place_of.result ∷ []) c.loop-row.invariant
+          ∙ ap (λ (place : Pcr). matched_among value expected (take c.loop-row.row-index expected) ++ place ∷ []) w.place_of.ensures
           ∙ sym (matched_more (counts value expected) expected c.loop-row.row-index _ c.loop-row-test.true
           (sym c.counts.ensures ∙ w.if-counts.true)))
       | else-counts w ↦

@@ -1,5 +1,5 @@
 use Rattle.std.proofs.Common.{◌≡◌, List, ◌∷◌, [], ◌++◌, ◌∙◌, ap, sym, arith, append_assoc}
-use Rattle.measured_data.specs.declared.place.Place.{Place}
+use Rattle.measured_data.specs.declared.pcr.Pcr.{Pcr}
 use Rattle.attestations.specs.Quoted.{bank_selection_of}
 use Rattle.ima_agent.proofs.QuotedLaws.{all_below, below, below_same, below_taken, place_at}
 use Rattle.ima_agent.proofs.quoted.push_places.Goals.{then-is_of_log+in_ok-push, else-is_of_log}
@@ -14,13 +14,13 @@ loop-register-preserved c =
     elim c.if-is_of_log.branch [
       | then-is_of_log+in_ok-push w ↦
           rw w.places-is (w.in_ok-push.ensures.items
-          ∙ ap (λ (l : List Place). l ++ place_at selection.alg register ∷ []) c.loop-register.invariant
+          ∙ ap (λ (l : List Pcr). l ++ place_at selection.alg register ∷ []) c.loop-register.invariant
           ∙ append_assoc before so_far (place_at selection.alg register ∷ [])
-          ∙ ap (λ (l : List Place). before ++ l)
+          ∙ ap (λ (l : List Pcr). before ++ l)
           (sym (below_taken selection.alg selection.bits.items register (sym c.is_of_log.ensures ∙ w.if-is_of_log.true))))
       | else-is_of_log w ↦
           rw w.places-is (c.loop-register.invariant
-          ∙ ap (λ (l : List Place). before ++ l)
+          ∙ ap (λ (l : List Pcr). before ++ l)
           (sym (below_same selection.alg selection.bits.items register (sym c.is_of_log.ensures ∙ w.if-is_of_log.false))))
     ]
 

@@ -1,5 +1,5 @@
 use Rattle.std.proofs.Common.{List, ◌++◌, ◌∙◌, ap, sym, get_or, take_all}
-use Rattle.measured_data.specs.declared.place.Place.{Place}
+use Rattle.measured_data.specs.declared.pcr.Pcr.{Pcr}
 use Rattle.attestations.specs.Quoted.{bank_selection_of}
 use Rattle.ima_agent.specs.Matching.{places_in}
 use Rattle.ima_agent.proofs.QuotedLaws.{one_bank_more, places_are, places_of}
@@ -10,7 +10,7 @@ loop-selection-preserved c =
     let items = c.args.selections.now in
     let index = c.loop-selection.selection-index in
     (rw c.selection-item.is at c.in_ok-push_places.ensures)
-    ∙ ap (λ (l : List Place). l ++ places_in (bank_selection_of (get_or items index c.selection-item.result))) c.loop-selection.invariant
+    ∙ ap (λ (l : List Pcr). l ++ places_in (bank_selection_of (get_or items index c.selection-item.result))) c.loop-selection.invariant
     ∙ sym (one_bank_more items index c.selection-item.result c.loop-selection-test.true)
 
 pub returns : goal.returns
