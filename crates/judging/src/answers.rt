@@ -12,7 +12,7 @@ use crate::known_texts::known_in;
 use crate::printed_registers::printed_registers;
 use crate::registers::{after_list, after_log};
 use crate::request::{
-    Answer, Answered, Answering, Comparison, Found, Request, Required, Wanted, weighed,
+    Answer, Answered, Answering, Comparison, Found, Request, Required, Wanted, answered_with,
 };
 use crate::sessions::checkpoint_in;
 use agent_inputs::{AgentFiles, RunFault, not_read};
@@ -95,7 +95,7 @@ fn compare_as_asked<F: AgentFiles>(
     let requirement = required_in(alloc, request.required)?;
     let evidence = evidence_of(alloc, files, request, requirement)?;
     let found = evidence.find(alloc, files, request)?;
-    Ok(weighed(request.required, evidence.requirement, found, None))
+    Ok(answered_with(request.required, evidence.requirement, found, None))
 }
 
 // What has to be among the expected registers, if a text spells it.

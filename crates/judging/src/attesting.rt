@@ -17,7 +17,7 @@ ghost use Rattle.judging.specs.Requests.{VerdictOf, attested_of, judgement_of, p
 use crate::answers::{Evidence, checkpoint_of, state_in};
 use crate::inputs::{Input, load_at};
 use crate::known_texts::known_in;
-use crate::request::{Answering, Attesting, Comparison, Judged, Required, Wanted, weighed};
+use crate::request::{Answering, Attesting, Comparison, Judged, Required, Wanted, answered_with};
 use agent_inputs::{AgentFiles, NotResumed, RunFault};
 use attestations::{
     AttestReport, ExpectedValues, Policy, Quoted, Whole, keep_confirmed, quote_for,
@@ -111,7 +111,7 @@ fn judge_by<F: AgentFiles>(
     };
     let found = evidence.find(alloc, files, comparison)?;
     let boot = Boot::of(quote);
-    Ok(weighed(Required::Nothing, None, found, Some(boot)))
+    Ok(answered_with(Required::Nothing, None, found, Some(boot)))
 }
 
 // What came of the values of expected registers, and those that count beside this quote.

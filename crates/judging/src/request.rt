@@ -217,7 +217,7 @@ pub(crate) struct Found {
 
 /// What was found, and what it is worth where this has to be among the expected registers, of which the text spells these. If all is well,
 /// another goes on from the checkpoint, if there is one, in this boot.
-pub(crate) fn weighed(
+pub(crate) fn answered_with(
     required: Required<'_>,
     requirement: Option<Requirement>,
     found: Found,

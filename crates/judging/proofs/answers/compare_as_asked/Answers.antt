@@ -24,8 +24,8 @@ returns-clause-answer g c = record {
   next = c.in_ok-found.found.next;
   takes = c.requires;
   evidence_is = c.in_ok-evidence.ensures.evidence;
-  requirement_is = c.weighed.ensures.requirement;
-  judged = rw (c.weighed.ensures.answer, c.weighed.ensures.unknown) (rw c.in_ok-evidence.ensures.known at c.in_ok-found.ensures.found);
-  well_is = rw (c.weighed.ensures.answer, c.weighed.ensures.requirement, c.weighed.ensures.unknown) c.weighed.ensures.well;
-  next_is = c.weighed.ensures.next;
+  requirement_is = c.answered_with.ensures.requirement;
+  judged = rw (c.answered_with.ensures.answer, c.answered_with.ensures.unknown) (rw c.in_ok-evidence.ensures.known at c.in_ok-found.ensures.found);
+  well_is = rw (c.answered_with.ensures.answer, c.answered_with.ensures.requirement, c.answered_with.ensures.unknown) c.answered_with.ensures.well;
+  next_is = c.answered_with.ensures.next;
 }

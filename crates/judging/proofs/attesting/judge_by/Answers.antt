@@ -73,7 +73,7 @@ returns-clause-answer g c =
       state_is = rw (c.in_ok-values.ensures.known, c.in_ok-log.ensures.known, c.comparison_of-comparison.ensures.wanted) at c.in_ok-state.ensures.state;
       boot_is = c.in_ok-state.ensures.boot;
       files_are = rw (c.in_ok-state.ensures.known, c.in_ok-values.ensures.known, c.in_ok-log.ensures.known) at c.in_ok-known.ensures.found;
-      judged = rw (c.weighed.ensures.answer, c.weighed.ensures.unknown) (rw (
+      judged = rw (c.answered_with.ensures.answer, c.answered_with.ensures.unknown) (rw (
         c.in_ok-known.ensures.known,
         c.in_ok-state.ensures.known,
         c.in_ok-values.ensures.known,
@@ -82,7 +82,7 @@ returns-clause-answer g c =
         c.comparison_of-comparison.ensures.list,
         c.checkpoint_of.ensures,
       ) at c.in_ok-found.ensures.found);
-      none_required = c.weighed.ensures.requirement;
-      well_is = rw (c.weighed.ensures.answer, c.weighed.ensures.unknown) c.weighed.ensures.well;
-      next_is = rw c.of-boot.ensures at c.weighed.ensures.next;
+      none_required = c.answered_with.ensures.requirement;
+      well_is = rw (c.answered_with.ensures.answer, c.answered_with.ensures.unknown) c.answered_with.ensures.well;
+      next_is = rw c.of-boot.ensures at c.answered_with.ensures.next;
     }
