@@ -172,12 +172,12 @@ grown_by answer = None
 -- What is asked for differs still, for these causes.
 abbrev pub IsSeen : Inputs → Requested → Causes → Type 0
 IsSeen inputs request causes =
-    (given : Answered) × IsAnswer inputs request given × (given.is_well ≡ false) × (causes ≡ causes_of given)
+    (given : Answered) × IsAnswer inputs request given × (given.is_success ≡ false) × (causes ≡ causes_of given)
 
 -- It differs no longer, or cannot be judged again.
 abbrev pub IsNotSeen : Inputs → Requested → Type 0
 IsNotSeen inputs request =
-    ((given : Answered) × IsAnswer inputs request given × (given.is_well ≡ true)) ⊎ ((fault : RunFault) × IsRefusal inputs request fault)
+    ((given : Answered) × IsAnswer inputs request given × (given.is_success ≡ true)) ⊎ ((fault : RunFault) × IsRefusal inputs request fault)
 
 -- The same asked of the shortest prefix that matches, where it is asked of a whole list.
 abbrev pub compared_on_prefix : Judgement → Option Judgement
@@ -198,11 +198,11 @@ on_prefix request = None
 abbrev pub IsGrown : Inputs → Requested → Grown → Type 0
 IsGrown inputs request grown =
     IsSomeAnd (on_prefix request)
-    (λ request. (given : Answered) × IsAnswer inputs request given × (given.is_well ≡ true) × (grown_by given.answer ≡ Some grown))
+    (λ request. (given : Answered) × IsAnswer inputs request given × (given.is_success ≡ true) × (grown_by given.answer ≡ Some grown))
 
 -- All is not well with any prefix, or none can be judged; or it is not asked of a whole list.
 abbrev pub IsNotGrown : Inputs → Requested → Type 0
 IsNotGrown inputs request =
     IfSome (on_prefix request)
-    (λ request. ((given : Answered) × IsAnswer inputs request given × ((given.is_well ≡ false) ⊎ (grown_by given.answer ≡ None)))
+    (λ request. ((given : Answered) × IsAnswer inputs request given × ((given.is_success ≡ false) ⊎ (grown_by given.answer ≡ None)))
     ⊎ ((fault : RunFault) × IsRefusal inputs request fault))

@@ -85,7 +85,7 @@ fn causes_seen<F: AgentFiles>(alloc: Global, files: &mut F, request: Request<'_>
     ensures saved { F.saved files.new ≡ F.saved files.old }
 {
     match answer_request(alloc, files, request) {
-        Ok(given) if !given.is_well => Some(causes_of(&given)),
+        Ok(given) if !given.is_success => Some(causes_of(&given)),
         Ok(_) | Err(_) => None,
     }
 }
@@ -99,7 +99,7 @@ fn grown_seen<F: AgentFiles>(alloc: Global, files: &mut F, request: Request<'_>)
 {
     let request = on_prefix(request)?;
     match answer_request(alloc, files, request) {
-        Ok(given) if given.is_well => grown_by(&given),
+        Ok(given) if given.is_success => grown_by(&given),
         Ok(_) | Err(_) => None,
     }
 }

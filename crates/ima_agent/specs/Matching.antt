@@ -101,13 +101,13 @@ quoted_places selections = flat_map places_in selections
 -- The registers that match by an answer: none, unless all is well with it.
 abbrev pub places_by : Bool → Answer → List Pcr
 places_by true (answers.Attestation report) = quoted_places (stated_of report.quoted).selections
-places_by is_well answer = []
+places_by is_success answer = []
 
 -- These match by the answer to what is asked of a quote; and the status is that of the answer.
 abbrev pub AreMatchedByQuote : Inputs → Attested → List Pcr → ℕ → Type 0
 AreMatchedByQuote inputs asked places status =
-    (given : Answered) × IsAttestation inputs asked given × (places ≡ places_by given.is_well given.answer)
-    × (status ≡ answer_status given.is_well given.answer)
+    (given : Answered) × IsAttestation inputs asked given × (places ≡ places_by given.is_success given.answer)
+    × (status ≡ answer_status given.is_success given.answer)
 
 -- ---- in files
 

@@ -47,9 +47,9 @@ pub(crate) fn quoted_in<F: AgentFiles>(
 
 // The registers that match by an answer: none, unless all is well with it.
 fn places_by(alloc: Global, given: &Answered) -> Result<Vec<Pcr>, AllocError>
-    ensures { IfOk result (λ places. places.items ≡ places_by given.now.is_well given.now.answer) }
+    ensures { IfOk result (λ places. places.items ≡ places_by given.now.is_success given.now.answer) }
 {
-    match (given.is_well, &given.answer) {
+    match (given.is_success, &given.answer) {
         (true, Answer::Attestation(report)) => quoted_places(alloc, &report.quoted.selections),
         _ => Ok(Vec::new(alloc)),
     }

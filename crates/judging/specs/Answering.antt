@@ -491,8 +491,8 @@ is_good requires ranges (answers.Attestation report) = report.is_signed && is_at
 is_good requires ranges answer = true
 
 -- Whether all is well: no entry is told unknown, and the answer is good.
-abbrev pub is_well : Requires → Option (List BankRange) → Option Unknown → Answer → Bool
-is_well requires ranges unknown answer = none_unknown unknown && is_good requires ranges answer
+abbrev pub is_success : Requires → Option (List BankRange) → Option Unknown → Answer → Bool
+is_success requires ranges unknown answer = none_unknown unknown && is_good requires ranges answer
 
 -- This is what comes of what is compared, and what it is worth. Nobody goes on from it, unless all is well; and no quote tells the boot.
 pub record IsComparison (inputs : Inputs) (request : Compared) (given : Answered) : Type 0 where
@@ -502,8 +502,8 @@ pub record IsComparison (inputs : Inputs) (request : Compared) (given : Answered
   pub evidence_is : IsEvidence inputs request evidence
   pub requirement_is : given.requirement ≡ evidence.required
   pub judged : IsJudged inputs request.judgement request.list evidence given.answer next given.unknown
-  pub well_is : given.is_well ≡ is_well request.required given.requirement given.unknown given.answer
-  pub next_is : given.next ≡ (if given.is_well then state_after None next else None)
+  pub well_is : given.is_success ≡ is_success request.required given.requirement given.unknown given.answer
+  pub next_is : given.next ≡ (if given.is_success then state_after None next else None)
 
 -- Why nothing comes of what is compared, where known files are asked for as they can be, or are not: the text spells no registers; it spells
 -- some or is not given, and there is no evidence; or there is, and no answer.
@@ -593,8 +593,8 @@ pub record IsAttestation (inputs : Inputs) (asked : Attested) (given : Answered)
   pub judged : IsJudged inputs (VerdictOf asked.log asked.scope asked.resume) asked.list
       (quoted_evidence log quote asked.is_signed values counted (checkpoint_of state) files) given.answer next given.unknown
   pub none_required : given.requirement ≡ None
-  pub well_is : given.is_well ≡ is_well Nothing None given.unknown given.answer
-  pub next_is : given.next ≡ (if given.is_well then state_after (Some (boot_of quote)) next else None)
+  pub well_is : given.is_success ≡ is_success Nothing None given.unknown given.answer
+  pub next_is : given.next ≡ (if given.is_success then state_after (Some (boot_of quote)) next else None)
 
 -- The input to go on from has no checkpoint; or it has one, and that is not of the quote's boot, or no quote confirmed it.
 abbrev pub IsNotOfQuote : Inputs → TpmQuote → Where → RunFault → Type 0
@@ -696,7 +696,7 @@ IsNoKey purpose content fault =
 
 -- All is well with an answer that compares nothing, and nobody goes on from it.
 abbrev pub alone : Answer → Answered
-alone answer = record { answer = answer; requirement = None; unknown = None; is_well = true; next = None }
+alone answer = record { answer = answer; requirement = None; unknown = None; is_success = true; next = None }
 
 -- This is what is asked for, where nothing is compared.
 abbrev pub IsAlone : Inputs → Requested → Answer → Type 0

@@ -2,7 +2,7 @@
 
 ghost use Rattle.std.specs.Prelude.{◌≡◌, None, if◌then◌else◌, option_map};
 ghost use Rattle.boot_verdict.specs.Verdicts.{verdict_of};
-ghost use Rattle.judging.specs.Answering.{alone, is_good, is_match, is_well, state_after};
+ghost use Rattle.judging.specs.Answering.{alone, is_good, is_match, is_success, state_after};
 ghost use Rattle.judging.specs.Requests.{requires_of};
 
 use crate::inputs::Input;
@@ -181,7 +181,7 @@ pub struct Answered {
     /// The entries that are not known, of those that the answer is on; none without known files.
     pub unknown: Option<Unknown>,
     /// Whether all is well: the verdict is `match`, or each register was located; what has to be among them is; and no entry is unknown.
-    pub is_well: bool,
+    pub is_success: bool,
     /// Where to go on, if all is well: the checkpoint of what a verdict is on, and the boot, if a quote confirmed it.
     pub next: Option<SavedState>,
 }
@@ -198,7 +198,7 @@ impl Answered {
             answer,
             requirement: None,
             unknown: None,
-            is_well: true,
+            is_success: true,
             next: None,
         }
     }
@@ -226,22 +226,22 @@ pub(crate) fn answered_with(
     ensures answer { result.answer ≡ found.answer }
     ensures requirement { result.requirement ≡ requirement }
     ensures unknown { result.unknown ≡ found.unknown }
-    ensures well { result.is_well ≡ is_well (requires_of required.entry) requirement found.unknown found.answer }
-    ensures next { result.next ≡ (if result.is_well then state_after boot found.next else None) }
+    ensures well { result.is_success ≡ is_success (requires_of required.entry) requirement found.unknown found.answer }
+    ensures next { result.next ≡ (if result.is_success then state_after boot found.next else None) }
 {
     let Found {
         answer,
         next,
         unknown,
     } = found;
-    let is_well = none_unknown(unknown.as_ref())
+    let is_success = none_unknown(unknown.as_ref())
         && is_good(required, requirement.as_ref(), &answer);
     Answered {
         answer,
         requirement,
         unknown,
-        is_well,
-        next: if is_well {
+        is_success,
+        next: if is_success {
             state_after(boot, next)
         } else {
             None

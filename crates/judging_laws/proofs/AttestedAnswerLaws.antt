@@ -143,7 +143,7 @@ from_nothing inputs asked given is resume =
     let none : is.state ≡ None = subst (λ (r : Option Where). IsKnown inputs r is.state) resume is.state_is in
     subst (λ (s : Option SavedState). IsTaken (checkpoint_of s) []) (sym none) refl
 
-module _ (inputs : Inputs) (asked : Attested) (given : Answered) (is : IsAttestation inputs asked given) (well : given.is_well ≡ true) where
+module _ (inputs : Inputs) (asked : Attested) (given : Answered) (is : IsAttestation inputs asked given) (well : given.is_success ≡ true) where
   abbrev evidence : Evidence
   evidence = quoted_evidence is.log is.quote asked.is_signed is.values is.counted (checkpoint_of is.state) is.files
 

@@ -139,7 +139,7 @@ entries_told : (quote : TpmQuote) (is_signed : Bool) (values : ExpectedValues) (
 entries_told quote is_signed values next on answer is = ap entries_of is.1 ∙ ap (λ (v : AttestVerdict). Some v.verdict.entries) is.2
 
 pub attested_known : KnownLaw → (inputs : Inputs) (asked : Attested) (given : Answered) (is : IsAttestation inputs asked given)
-    → given.is_well ≡ true → 0 < length asked.known → TellsKnown inputs asked.known asked.list (checkpoint_of is.state) given
+    → given.is_success ≡ true → 0 < length asked.known → TellsKnown inputs asked.known asked.list (checkpoint_of is.state) given
 attested_known law inputs asked given is well some = record { texts = has.texts; texts_are = has.texts_are; entries_are = by is.next is.judged }
   where
     has : HasTexts inputs asked.known is.files
@@ -212,7 +212,7 @@ module _ (law : KnownLaw) (inputs : Inputs) (places : List Where) (list : Where)
   list_known (answers.Key report part) next same judged = absurd judged
 
 pub comparison_known : KnownLaw → (inputs : Inputs) (request : Compared) (given : Answered) (is : IsComparison inputs request given)
-    → given.is_well ≡ true → 0 < length request.known → TellsKnown inputs request.known request.list is.evidence.known given
+    → given.is_success ≡ true → 0 < length request.known → TellsKnown inputs request.known request.list is.evidence.known given
 comparison_known law inputs request given is well some = record {
   texts = has.texts;
   texts_are = has.texts_are;

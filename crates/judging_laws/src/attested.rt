@@ -15,12 +15,12 @@ ghost use Rattle.judging_laws.specs.AttestedAnswers.{TellsAttested, TellsSomeAtt
 /// `resumed` and `resumed_prefix`: where the input continues a list that was judged before, so are the log and the list that both make, or
 /// its prefix, whichever list with that checkpoint was judged.
 pub fn answer_tells_attestation()
-    ensures whole { (inputs : Inputs) (asked : Attested) (given : Answered) (is : IsAttestation inputs asked given) → given.is_well ≡ true
+    ensures whole { (inputs : Inputs) (asked : Attested) (given : Answered) (is : IsAttestation inputs asked given) → given.is_success ≡ true
         → asked.scope ≡ Whole → asked.resume ≡ None → OfInput inputs asked.list (TellsAttested inputs asked given is) }
-    ensures prefix { (inputs : Inputs) (asked : Attested) (given : Answered) (is : IsAttestation inputs asked given) → given.is_well ≡ true
+    ensures prefix { (inputs : Inputs) (asked : Attested) (given : Answered) (is : IsAttestation inputs asked given) → given.is_success ≡ true
         → asked.scope ≡ Prefix → asked.resume ≡ None → OfInput inputs asked.list (TellsSomeAttested inputs asked given is) }
-    ensures resumed { (inputs : Inputs) (asked : Attested) (given : Answered) (is : IsAttestation inputs asked given) → given.is_well ≡ true
+    ensures resumed { (inputs : Inputs) (asked : Attested) (given : Answered) (is : IsAttestation inputs asked given) → given.is_success ≡ true
         → asked.scope ≡ Whole → OfList inputs asked.list (checkpoint_of is.state) (TellsAttested inputs asked given is) }
-    ensures resumed_prefix { (inputs : Inputs) (asked : Attested) (given : Answered) (is : IsAttestation inputs asked given) → given.is_well ≡ true
+    ensures resumed_prefix { (inputs : Inputs) (asked : Attested) (given : Answered) (is : IsAttestation inputs asked given) → given.is_success ≡ true
         → asked.scope ≡ Prefix → OfList inputs asked.list (checkpoint_of is.state) (TellsSomeAttested inputs asked given is) }
 {}

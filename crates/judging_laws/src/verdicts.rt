@@ -19,11 +19,11 @@ ghost use Rattle.judging.specs.Requests.{Compared, Nothing};
 pub fn report_is_well_by_its_verdict()
     ensures required { (inputs : Inputs) (request : Compared) (given : Answered) (ranges : List BankRange) (report : ReportData)
         → IsComparison inputs request given → given.requirement ≡ Some ranges → given.answer ≡ Report report
-        → given.is_well ≡ (none_unknown given.unknown && required_matches ranges (verdict_of report)) }
+        → given.is_success ≡ (none_unknown given.unknown && required_matches ranges (verdict_of report)) }
     ensures plain { (inputs : Inputs) (request : Compared) (given : Answered) (report : ReportData)
         → IsComparison inputs request given → request.required ≡ Nothing → given.requirement ≡ None → given.answer ≡ Report report
-        → given.is_well ≡ (none_unknown given.unknown && matches (verdict_of report)) }
+        → given.is_success ≡ (none_unknown given.unknown && matches (verdict_of report)) }
     ensures prefix { (inputs : Inputs) (request : Compared) (given : Answered) (ranges : List BankRange) (prefix : PrefixReport)
         → IsComparison inputs request given → given.requirement ≡ Some ranges → given.answer ≡ Prefix prefix
-        → given.is_well ≡ (none_unknown given.unknown && required_matches ranges (verdict_of prefix.report)) }
+        → given.is_success ≡ (none_unknown given.unknown && required_matches ranges (verdict_of prefix.report)) }
 {}

@@ -45,7 +45,7 @@ answer_cell well required unknown (Key report part) = key_cell part report
 
 -- The answer in this form.
 abbrev pub render : Form → Answered → List ℕ
-render form given = rendered form (answer_cell given.is_well given.requirement given.unknown given.answer)
+render form given = rendered form (answer_cell given.is_success given.requirement given.unknown given.answer)
 
 -- ---- a measurement
 
@@ -70,7 +70,7 @@ pub record IsShown (inputs : Inputs) (request : Requested) (form : Form) (shown 
   pub given : Answered
   pub answer : IsAnswer inputs request given
   pub text_is : shown ≡ render form given
-  pub status_is : status ≡ answer_status given.is_well given.answer
+  pub status_is : status ≡ answer_status given.is_success given.answer
   pub next_is : next ≡ given.next
 
 -- The file of this name, if one is given, was replaced by the text of this checkpoint, if there is one, and no other was.

@@ -43,7 +43,7 @@ const UNSIGNED: u8 = 4;
 /// The output of an answer in this form: its status says whether all is well, or that nobody verified the signature of a quote.
 pub fn render(alloc: Global, given: &Answered, form: Form) -> Result<Output, AllocError>
     ensures text { IfOk result (λ output. output.text.items ≡ render form given.now) }
-    ensures status { IfOk result (λ output. output.status ≡ answer_status given.now.is_well given.now.answer) }
+    ensures status { IfOk result (λ output. output.status ≡ answer_status given.now.is_success given.now.answer) }
 {
     Ok(Output {
         text: cells::render(alloc, form, &ShownAnswer { given })?,
@@ -53,9 +53,9 @@ pub fn render(alloc: Global, given: &Answered, form: Form) -> Result<Output, All
 
 /// The exit status of an answer.
 pub fn status_of_answer(given: &Answered) -> u8
-    ensures { result ≡ answer_status given.now.is_well given.now.answer }
+    ensures { result ≡ answer_status given.now.is_success given.now.answer }
 {
-    match (given.is_well, &given.answer) {
+    match (given.is_success, &given.answer) {
         (true, _) => DONE,
         (false, Answer::Attestation(report)) if !report.is_signed => UNSIGNED,
         (false, _) => DIFFERS,
@@ -69,7 +69,7 @@ struct ShownAnswer<'a> {
 }
 
 impl Shown for ShownAnswer<'_> {
-    ghost cell_of = { λ shown. answer_cell shown.given.now.is_well shown.given.now.requirement shown.given.now.unknown shown.given.now.answer };
+    ghost cell_of = { λ shown. answer_cell shown.given.now.is_success shown.given.now.requirement shown.given.now.unknown shown.given.now.answer };
 
     fn show(&self, alloc: Global, out: &mut CellWriter) -> Written {
         show_answer(alloc, self.given, out)
@@ -77,14 +77,14 @@ impl Shown for ShownAnswer<'_> {
 }
 
 fn show_answer(alloc: Global, given: &Answered, out: &mut CellWriter) -> Written
-    ensures { ShowsMembers result out.old out.new (answer_cell given.now.is_well given.now.requirement given.now.unknown given.now.answer) }
+    ensures { ShowsMembers result out.old out.new (answer_cell given.now.is_success given.now.requirement given.now.unknown given.now.answer) }
 {
     let requirement = given.requirement.as_ref();
     let unknown = given.unknown.as_ref();
     match &given.answer {
         Answer::Attestation(report) => show_attestation(alloc, report, unknown, out),
         Answer::Report(report) => {
-            show_report(alloc, report, requirement, unknown, given.is_well, out)
+            show_report(alloc, report, requirement, unknown, given.is_success, out)
         }
         Answer::Prefix(prefix) => show_prefix(alloc, prefix, requirement, unknown, out),
         Answer::Positions(positions) => show_positions(alloc, positions, requirement, out),

@@ -12,12 +12,12 @@ fn assert_each_write_fails(rt: &impl Abort, sent: &Text<'_>, text: &[u8], most: 
     for writes in 0..text.len() {
         let mut sink = PieceSink::failing(text, most, writes);
         let is_sent = sent.send(&mut sink).is_ok();
-        let is_well = if is_sent {
+        let is_success = if is_sent {
             sink.is_full()
         } else {
             sink.is_cut()
         };
-        assert!(rt; is_well, "{writes} writes of {most}");
+        assert!(rt; is_success, "{writes} writes of {most}");
     }
     let mut sink = PieceSink::failing(text, most, text.len());
     assert!(rt; sent.send(&mut sink).is_ok() && sink.is_full());
