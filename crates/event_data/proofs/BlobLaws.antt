@@ -2,17 +2,17 @@
 use Rattle.std.proofs.Common.{◌≡◌, ℕ, List, [], Option, Some, None, unwrap_or, Result, Ok, Err, refl, sym, ap, ◌∙◌}
 use Rattle.std.specs.Result.{result_ok}
 use Rattle.byte_fields.specs.Formats.{whole}
-use Rattle.event_data.specs.declared.misfit.Misfit.{Misfit}
+use Rattle.event_data.specs.declared.mismatch.Mismatch.{Mismatch}
 use Rattle.byte_fields.proofs.Steps.{IsBytes}
 use Rattle.byte_fields.proofs.FormatLaws.{Exact, byte_exact, number32_exact, number64_exact, sized_exact, sized_by_exact, followed_exact, mapped_exact, whole_takes, whole_again}
-use Rattle.event_data.specs.declared.misfit.Misfit.TheVariants.{Form}
+use Rattle.event_data.specs.declared.mismatch.Mismatch.TheVariants.{Form}
 use Rattle.event_data.specs.Blobs.{BlobData, TaggedData, IsPlainBlob, IsDescribedBlob, IsTagged}
 use Rattle.event_data.specs.BlobReading.{plain_blob, plain_blob_in, described_blob, described_blob_in, tagged, tagged_in}
 use Rattle.event_data.proofs.FormLaws.{AnyFault}
 use Rattle.event_data.proofs.Finding.{Finds, whole_finds}
 
 -- The description of a blob that was read.
-described : Result BlobData Misfit → Option (List ℕ)
+described : Result BlobData Mismatch → Option (List ℕ)
 described (Ok blob) = blob.description
 described (Err fault) = None
 
@@ -29,7 +29,7 @@ unfolding plain_blob described
 plain_takes bytes v fits e =
     let taken = whole_takes Form plain_exact bytes v fits e in
     record {
-      no_description = ap (λ (b : Result BlobData Misfit). described b) (sym taken.0.1);
+      no_description = ap (λ (b : Result BlobData Mismatch). described b) (sym taken.0.1);
       base_fits = taken.0.0.0;
       size_fits = taken.0.0.1;
       spelled = taken.1;
@@ -63,7 +63,7 @@ described_takes bytes v fits e =
     let taken = whole_takes Form described_exact bytes v fits e in
     record {
       text = unwrap_or v.description [];
-      description = ap (λ (b : Result BlobData Misfit). described b) (sym taken.0.1);
+      description = ap (λ (b : Result BlobData Mismatch). described b) (sym taken.0.1);
       description_fits = taken.0.0.0.0.0;
       base_fits = taken.0.0.1.0;
       size_fits = taken.0.0.1.1;

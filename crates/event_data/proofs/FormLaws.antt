@@ -6,13 +6,13 @@ use Rattle.byte_fields.specs.Formats.{number, whole}
 use Rattle.byte_fields.specs.Spelling.{number64}
 use Rattle.byte_fields.proofs.Steps.{IsBytes}
 use Rattle.byte_fields.proofs.FormatLaws.{Exact, number32_exact, number64_exact, part_exact, followed_exact, mapped_exact, whole_takes, whole_again}
-use Rattle.event_data.specs.declared.misfit.Misfit.{Misfit}
-use Rattle.event_data.specs.declared.misfit.Misfit.TheVariants.{Form}
+use Rattle.event_data.specs.declared.mismatch.Mismatch.{Mismatch}
+use Rattle.event_data.specs.declared.mismatch.Mismatch.TheVariants.{Form}
 use Rattle.event_data.specs.Forms.{VariableData, IsVariable, ImageData, IsImage, IsSeparator}
 use Rattle.event_data.specs.Reading.{variable, variable_in, image, image_in, separator_in}
 use Rattle.event_data.proofs.Finding.{Finds, whole_finds, some_is}
 
-abbrev pub AnyFault : Misfit → Type 0
+abbrev pub AnyFault : Mismatch → Type 0
 AnyFault fault = Unit {0}
 
 -- ---- a variable

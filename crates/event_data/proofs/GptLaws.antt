@@ -6,8 +6,8 @@ use Rattle.std.proofs.lemmas.Bool.Decides.{Decides-eqb}
 use Rattle.byte_fields.specs.Items.{AreItems}
 use Rattle.byte_fields.proofs.Steps.{IsBytes, bind_ok, test_ok, ok_is}
 use Rattle.byte_fields.proofs.FormatLaws.{Exact, takes, again, passes, number32_exact, number64_exact, part_exact, followed_exact, unless_exact, mapped_exact, IsBytes-behind}
-use Rattle.event_data.specs.declared.misfit.Misfit.{Misfit}
-use Rattle.event_data.specs.declared.misfit.Misfit.TheVariants.{Form}
+use Rattle.event_data.specs.declared.mismatch.Mismatch.{Mismatch}
+use Rattle.event_data.specs.declared.mismatch.Mismatch.TheVariants.{Form}
 use Rattle.event_data.specs.GptForms.{GptData, PartitionData, IsGpt, IsPartition}
 use Rattle.event_data.specs.GptReading.{TableFront, table_front, table_in, fitting, gpt_in, partition_at, then_more, partitions_within, partitions_in}
 use Rattle.byte_fields.specs.Spelling.{number32, number64}
@@ -24,7 +24,7 @@ unfolding partitions_within
 none_left size zero = refl
 none_left size (suc steps) = rw (no_entry size) refl
 
-same_more : (reading : Result (PartitionData × List ℕ) Misfit) (f g : List ℕ → List PartitionData)
+same_more : (reading : Result (PartitionData × List ℕ) Mismatch) (f g : List ℕ → List PartitionData)
     → ((x : PartitionData) (rest : List ℕ) → reading ≡ Ok (x, rest) → f rest ≡ g rest) → then_more reading f ≡ then_more reading g
 same_more (Ok x) f g same = ap (λ (m : List PartitionData). x.0 ∷ m) (same x.0 x.1 refl)
 same_more (Err fault) f g same = refl
@@ -51,7 +51,7 @@ more_left size (b ∷ bytes) x rest wide fits e =
     rw e (ap (λ (m : List PartitionData). x ∷ m)
     (steps_enough size (length bytes) (length rest) rest wide taken.rest_fits (omega (arith, taken.length_is)) (omega arith)))
 
-pub last_left : (size : ℕ) (bytes : List ℕ) (fault : Misfit) → partition_at size bytes ≡ Err fault → partitions_in size bytes ≡ []
+pub last_left : (size : ℕ) (bytes : List ℕ) (fault : Mismatch) → partition_at size bytes ≡ Err fault → partitions_in size bytes ≡ []
 unfolding partitions_within
 last_left size [] fault e = refl
 last_left size (b ∷ bytes) fault e = rw e refl

@@ -5,8 +5,8 @@ use Rattle.std.proofs.lemmas.List.{length-append}
 use Rattle.byte_fields.specs.Items.{HasNoItem}
 use Rattle.byte_fields.proofs.Steps.{IsBytes, ok_not_err}
 use Rattle.byte_fields.proofs.FormatLaws.{Exact, takes, again, passes, number16_exact, byte_exact, part_exact, followed_exact, unless_exact, mapped_exact, IsBytes-behind}
-use Rattle.event_data.specs.declared.misfit.Misfit.{Misfit}
-use Rattle.event_data.specs.declared.misfit.Misfit.TheVariants.{Form}
+use Rattle.event_data.specs.declared.mismatch.Mismatch.{Mismatch}
+use Rattle.event_data.specs.declared.mismatch.Mismatch.TheVariants.{Form}
 use Rattle.event_data.specs.Forms.{NodeData, IsNode}
 use Rattle.event_data.specs.Reading.{node, and_more, nodes_within, nodes_in}
 use Rattle.event_data.proofs.FormLaws.{AnyFault}
@@ -53,19 +53,19 @@ node_is front x is =
     let less : length x.payload ≡ length x.payload + 4 - 4 = omega arith in
     ((is.kind_fits, (is.subtype_fits, ((is.size_fits, rw small refl), less))), refl)
 
-pub node_missing : (bytes : List ℕ) (fault : Misfit) → node.at bytes ≡ Err fault → HasNoItem IsNode bytes
+pub node_missing : (bytes : List ℕ) (fault : Mismatch) → node.at bytes ≡ Err fault → HasNoItem IsNode bytes
 unfolding node
 node_missing bytes fault e x front rest parts is =
     ok_not_err (x, rest) fault (sym (again node_exact x rest (node_is front x is)) ∙ ap node.at (sym (parts ∙ ap (λ (f : List ℕ). f ++ rest) is.spelled)) ∙ e)
 
 -- ---- the nodes at the front
 
-same_more : (reading : Result (NodeData × List ℕ) Misfit) (f g : List ℕ → List NodeData × List ℕ) (bytes : List ℕ)
+same_more : (reading : Result (NodeData × List ℕ) Mismatch) (f g : List ℕ → List NodeData × List ℕ) (bytes : List ℕ)
     → ((x : NodeData) (rest : List ℕ) → reading ≡ Ok (x, rest) → f rest ≡ g rest) → and_more reading f bytes ≡ and_more reading g bytes
 same_more (Ok x) f g bytes same = ap (λ (m : List NodeData × List ℕ). (x.0 ∷ m.0, m.1)) (same x.0 x.1 refl)
 same_more (Err fault) f g bytes same = refl
 
-no_node : (fault : Misfit) → node.at [] ≡ Err Form
+no_node : (fault : Mismatch) → node.at [] ≡ Err Form
 unfolding node
 no_node fault = refl
 
@@ -96,7 +96,7 @@ nodes_more (b ∷ bytes) x rest fits e =
     rw e (ap (λ (m : List NodeData × List ℕ). (x ∷ m.0, m.1))
     (nodes_enough (length bytes) (length rest) rest taken.rest_fits (omega (arith, taken.shorter)) (omega arith)))
 
-pub nodes_last : (bytes : List ℕ) (fault : Misfit) → node.at bytes ≡ Err fault → nodes_in bytes ≡ ([], bytes)
+pub nodes_last : (bytes : List ℕ) (fault : Mismatch) → node.at bytes ≡ Err fault → nodes_in bytes ≡ ([], bytes)
 unfolding nodes_within
 nodes_last [] fault e = refl
 nodes_last (b ∷ bytes) fault e = rw e refl

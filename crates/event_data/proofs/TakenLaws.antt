@@ -6,14 +6,14 @@ use Rattle.byte_fields.specs.Formats.{Format}
 use Rattle.byte_fields.specs.Items.{AreItems, HasNoItem}
 use Rattle.byte_fields.proofs.Steps.{IsBytes, ok_not_err}
 use Rattle.byte_fields.proofs.FormatLaws.{Exact, takes, again, IsBytes-behind}
-use Rattle.event_data.specs.declared.misfit.Misfit.{Misfit}
+use Rattle.event_data.specs.declared.mismatch.Mismatch.{Mismatch}
 use Rattle.event_data.specs.ValueReading.{with_more, taken_within, taken_in, all_taken}
 use Rattle.event_data.proofs.FormLaws.{AnyFault}
 
 pub empty_fits : IsBytes []
 empty_fits i = omega arith
 
-same_more : {X : Type 0} (reading : Result (X × List ℕ) Misfit) (f g : List ℕ → List X × List ℕ) (bytes : List ℕ)
+same_more : {X : Type 0} (reading : Result (X × List ℕ) Mismatch) (f g : List ℕ → List X × List ℕ) (bytes : List ℕ)
     → ((x : X) (rest : List ℕ) → reading ≡ Ok (x, rest) → f rest ≡ g rest) → with_more reading f bytes ≡ with_more reading g bytes
 same_more {X} (Ok x) f g bytes same = ap (λ (m : List X × List ℕ). (x.0 ∷ m.0, m.1)) (same x.0 x.1 refl)
 same_more (Err fault) f g bytes same = refl
@@ -31,7 +31,7 @@ all_is taken xs e =
     let all = all_when (eqb (length taken.1) 0) taken.0 xs e in
     (all.0, empty_is taken.1 all.1)
 
-module _ {X : Type 0} {format : Format X Misfit} (exact : Exact AnyFault format)
+module _ {X : Type 0} {format : Format X Mismatch} (exact : Exact AnyFault format)
     (some : (x : X) → format.Is x → 0 < length (format.spell x)) where
   pub taken_shorter : (bytes : List ℕ) (x : X) (rest : List ℕ) → IsBytes bytes → format.at bytes ≡ Ok (x, rest)
       → length rest < length bytes
@@ -44,7 +44,7 @@ module _ {X : Type 0} {format : Format X Misfit} (exact : Exact AnyFault format)
   taken_fits bytes x rest fits e =
       IsBytes-behind bytes (format.spell x) rest (takes exact bytes (x, rest) fits e).parts fits
 
-  empty_gives : (reading : Result (X × List ℕ) Misfit) (more : List ℕ → List X × List ℕ) → format.at [] ≡ reading
+  empty_gives : (reading : Result (X × List ℕ) Mismatch) (more : List ℕ → List X × List ℕ) → format.at [] ≡ reading
       → with_more reading more [] ≡ ([], [])
   empty_gives (Ok x) more e = absurd (omega (arith, taken_shorter [] x.0 x.1 empty_fits e))
   empty_gives (Err fault) more e = refl
@@ -76,7 +76,7 @@ module _ {X : Type 0} {format : Format X Misfit} (exact : Exact AnyFault format)
       rw e (ap (λ (m : List X × List ℕ). (x ∷ m.0, m.1))
       (taken_enough (length bytes) (length rest) rest (taken_fits (b ∷ bytes) x rest fits e) (omega (arith, less)) (omega arith)))
 
-  pub taken_last : (bytes : List ℕ) (fault : Misfit) → format.at bytes ≡ Err fault → taken_in format.at bytes ≡ ([], bytes)
+  pub taken_last : (bytes : List ℕ) (fault : Mismatch) → format.at bytes ≡ Err fault → taken_in format.at bytes ≡ ([], bytes)
   unfolding taken_within
   taken_last [] fault e = refl
   taken_last (b ∷ bytes) fault e = rw e refl
@@ -89,13 +89,13 @@ module _ {X : Type 0} {format : Format X Misfit} (exact : Exact AnyFault format)
         let taken = takes exact bytes (x, rest) fits e in
         (format.spell x, taken.parts, into x taken.is)
 
-    pub item_missing : (bytes : List ℕ) (fault : Misfit) → format.at bytes ≡ Err fault → HasNoItem Is bytes
+    pub item_missing : (bytes : List ℕ) (fault : Mismatch) → format.at bytes ≡ Err fault → HasNoItem Is bytes
     item_missing bytes fault e x prefix rest parts is =
         let own = out prefix x is in
         ok_not_err (x, rest) fault
         (sym (again exact x rest own.0) ∙ ap format.at (sym (parts ∙ ap (λ (front : List ℕ). front ++ rest) own.1)) ∙ e)
 
-    first_are : (reading : Result (X × List ℕ) Misfit) (more : List ℕ → List X × List ℕ) (bytes : List ℕ) → IsBytes bytes
+    first_are : (reading : Result (X × List ℕ) Mismatch) (more : List ℕ → List X × List ℕ) (bytes : List ℕ) → IsBytes bytes
         → format.at bytes ≡ reading
         → ((x : X) (rest : List ℕ) → format.at bytes ≡ Ok (x, rest) → (more rest).1 ≡ [] → AreItems Is rest (more rest).0)
         → (with_more reading more bytes).1 ≡ [] → AreItems Is bytes (with_more reading more bytes).0

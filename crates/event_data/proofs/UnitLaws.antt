@@ -5,8 +5,8 @@ use Rattle.std.proofs.lemmas.List.{take_at, take_all, length-append, append-nil}
 use Rattle.byte_fields.specs.Formats.{Begins, IsRead}
 use Rattle.byte_fields.proofs.Steps.{ok_not_err}
 use Rattle.byte_fields.proofs.FormatLaws.{Exact}
-use Rattle.event_data.specs.declared.misfit.Misfit.{Misfit}
-use Rattle.event_data.specs.declared.misfit.Misfit.TheVariants.{Form}
+use Rattle.event_data.specs.declared.mismatch.Mismatch.{Mismatch}
+use Rattle.event_data.specs.declared.mismatch.Mismatch.TheVariants.{Form}
 use Rattle.event_data.specs.ValueForms.{are_units}
 use Rattle.event_data.specs.ValueReading.{behind, units_at, units}
 use Rattle.event_data.proofs.FormLaws.{AnyFault}
@@ -27,11 +27,11 @@ units_again (low ∷ high ∷ text) rest are =
 
 -- ---- what is read is what was spelled
 
-abbrev Found : List ℕ → Result (List ℕ × List ℕ) Misfit → Type 0
+abbrev Found : List ℕ → Result (List ℕ × List ℕ) Mismatch → Type 0
 Found bytes (Ok x) = Begins units bytes x.0 x.1
 Found bytes (Err fault) = Unit {0}
 
-found_step : (low high : ℕ) (bytes : List ℕ) (nul : Bool) (reading : Result (List ℕ × List ℕ) Misfit)
+found_step : (low high : ℕ) (bytes : List ℕ) (nul : Bool) (reading : Result (List ℕ × List ℕ) Mismatch)
     → nul ≡ (eqb low 0 && eqb high 0) → Found bytes reading
     → Found (low ∷ high ∷ bytes) (cond nul (Ok ([], bytes)) (behind (low ∷ high ∷ []) reading))
 found_step low high bytes true reading e found =
@@ -48,13 +48,13 @@ units_found (low ∷ []) = tt
 units_found (low ∷ high ∷ bytes) =
     found_step low high bytes (eqb low 0 && eqb high 0) (units_at bytes) refl (units_found bytes)
 
-read_is : (bytes : List ℕ) (reading : Result (List ℕ × List ℕ) Misfit) → units_at bytes ≡ reading → Found bytes reading
+read_is : (bytes : List ℕ) (reading : Result (List ℕ × List ℕ) Mismatch) → units_at bytes ≡ reading → Found bytes reading
     → IsRead units bytes reading
 read_is bytes (Ok x) e found = found
 read_is bytes (Err Form) e found =
     (refl, λ text rest are parts. ok_not_err (text, rest) Form (sym (units_again text rest are) ∙ ap units_at (sym parts) ∙ e))
 
-given_is : (bytes : List ℕ) (reading own : Result (List ℕ × List ℕ) Misfit) → units_at bytes ≡ own → Found bytes own
+given_is : (bytes : List ℕ) (reading own : Result (List ℕ × List ℕ) Mismatch) → units_at bytes ≡ own → Found bytes own
     → IsRead units bytes reading → own ≡ reading
 given_is bytes (Ok x) own e found is = sym e ∙ ap units_at is.parts ∙ units_again x.0 x.1 is.is
 given_is bytes (Err fault) (Ok x) e found fail = absurd (fail.1 x.0 x.1 found.is found.parts)
@@ -69,12 +69,12 @@ units_exact = record {
 
 -- ---- reading by steps
 
-behind_twice : (front more : List ℕ) (reading : Result (List ℕ × List ℕ) Misfit)
+behind_twice : (front more : List ℕ) (reading : Result (List ℕ × List ℕ) Mismatch)
     → behind front (behind more reading) ≡ behind (front ++ more) reading
 behind_twice front more (Ok x) = ap (λ (t : List ℕ). Ok (t, x.1)) (sym (append_assoc front more x.0))
 behind_twice front more (Err fault) = refl
 
-pub behind_nothing : (reading : Result (List ℕ × List ℕ) Misfit) → behind [] reading ≡ reading
+pub behind_nothing : (reading : Result (List ℕ × List ℕ) Mismatch) → behind [] reading ≡ reading
 behind_nothing (Ok x) = refl
 behind_nothing (Err fault) = refl
 

@@ -6,8 +6,8 @@ use Rattle.byte_fields.specs.Reading.{◌>>=◌, part_at}
 use Rattle.byte_fields.specs.Spelling.{number16, number32}
 use Rattle.byte_fields.proofs.Steps.{IsBytes}
 use Rattle.byte_fields.proofs.FormatLaws.{Exact, takes, again, fault, number16_exact, number32_exact, part_exact, followed_exact, mapped_exact}
-use Rattle.event_data.specs.declared.misfit.Misfit.{Misfit}
-use Rattle.event_data.specs.declared.misfit.Misfit.TheVariants.{Form}
+use Rattle.event_data.specs.declared.mismatch.Mismatch.{Mismatch}
+use Rattle.event_data.specs.declared.mismatch.Mismatch.TheVariants.{Form}
 use Rattle.event_data.specs.ValueForms.{LoadOptionData, IsLoadOption, IsBootNumber, SignatureData, IsSignature}
 use Rattle.event_data.specs.ValueReading.{load_option, load_option_in, boot_number, numbers_in, signature, signature_in, with_more, taken_within}
 use Rattle.event_data.proofs.FormLaws.{AnyFault}
@@ -34,10 +34,10 @@ parts_joined a b text path more =
     ∙ ap (λ (t : List ℕ). b ++ t) (append_assoc (text ++ 0 ∷ 0 ∷ []) path more ∙ append_assoc text (0 ∷ 0 ∷ []) (path ++ more)))
 
 -- What a reading gives, with what remains as the optional data.
-abbrev pub option_with_rest : Result (LoadOptionData × List ℕ) Misfit → Option LoadOptionData
+abbrev pub option_with_rest : Result (LoadOptionData × List ℕ) Mismatch → Option LoadOptionData
 option_with_rest reading = result_ok (reading >>= λ x. Ok (record x.0 { optional_data = x.1 }))
 
-option_taken : (bytes : List ℕ) (o : LoadOptionData) (reading : Result (LoadOptionData × List ℕ) Misfit) → IsBytes bytes
+option_taken : (bytes : List ℕ) (o : LoadOptionData) (reading : Result (LoadOptionData × List ℕ) Mismatch) → IsBytes bytes
     → load_option.at bytes ≡ reading → option_with_rest reading ≡ Some o → IsLoadOption bytes o
 unfolding load_option
 option_taken bytes o (Ok x) fits e same =
@@ -80,7 +80,7 @@ pub number_out : (prefix : List ℕ) (n : ℕ) → IsBootNumber prefix n → boo
 number_out prefix n is = (is.fits, is.spelled)
 
 -- What remains after the numbers: an odd byte.
-rest_of : (bytes : List ℕ) (reading : Result (ℕ × List ℕ) Misfit) (more : List ℕ → List ℕ × List ℕ) → IsBytes bytes
+rest_of : (bytes : List ℕ) (reading : Result (ℕ × List ℕ) Mismatch) (more : List ℕ → List ℕ × List ℕ) → IsBytes bytes
     → boot_number.at bytes ≡ reading
     → ((n : ℕ) (rest : List ℕ) → boot_number.at bytes ≡ Ok (n, rest) → length (more rest).1 ≡ length rest % 2)
     → length (with_more reading more bytes).1 ≡ length bytes % 2
@@ -118,10 +118,10 @@ some_signature size s is =
     omega (arith, is.0.0, whole)
 
 -- What a reading of the owner gives, with what remains as the payload.
-abbrev pub signature_with_rest : Result (List ℕ × List ℕ) Misfit → Option SignatureData
+abbrev pub signature_with_rest : Result (List ℕ × List ℕ) Mismatch → Option SignatureData
 signature_with_rest reading = result_ok (reading >>= λ x. Ok (record { owner = x.0; payload = x.1 }))
 
-signature_taken : (bytes : List ℕ) (s : SignatureData) (reading : Result (List ℕ × List ℕ) Misfit) → IsBytes bytes
+signature_taken : (bytes : List ℕ) (s : SignatureData) (reading : Result (List ℕ × List ℕ) Mismatch) → IsBytes bytes
     → part_at Form 16 bytes ≡ reading → signature_with_rest reading ≡ Some s → IsSignature bytes s
 signature_taken bytes s (Ok x) fits e same =
     let taken = takes (part_exact {P = AnyFault} Form 16 tt) bytes x fits e in

@@ -4,8 +4,8 @@ use Rattle.std.specs.Result.{result_ok}
 use Rattle.std.specs.Int.{w32, w64}
 use Rattle.byte_fields.specs.Reading.{◌>>=◌}
 use Rattle.byte_fields.specs.Formats.{Format, number, part, ◌followed_by◌, unless, mapped}
-use Rattle.event_data.specs.declared.misfit.Misfit.{Misfit}
-use Rattle.event_data.specs.declared.misfit.Misfit.TheVariants.{Form}
+use Rattle.event_data.specs.declared.mismatch.Mismatch.{Mismatch}
+use Rattle.event_data.specs.declared.mismatch.Mismatch.TheVariants.{Form}
 use Rattle.event_data.specs.GptForms.{GptData, PartitionData, up_to_nul}
 use Rattle.event_data.specs.Results.{after_in}
 
@@ -21,7 +21,7 @@ pub record EntryFields : Type 0 where
   pub name_field : List ℕ
   pub beyond : List ℕ
 
-unfoldable pub entry : ℕ → Format EntryFields Misfit
+unfoldable pub entry : ℕ → Format EntryFields Mismatch
 entry size =
     mapped (λ x. record {
       kind = x.0;
@@ -52,12 +52,12 @@ told_entry e = record {
   name = up_to_nul e.name_field;
 }
 
-abbrev pub partition_at : ℕ → List ℕ → Result (PartitionData × List ℕ) Misfit
+abbrev pub partition_at : ℕ → List ℕ → Result (PartitionData × List ℕ) Mismatch
 partition_at size bytes = (entry size).at bytes >>= λ x. Ok (told_entry x.0, x.1)
 
 -- ---- entries one after another
 
-abbrev pub then_more : Result (PartitionData × List ℕ) Misfit → (List ℕ → List PartitionData) → List PartitionData
+abbrev pub then_more : Result (PartitionData × List ℕ) Mismatch → (List ℕ → List PartitionData) → List PartitionData
 then_more (Ok first) more = first.0 ∷ more first.1
 then_more (Err fault) more = []
 
@@ -81,7 +81,7 @@ pub record TableFront : Type 0 where
   pub check : List ℕ
   pub count : ℕ
 
-unfoldable pub table_front : Format TableFront Misfit
+unfoldable pub table_front : Format TableFront Mismatch
 table_front =
     mapped (λ x. record {
       places = x.0;
@@ -100,17 +100,17 @@ table_front =
     followed_by λ check. number Form w64)
 
 -- The disk's GUID, the size of an entry, and the number of entries.
-abbrev pub front_at : List ℕ → Result ((List ℕ × (ℕ × ℕ)) × List ℕ) Misfit
+abbrev pub front_at : List ℕ → Result ((List ℕ × (ℕ × ℕ)) × List ℕ) Mismatch
 front_at bytes = table_front.at bytes >>= λ x. Ok ((x.0.disk, (x.0.size, x.0.count)), x.1)
 
 -- The entries are as long as their number and size say.
-abbrev pub fitting : (List ℕ × (ℕ × ℕ)) × List ℕ → Result GptData Misfit
+abbrev pub fitting : (List ℕ × (ℕ × ℕ)) × List ℕ → Result GptData Mismatch
 fitting x =
     if length x.1 == x.0.1.1 * x.0.1.0
     then Ok (record { disk = x.0.0; partitions = partitions_in x.0.1.0 x.1 })
     else Err Form
 
-abbrev pub table_in : List ℕ → Result GptData Misfit
+abbrev pub table_in : List ℕ → Result GptData Mismatch
 table_in bytes = front_at bytes >>= fitting
 
 abbrev pub gpt_in : List ℕ → Option GptData

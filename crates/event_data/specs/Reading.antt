@@ -3,11 +3,11 @@ use Rattle.std.specs.Prelude.{ℕ, zero, suc, ◌+◌, ◌-◌, ◌*◌, ◌/◌
 use Rattle.std.specs.Result.{result_ok}
 use Rattle.std.specs.Int.{w16, w32, w64}
 use Rattle.byte_fields.specs.Formats.{Format, number, part, byte, ◌followed_by◌, unless, mapped, whole}
-use Rattle.event_data.specs.declared.misfit.Misfit.{Misfit}
-use Rattle.event_data.specs.declared.misfit.Misfit.TheVariants.{Form}
+use Rattle.event_data.specs.declared.mismatch.Mismatch.{Mismatch}
+use Rattle.event_data.specs.declared.mismatch.Mismatch.TheVariants.{Form}
 use Rattle.event_data.specs.Forms.{VariableData, ImageData, NodeData}
 
-unfoldable pub variable : Format VariableData Misfit
+unfoldable pub variable : Format VariableData Mismatch
 variable =
     mapped (λ x. record { guid = x.0; name = x.1.1.1.0; value = x.1.1.1.1 })
     (λ v. (v.guid, (length v.name / 2, (length v.value, (v.name, v.value)))))
@@ -20,7 +20,7 @@ variable =
 abbrev pub variable_in : List ℕ → Option VariableData
 variable_in bytes = result_ok (whole Form variable bytes)
 
-unfoldable pub image : Format ImageData Misfit
+unfoldable pub image : Format ImageData Mismatch
 image =
     mapped (λ x. record { location = x.0; size = x.1.0; link_address = x.1.1.0; path = x.1.1.1.1 })
     (λ i. (i.location, (i.size, (i.link_address, (length i.path, i.path)))))
@@ -36,7 +36,7 @@ image_in bytes = result_ok (whole Form image bytes)
 abbrev pub separator_in : List ℕ → Option ℕ
 separator_in bytes = result_ok (whole Form (number Form w32) bytes)
 
-unfoldable pub node : Format NodeData Misfit
+unfoldable pub node : Format NodeData Mismatch
 node =
     mapped (λ x. record { kind = x.0; subtype = x.1.0; payload = x.1.1.1 })
     (λ n. (n.kind, (n.subtype, (length n.payload + 4, n.payload))))
@@ -47,7 +47,7 @@ node =
 
 -- ---- the nodes at the front of bytes, and what remains
 
-abbrev pub and_more : Result (NodeData × List ℕ) Misfit → (List ℕ → List NodeData × List ℕ) → List ℕ → List NodeData × List ℕ
+abbrev pub and_more : Result (NodeData × List ℕ) Mismatch → (List ℕ → List NodeData × List ℕ) → List ℕ → List NodeData × List ℕ
 and_more (Ok first) more bytes = (first.0 ∷ (more first.1).0, (more first.1).1)
 and_more (Err fault) more bytes = ([], bytes)
 

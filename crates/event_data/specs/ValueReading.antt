@@ -4,25 +4,25 @@ use Rattle.std.specs.Result.{result_ok}
 use Rattle.std.specs.Int.{w16, w32}
 use Rattle.byte_fields.specs.Reading.{◌>>=◌, part_at}
 use Rattle.byte_fields.specs.Formats.{Format, number, part, ◌followed_by◌, unless, mapped}
-use Rattle.event_data.specs.declared.misfit.Misfit.{Misfit}
-use Rattle.event_data.specs.declared.misfit.Misfit.TheVariants.{Form}
+use Rattle.event_data.specs.declared.mismatch.Mismatch.{Mismatch}
+use Rattle.event_data.specs.declared.mismatch.Mismatch.TheVariants.{Form}
 use Rattle.event_data.specs.ValueForms.{LoadOptionData, SignatureData, ListData, are_units}
 
 -- ---- units up to the first NUL unit
 
 -- What was read, behind the front.
-abbrev pub behind : List ℕ → Result (List ℕ × List ℕ) Misfit → Result (List ℕ × List ℕ) Misfit
+abbrev pub behind : List ℕ → Result (List ℕ × List ℕ) Mismatch → Result (List ℕ × List ℕ) Mismatch
 behind front reading = reading >>= λ x. Ok (front ++ x.0, x.1)
 
 -- The units before the first NUL unit, and what follows it.
-unfoldable pub units_at : List ℕ → Result (List ℕ × List ℕ) Misfit
+unfoldable pub units_at : List ℕ → Result (List ℕ × List ℕ) Mismatch
 units_at [] = Err Form
 units_at (low ∷ []) = Err Form
 units_at (low ∷ high ∷ bytes) =
     if low == 0 && high == 0 then Ok ([], bytes) else behind (low ∷ high ∷ []) (units_at bytes)
 
 -- Units of two bytes, and a NUL unit.
-abbrev pub units : Format (List ℕ) Misfit
+abbrev pub units : Format (List ℕ) Mismatch
 units = record {
   at = units_at;
   Is = λ text. are_units text ≡ true;
@@ -33,7 +33,7 @@ units = record {
 -- ---- a load option
 
 -- A load option but its optional data.
-unfoldable pub load_option : Format LoadOptionData Misfit
+unfoldable pub load_option : Format LoadOptionData Mismatch
 load_option =
     mapped (λ x. record { attributes = x.0; description = x.1.1.0; path = x.1.1.1; optional_data = [] })
     (λ o. (o.attributes, (length o.path, (o.description, o.path))))
@@ -47,17 +47,17 @@ load_option_in bytes = result_ok (load_option.at bytes >>= λ x. Ok (record x.0 
 
 -- ---- items one after another, to where none begins
 
-abbrev pub with_more : {X : Type 0} → Result (X × List ℕ) Misfit → (List ℕ → List X × List ℕ) → List ℕ → List X × List ℕ
+abbrev pub with_more : {X : Type 0} → Result (X × List ℕ) Mismatch → (List ℕ → List X × List ℕ) → List ℕ → List X × List ℕ
 with_more (Ok first) more bytes = (first.0 ∷ (more first.1).0, (more first.1).1)
 with_more (Err fault) more bytes = ([], bytes)
 
 -- Each item takes at least one byte, so as many steps as bytes are enough.
-unfoldable pub taken_within : {X : Type 0} → (List ℕ → Result (X × List ℕ) Misfit) → ℕ → List ℕ → List X × List ℕ
+unfoldable pub taken_within : {X : Type 0} → (List ℕ → Result (X × List ℕ) Mismatch) → ℕ → List ℕ → List X × List ℕ
 taken_within item_at zero bytes = ([], bytes)
 taken_within item_at (suc steps) bytes = with_more (item_at bytes) (λ rest. taken_within item_at steps rest) bytes
 
 -- The items at the front of the bytes, and what remains.
-abbrev pub taken_in : {X : Type 0} → (List ℕ → Result (X × List ℕ) Misfit) → List ℕ → List X × List ℕ
+abbrev pub taken_in : {X : Type 0} → (List ℕ → Result (X × List ℕ) Mismatch) → List ℕ → List X × List ℕ
 taken_in item_at bytes = taken_within item_at (length bytes) bytes
 
 -- The items, where nothing remains.
@@ -66,7 +66,7 @@ all_taken taken = if length taken.1 == 0 then Some taken.0 else None
 
 -- ---- a boot order
 
-abbrev pub boot_number : Format ℕ Misfit
+abbrev pub boot_number : Format ℕ Mismatch
 boot_number = number Form w16
 
 -- The numbers at the front of the bytes, and what remains.
@@ -76,7 +76,7 @@ numbers_in bytes = taken_in boot_number.at bytes
 -- ---- signatures
 
 -- A signature of this size.
-unfoldable pub signature : ℕ → Format SignatureData Misfit
+unfoldable pub signature : ℕ → Format SignatureData Mismatch
 signature size =
     mapped (λ x. record { owner = x.0; payload = x.1 }) (λ s. (s.owner, s.payload))
     (part Form 16
@@ -90,7 +90,7 @@ signature_in bytes = result_ok (part_at Form 16 bytes >>= λ x. Ok (record { own
 abbrev pub signatures_in : ℕ → List ℕ → List SignatureData × List ℕ
 signatures_in size bytes = taken_in (signature size).at bytes
 
-unfoldable pub signature_list : Format ListData Misfit
+unfoldable pub signature_list : Format ListData Mismatch
 signature_list =
     mapped (λ x. record { kind = x.0; signature_size = x.1.1.1.0; header = x.1.1.1.1.0; signatures = x.1.1.1.1.1 })
     (λ l. (l.kind, (28 + length l.header + length l.signatures, (length l.header, (l.signature_size, (l.header, l.signatures))))))

@@ -5,7 +5,7 @@ ghost use Rattle.byte_fields.specs.Reading.{Reads};
 ghost use Rattle.event_data.specs.Blobs.{BlobData, IsPlainBlob, IsDescribedBlob, blob_of};
 ghost use Rattle.event_data.specs.BlobReading.{place, plain_blob, described_blob, plain_blob_in, described_blob_in};
 
-use crate::misfit::Misfit;
+use crate::mismatch::Mismatch;
 use byte_fields::{part_at, u8_at, u64_at};
 
 /// A blob of firmware that was measured (PC Client Platform Firmware Profile, `UEFI_PLATFORM_FIRMWARE_BLOB` and
@@ -21,17 +21,17 @@ pub struct Blob<'a> {
 }
 
 // Reads where a blob was in memory, and the number of its bytes. Returns both and the remaining bytes.
-fn place_at(bytes: &[u8]) -> Result<((u64, u64), &[u8]), Misfit>
+fn place_at(bytes: &[u8]) -> Result<((u64, u64), &[u8]), Mismatch>
     ensures { Reads (λ x. (x.0, x.1.now)) result (place.at bytes.now) }
 {
-    let (base, rest) = u64_at(Misfit::Form, bytes)?;
-    let (size, rest) = u64_at(Misfit::Form, rest)?;
+    let (base, rest) = u64_at(Mismatch::Form, bytes)?;
+    let (size, rest) = u64_at(Mismatch::Form, rest)?;
     Ok(((base, size), rest))
 }
 
 // Reads the blob without a description at the front of the bytes. Returns it and the remaining bytes.
 #[tactic(auto, unfolding(crate::specs::BlobReading::plain_blob))]
-fn plain_blob_at(bytes: &[u8]) -> Result<(Blob<'_>, &[u8]), Misfit>
+fn plain_blob_at(bytes: &[u8]) -> Result<(Blob<'_>, &[u8]), Mismatch>
     ensures { Reads (λ x. (blob_of x.0, x.1.now)) result (plain_blob.at bytes.now) }
 {
     let ((base, size), rest) = place_at(bytes)?;
@@ -45,11 +45,11 @@ fn plain_blob_at(bytes: &[u8]) -> Result<(Blob<'_>, &[u8]), Misfit>
 
 // Reads the blob with a description at the front of the bytes. Returns it and the remaining bytes.
 #[tactic(auto, unfolding(crate::specs::BlobReading::described_blob))]
-fn described_blob_at(bytes: &[u8]) -> Result<(Blob<'_>, &[u8]), Misfit>
+fn described_blob_at(bytes: &[u8]) -> Result<(Blob<'_>, &[u8]), Mismatch>
     ensures { Reads (λ x. (blob_of x.0, x.1.now)) result (described_blob.at bytes.now) }
 {
-    let (count, rest) = u8_at(Misfit::Form, bytes)?;
-    let (description, rest) = part_at(Misfit::Form, count as usize, rest)?;
+    let (count, rest) = u8_at(Mismatch::Form, bytes)?;
+    let (description, rest) = part_at(Mismatch::Form, count as usize, rest)?;
     let ((base, size), rest) = place_at(rest)?;
     let blob = Blob {
         description: Some(description),

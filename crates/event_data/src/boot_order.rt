@@ -6,7 +6,7 @@ ghost use Rattle.byte_fields.specs.Spelling.{IsBytes};
 ghost use Rattle.event_data.specs.ValueForms.{IsBootNumber};
 ghost use Rattle.event_data.specs.ValueReading.{numbers_in};
 
-use crate::misfit::Misfit;
+use crate::mismatch::Mismatch;
 use byte_fields::u16_at;
 
 /// The order in which load options are tried (UEFI 2.10, section 3.3, `BootOrder`): their numbers, which are lent one after another.
@@ -37,7 +37,7 @@ impl<'a> BootOrder<'a> {
         ensures last { IfNone result (numbers_in (numbers_left self.old) ≡ ([], numbers_left self.old)) }
         ensures shorter { IfSome result (λ _. length (numbers_left self.new) < length (numbers_left self.old)) }
     {
-        match u16_at(Misfit::Form, self.rest) {
+        match u16_at(Mismatch::Form, self.rest) {
             Ok((number, rest)) => {
                 self.rest = rest;
                 Some(number)

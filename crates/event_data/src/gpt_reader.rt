@@ -8,36 +8,36 @@ ghost use Rattle.event_data.specs.GptReading.{front_at, table_in, gpt_in};
 
 use crate::affixes::after_prefix;
 use crate::gpt::Gpt;
-use crate::misfit::Misfit;
+use crate::mismatch::Mismatch;
 use byte_fields::{part_at, u32_at, u64_at};
 
 // Reads the disk's GUID, the size of an entry and the number of entries, after the signature. Returns them and the remaining bytes.
 #[tactic(auto, unfolding(crate::specs::GptReading::table_front))]
-fn front_at(bytes: &[u8]) -> Result<((&[u8], u32, u64), &[u8]), Misfit>
+fn front_at(bytes: &[u8]) -> Result<((&[u8], u32, u64), &[u8]), Mismatch>
     ensures read { Reads (λ x. ((x.0.0.now, (x.0.1, x.0.2)), x.1.now)) result (front_at bytes.now) }
     ensures disk_size { IfOk result (λ x. length x.0.0.now ≡ 16) }
     ensures wide { IfOk result (λ x. 128 ≤ x.0.1) }
 {
-    let (_, rest) = part_at(Misfit::Form, 48, bytes)?;
-    let (disk, rest) = part_at(Misfit::Form, 16, rest)?;
-    let (_, rest) = part_at(Misfit::Form, 12, rest)?;
-    let (size, rest) = u32_at(Misfit::Form, rest)?;
+    let (_, rest) = part_at(Mismatch::Form, 48, bytes)?;
+    let (disk, rest) = part_at(Mismatch::Form, 16, rest)?;
+    let (_, rest) = part_at(Mismatch::Form, 12, rest)?;
+    let (size, rest) = u32_at(Mismatch::Form, rest)?;
     if size < 128 {
-        return Err(Misfit::Form);
+        return Err(Mismatch::Form);
     }
-    let (_, rest) = part_at(Misfit::Form, 4, rest)?;
-    let (count, rest) = u64_at(Misfit::Form, rest)?;
+    let (_, rest) = part_at(Mismatch::Form, 4, rest)?;
+    let (count, rest) = u64_at(Mismatch::Form, rest)?;
     Ok(((disk, size, count), rest))
 }
 
 // All of the bytes after the signature as a table.
-fn table_in(bytes: &[u8]) -> Result<Gpt<'_>, Misfit>
+fn table_in(bytes: &[u8]) -> Result<Gpt<'_>, Mismatch>
     ensures { Reads gpt_of result (table_in bytes.now) }
 {
     let ((disk, entry_size, count), entries) = front_at(bytes)?;
     match count.checked_mul(entry_size as u64) {
         Some(size) if size == entries.len() as u64 => Ok(Gpt::new(disk, entry_size, entries)),
-        _ => Err(Misfit::Form),
+        _ => Err(Mismatch::Form),
     }
 }
 

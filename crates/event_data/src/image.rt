@@ -5,7 +5,7 @@ ghost use Rattle.byte_fields.specs.Reading.{Reads};
 ghost use Rattle.event_data.specs.Forms.{ImageData, IsImage, image_of};
 ghost use Rattle.event_data.specs.Reading.{image, image_in};
 
-use crate::misfit::Misfit;
+use crate::mismatch::Mismatch;
 use byte_fields::{part_at, u64_at};
 
 /// An image that the firmware loaded (PC Client Platform Firmware Profile, `UEFI_IMAGE_LOAD_EVENT`).
@@ -23,14 +23,14 @@ pub struct Image<'a> {
 
 // Reads the image at the front of the bytes. Returns it and the remaining bytes.
 #[tactic(auto, unfolding(crate::specs::Reading::image))]
-fn image_at(bytes: &[u8]) -> Result<(Image<'_>, &[u8]), Misfit>
+fn image_at(bytes: &[u8]) -> Result<(Image<'_>, &[u8]), Mismatch>
     ensures { Reads (λ x. (image_of x.0, x.1.now)) result (image.at bytes.now) }
 {
-    let (location, rest) = u64_at(Misfit::Form, bytes)?;
-    let (size, rest) = u64_at(Misfit::Form, rest)?;
-    let (link_address, rest) = u64_at(Misfit::Form, rest)?;
-    let (count, rest) = u64_at(Misfit::Form, rest)?;
-    let (path, rest) = part_at(Misfit::Form, count as usize, rest)?;
+    let (location, rest) = u64_at(Mismatch::Form, bytes)?;
+    let (size, rest) = u64_at(Mismatch::Form, rest)?;
+    let (link_address, rest) = u64_at(Mismatch::Form, rest)?;
+    let (count, rest) = u64_at(Mismatch::Form, rest)?;
+    let (path, rest) = part_at(Mismatch::Form, count as usize, rest)?;
     let image = Image {
         location,
         size,

@@ -19,7 +19,7 @@ mod laws;
 mod list_reader;
 mod load_option;
 mod locality;
-mod misfit;
+mod mismatch;
 mod node;
 mod nul_units;
 mod partition;

@@ -6,7 +6,7 @@ ghost use Rattle.event_data.specs.ValueForms.{IsLoadOption, LoadOptionData};
 ghost use Rattle.event_data.specs.ValueReading.{load_option, load_option_in};
 ghost use Rattle.event_data.specs.ValueViews.{load_option_of};
 
-use crate::misfit::Misfit;
+use crate::mismatch::Mismatch;
 use crate::wide_units::units_at;
 use byte_fields::{part_at, u16_at, u32_at};
 
@@ -25,13 +25,13 @@ pub struct LoadOption<'a> {
 
 // Reads the load option at the front of the bytes, whose optional data is all that remains.
 #[tactic(auto, unfolding(crate::specs::ValueReading::load_option))]
-fn whole_load_option(bytes: &[u8]) -> Result<LoadOption<'_>, Misfit>
+fn whole_load_option(bytes: &[u8]) -> Result<LoadOption<'_>, Mismatch>
     ensures { Reads (λ x. (record (load_option_of x) { optional_data = [] }, x.optional_data.now)) result (load_option.at bytes.now) }
 {
-    let (attributes, rest) = u32_at(Misfit::Form, bytes)?;
-    let (size, rest) = u16_at(Misfit::Form, rest)?;
+    let (attributes, rest) = u32_at(Mismatch::Form, bytes)?;
+    let (size, rest) = u16_at(Mismatch::Form, rest)?;
     let (description, rest) = units_at(rest)?;
-    let (path, optional_data) = part_at(Misfit::Form, size as usize, rest)?;
+    let (path, optional_data) = part_at(Mismatch::Form, size as usize, rest)?;
     Ok(LoadOption {
         attributes,
         description,

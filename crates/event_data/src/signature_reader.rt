@@ -6,18 +6,18 @@ ghost use Rattle.event_data.specs.ValueForms.{IsSignature, SignatureData};
 ghost use Rattle.event_data.specs.ValueReading.{signature, signature_in};
 ghost use Rattle.event_data.specs.ValueViews.{signature_of};
 
-use crate::misfit::Misfit;
+use crate::mismatch::Mismatch;
 use crate::signature::Signature;
 use byte_fields::part_at;
 
 /// Reads the signature of this size at the front of the bytes. Returns it and the remaining bytes.
 #[tactic(auto, unfolding(crate::specs::ValueReading::signature))]
-pub(crate) fn signature_at(size: usize, bytes: &[u8]) -> Result<(Signature<'_>, &[u8]), Misfit>
+pub(crate) fn signature_at(size: usize, bytes: &[u8]) -> Result<(Signature<'_>, &[u8]), Mismatch>
     requires { 16 ≤ size }
     ensures { Reads (λ x. (signature_of x.0, x.1.now)) result ((signature size).at bytes.now) }
 {
-    let (owner, rest) = part_at(Misfit::Form, 16, bytes)?;
-    let (payload, rest) = part_at(Misfit::Form, size - 16, rest)?;
+    let (owner, rest) = part_at(Mismatch::Form, 16, bytes)?;
+    let (payload, rest) = part_at(Mismatch::Form, size - 16, rest)?;
     Ok((Signature { owner, payload }, rest))
 }
 
@@ -27,7 +27,7 @@ pub fn read_signature(bytes: &[u8]) -> Option<Signature<'_>>
     ensures found { IfSome result (λ found. IsSignature bytes.now (signature_of found)) }
     ensures only { (value : SignatureData) → IsSignature bytes.now value → option_map signature_of result ≡ Some value }
 {
-    match part_at(Misfit::Form, 16, bytes) {
+    match part_at(Mismatch::Form, 16, bytes) {
         Ok((owner, payload)) => Some(Signature { owner, payload }),
         Err(_) => None,
     }

@@ -5,7 +5,7 @@ ghost use Rattle.byte_fields.specs.Reading.{Reads};
 ghost use Rattle.event_data.specs.Blobs.{TaggedData, IsTagged, tagged_of};
 ghost use Rattle.event_data.specs.BlobReading.{tagged, tagged_in};
 
-use crate::misfit::Misfit;
+use crate::mismatch::Mismatch;
 use byte_fields::{sized_at, u32_at};
 
 /// A tagged event (PC Client Platform Firmware Profile, `TCG_PCClientTaggedEvent`).
@@ -19,11 +19,11 @@ pub struct Tagged<'a> {
 
 // Reads the tagged event at the front of the bytes. Returns it and the remaining bytes.
 #[tactic(auto, unfolding(crate::specs::BlobReading::tagged))]
-fn tagged_at(bytes: &[u8]) -> Result<(Tagged<'_>, &[u8]), Misfit>
+fn tagged_at(bytes: &[u8]) -> Result<(Tagged<'_>, &[u8]), Mismatch>
     ensures { Reads (λ x. (tagged_of x.0, x.1.now)) result (tagged.at bytes.now) }
 {
-    let (id, rest) = u32_at(Misfit::Form, bytes)?;
-    let (payload, rest) = sized_at(Misfit::Form, rest)?;
+    let (id, rest) = u32_at(Mismatch::Form, bytes)?;
+    let (payload, rest) = sized_at(Mismatch::Form, rest)?;
     Ok((Tagged { id, payload }, rest))
 }
 

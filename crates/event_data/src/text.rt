@@ -6,7 +6,7 @@ ghost use Rattle.event_data.specs.Reading.{separator_in};
 ghost use Rattle.event_data.specs.Results.{before_in, text_in, wide_text_in};
 
 use crate::affixes::before_suffix;
-use crate::misfit::Misfit;
+use crate::mismatch::Mismatch;
 use byte_fields::u32_at;
 
 /// The number that the bytes are, four of them; `None` where they are none.
@@ -15,7 +15,7 @@ pub fn read_separator(bytes: &[u8]) -> Option<u32>
     ensures found { IfSome result (IsSeparator bytes.now) }
     ensures only { (value : ℕ) → IsSeparator bytes.now value → result ≡ Some value }
 {
-    match u32_at(Misfit::Form, bytes) {
+    match u32_at(Mismatch::Form, bytes) {
         Ok((value, rest)) if rest.is_empty() => Some(value),
         _ => None,
     }

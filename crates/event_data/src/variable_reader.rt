@@ -4,32 +4,32 @@ ghost use Rattle.std.specs.Prelude.{◌≡◌, ◌*◌, Some, IfSome, option_map
 ghost use Rattle.byte_fields.specs.Reading.{Reads, part_at};
 ghost use Rattle.event_data.specs.Forms.{IsVariable, VariableData, variable_of};
 ghost use Rattle.event_data.specs.Reading.{variable, variable_in};
-ghost use Rattle.event_data.specs.declared.misfit.Misfit.TheVariants.{Form};
+ghost use Rattle.event_data.specs.declared.mismatch.Mismatch.TheVariants.{Form};
 
-use crate::misfit::Misfit;
+use crate::mismatch::Mismatch;
 use crate::variable::Variable;
 use byte_fields::{part_at, u64_at};
 
 // Reads `units` units of two bytes. Returns them and the remaining bytes.
-fn units_at(units: u64, bytes: &[u8]) -> Result<(&[u8], &[u8]), Misfit>
+fn units_at(units: u64, bytes: &[u8]) -> Result<(&[u8], &[u8]), Mismatch>
     ensures { Reads (λ x. (x.0.now, x.1.now)) result (part_at Form (2 * units) bytes.now) }
 {
     if units > (bytes.len() / 2) as u64 {
-        return Err(Misfit::Form);
+        return Err(Mismatch::Form);
     }
-    part_at(Misfit::Form, 2 * units as usize, bytes)
+    part_at(Mismatch::Form, 2 * units as usize, bytes)
 }
 
 // Reads the variable at the front of the bytes. Returns it and the remaining bytes.
 #[tactic(auto, unfolding(crate::specs::Reading::variable))]
-fn variable_at(bytes: &[u8]) -> Result<(Variable<'_>, &[u8]), Misfit>
+fn variable_at(bytes: &[u8]) -> Result<(Variable<'_>, &[u8]), Mismatch>
     ensures { Reads (λ x. (variable_of x.0, x.1.now)) result (variable.at bytes.now) }
 {
-    let (guid, rest) = part_at(Misfit::Form, 16, bytes)?;
-    let (units, rest) = u64_at(Misfit::Form, rest)?;
-    let (size, rest) = u64_at(Misfit::Form, rest)?;
+    let (guid, rest) = part_at(Mismatch::Form, 16, bytes)?;
+    let (units, rest) = u64_at(Mismatch::Form, rest)?;
+    let (size, rest) = u64_at(Mismatch::Form, rest)?;
     let (name, rest) = units_at(units, rest)?;
-    let (value, rest) = part_at(Misfit::Form, size as usize, rest)?;
+    let (value, rest) = part_at(Mismatch::Form, size as usize, rest)?;
     Ok((Variable { guid, name, value }, rest))
 }
 

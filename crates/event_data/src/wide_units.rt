@@ -4,7 +4,7 @@ ghost use Rattle.std.specs.Prelude.{◌≡◌, ◌==◌, ◌&&◌};
 ghost use Rattle.byte_fields.specs.Reading.{Reads};
 ghost use Rattle.event_data.specs.ValueReading.{units_at};
 
-use crate::misfit::Misfit;
+use crate::mismatch::Mismatch;
 
 // Whether the unit of these two bytes is NUL.
 fn is_nul(low: u8, high: u8) -> bool
@@ -14,7 +14,7 @@ fn is_nul(low: u8, high: u8) -> bool
 }
 
 /// Reads units of two bytes up to the first NUL unit. Returns them without it, and the bytes that follow it.
-pub(crate) fn units_at(bytes: &[u8]) -> Result<(&[u8], &[u8]), Misfit>
+pub(crate) fn units_at(bytes: &[u8]) -> Result<(&[u8], &[u8]), Mismatch>
     ensures { Reads (λ x. (x.0.now, x.1.now)) result (units_at bytes.now) }
 {
     let mut rest = bytes;
@@ -25,5 +25,5 @@ pub(crate) fn units_at(bytes: &[u8]) -> Result<(&[u8], &[u8]), Misfit>
         }
         rest = after;
     }
-    Err(Misfit::Form)
+    Err(Mismatch::Form)
 }

@@ -1,5 +1,5 @@
 /// Bytes do not have the form.
 #[derive(Clone, Copy)]
-pub(crate) enum Misfit {
+pub(crate) enum Mismatch {
     Form,
 }
