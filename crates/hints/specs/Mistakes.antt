@@ -3,8 +3,8 @@ use Rattle.std.specs.Prelude.{ℕ, ◌&&◌, ◌||◌, not, nat_le, nat_eq, Bool
 use Rattle.std.specs.List.{list_any, starts_with}
 use Rattle.hints.specs.declared.mistakes.Mistake.{Mistake}
 use Rattle.hints.specs.declared.mistakes.Mistake.TheVariants.{Empty, NothingPrinted, ListForLog, OldLog, LogForList, TextForList, PrintedForExpected}
-use Rattle.hints.specs.declared.mistakes.Wanted.{Wanted}
-use Rattle.hints.specs.declared.mistakes.Wanted.TheVariants as wanted
+use Rattle.hints.specs.declared.mistakes.ExpectedInput.{ExpectedInput}
+use Rattle.hints.specs.declared.mistakes.ExpectedInput.TheVariants as wanted
 
 -- These bytes are at this place.
 abbrev pub has_at : List ℕ → ℕ → List ℕ → Bool
@@ -41,19 +41,19 @@ printed_beginnings =
 abbrev pub is_printed : List ℕ → Bool
 is_printed head = list_any (starts_with nat_eq head) printed_beginnings
 
-abbrev pub mistake_of : Wanted → List ℕ → Option Mistake
+abbrev pub mistake_of : ExpectedInput → List ℕ → Option Mistake
 mistake_of wanted.Log head = if is_list head then Some ListForLog else if is_old_log head then Some OldLog else None
 mistake_of wanted.List head = if is_log head then Some LogForList else if is_text_list head then Some TextForList else None
 mistake_of wanted.Expected head = if is_printed head then Some PrintedForExpected else None
 mistake_of wanted.Printed head = None
 
-abbrev pub empty_for : Wanted → Mistake
+abbrev pub empty_for : ExpectedInput → Mistake
 empty_for wanted.Log = Empty
 empty_for wanted.List = Empty
 empty_for wanted.Expected = NothingPrinted
 empty_for wanted.Printed = NothingPrinted
 
 -- What an input with these first bytes is in place of what is wanted.
-abbrev pub mistake_in : Wanted → List ℕ → Option Mistake
+abbrev pub mistake_in : ExpectedInput → List ℕ → Option Mistake
 mistake_in wanted [] = Some (empty_for wanted)
 mistake_in wanted head = mistake_of wanted head

@@ -11,8 +11,8 @@ use Rattle.agent_plans.specs.declared.plan.Question.TheVariants as questions
 use Rattle.agent_plans.specs.declared.plan.Quoting.{Quoting}
 use Rattle.agent_plans.specs.declared.plan.Task.{Task}
 use Rattle.agent_plans.specs.declared.plan.Task.TheVariants as tasks
-use Rattle.hints.specs.declared.mistakes.Wanted.{Wanted}
-use Rattle.hints.specs.declared.mistakes.Wanted.TheVariants as wanted
+use Rattle.hints.specs.declared.mistakes.ExpectedInput.{ExpectedInput}
+use Rattle.hints.specs.declared.mistakes.ExpectedInput.TheVariants as wanted
 
 -- ---- the names of a task's files
 
@@ -62,16 +62,16 @@ expected_of task = None
 
 -- ---- the refused input
 
-abbrev pub text_wanted : Task → Wanted
+abbrev pub text_wanted : Task → ExpectedInput
 text_wanted (tasks.Answer (questions.Expected printed registers)) = wanted.Printed
 text_wanted task = wanted.Expected
 
 -- The input of this name, which should be this.
-abbrev pub as_wanted : List ℕ → Wanted → List ℕ × Wanted
+abbrev pub as_wanted : List ℕ → ExpectedInput → List ℕ × ExpectedInput
 as_wanted name what = (name, what)
 
 -- The file that has this fault, by its name, and what it should be. A fault of any other input is of no file that is taken for another.
-abbrev pub refused_input : RunFault → Task → Option (List ℕ × Wanted)
+abbrev pub refused_input : RunFault → Task → Option (List ℕ × ExpectedInput)
 refused_input (runs.Log fault) task = option_map (λ name. as_wanted name wanted.Log) (log_of task)
 refused_input (runs.List fault) task = option_map (λ name. as_wanted name wanted.List) (list_of task)
 refused_input (runs.Replay fault) task = option_map (λ name. as_wanted name wanted.List) (list_of task)

@@ -9,7 +9,7 @@ use Rattle.judging.specs.Requests.{Requested}
 use Rattle.hints.specs.declared.causes.Causes.{Causes}
 use Rattle.hints.specs.declared.causes.Grown.{Grown}
 use Rattle.hints.specs.declared.mistakes.Mistake.{Mistake}
-use Rattle.hints.specs.declared.mistakes.Wanted.{Wanted}
+use Rattle.hints.specs.declared.mistakes.ExpectedInput.{ExpectedInput}
 use Rattle.hints.specs.Escaping.{escape}
 use Rattle.hints.specs.Heads.{IsLookedAt}
 use Rattle.hints.specs.Hints.{IsGrown, IsNotGrown, IsNotSeen, IsSeen}
@@ -41,7 +41,7 @@ abbrev pub mistake_line : List ℕ → Option Mistake → List ℕ
 mistake_line input None = []
 mistake_line input (Some mistake) = escape (input ++ (codes ": " ++ mistake_words mistake)) ++ 10 ∷ []
 
-abbrev pub head_line : List ℕ → Wanted → Option (List ℕ) → List ℕ
+abbrev pub head_line : List ℕ → ExpectedInput → Option (List ℕ) → List ℕ
 head_line input wanted None = []
 head_line input wanted (Some head) = mistake_line input (mistake_in wanted head)
 

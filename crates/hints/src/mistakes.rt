@@ -6,7 +6,7 @@ ghost use Rattle.hints.specs.Mistakes.{has_at, is_list, is_log, is_old_event, is
 
 /// What an input should be that is refused.
 #[derive(Clone, Copy, PartialEq, Eq)]
-pub(crate) enum Wanted {
+pub(crate) enum ExpectedInput {
     /// A firmware event log.
     Log,
     /// A measurement list.
@@ -42,17 +42,17 @@ const PRINTED: [&[u8]; 7] = [
 ];
 
 /// What an input with these first bytes is in place of what is wanted, if that can be told.
-pub(crate) fn mistake_in(wanted: Wanted, head: &[u8]) -> Option<Mistake>
+pub(crate) fn mistake_in(wanted: ExpectedInput, head: &[u8]) -> Option<Mistake>
     ensures { result ≡ mistake_in wanted head.now }
 {
     match wanted {
-        Wanted::Log | Wanted::List if head.is_empty() => Some(Mistake::Empty),
-        Wanted::Expected | Wanted::Printed if head.is_empty() => Some(Mistake::NothingPrinted),
-        Wanted::Log if is_list(head) => Some(Mistake::ListForLog),
-        Wanted::Log if is_old_log(head) => Some(Mistake::OldLog),
-        Wanted::List if is_log(head) => Some(Mistake::LogForList),
-        Wanted::List if is_text_list(head) => Some(Mistake::TextForList),
-        Wanted::Expected if is_printed(head) => Some(Mistake::PrintedForExpected),
+        ExpectedInput::Log | ExpectedInput::List if head.is_empty() => Some(Mistake::Empty),
+        ExpectedInput::Expected | ExpectedInput::Printed if head.is_empty() => Some(Mistake::NothingPrinted),
+        ExpectedInput::Log if is_list(head) => Some(Mistake::ListForLog),
+        ExpectedInput::Log if is_old_log(head) => Some(Mistake::OldLog),
+        ExpectedInput::List if is_log(head) => Some(Mistake::LogForList),
+        ExpectedInput::List if is_text_list(head) => Some(Mistake::TextForList),
+        ExpectedInput::Expected if is_printed(head) => Some(Mistake::PrintedForExpected),
         _ => None,
     }
 }

@@ -16,7 +16,7 @@ use crate::old_aggregates::is_old_aggregate;
 use crate::task_inputs::refused_input;
 use agent_inputs::{AgentFiles, RunFault};
 use agent_plans::{Scope, Task};
-use judging::{Attesting, Comparison, Request, Wanted, answer_request};
+use judging::{Attesting, Comparison, Request, ReportKind, answer_request};
 use questions::{Failure, known_inputs, request_of};
 use std::alloc::{AllocError, Global};
 use std::rt::Files as FileSystem;
@@ -111,7 +111,7 @@ fn on_prefix(request: Request<'_>) -> Option<Request<'_>>
     match request {
         Request::Comparison(
             Comparison {
-                wanted: Wanted::Verdict {
+                wanted: ReportKind::Verdict {
                     log,
                     scope: Scope::Whole,
                     resume,
@@ -122,7 +122,7 @@ fn on_prefix(request: Request<'_>) -> Option<Request<'_>>
                 known,
             },
         ) => Some(Request::Comparison(Comparison {
-            wanted: Wanted::Verdict {
+            wanted: ReportKind::Verdict {
                 log,
                 scope: Scope::Prefix,
                 resume,

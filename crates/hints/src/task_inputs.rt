@@ -3,7 +3,7 @@
 ghost use Rattle.std.specs.Prelude.{◌≡◌, option_map};
 ghost use Rattle.hints.specs.Refused.{as_wanted, expected_of, judged_log, list_of, log_of, quoting_of, refused_input, text_wanted};
 
-use crate::mistakes::Wanted;
+use crate::mistakes::ExpectedInput;
 use agent_inputs::RunFault;
 use agent_plans::{Attest, ConfirmedBy, Judge, Judged, Measurement, Question, Quoting, Task};
 use measure_book::BookFault;
@@ -47,31 +47,31 @@ pub(crate) fn known_name(task: &Task, file: usize) -> Option<&str> {
 }
 
 /// The input that has this fault and what it should be, if it is a file that may be another by mistake.
-pub(crate) fn refused_input<'a>(task: &'a Task, fault: &RunFault) -> Option<(&'a str, Wanted)>
+pub(crate) fn refused_input<'a>(task: &'a Task, fault: &RunFault) -> Option<(&'a str, ExpectedInput)>
     ensures { option_map (λ refused. as_wanted refused.0.now refused.1) result ≡ refused_input fault.now task.now }
 {
     match fault {
-        RunFault::Log(_) => wanted_at(log_of(task), Wanted::Log),
-        RunFault::List(_) | RunFault::Replay(_) => wanted_at(list_of(task), Wanted::List),
+        RunFault::Log(_) => wanted_at(log_of(task), ExpectedInput::Log),
+        RunFault::List(_) | RunFault::Replay(_) => wanted_at(list_of(task), ExpectedInput::List),
         RunFault::Expect(_) => wanted_at(expected_of(task), text_wanted(task)),
         _ => None,
     }
 }
 
 // That this is wanted of the input of this name, if there is one.
-fn wanted_at(name: Option<&str>, wanted: Wanted) -> Option<(&str, Wanted)>
+fn wanted_at(name: Option<&str>, wanted: ExpectedInput) -> Option<(&str, ExpectedInput)>
     ensures { option_map (λ refused. as_wanted refused.0.now refused.1) result ≡ option_map (λ name. as_wanted name.now wanted) name.entry }
 {
     Some((name?, wanted))
 }
 
 // What a text that should state registers has to be.
-fn text_wanted(task: &Task) -> Wanted
+fn text_wanted(task: &Task) -> ExpectedInput
     ensures { result ≡ text_wanted task.now }
 {
     match task {
-        Task::Answer(Question::Expected { .. }) => Wanted::Printed,
-        _ => Wanted::Expected,
+        Task::Answer(Question::Expected { .. }) => ExpectedInput::Printed,
+        _ => ExpectedInput::Expected,
     }
 }
 

@@ -24,7 +24,7 @@ use crate::requests::{
     verdict_of,
 };
 use agent_plans::Form;
-use judging::{Attesting, Input, Request, Required, Wanted};
+use judging::{Attesting, Input, Request, Required, ReportKind};
 use pieces::{Position, entry_lines, event_lines};
 use std::alloc::Global;
 pub use told::Told;
@@ -78,7 +78,7 @@ pub extern "C" fn ima_verify_raw_locate<'a>(
     ensures { Answers (IsAnswerTo (requested_of_positions log.now list.now expected.now require.now) (form_of json)) result told.new out.old out.new }
 {
     let log = Input::Bytes(log);
-    let positions = Wanted::Positions { log };
+    let positions = ReportKind::Positions { log };
     let request = requested_by(Required::Nothing, positions, list, expected, require, &[]);
     give(alloc, request, form_of(json), out, told)
 }
@@ -99,7 +99,7 @@ pub extern "C" fn ima_verify_raw_replay<'a>(
     ensures { Answers (IsAnswerTo (requested_of_list list.now expected.now require.now (known_in known_given known.now)) (form_of json)) result
         told.new out.old out.new }
 {
-    let alone = Wanted::ListVerdict;
+    let alone = ReportKind::ListVerdict;
     let texts = [Input::Bytes(known)];
     let known = known_in(known_given, &texts);
     let request = requested_by(Required::Nothing, alone, list, expected, require, known);

@@ -5,7 +5,7 @@ ghost use Rattle.judging.specs.Requests.{requested_of, judgement_of, place_of, r
 ghost use Rattle.ima_verify_c.specs.Answers.{requested_by, requested_of_key, requested_of_registers, form_of, given_bytes, purpose_of, required_by, resume_of, scope_of, verdict_of};
 
 use agent_plans::{Form, Scope};
-use judging::{Comparison, Input, Request, Required, Wanted};
+use judging::{Comparison, Input, Request, Required, ReportKind};
 use tpm_keys::{KeyPart, Purpose};
 
 /// JSON, or lines of text.
@@ -40,10 +40,10 @@ pub(crate) fn resume_of(state: &[u8]) -> Option<Input<'_>>
 }
 
 /// The verdict on a log and a list, or on its confirmed prefix, from a checkpoint on, if there is one.
-pub(crate) fn verdict_of<'a>(log: &'a [u8], state: &'a [u8], prefix: bool) -> Wanted<'a>
+pub(crate) fn verdict_of<'a>(log: &'a [u8], state: &'a [u8], prefix: bool) -> ReportKind<'a>
     ensures { judgement_of result ≡ verdict_of log.now state.now prefix }
 {
-    Wanted::Verdict {
+    ReportKind::Verdict {
         log: Input::Bytes(log),
         scope: scope_of(prefix),
         resume: resume_of(state),
@@ -60,7 +60,7 @@ pub(crate) fn known_in<'a>(given: bool, texts: &'a [Input<'a>]) -> &'a [Input<'a
 /// What a list is worth against expected registers, with these texts of known files; the word `none` requires this.
 pub(crate) fn requested_by<'a>(
     none: Required<'a>,
-    wanted: Wanted<'a>,
+    wanted: ReportKind<'a>,
     list: &'a [u8],
     expected: &'a [u8],
     require: &'a [u8],

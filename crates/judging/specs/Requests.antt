@@ -14,8 +14,8 @@ use Rattle.judging.specs.declared.request.Request.{Request}
 use Rattle.judging.specs.declared.request.Request.TheVariants as requests
 use Rattle.judging.specs.declared.request.Required.{Required}
 use Rattle.judging.specs.declared.request.Required.TheVariants as required
-use Rattle.judging.specs.declared.request.Wanted.{Wanted}
-use Rattle.judging.specs.declared.request.Wanted.TheVariants as wanted
+use Rattle.judging.specs.declared.request.ReportKind.{ReportKind}
+use Rattle.judging.specs.declared.request.ReportKind.TheVariants as wanted
 
 -- What the answer is: the verdict on a log and a list, or on a prefix of it, which may go on from a checkpoint; where the registers have
 -- their values in a log and a list; or the verdict on a list alone.
@@ -96,7 +96,7 @@ abbrev pub held_bytes : Held → List ℕ
 held_bytes (helds.File content) = content.items
 held_bytes (helds.Bytes content) = content.now
 
-abbrev pub judgement_of : Wanted → Judgement
+abbrev pub judgement_of : ReportKind → Judgement
 judgement_of (wanted.Verdict log scope resume) = VerdictOf (place_of log) scope (option_map place_of resume)
 judgement_of (wanted.Positions log) = PositionsOf (place_of log)
 judgement_of wanted.ListVerdict = ListVerdictOf

@@ -12,7 +12,7 @@ use crate::known_texts::known_in;
 use crate::printed_registers::printed_registers;
 use crate::registers::{after_list, after_log};
 use crate::request::{
-    Answer, Answered, Answering, Comparison, Found, Request, Required, Wanted, answered_with,
+    Answer, Answered, Answering, Comparison, Found, Request, Required, ReportKind, answered_with,
 };
 use crate::sessions::checkpoint_in;
 use agent_inputs::{AgentFiles, RunFault, not_read};
@@ -74,7 +74,7 @@ fn takes_known(request: Comparison<'_>) -> bool
 {
     match (request.known, request.wanted, request.required) {
         ([], _, _) => true,
-        (_, Wanted::Positions { .. }, _) => false,
+        (_, ReportKind::Positions { .. }, _) => false,
         (_, _, Required::These(_)) => true,
         (_, _, Required::Nothing | Required::Any) => false,
     }
@@ -168,7 +168,7 @@ fn evidence_of<'a, F: AgentFiles>(
 fn log_in<'a, F: AgentFiles>(
     alloc: Global,
     files: &mut F,
-    wanted: Wanted<'a>,
+    wanted: ReportKind<'a>,
 ) -> Result<Held<'a>, RunFault>
     ensures log { IfOk result (λ log. MatchOption (log_of (judgement_of wanted.entry)) (held_bytes log ≡ [])
         (λ place. Holds (F.known files.old) place (held_bytes log))) }
@@ -177,9 +177,9 @@ fn log_in<'a, F: AgentFiles>(
     ensures saved { F.saved files.new ≡ F.saved files.old }
 {
     match wanted {
-        Wanted::Verdict { log, .. } => load_at(alloc, files, log),
-        Wanted::Positions { log } => load_at(alloc, files, log),
-        Wanted::ListVerdict => Ok(Held::Bytes(&[])),
+        ReportKind::Verdict { log, .. } => load_at(alloc, files, log),
+        ReportKind::Positions { log } => load_at(alloc, files, log),
+        ReportKind::ListVerdict => Ok(Held::Bytes(&[])),
     }
 }
 
@@ -197,7 +197,7 @@ pub(crate) fn checkpoint_of(state: Option<SavedState>) -> Option<Checkpoint>
 pub(crate) fn state_in<F: AgentFiles>(
     alloc: Global,
     files: &mut F,
-    wanted: Wanted<'_>,
+    wanted: ReportKind<'_>,
 ) -> Result<Option<SavedState>, RunFault>
     ensures state { IfOk result (IsKnown (F.known files.old) (resume_of (judgement_of wanted.entry))) }
     ensures fault { IfErr result (λ fault. IsSomeAnd (resume_of (judgement_of wanted.entry))
@@ -206,7 +206,7 @@ pub(crate) fn state_in<F: AgentFiles>(
     ensures saved { F.saved files.new ≡ F.saved files.old }
 {
     match wanted {
-        Wanted::Verdict {
+        ReportKind::Verdict {
             resume: Some(resume),
             ..
         } => {
@@ -253,8 +253,8 @@ impl Evidence<'_> {
     {
         let list = request.list;
         match request.wanted {
-            Wanted::Verdict { scope, .. } => self.verdict_from(alloc, source, list, scope),
-            Wanted::Positions { .. } => {
+            ReportKind::Verdict { scope, .. } => self.verdict_from(alloc, source, list, scope),
+            ReportKind::Positions { .. } => {
                 let log = self.log.bytes();
                 match locate_from(alloc, log, source, limit_of(list), &self.expected) {
                     Ok(positions) => Ok(Found {
@@ -265,7 +265,7 @@ impl Evidence<'_> {
                     Err(fault) => Err(refusal(alloc, list, fault)),
                 }
             }
-            Wanted::ListVerdict => self.list_verdict_from(alloc, source, list),
+            ReportKind::ListVerdict => self.list_verdict_from(alloc, source, list),
         }
     }
 

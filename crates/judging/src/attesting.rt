@@ -17,7 +17,7 @@ ghost use Rattle.judging.specs.Requests.{VerdictOf, attested_of, judgement_of, p
 use crate::answers::{Evidence, checkpoint_of, state_in};
 use crate::inputs::{Input, load_at};
 use crate::known_texts::known_in;
-use crate::request::{Answering, Attesting, Comparison, Judged, Required, Wanted, answered_with};
+use crate::request::{Answering, Attesting, Comparison, Judged, Required, ReportKind, answered_with};
 use agent_inputs::{AgentFiles, NotResumed, RunFault};
 use attestations::{
     AttestReport, ExpectedValues, Policy, Quoted, Whole, keep_confirmed, quote_for,
@@ -140,7 +140,7 @@ fn counted_in<F: AgentFiles>(
 fn state_by<F: AgentFiles>(
     alloc: Global,
     files: &mut F,
-    wanted: Wanted<'_>,
+    wanted: ReportKind<'_>,
     quote: &Quote<'_>,
 ) -> Result<Option<SavedState>, RunFault>
     ensures state { IfOk result (IsKnown (F.known files.old) (resume_of (judgement_of wanted.entry))) }
@@ -173,7 +173,7 @@ fn comparison_of(request: Attesting<'_>) -> Comparison<'_>
     ensures list { place_of result.list ≡ (attested_of request.entry).list }
 {
     Comparison {
-        wanted: Wanted::Verdict {
+        wanted: ReportKind::Verdict {
             log: request.log,
             scope: request.scope,
             resume: request.resume,

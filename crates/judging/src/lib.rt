@@ -13,4 +13,4 @@ mod sessions;
 
 pub use answers::answer_request;
 pub use inputs::Input;
-pub use request::{Answer, Answered, Attesting, Comparison, Registers, Request, Required, Wanted};
+pub use request::{Answer, Answered, Attesting, Comparison, Registers, Request, Required, ReportKind};

@@ -20,7 +20,7 @@ use tpm_keys::{KeyPart, KeyReport, Purpose};
 
 /// What the answer is, with what only it is of.
 #[derive(Clone, Copy)]
-pub enum Wanted<'a> {
+pub enum ReportKind<'a> {
     /// The verdict on a log, a list and expected registers.
     Verdict {
         /// The firmware event log.
@@ -54,7 +54,7 @@ pub enum Required<'a> {
 #[derive(Clone, Copy)]
 pub struct Comparison<'a> {
     /// What the answer is.
-    pub wanted: Wanted<'a>,
+    pub wanted: ReportKind<'a>,
     /// The measurement list; with a checkpoint, what follows it.
     pub list: Input<'a>,
     /// The text of expected registers.

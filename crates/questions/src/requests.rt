@@ -5,7 +5,7 @@ ghost use Rattle.judging.specs.Requests.{requested_of, place_of, attested_of, co
 ghost use Rattle.questions.specs.Questions.{attested_with, requested_by, file_of, files_of, known_by, attested_by, compared_by, judgement_by, requires_by, save_by, with_known};
 
 use agent_plans::{Attest, Judge, Judged, Question, Quoting, Scope};
-use judging::{Attesting, Comparison, Input, Request, Required, Wanted};
+use judging::{Attesting, Comparison, Input, Request, Required, ReportKind};
 use std::alloc::{AllocError, Global};
 
 /// The texts of known files that a question names.
@@ -128,7 +128,7 @@ fn comparison_of<'a>(judge: &'a Judge, known: &'a [Input<'a>]) -> Comparison<'a>
 }
 
 // What the answer is to be.
-fn wanted_of(judged: &Judged) -> Wanted<'_>
+fn wanted_of(judged: &Judged) -> ReportKind<'_>
     ensures { judgement_of result ≡ judgement_by judged.now }
 {
     match judged {
@@ -137,15 +137,15 @@ fn wanted_of(judged: &Judged) -> Wanted<'_>
             scope,
             resume,
             ..
-        } => Wanted::Verdict {
+        } => ReportKind::Verdict {
             log: Input::File(log),
             scope: *scope,
             resume: file_of(resume),
         },
-        Judged::Positions { log } => Wanted::Positions {
+        Judged::Positions { log } => ReportKind::Positions {
             log: Input::File(log),
         },
-        Judged::ListVerdict => Wanted::ListVerdict,
+        Judged::ListVerdict => ReportKind::ListVerdict,
     }
 }
 
