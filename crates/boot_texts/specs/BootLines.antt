@@ -10,8 +10,8 @@ use Rattle.boot_answers.specs.Images.{image_register}
 use Rattle.boot_answers.specs.SecureBoot.{IsSecureBoot}
 use Rattle.cells.specs.declared.writer.Form.{Form}
 use Rattle.boot_texts.specs.declared.policies.ImaPolicy.{ImaPolicy}
-use Rattle.boot_texts.specs.declared.subject.Subject.{Subject}
-use Rattle.boot_texts.specs.declared.subject.Subject.TheVariants.{Images, Commands, Variables}
+use Rattle.boot_texts.specs.declared.boot_question.BootQuestion.{BootQuestion}
+use Rattle.boot_texts.specs.declared.boot_question.BootQuestion.TheVariants.{Images, Commands, Variables}
 use Rattle.boot_texts.specs.Answering.{Chosen, is_answered}
 use Rattle.cells.specs.Cells.{rendered}
 use Rattle.boot_texts.specs.AnswerCells.{secure_boot_cell, untold_cell, version_cell, word_cell}
@@ -19,7 +19,7 @@ use Rattle.boot_texts.specs.Policies.{IsImaPolicy, policy_cell}
 use Rattle.boot_texts.specs.Telling.{Tells, ToldOf}
 
 -- The text is what the events tell of the subject, if this register is answered for; else it is the other.
-abbrev pub AreSubjectLines : Subject → ℕ → List ℕ → Form → List Pcr → List LogEvent → List ℕ → Type 0
+abbrev pub AreSubjectLines : BootQuestion → ℕ → List ℕ → Form → List Pcr → List LogEvent → List ℕ → Type 0
 AreSubjectLines subject register other form matched events text =
     Chosen (is_answered matched register events) (Tells (ToldOf subject form matched) 1 events text) (text ≡ other)
 

@@ -19,8 +19,8 @@ use Rattle.boot_answers.specs.Commands.{CommandSaid, told_text}
 use Rattle.boot_answers.specs.Images.{MayBeImage, image_register}
 use Rattle.boot_answers.specs.Separators.{MayBeSeparator}
 use Rattle.cells.specs.declared.writer.Form.{Form}
-use Rattle.boot_texts.specs.declared.subject.Subject.{Subject}
-use Rattle.boot_texts.specs.declared.subject.Subject.TheVariants.{Images, Commands, Variables}
+use Rattle.boot_texts.specs.declared.boot_question.BootQuestion.{BootQuestion}
+use Rattle.boot_texts.specs.declared.boot_question.BootQuestion.TheVariants.{Images, Commands, Variables}
 use Rattle.cells.specs.Cells.{rendered}
 use Rattle.boot_texts.specs.AnswerCells.{command_cell, image_cell, untold_cell, variable_cell}
 
@@ -114,7 +114,7 @@ TellsVariable form matched number event goes text =
 
 -- ---- all
 
-abbrev pub ToldOf : Subject → Form → List Pcr → ℕ → LogEvent → Bool → List ℕ → Type 0
+abbrev pub ToldOf : BootQuestion → Form → List Pcr → ℕ → LogEvent → Bool → List ℕ → Type 0
 ToldOf Images form matched number event goes text = TellsImage form matched number event goes text
 ToldOf (Commands register) form matched number event goes text = TellsCommand register form matched number event goes text
 ToldOf Variables form matched number event goes text = TellsVariable form matched number event goes text

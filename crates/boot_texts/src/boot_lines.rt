@@ -13,7 +13,7 @@ use crate::commands::UntoldLine;
 use crate::images::IMAGE_REGISTER;
 use crate::policies::{GRUB_REGISTER, STUB_REGISTER, append_policy};
 use crate::steps::append_each;
-use crate::subject::Subject;
+use crate::boot_question::BootQuestion;
 use crate::versions::VersionLine;
 use crate::words::WordLine;
 use boot_answers::{SETTINGS_REGISTER, SecureBoot, firmware_version, secure_boot};
@@ -116,7 +116,7 @@ fn append_images(
         → (text : List ℕ) × AreImageLines form matched.now events text × (lines.new.items ≡ lines.old.items ++ text)) }
 {
     if is_answered(log, matched, IMAGE_REGISTER) {
-        append_each(alloc, form, log, matched, Subject::Images, lines)?;
+        append_each(alloc, form, log, matched, BootQuestion::Images, lines)?;
     } else {
         append_word(alloc, form, "image", "unknown", lines)?;
     }
@@ -141,7 +141,7 @@ fn append_commands(
             form,
             log,
             matched,
-            Subject::Commands(register),
+            BootQuestion::Commands(register),
             lines,
         )?;
     } else {
@@ -166,7 +166,7 @@ fn append_variables(
         → (text : List ℕ) × AreVariableLines form matched.now events text × (lines.new.items ≡ lines.old.items ++ text)) }
 {
     if is_answered(log, matched, SETTINGS_REGISTER) {
-        append_each(alloc, form, log, matched, Subject::Variables, lines)?;
+        append_each(alloc, form, log, matched, BootQuestion::Variables, lines)?;
     } else {
         append_word(alloc, form, "boot_variable", "unknown", lines)?;
     }

@@ -16,7 +16,7 @@ mod images;
 pub mod laws;
 mod policies;
 mod steps;
-mod subject;
+mod boot_question;
 mod variables;
 mod versions;
 mod words;

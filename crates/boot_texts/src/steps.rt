@@ -9,7 +9,7 @@ ghost use Rattle.boot_texts.specs.Telling.{Tells, TellsCommand, ToldOf};
 
 use crate::commands::{CommandLine, UntoldLine};
 use crate::images::append_if_image;
-use crate::subject::Subject;
+use crate::boot_question::BootQuestion;
 use crate::variables::append_if_variable;
 use boot_answers::told_text;
 use boot_log::{Event, LogView};
@@ -33,7 +33,7 @@ pub(crate) fn append_each(
     form: Form,
     log: &LogView<'_>,
     matched: &[Pcr],
-    subject: Subject,
+    subject: BootQuestion,
     lines: &mut Vec<u8>,
 ) -> Written
     ensures { OnOk result ((table : List Row) (events : List LogEvent) → IsLog (log_bytes log.now) table events
@@ -55,7 +55,7 @@ fn append_told(
     alloc: Global,
     form: Form,
     matched: &[Pcr],
-    subject: Subject,
+    subject: BootQuestion,
     number: usize,
     event: &Event<'_>,
     lines: &mut Vec<u8>,
@@ -64,14 +64,14 @@ fn append_told(
         × (lines.new.items ≡ lines.old.items ++ text)) }
 {
     match subject {
-        Subject::Images => {
+        BootQuestion::Images => {
             append_if_image(alloc, form, matched, number, event, lines)?;
             Ok(true)
         }
-        Subject::Commands(register) => {
+        BootQuestion::Commands(register) => {
             append_if_command(alloc, form, matched, register, number, event, lines)
         }
-        Subject::Variables => append_if_variable(alloc, form, matched, number, event, lines),
+        BootQuestion::Variables => append_if_variable(alloc, form, matched, number, event, lines),
     }
 }
 

@@ -1,6 +1,6 @@
 /// What is asked of each event of a log.
 #[derive(Clone, Copy)]
-pub(crate) enum Subject {
+pub(crate) enum BootQuestion {
     /// The images that the firmware started.
     Images,
     /// The texts that boot loaders measured into this register.
