@@ -12,7 +12,7 @@ use Rattle.judging.specs.declared.request.Answered.{Answered}
 use Rattle.growing_lists.specs.declared.saved_state.SavedState.{SavedState}
 use Rattle.tpm_quotes.specs.Spelling.{TpmQuote}
 use Rattle.agent_inputs.specs.Loading.{Inputs}
-use Rattle.judging.specs.Answering.{AreTaken, IsCheckpointText, IsKnown, IsNoCheckpoint, IsNotKnown, IsOfQuote, terms_with}
+use Rattle.judging.specs.Answering.{AreTaken, IsCheckpointText, IsResumedState, IsNoCheckpoint, IsNoResumedState, IsOfQuote, terms_with}
 use Rattle.judging.specs.Inputs.{IsInputFault, OfInput, Where}
 use Rattle.judging.specs.Requests.{Attested}
 
@@ -43,13 +43,13 @@ not_taken asked ranges other taken spells refused =
 -- Why no state is read is why none of the quote's boot is known.
 pub not_known : (inputs : Inputs) (quote : TpmQuote) (resume : Option Where) (fault : RunFault)
     → IsSomeAnd resume (λ place. IsInputFault inputs place fault ⊎ OfInput inputs place (λ text. IsNoCheckpoint text fault))
-    → IsNotKnown inputs quote resume fault
+    → IsNoResumedState inputs quote resume fault
 not_known inputs quote None fault why = why
 not_known inputs quote (Some place) fault (inl input) = inl input
 not_known inputs quote (Some place) fault (inr text) = inr (inl text)
 
 -- If a state is not of the quote's boot, there is one.
-pub other_counts : (inputs : Inputs) (resume : Option Where) (state : Option SavedState) (quote : TpmQuote) → IsKnown inputs resume state
+pub other_counts : (inputs : Inputs) (resume : Option Where) (state : Option SavedState) (quote : TpmQuote) → IsResumedState inputs resume state
     → (IfSome state (IsOfQuote quote) → ⊥)
     → IsSomeAnd resume (λ place. OfInput inputs place (λ text. (state : SavedState) × IsCheckpointText text state × (IsOfQuote quote state → ⊥)))
 other_counts inputs None None quote is other = absurd (other tt)

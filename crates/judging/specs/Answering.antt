@@ -366,8 +366,8 @@ abbrev pub IsCheckpointText : List ℕ → SavedState → Type 0
 IsCheckpointText text state = IsPossibleState state × (text ≡ checkpoint_text state)
 
 -- What is gone on from: the state in the input, if there is one.
-abbrev pub IsKnown : Inputs → Option Where → Option SavedState → Type 0
-IsKnown inputs resume known =
+abbrev pub IsResumedState : Inputs → Option Where → Option SavedState → Type 0
+IsResumedState inputs resume known =
     MatchOption resume (known ≡ None) (λ place. IsSomeAnd known (λ state. OfInput inputs place (λ text. IsCheckpointText text state)))
 
 -- The checkpoint in a state, if there is one; and the state that has a checkpoint, if there is one, and this boot.
@@ -403,7 +403,7 @@ pub record IsEvidence (inputs : Inputs) (request : Compared) (evidence : Evidenc
   pub expected_are : OfInput inputs request.expected (λ text. IsExpectedText text evidence.expected)
   pub none_quoted : evidence.quote ≡ None
   pub state : Option SavedState
-  pub state_is : IsKnown inputs (resume_of request.judgement) state
+  pub state_is : IsResumedState inputs (resume_of request.judgement) state
   pub known_is : evidence.known ≡ checkpoint_of state
   pub files_are : AreKnownFiles inputs request.known evidence.files
 
@@ -466,7 +466,7 @@ HasNoEvidence inputs request fault =
     ⊎ (((expected : List Expected) × OfInput inputs request.expected (λ text. IsExpectedText text expected))
     × IsSomeAnd (resume_of request.judgement) (λ place. IsInputFault inputs place fault ⊎ OfInput inputs place (λ text. IsNoCheckpoint text fault)))
     ⊎ (((expected : List Expected) × OfInput inputs request.expected (λ text. IsExpectedText text expected))
-    × ((state : Option SavedState) × IsKnown inputs (resume_of request.judgement) state) × IsFirstNotKnown inputs request.known fault)
+    × ((state : Option SavedState) × IsResumedState inputs (resume_of request.judgement) state) × IsFirstNotKnown inputs request.known fault)
 
 -- ---- what is compared
 
@@ -587,7 +587,7 @@ pub record IsAttestation (inputs : Inputs) (asked : Attested) (given : Answered)
   pub asked_for : IsAskedFor inputs asked ranges quote
   pub log_is : Holds inputs asked.log log
   pub counted_are : AreCounted inputs asked.expected quote values counted
-  pub state_is : IsKnown inputs asked.resume state
+  pub state_is : IsResumedState inputs asked.resume state
   pub boot_is : IfSome state (IsOfQuote quote)
   pub files_are : AreKnownFiles inputs asked.known files
   pub judged : IsJudged inputs (VerdictOf asked.log asked.scope asked.resume) asked.list
@@ -604,8 +604,8 @@ IsNotOfQuote inputs quote place fault =
     × OfInput inputs place (λ text. (state : SavedState) × IsCheckpointText text state × (IsOfQuote quote state → ⊥)))
 
 -- Why nothing is known to go on from: the input is not read, or what it has is not of the quote's boot.
-abbrev pub IsNotKnown : Inputs → TpmQuote → Option Where → RunFault → Type 0
-IsNotKnown inputs quote resume fault =
+abbrev pub IsNoResumedState : Inputs → TpmQuote → Option Where → RunFault → Type 0
+IsNoResumedState inputs quote resume fault =
     IsSomeAnd resume (λ place. IsInputFault inputs place fault ⊎ IsNotOfQuote inputs quote place fault)
 
 -- Why the input of expected registers states none: it is not read, or its text does not.
@@ -619,13 +619,13 @@ abbrev pub IsNotJudgedBy : Inputs → Attested → TpmQuote → RunFault → Typ
 IsNotJudgedBy inputs asked quote fault =
     IsInputFault inputs asked.log fault
     ⊎ IsNotStated inputs asked.expected fault
-    ⊎ (((stated : Option (List Expected)) × IsStated inputs asked.expected stated) × IsNotKnown inputs quote asked.resume fault)
+    ⊎ (((stated : Option (List Expected)) × IsStated inputs asked.expected stated) × IsNoResumedState inputs quote asked.resume fault)
     ⊎ (((stated : Option (List Expected)) × IsStated inputs asked.expected stated)
-    × ((state : Option SavedState) × IsKnown inputs asked.resume state × IfSome state (IsOfQuote quote))
+    × ((state : Option SavedState) × IsResumedState inputs asked.resume state × IfSome state (IsOfQuote quote))
     × IsFirstNotKnown inputs asked.known fault)
     ⊎ ((log : List ℕ) × (values : ExpectedValues) × (counted : List Expected) × (state : Option SavedState) × (files : Option KnownFiles)
     × Holds inputs asked.log log
-    × AreCounted inputs asked.expected quote values counted × IsKnown inputs asked.resume state × IfSome state (IsOfQuote quote)
+    × AreCounted inputs asked.expected quote values counted × IsResumedState inputs asked.resume state × IfSome state (IsOfQuote quote)
     × AreKnownFiles inputs asked.known files
     × IsNotFound inputs (VerdictOf asked.log asked.scope asked.resume) asked.list
     (quoted_evidence log quote asked.is_signed values counted (checkpoint_of state) files) fault)

@@ -1,7 +1,7 @@
 //! The answer to what is asked for, by one path.
 
 ghost use Rattle.std.specs.Prelude.{◌≡◌, ◌⊎◌, [], true, IfOk, IfErr, IsSomeAnd, MatchOption};
-ghost use Rattle.judging.specs.Answering.{HasNoEvidence, IsAnswer, IsComparison, IsEvidence, IsKnown, IsNoCheckpoint, IsNoComparison, IsNotCompared, IsNotRequired, IsRefusal, IsRequired, checkpoint_of, evidence_of, Finds, FindsFrom};
+ghost use Rattle.judging.specs.Answering.{HasNoEvidence, IsAnswer, IsComparison, IsEvidence, IsResumedState, IsNoCheckpoint, IsNoComparison, IsNotCompared, IsNotRequired, IsRefusal, IsRequired, checkpoint_of, evidence_of, Finds, FindsFrom};
 ghost use Rattle.judging.specs.Requests.{ListVerdictOf, requested_of, compared_of, held_bytes, judgement_of, log_of, place_of, requires_of, resume_of, takes_known};
 ghost use Rattle.judging.specs.Inputs.{Holds, IsInputFault, OfInput};
 
@@ -199,7 +199,7 @@ pub(crate) fn state_in<F: AgentFiles>(
     files: &mut F,
     wanted: ReportKind<'_>,
 ) -> Result<Option<SavedState>, RunFault>
-    ensures state { IfOk result (IsKnown (F.known files.old) (resume_of (judgement_of wanted.entry))) }
+    ensures state { IfOk result (IsResumedState (F.known files.old) (resume_of (judgement_of wanted.entry))) }
     ensures fault { IfErr result (λ fault. IsSomeAnd (resume_of (judgement_of wanted.entry))
         (λ place. IsInputFault (F.known files.old) place fault ⊎ OfInput (F.known files.old) place (λ text. IsNoCheckpoint text fault))) }
     ensures known { F.known files.new ≡ F.known files.old }

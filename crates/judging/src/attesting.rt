@@ -11,7 +11,7 @@ ghost use Rattle.attestations.specs.Judging.{quote_refusal};
 ghost use Rattle.attestations.specs.Policies.{terms_of};
 ghost use Rattle.attestations.specs.Reports.{attest_verdict_of};
 ghost use Rattle.agent_inputs.specs.declared.fault.RunFault.TheVariants as runs;
-ghost use Rattle.judging.specs.Answering.{AreCounted, AreTaken, IsAskedFor, IsAttestation, IsKnown, IsNoAttestation, IsNotJudgedBy, IsNotKnown, IsNotStated, IsOfQuote, told_by};
+ghost use Rattle.judging.specs.Answering.{AreCounted, AreTaken, IsAskedFor, IsAttestation, IsResumedState, IsNoAttestation, IsNotJudgedBy, IsNoResumedState, IsNotStated, IsOfQuote, told_by};
 ghost use Rattle.judging.specs.Requests.{VerdictOf, attested_of, judgement_of, place_of, resume_of};
 
 use crate::answers::{Evidence, checkpoint_of, state_in};
@@ -143,9 +143,9 @@ fn state_by<F: AgentFiles>(
     wanted: ReportKind<'_>,
     quote: &Quote<'_>,
 ) -> Result<Option<SavedState>, RunFault>
-    ensures state { IfOk result (IsKnown (F.known files.old) (resume_of (judgement_of wanted.entry))) }
+    ensures state { IfOk result (IsResumedState (F.known files.old) (resume_of (judgement_of wanted.entry))) }
     ensures boot { IfOk result (λ state. IfSome state (IsOfQuote (quote_of quote.now))) }
-    ensures fault { IfErr result (IsNotKnown (F.known files.old) (quote_of quote.now) (resume_of (judgement_of wanted.entry))) }
+    ensures fault { IfErr result (IsNoResumedState (F.known files.old) (quote_of quote.now) (resume_of (judgement_of wanted.entry))) }
     ensures known { F.known files.new ≡ F.known files.old }
     ensures saved { F.saved files.new ≡ F.saved files.old }
 {

@@ -36,7 +36,7 @@ use Rattle.agent_plans.specs.declared.plan.Scope.{Scope}
 use Rattle.agent_plans.specs.declared.plan.Scope.TheVariants.{Whole}
 use Rattle.judging.specs.declared.request.Answer.TheVariants as answers
 use Rattle.judging.specs.declared.request.Answered.{Answered}
-use Rattle.judging.specs.Answering.{Evidence, IsAnswerOn, IsAttestation, IsJudged, IsKnown, IsNext, IsPrefixOf, IsTaken, IsVerdictOn, OfList, OfMore, TellsUnknown, checkpoint_of, entries_taken, is_good as is_good_answer, most_more, quoted_evidence, seeks_prefix, terms_with, told_by}
+use Rattle.judging.specs.Answering.{Evidence, IsAnswerOn, IsAttestation, IsJudged, IsResumedState, IsNext, IsPrefixOf, IsTaken, IsVerdictOn, OfList, OfMore, TellsUnknown, checkpoint_of, entries_taken, is_good as is_good_answer, most_more, quoted_evidence, seeks_prefix, terms_with, told_by}
 use Rattle.judging.specs.Inputs.{OfInput, Where}
 use Rattle.judging.specs.Requests.{Attested, Nothing, VerdictOf}
 use Rattle.judging_laws.specs.AttestedAnswers.{is_on_prefix, TellsAttested, TellsPrefixAttested, TellsSomeAttested}
@@ -140,7 +140,7 @@ told_stated quote is_signed values next on = grind arith
 pub from_nothing : (inputs : Inputs) (asked : Attested) (given : Answered) (is : IsAttestation inputs asked given) → asked.resume ≡ None
     → IsTaken (checkpoint_of is.state) []
 from_nothing inputs asked given is resume =
-    let none : is.state ≡ None = subst (λ (r : Option Where). IsKnown inputs r is.state) resume is.state_is in
+    let none : is.state ≡ None = subst (λ (r : Option Where). IsResumedState inputs r is.state) resume is.state_is in
     subst (λ (s : Option SavedState). IsTaken (checkpoint_of s) []) (sym none) refl
 
 module _ (inputs : Inputs) (asked : Attested) (given : Answered) (is : IsAttestation inputs asked given) (well : given.is_success ≡ true) where
