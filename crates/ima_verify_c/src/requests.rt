@@ -1,7 +1,7 @@
 //! What a call with these bytes asks for.
 
 ghost use Rattle.std.specs.Prelude.{◌≡◌, [], if◌then◌else◌, map, option_map};
-ghost use Rattle.judging.specs.Requests.{requested_of, judgement_of, place_of, requires_of};
+ghost use Rattle.judging.specs.Requests.{requested_of, judgement_of, location_of, requires_of};
 ghost use Rattle.ima_verify_c.specs.Answers.{requested_by, requested_of_key, requested_of_registers, form_of, given_bytes, purpose_of, required_by, resume_of, scope_of, verdict_of};
 
 use agent_plans::{Form, Scope};
@@ -31,7 +31,7 @@ pub(crate) fn scope_of(prefix: bool) -> Scope
 
 /// The checkpoint to go on from, if it has bytes.
 pub(crate) fn resume_of(state: &[u8]) -> Option<Input<'_>>
-    ensures { option_map place_of result ≡ resume_of state.now }
+    ensures { option_map location_of result ≡ resume_of state.now }
 {
     match given_bytes(state) {
         Some(state) => Some(Input::Bytes(state)),
@@ -52,7 +52,7 @@ pub(crate) fn verdict_of<'a>(log: &'a [u8], state: &'a [u8], prefix: bool) -> Re
 
 /// These texts of known files, if they are given.
 pub(crate) fn known_in<'a>(given: bool, texts: &'a [Input<'a>]) -> &'a [Input<'a>]
-    ensures { map place_of result.now ≡ (if given then map place_of texts.now else []) }
+    ensures { map location_of result.now ≡ (if given then map location_of texts.now else []) }
 {
     if given { texts } else { &[] }
 }
@@ -67,7 +67,7 @@ pub(crate) fn requested_by<'a>(
     known: &'a [Input<'a>],
 ) -> Request<'a>
     ensures { requested_of result ≡ requested_by (requires_of none.entry) (judgement_of wanted.entry) list.now expected.now require.now
-        (map place_of known.now) }
+        (map location_of known.now) }
 {
     Request::Comparison(Comparison {
         wanted,

@@ -19,7 +19,7 @@ use Rattle.agent_inputs.specs.Loading.{Inputs}
 use Rattle.agent_inputs.specs.declared.fault.RunFault.{RunFault}
 use Rattle.judging.specs.declared.inputs.Input.{Input}
 use Rattle.judging.specs.Answering.{AreKnownFiles, AreKnownTexts, HasWatched, IsFirstNotKnown, IsTextRefused, ListsAlso, TellsUnknown}
-use Rattle.judging.specs.Requests.{place_of}
+use Rattle.judging.specs.Requests.{location_of}
 use Rattle.judging.specs.Inputs.{Holds, Where}
 
 -- One more text.
@@ -54,40 +54,40 @@ split_at {A} (x ∷ items) (suc count) none within = ap (λ (rest : List A). x �
 
 module _ (inputs : Inputs) (known : List Input) (count : ℕ) (none : Input) (within : count < length known) where
   abbrev place : Where
-  place = place_of (get_or known count none)
+  place = location_of (get_or known count none)
 
-  within_places : count < length (map place_of known)
-  within_places = omega (arith, within, length-map known place_of)
+  within_places : count < length (map location_of known)
+  within_places = omega (arith, within, length-map known location_of)
 
-  same_place : get_or (map place_of known) count place ≡ place
-  same_place = get_or-map place_of known count none place within
+  same_place : get_or (map location_of known) count place ≡ place
+  same_place = get_or-map location_of known count none place within
 
   next : count + 1 ≡ suc count
   next = omega arith
 
   -- One more text.
-  pub listed_more : (old new : ListedFiles) → HasListed inputs (map place_of known) count old → ListsAlso inputs place old new
-      → HasListed inputs (map place_of known) (count + 1) new
+  pub listed_more : (old new : ListedFiles) → HasListed inputs (map location_of known) count old → ListsAlso inputs place old new
+      → HasListed inputs (map location_of known) (count + 1) new
   listed_more old new has also = record {
     texts = has.texts ++ also.text ∷ [];
     are = subst (λ (places : List Where). AreKnownTexts inputs places (has.texts ++ also.text ∷ []))
-        (sym (ap (λ (n : ℕ). take n (map place_of known)) next ∙ take-suc (map place_of known) count place within_places ∙ ap (λ (p : Where). take count (map place_of known) ++ p ∷ []) same_place))
-        (known_more inputs (take count (map place_of known)) place has.texts also.text has.are also.holds also.good);
+        (sym (ap (λ (n : ℕ). take n (map location_of known)) next ∙ take-suc (map location_of known) count place within_places ∙ ap (λ (p : Where). take count (map location_of known) ++ p ∷ []) same_place))
+        (known_more inputs (take count (map location_of known)) place has.texts also.text has.are also.holds also.good);
     holds = also.lists has.texts has.holds;
   }
 
   -- This text is the first that is refused.
-  pub not_listed : (old : ListedFiles) (fault : RunFault) → HasListed inputs (map place_of known) count old
-      → IsTextRefused inputs place (count + 1) fault → IsFirstNotKnown inputs (map place_of known) fault
+  pub not_listed : (old : ListedFiles) (fault : RunFault) → HasListed inputs (map location_of known) count old
+      → IsTextRefused inputs place (count + 1) fault → IsFirstNotKnown inputs (map location_of known) fault
   not_listed old fault has refused = record {
-    before = take count (map place_of known);
+    before = take count (map location_of known);
     place = place;
-    after = drop (suc count) (map place_of known);
+    after = drop (suc count) (map location_of known);
     texts = has.texts;
-    parts = split_at (map place_of known) count place within_places
-        ∙ ap (λ (p : Where). take count (map place_of known) ++ p ∷ drop (suc count) (map place_of known)) same_place;
+    parts = split_at (map location_of known) count place within_places
+        ∙ ap (λ (p : Where). take count (map location_of known) ++ p ∷ drop (suc count) (map location_of known)) same_place;
     good = has.are;
-    why = subst (λ (n : ℕ). IsTextRefused inputs place (n + 1) fault) (sym (length-take-le count (map place_of known) (omega (arith, within_places)))) refused;
+    why = subst (λ (n : ℕ). IsTextRefused inputs place (n + 1) fault) (sym (length-take-le count (map location_of known) (omega (arith, within_places)))) refused;
   }
 
 pub all_listed : (inputs : Inputs) (places : List Where) (count : ℕ) (listed : ListedFiles) (files : KnownFiles) → 0 < length places
@@ -97,7 +97,7 @@ all_listed inputs places count listed files some all has knows =
     files_known inputs places files has.texts some (subst (λ (first : List Where). AreKnownTexts inputs first has.texts) (take_all count places all) has.are)
     (knows has.texts has.holds)
 
-pub some_input : (known : List Input) → false ≡ (length known == 0) → 0 < length (map place_of known)
+pub some_input : (known : List Input) → false ≡ (length known == 0) → 0 < length (map location_of known)
 some_input [] none = absurd (false≢true none)
 some_input (input ∷ known) none = omega arith
 

@@ -88,17 +88,17 @@ takes_known judgement requires (place ∷ places) = false
 
 -- ---- what contracts see of a request
 
-abbrev pub place_of : Input → Where
-place_of (inputs.File name) = FileOf name.now
-place_of (inputs.Bytes content) = BytesOf content.now
+abbrev pub location_of : Input → Where
+location_of (inputs.File name) = FileOf name.now
+location_of (inputs.Bytes content) = BytesOf content.now
 
 abbrev pub held_bytes : Held → List ℕ
 held_bytes (helds.File content) = content.items
 held_bytes (helds.Bytes content) = content.now
 
 abbrev pub judgement_of : ReportKind → Judgement
-judgement_of (wanted.Verdict log scope resume) = VerdictOf (place_of log) scope (option_map place_of resume)
-judgement_of (wanted.Positions log) = PositionsOf (place_of log)
+judgement_of (wanted.Verdict log scope resume) = VerdictOf (location_of log) scope (option_map location_of resume)
+judgement_of (wanted.Positions log) = PositionsOf (location_of log)
 judgement_of wanted.ListVerdict = ListVerdictOf
 
 abbrev pub requires_of : Required → Requires
@@ -109,31 +109,31 @@ requires_of (required.These text) = These text.now
 abbrev pub compared_of : Comparison → Compared
 compared_of comparison = record {
   judgement = judgement_of comparison.wanted;
-  list = place_of comparison.list;
-  expected = place_of comparison.expected;
+  list = location_of comparison.list;
+  expected = location_of comparison.expected;
   required = requires_of comparison.required;
-  known = map place_of comparison.known.now;
+  known = map location_of comparison.known.now;
 }
 
 abbrev pub attested_of : Attesting → Attested
 attested_of asked = record {
-  log = place_of asked.log;
-  list = place_of asked.list;
-  message = place_of asked.message;
+  log = location_of asked.log;
+  list = location_of asked.list;
+  message = location_of asked.message;
   nonce = asked.nonce.now;
   required = asked.required.now;
   takes_sha1 = asked.takes_sha1;
   is_signed = asked.is_signed;
-  expected = option_map place_of asked.expected;
+  expected = option_map location_of asked.expected;
   scope = asked.scope;
-  resume = option_map place_of asked.resume;
-  known = map place_of asked.known.now;
+  resume = option_map location_of asked.resume;
+  known = map location_of asked.known.now;
 }
 
 abbrev pub requested_of : Request → Requested
 requested_of (requests.Attestation asked) = Attests (attested_of asked)
 requested_of (requests.Comparison comparison) = Compares (compared_of comparison)
-requested_of (requests.LogRegisters log) = LogRegistersOf (place_of log)
-requested_of (requests.ListRegisters list) = ListRegistersOf (place_of list)
-requested_of (requests.Expected printed registers) = ExpectedOf (place_of printed) (option_map (λ text. text.now) registers)
-requested_of (requests.Key area purpose part) = KeyOf (place_of area) purpose part
+requested_of (requests.LogRegisters log) = LogRegistersOf (location_of log)
+requested_of (requests.ListRegisters list) = ListRegistersOf (location_of list)
+requested_of (requests.Expected printed registers) = ExpectedOf (location_of printed) (option_map (λ text. text.now) registers)
+requested_of (requests.Key area purpose part) = KeyOf (location_of area) purpose part

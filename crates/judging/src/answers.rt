@@ -2,7 +2,7 @@
 
 ghost use Rattle.std.specs.Prelude.{◌≡◌, ◌⊎◌, [], true, IfOk, IfErr, IsSomeAnd, MatchOption};
 ghost use Rattle.judging.specs.Answering.{HasNoEvidence, IsAnswer, IsComparison, IsEvidence, IsResumedState, IsNoCheckpoint, IsNoComparison, IsNotCompared, IsNotRequired, IsRefusal, IsRequired, checkpoint_of, evidence_of, Finds, FindsFrom};
-ghost use Rattle.judging.specs.Requests.{ListVerdictOf, requested_of, compared_of, held_bytes, judgement_of, log_of, place_of, requires_of, resume_of, takes_known};
+ghost use Rattle.judging.specs.Requests.{ListVerdictOf, requested_of, compared_of, held_bytes, judgement_of, log_of, location_of, requires_of, resume_of, takes_known};
 ghost use Rattle.judging.specs.Inputs.{Holds, IsInputFault, OfInput};
 
 use crate::attesting::attest;
@@ -228,7 +228,7 @@ impl Evidence<'_> {
         files: &mut F,
         request: Comparison<'_>,
     ) -> Finding
-        ensures found { Finds (F.known files.old) (judgement_of request.entry.wanted) (place_of request.entry.list) (evidence_of self.now) result }
+        ensures found { Finds (F.known files.old) (judgement_of request.entry.wanted) (location_of request.entry.list) (evidence_of self.now) result }
         ensures known { F.known files.new ≡ F.known files.old }
         ensures saved { F.saved files.new ≡ F.saved files.old }
     {
@@ -248,7 +248,7 @@ impl Evidence<'_> {
         source: &mut R,
         request: Comparison<'_>,
     ) -> Finding
-        ensures { FindsFrom (judgement_of request.entry.wanted) (place_of request.entry.list) (evidence_of self.now)
+        ensures { FindsFrom (judgement_of request.entry.wanted) (location_of request.entry.list) (evidence_of self.now)
             (R.state source.old) (R.state source.new) result }
     {
         let list = request.list;
@@ -276,7 +276,7 @@ impl Evidence<'_> {
         source: &mut R,
         list: Input<'_>,
     ) -> Finding
-        ensures { FindsFrom ListVerdictOf (place_of list.entry) (evidence_of self.now) (R.state source.old) (R.state source.new) result }
+        ensures { FindsFrom ListVerdictOf (location_of list.entry) (evidence_of self.now) (R.state source.old) (R.state source.new) result }
     {
         let watch = UnknownEntries::new(alloc, self.files.as_ref(), 0);
         match verify_list_from(alloc, source, limit_of(list), &self.expected, watch) {

@@ -12,7 +12,7 @@ ghost use Rattle.attestations.specs.Policies.{terms_of};
 ghost use Rattle.attestations.specs.Reports.{attest_verdict_of};
 ghost use Rattle.agent_inputs.specs.declared.fault.RunFault.TheVariants as runs;
 ghost use Rattle.judging.specs.Answering.{AreCounted, AreTaken, IsAskedFor, IsAttestation, IsResumedState, IsNoAttestation, IsNotJudgedBy, IsNoResumedState, IsNotStated, IsOfQuote, told_by};
-ghost use Rattle.judging.specs.Requests.{VerdictOf, attested_of, judgement_of, place_of, resume_of};
+ghost use Rattle.judging.specs.Requests.{VerdictOf, attested_of, judgement_of, location_of, resume_of};
 
 use crate::answers::{Evidence, checkpoint_of, state_in};
 use crate::inputs::{Input, load_at};
@@ -121,9 +121,9 @@ fn counted_in<F: AgentFiles>(
     input: Option<Input<'_>>,
     quote: &Quote<'_>,
 ) -> Result<(ExpectedValues, Vec<Expected>), RunFault>
-    ensures counted { IfOk result (λ found. AreCounted (F.known files.old) (option_map place_of input.entry) (quote_of quote.now)
+    ensures counted { IfOk result (λ found. AreCounted (F.known files.old) (option_map location_of input.entry) (quote_of quote.now)
         found.0 found.1.items) }
-    ensures fault { IfErr result (IsNotStated (F.known files.old) (option_map place_of input.entry)) }
+    ensures fault { IfErr result (IsNotStated (F.known files.old) (option_map location_of input.entry)) }
     ensures known { F.known files.new ≡ F.known files.old }
     ensures saved { F.saved files.new ≡ F.saved files.old }
 {
@@ -170,7 +170,7 @@ fn is_of_quote(state: Option<SavedState>, quote: &Quote<'_>) -> bool
 // The verdict on log and list, as it is asked for where registers are expected.
 fn comparison_of(request: Attesting<'_>) -> Comparison<'_>
     ensures wanted { judgement_of result.wanted ≡ VerdictOf (attested_of request.entry).log request.entry.scope (attested_of request.entry).resume }
-    ensures list { place_of result.list ≡ (attested_of request.entry).list }
+    ensures list { location_of result.list ≡ (attested_of request.entry).list }
 {
     Comparison {
         wanted: ReportKind::Verdict {

@@ -1,7 +1,7 @@
 //! Where inputs are: loads them, and makes the faults that name one.
 
 ghost use Rattle.std.specs.Prelude.{◌≡◌, IfOk, IfErr};
-ghost use Rattle.judging.specs.Requests.{held_bytes, place_of};
+ghost use Rattle.judging.specs.Requests.{held_bytes, location_of};
 ghost use Rattle.judging.specs.Inputs.{Holds, IsFaultAt, IsInputFault, limit_of};
 
 use agent_inputs::{AgentFiles, INPUT_LIMIT, RunFault, load_input, not_read, too_long};
@@ -47,8 +47,8 @@ pub(crate) fn load_at<'a, F: AgentFiles>(
     files: &mut F,
     input: Input<'a>,
 ) -> Result<Held<'a>, RunFault>
-    ensures all { IfOk result (λ held. Holds (F.known files.old) (place_of input.entry) (held_bytes held)) }
-    ensures fault { IfErr result (IsInputFault (F.known files.old) (place_of input.entry)) }
+    ensures all { IfOk result (λ held. Holds (F.known files.old) (location_of input.entry) (held_bytes held)) }
+    ensures fault { IfErr result (IsInputFault (F.known files.old) (location_of input.entry)) }
     ensures known { F.known files.new ≡ F.known files.old }
     ensures saved { F.saved files.new ≡ F.saved files.old }
 {
@@ -60,7 +60,7 @@ pub(crate) fn load_at<'a, F: AgentFiles>(
 
 /// The most bytes that the input may have.
 pub(crate) fn limit_of(input: Input<'_>) -> u64
-    ensures { result ≡ limit_of (place_of input.entry) }
+    ensures { result ≡ limit_of (location_of input.entry) }
 {
     match input {
         Input::File(_) => INPUT_LIMIT,
@@ -70,7 +70,7 @@ pub(crate) fn limit_of(input: Input<'_>) -> u64
 
 /// The fault for a verifier's fault of the list in this input. Of bytes in memory no source fails, and none are too many.
 pub(crate) fn refusal(alloc: Global, list: Input<'_>, fault: VerifyFault) -> RunFault
-    ensures { IsFaultAt (place_of list.entry) fault result }
+    ensures { IsFaultAt (location_of list.entry) fault result }
 {
     match (fault, list) {
         (VerifyFault::Log(fault), _) => fault.into(),

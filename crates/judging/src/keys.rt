@@ -3,7 +3,7 @@
 ghost use Rattle.std.specs.Prelude.{◌≡◌, IfOk, IfErr};
 ghost use Rattle.tpm_keys.specs.Reports.{IsKey};
 ghost use Rattle.judging.specs.Answering.{IsAnswer, IsNoKey, IsRefusal};
-ghost use Rattle.judging.specs.Requests.{KeyOf, place_of};
+ghost use Rattle.judging.specs.Requests.{KeyOf, location_of};
 
 use crate::inputs::{Input, load_at};
 use crate::request::{Answer, Answered, Answering};
@@ -19,8 +19,8 @@ pub(crate) fn told_of_key<F: AgentFiles>(
     purpose: Purpose,
     part: KeyPart,
 ) -> Answering
-    ensures answer { IfOk result (IsAnswer (F.known files.old) (KeyOf (place_of area.entry) purpose part)) }
-    ensures fault { IfErr result (IsRefusal (F.known files.old) (KeyOf (place_of area.entry) purpose part)) }
+    ensures answer { IfOk result (IsAnswer (F.known files.old) (KeyOf (location_of area.entry) purpose part)) }
+    ensures fault { IfErr result (IsRefusal (F.known files.old) (KeyOf (location_of area.entry) purpose part)) }
     ensures known { F.known files.new ≡ F.known files.old }
     ensures saved { F.saved files.new ≡ F.saved files.old }
 {

@@ -3,7 +3,7 @@
 ghost use Rattle.std.specs.Prelude.{◌≡◌, List, ℕ, map, IfOk, IfErr, OnOk};
 ghost use Rattle.known_files.specs.declared.listed.ListedFiles.{ListedFiles};
 ghost use Rattle.judging.specs.Answering.{AreKnownFiles, IsFirstNotKnown, IsTextRefused, ListsAlso};
-ghost use Rattle.judging.specs.Requests.{place_of};
+ghost use Rattle.judging.specs.Requests.{location_of};
 
 use crate::inputs::{Input, load_at};
 use agent_inputs::{AgentFiles, RunFault};
@@ -16,8 +16,8 @@ pub(crate) fn known_in<F: AgentFiles>(
     files: &mut F,
     inputs: &[Input<'_>],
 ) -> Result<Option<KnownFiles>, RunFault>
-    ensures found { IfOk result (AreKnownFiles (F.known files.old) (map place_of inputs.now)) }
-    ensures fault { IfErr result (IsFirstNotKnown (F.known files.old) (map place_of inputs.now)) }
+    ensures found { IfOk result (AreKnownFiles (F.known files.old) (map location_of inputs.now)) }
+    ensures fault { IfErr result (IsFirstNotKnown (F.known files.old) (map location_of inputs.now)) }
     ensures known { F.known files.new ≡ F.known files.old }
     ensures saved { F.saved files.new ≡ F.saved files.old }
 {
@@ -39,8 +39,8 @@ fn add_text<F: AgentFiles>(
     file: usize,
     listed: &mut ListedFiles,
 ) -> Result<(), RunFault>
-    ensures added { OnOk result (ListsAlso (F.known files.old) (place_of input.entry) listed.old listed.new) }
-    ensures fault { IfErr result (IsTextRefused (F.known files.old) (place_of input.entry) file) }
+    ensures added { OnOk result (ListsAlso (F.known files.old) (location_of input.entry) listed.old listed.new) }
+    ensures fault { IfErr result (IsTextRefused (F.known files.old) (location_of input.entry) file) }
     ensures known { F.known files.new ≡ F.known files.old }
     ensures saved { F.saved files.new ≡ F.saved files.old }
 {

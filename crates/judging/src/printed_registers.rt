@@ -2,7 +2,7 @@
 
 ghost use Rattle.std.specs.Prelude.{◌≡◌, option_map, IfOk, IfErr};
 ghost use Rattle.judging.specs.Answering.{IsAnswer, IsNotPrintedOf, IsPrintedOf, IsRefusal, IsSelected, IsSelectionFault, selected_by};
-ghost use Rattle.judging.specs.Requests.{ExpectedOf, place_of};
+ghost use Rattle.judging.specs.Requests.{ExpectedOf, location_of};
 
 use crate::inputs::{Input, load_at};
 use crate::request::{Answer, Answered, Answering};
@@ -19,9 +19,9 @@ pub(crate) fn printed_registers<F: AgentFiles>(
     registers: Option<&[u8]>,
 ) -> Answering
     ensures answer { IfOk result (IsAnswer (F.known files.old)
-        (ExpectedOf (place_of printed.entry) (option_map (λ text. text.now) registers.entry))) }
+        (ExpectedOf (location_of printed.entry) (option_map (λ text. text.now) registers.entry))) }
     ensures fault { IfErr result (IsRefusal (F.known files.old)
-        (ExpectedOf (place_of printed.entry) (option_map (λ text. text.now) registers.entry))) }
+        (ExpectedOf (location_of printed.entry) (option_map (λ text. text.now) registers.entry))) }
     ensures known { F.known files.new ≡ F.known files.old }
     ensures saved { F.saved files.new ≡ F.saved files.old }
 {

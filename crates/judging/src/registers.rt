@@ -3,7 +3,7 @@
 ghost use Rattle.std.specs.Prelude.{◌≡◌, IfOk, IfErr};
 ghost use Rattle.agent_inputs.specs.Loading.{Inputs as InputsOf};
 ghost use Rattle.judging.specs.Answering.{IsAnswer, IsRefusal, GivesInput};
-ghost use Rattle.judging.specs.Requests.{ListRegistersOf, LogRegistersOf, place_of};
+ghost use Rattle.judging.specs.Requests.{ListRegistersOf, LogRegistersOf, location_of};
 
 use crate::inputs::{Input, limit_of, load_at, refusal};
 use crate::request::{Answer, Answered, Answering, Registers};
@@ -15,8 +15,8 @@ use std::alloc::Global;
 
 /// The registers after the log in this input, which is loaded.
 pub(crate) fn after_log<F: AgentFiles>(alloc: Global, files: &mut F, log: Input<'_>) -> Answering
-    ensures answer { IfOk result (IsAnswer (F.known files.old) (LogRegistersOf (place_of log.entry))) }
-    ensures fault { IfErr result (IsRefusal (F.known files.old) (LogRegistersOf (place_of log.entry))) }
+    ensures answer { IfOk result (IsAnswer (F.known files.old) (LogRegistersOf (location_of log.entry))) }
+    ensures fault { IfErr result (IsRefusal (F.known files.old) (LogRegistersOf (location_of log.entry))) }
     ensures known { F.known files.new ≡ F.known files.old }
     ensures saved { F.saved files.new ≡ F.saved files.old }
 {
@@ -30,8 +30,8 @@ pub(crate) fn after_log<F: AgentFiles>(alloc: Global, files: &mut F, log: Input<
 
 /// The registers after the list in this input, which is replayed as it is read, without loading it.
 pub(crate) fn after_list<F: AgentFiles>(alloc: Global, files: &mut F, list: Input<'_>) -> Answering
-    ensures answer { IfOk result (IsAnswer (F.known files.old) (ListRegistersOf (place_of list.entry))) }
-    ensures fault { IfErr result (IsRefusal (F.known files.old) (ListRegistersOf (place_of list.entry))) }
+    ensures answer { IfOk result (IsAnswer (F.known files.old) (ListRegistersOf (location_of list.entry))) }
+    ensures fault { IfErr result (IsRefusal (F.known files.old) (ListRegistersOf (location_of list.entry))) }
     ensures known { F.known files.new ≡ F.known files.old }
     ensures saved { F.saved files.new ≡ F.saved files.old }
 {
@@ -46,10 +46,10 @@ pub(crate) fn after_list<F: AgentFiles>(alloc: Global, files: &mut F, list: Inpu
 
 // The registers after the list of this source.
 fn after_list_from<R: Source>(alloc: Global, source: &mut R, list: Input<'_>) -> Answering
-    ensures answer { (inputs : InputsOf) → GivesInput inputs (place_of list.entry) (R.state source.old) (R.state source.new)
-        → IfOk result (IsAnswer inputs (ListRegistersOf (place_of list.entry))) }
-    ensures fault { (inputs : InputsOf) → GivesInput inputs (place_of list.entry) (R.state source.old) (R.state source.new)
-        → IfErr result (IsRefusal inputs (ListRegistersOf (place_of list.entry))) }
+    ensures answer { (inputs : InputsOf) → GivesInput inputs (location_of list.entry) (R.state source.old) (R.state source.new)
+        → IfOk result (IsAnswer inputs (ListRegistersOf (location_of list.entry))) }
+    ensures fault { (inputs : InputsOf) → GivesInput inputs (location_of list.entry) (R.state source.old) (R.state source.new)
+        → IfErr result (IsRefusal inputs (ListRegistersOf (location_of list.entry))) }
 {
     match replay_from(alloc, source, limit_of(list)) {
         Ok(now) => Ok(Answered::alone(Answer::Registers(Registers {

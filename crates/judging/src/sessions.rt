@@ -6,7 +6,7 @@ ghost use Rattle.growing_lists.specs.Goals.{aim_of};
 ghost use Rattle.growing_lists.specs.Sessions.{HasTaken};
 ghost use Rattle.agent_inputs.specs.declared.fault.RunFault.TheVariants as runs;
 ghost use Rattle.judging.specs.Answering.{IsCheckpointText, IsNoCheckpoint, aim_in, evidence_of, CanBeReadBack, IsAnswerOn, FindsFrom, IsLogRefused, IsStarted, JudgesFrom, seeks_prefix};
-ghost use Rattle.judging.specs.Requests.{VerdictOf, place_of};
+ghost use Rattle.judging.specs.Requests.{VerdictOf, location_of};
 ghost use Rattle.judging.specs.Inputs.{Where};
 
 use crate::answers::{Evidence, Finding};
@@ -46,7 +46,7 @@ impl Evidence<'_> {
         list: Input<'_>,
         scope: Scope,
     ) -> Finding
-        ensures { (log : Where) (resume : Option Where) → FindsFrom (VerdictOf log scope resume) (place_of list.entry) (evidence_of self.now)
+        ensures { (log : Where) (resume : Option Where) → FindsFrom (VerdictOf log scope resume) (location_of list.entry) (evidence_of self.now)
             (R.state source.old) (R.state source.new) result }
     {
         let mut session = session_of(self.log.bytes(), self.known)?;
@@ -92,7 +92,7 @@ impl Evidence<'_> {
         scope: Scope,
         watch: UnknownEntries<'k>,
     ) -> Result<(Judged, UnknownEntries<'k>), RunFault>
-        ensures { JudgesFrom scope (place_of list.entry) (evidence_of self.now) watch.entry (R.state source.old) (R.state source.new)
+        ensures { JudgesFrom scope (location_of list.entry) (evidence_of self.now) watch.entry (R.state source.old) (R.state source.new)
             session.old session.new result }
     {
         if self.seeks_prefix(scope) {

@@ -1,7 +1,7 @@
 //! What questions ask of their inputs.
 
 ghost use Rattle.std.specs.Prelude.{◌≡◌, [], map, option_map, IfOk, OnErr};
-ghost use Rattle.judging.specs.Requests.{requested_of, place_of, attested_of, compared_of, judgement_of, requires_of};
+ghost use Rattle.judging.specs.Requests.{requested_of, location_of, attested_of, compared_of, judgement_of, requires_of};
 ghost use Rattle.questions.specs.Questions.{attested_with, requested_by, file_of, files_of, known_by, attested_by, compared_by, judgement_by, requires_by, save_by, with_known};
 
 use agent_plans::{Attest, Judge, Judged, Question, Quoting, Scope};
@@ -10,7 +10,7 @@ use std::alloc::{AllocError, Global};
 
 /// The texts of known files that a question names.
 pub fn known_inputs(alloc: Global, question: &Question) -> Result<Vec<Input<'_>>, AllocError>
-    ensures inputs { IfOk result (λ known. map place_of known.items ≡ known_by question.now) }
+    ensures inputs { IfOk result (λ known. map location_of known.items ≡ known_by question.now) }
     // Memory runs out only where there is one.
     ensures some { OnErr result (known_by question.now ≡ [] → ⊥) }
 {
@@ -38,9 +38,9 @@ fn known_names(question: &Question) -> &[String]
 
 /// What a question asks, where these are the texts of known files that it names.
 pub fn request_of<'a>(question: &'a Question, known: &'a [Input<'a>]) -> Request<'a>
-    ensures asked { map place_of known.now ≡ known_by question.now → requested_of result ≡ requested_by question.now }
+    ensures asked { map location_of known.now ≡ known_by question.now → requested_of result ≡ requested_by question.now }
     // With other texts of known files it is the same, but for these.
-    ensures given { requested_of result ≡ with_known (map place_of known.now) (requested_by question.now) }
+    ensures given { requested_of result ≡ with_known (map location_of known.now) (requested_by question.now) }
 {
     match question {
         Question::LogRegisters { log } => Request::LogRegisters {
@@ -72,8 +72,8 @@ pub fn request_of<'a>(question: &'a Question, known: &'a [Input<'a>]) -> Request
 
 // What is judged by a quote.
 fn attesting_of<'a>(attest: &'a Attest, known: &'a [Input<'a>]) -> Attesting<'a>
-    ensures asked { map place_of known.now ≡ files_of attest.now.known → attested_of result ≡ attested_by attest.now }
-    ensures given { attested_of result ≡ record (attested_by attest.now) { known = map place_of known.now } }
+    ensures asked { map location_of known.now ≡ files_of attest.now.known → attested_of result ≡ attested_by attest.now }
+    ensures given { attested_of result ≡ record (attested_by attest.now) { known = map location_of known.now } }
 {
     Attesting {
         expected: file_of(&attest.expected),
@@ -86,7 +86,7 @@ fn attesting_of<'a>(attest: &'a Attest, known: &'a [Input<'a>]) -> Attesting<'a>
 
 /// What is judged by a quote of this log, and of a whole list.
 pub fn attesting_by<'a>(log: Input<'a>, quoting: &'a Quoting) -> Attesting<'a>
-    ensures { attested_of result ≡ attested_with (place_of log.entry) quoting.now }
+    ensures { attested_of result ≡ attested_with (location_of log.entry) quoting.now }
 {
     Attesting {
         log,
@@ -105,7 +105,7 @@ pub fn attesting_by<'a>(log: Input<'a>, quoting: &'a Quoting) -> Attesting<'a>
 
 // The file of this name, if there is one.
 fn file_of(name: &Option<String>) -> Option<Input<'_>>
-    ensures { option_map place_of result ≡ option_map file_of name.now }
+    ensures { option_map location_of result ≡ option_map file_of name.now }
 {
     match name {
         None => None,
@@ -115,8 +115,8 @@ fn file_of(name: &Option<String>) -> Option<Input<'_>>
 
 // What is compared.
 fn comparison_of<'a>(judge: &'a Judge, known: &'a [Input<'a>]) -> Comparison<'a>
-    ensures asked { map place_of known.now ≡ files_of judge.now.known → compared_of result ≡ compared_by judge.now }
-    ensures given { compared_of result ≡ record (compared_by judge.now) { known = map place_of known.now } }
+    ensures asked { map location_of known.now ≡ files_of judge.now.known → compared_of result ≡ compared_by judge.now }
+    ensures given { compared_of result ≡ record (compared_by judge.now) { known = map location_of known.now } }
 {
     Comparison {
         wanted: wanted_of(&judge.judged),

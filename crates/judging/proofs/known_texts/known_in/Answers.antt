@@ -1,7 +1,7 @@
 use Rattle.std.proofs.Common.{refl, arith, ◌∙◌}
 use Rattle.std.proofs.lemmas.Result.{err_from_is_err_and}
 use Rattle.std.proofs.lemmas.List.{length-map}
-use Rattle.judging.specs.Requests.{place_of}
+use Rattle.judging.specs.Requests.{location_of}
 use Rattle.judging.proofs.KnownLaws.{all_listed, listed_more, listed_none, not_listed, some_input}
 use Rattle.judging.proofs.known_texts.known_in.Goals as goal
 
@@ -18,7 +18,7 @@ loop-index-preserved g c = record {
 
 pub returns-clause-found : goal.returns-clause-found
 returns-clause-found g c =
-    all_listed _ _ c.loop-index.index c.loop-index.listed c.of.result (some_input c.args.inputs.now c.if-is_empty.ensures) (omega (arith, length-map c.args.inputs.now place_of, c.loop-index-test.false))
+    all_listed _ _ c.loop-index.index c.loop-index.listed c.of.result (some_input c.args.inputs.now c.if-is_empty.ensures) (omega (arith, length-map c.args.inputs.now location_of, c.loop-index-test.false))
     c.loop-index.invariant.listed c.of.ensures
 
 pub returns-in_err-add_text-clause-fault : goal.returns-in_err-add_text-clause-fault

@@ -1,5 +1,5 @@
 use Rattle.std.proofs.Common.{◌≡◌, map}
-use Rattle.judging.specs.Requests.{place_of}
+use Rattle.judging.specs.Requests.{location_of}
 use Rattle.judging.proofs.KnownLaws.{HasListed}
 use Rattle.judging.proofs.known_texts.known_in.Given as goal
 
@@ -7,5 +7,5 @@ abbrev pub invariant-loop-index : goal.invariant-loop-index
 invariant-loop-index g l = record {
   known : g.F.Files.known l.files ≡ g.F.Files.known l.fn.files;
   saved : g.F.Files.saved l.files ≡ g.F.Files.saved l.fn.files;
-  listed : HasListed (g.F.Files.known l.fn.files) (map place_of l.inputs) l.index l.listed;
+  listed : HasListed (g.F.Files.known l.fn.files) (map location_of l.inputs) l.index l.listed;
 }

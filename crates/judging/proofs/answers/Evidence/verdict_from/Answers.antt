@@ -4,7 +4,7 @@ use Rattle.boot_verdict.specs.declared.checkpoint.Checkpoint.{Checkpoint}
 use Rattle.known_files.specs.declared.known.KnownFiles.{KnownFiles}
 use Rattle.known_files.specs.Unknown.{IsFresh}
 use Rattle.judging.specs.Answering.{entries_taken, evidence_of}
-use Rattle.judging.specs.Requests.{place_of}
+use Rattle.judging.specs.Requests.{location_of}
 use Rattle.judging.proofs.InputLaws.{memory_out, tells_of}
 use Rattle.judging.proofs.KnownLaws.{told_within}
 use Rattle.judging.proofs.answers.Evidence.verdict_from.Goals as goal
@@ -52,7 +52,7 @@ returns g c =
     let fresh : IsFresh c.args.self.now.files (entries_taken c.args.self.now.known) c.new-watch.result =
     subst (λ (p : Option KnownFiles × ℕ). IsFresh p.0 p.1 c.new-watch.result) (λ i. (files i, first i)) c.new-watch.ensures.fresh in (
       c.in_ok-judged.judged,
-      tells_of inputs c.args.scope (place_of c.args.list) (evidence_of c.args.self.now) _ _ c.in_ok-judged.judged c.in_ok-next.next
+      tells_of inputs c.args.scope (location_of c.args.list) (evidence_of c.args.self.now) _ _ c.in_ok-judged.judged c.in_ok-next.next
           (λ entries counted has.
           told_within c.args.self.now.files (entries_taken c.args.self.now.known) c.in_ok-next.next.entries c.new-watch.result c.in_ok-judged.watch
           c.in_ok-unknown.unknown fresh c.in_ok-unknown.ensures.unknown c.in_ok-unknown.ensures.none entries counted has)
