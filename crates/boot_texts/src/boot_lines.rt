@@ -8,11 +8,11 @@ ghost use Rattle.cells.specs.Cells.{rendered};
 ghost use Rattle.boot_texts.specs.AnswerCells.{secure_boot_cell, state_word, word_cell};
 ghost use Rattle.boot_texts.specs.BootLines.{AreBootLines, AreCommandLines, AreImageLines, AreVariableLines};
 
-use crate::answering::is_answered;
+use crate::answering_banks::is_answered;
 use crate::commands::UntoldLine;
 use crate::images::IMAGE_REGISTER;
 use crate::policies::{GRUB_REGISTER, STUB_REGISTER, append_policy};
-use crate::steps::append_each;
+use crate::event_walk::append_each;
 use crate::boot_question::BootQuestion;
 use crate::versions::VersionLine;
 use crate::words::WordLine;

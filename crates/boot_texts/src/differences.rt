@@ -7,7 +7,7 @@ ghost use Rattle.boot_log.specs.Spelling.{IsLog, LogEvent};
 ghost use Rattle.cells.specs.Cells.{rendered};
 ghost use Rattle.boot_texts.specs.Differences.{AreDifferenceLines, IsComparedIn, IsDifference, alike_cell, either_extended, has_events, lines_of_both, register_lines, where_extended};
 
-use crate::answering::{answers, has_answer};
+use crate::answering_banks::{answers, has_answer};
 use crate::difference_lines::{AlikeLine, ApartLine, Boot, EventLine, append_events};
 use boot_answers::{Common, RegisterEvents, common_events, first_difference};
 use boot_log::LogView;

@@ -7,7 +7,7 @@ ghost use Rattle.cells.specs.Cells.{ShowsMembers, if_some, object_at};
 ghost use Rattle.boot_texts.specs.AnswerCells.{answered_cell, answered_digest, digest_cell, image_cell};
 ghost use Rattle.boot_texts.specs.Telling.{IsImageBy, MayBeImageIn, TellsImage};
 
-use crate::answering::answers;
+use crate::answering_banks::answers;
 use crate::contents::show_content;
 use boot_answers::may_be_image;
 use boot_log::Event;

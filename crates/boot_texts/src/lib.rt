@@ -4,9 +4,9 @@
 //! `unknown`. What a line has under `claimed` nothing confirms.
 #![tactic(auto)]
 
-mod answering;
+mod answering_banks;
 mod asked;
-mod asking;
+mod policy_scan;
 mod boot_lines;
 mod commands;
 mod contents;
@@ -15,7 +15,7 @@ mod differences;
 mod images;
 pub mod laws;
 mod policies;
-mod steps;
+mod event_walk;
 mod boot_question;
 mod variables;
 mod versions;

@@ -11,9 +11,9 @@ ghost use Rattle.cells.specs.Cells.{ShowsMembers};
 ghost use Rattle.boot_texts.specs.AnswerCells.{variable_cell};
 ghost use Rattle.boot_texts.specs.Telling.{IsSeparatorBy, MayBeSeparatorIn, TellsSetting, TellsVariable, allows_variable, is_boot_variable, is_told_variable, told_variable};
 
-use crate::answering::answers;
+use crate::answering_banks::answers;
 use crate::contents::show_content;
-use crate::steps::is_extended_into;
+use crate::event_walk::is_extended_into;
 use boot_answers::{SETTINGS_REGISTER, may_be_separator};
 use boot_log::Event;
 use cells::{CellWriter, Form, Shown, Written, append};

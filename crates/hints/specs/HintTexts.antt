@@ -10,14 +10,14 @@ use Rattle.boot_verdict.specs.declared.isolation.Stray.{Stray}
 use Rattle.boot_verdict.specs.Isolation.{are_none}
 use Rattle.pcr_banks.specs.declared.alg.Alg.{Alg}
 use Rattle.pcr_banks.specs.declared.alg.Alg.TheVariants.{Sha1}
-use Rattle.hints.specs.declared.causes.Causes.{Causes}
-use Rattle.hints.specs.declared.causes.Grown.{Grown}
-use Rattle.hints.specs.declared.causes.JudgedBy.{JudgedBy}
-use Rattle.hints.specs.declared.causes.JudgedBy.TheVariants.{Values, ListAlone, Places}
+use Rattle.hints.specs.declared.reasons.Causes.{Causes}
+use Rattle.hints.specs.declared.reasons.Grown.{Grown}
+use Rattle.hints.specs.declared.reasons.JudgedBy.{JudgedBy}
+use Rattle.hints.specs.declared.reasons.JudgedBy.TheVariants.{Values, ListAlone, Places}
 use Rattle.hints.specs.declared.hints.Hint.{Hint}
 use Rattle.hints.specs.declared.hints.Hint.TheVariants.{Grown as GrownTo, NoEntries, OtherAggregate, OldAggregate, NoAggregateBank, NoAggregate, ListDiffers, NotExpected, NotQuoted, EventOfList, EntryOfLog, EntryAside, LogDiffers, LogNowhere, WithoutLog, Missing, NothingExpected, Absent, Unknown}
-use Rattle.hints.specs.declared.mistakes.Mistake.{Mistake}
-use Rattle.hints.specs.declared.mistakes.Mistake.TheVariants as mistakes
+use Rattle.hints.specs.declared.wrong_input.Mistake.{Mistake}
+use Rattle.hints.specs.declared.wrong_input.Mistake.TheVariants as mistakes
 use Rattle.hints.specs.Escaping.{escape}
 
 -- ---- which hints

@@ -26,9 +26,9 @@ use Rattle.agent_inputs.specs.declared.fault.RunFault.{RunFault}
 use Rattle.judging.specs.Answering.{IsAnswer, IsRefusal}
 use Rattle.judging.specs.Requests.{Attested, Attests, Compares, Judgement, Requested, VerdictOf}
 use Rattle.judging.specs.declared.request.Answer.TheVariants as answers
-use Rattle.hints.specs.declared.causes.Causes.{Causes}
-use Rattle.hints.specs.declared.causes.Grown.{Grown}
-use Rattle.hints.specs.declared.causes.JudgedBy.TheVariants.{Values, ListAlone, Places}
+use Rattle.hints.specs.declared.reasons.Causes.{Causes}
+use Rattle.hints.specs.declared.reasons.Grown.{Grown}
+use Rattle.hints.specs.declared.reasons.JudgedBy.TheVariants.{Values, ListAlone, Places}
 
 -- ---- rows
 

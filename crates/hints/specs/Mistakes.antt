@@ -1,10 +1,10 @@
 -- What a refused input is in place of what it should be. All of it is told by the first bytes.
 use Rattle.std.specs.Prelude.{ℕ, ◌&&◌, ◌||◌, not, nat_le, nat_eq, Bool, if◌then◌else◌, List, [], ◌∷◌, ◌++◌, length, codes, drop, Option, None, Some}
 use Rattle.std.specs.List.{list_any, starts_with}
-use Rattle.hints.specs.declared.mistakes.Mistake.{Mistake}
-use Rattle.hints.specs.declared.mistakes.Mistake.TheVariants.{Empty, NothingPrinted, ListForLog, OldLog, LogForList, TextForList, PrintedForExpected}
-use Rattle.hints.specs.declared.mistakes.ExpectedInput.{ExpectedInput}
-use Rattle.hints.specs.declared.mistakes.ExpectedInput.TheVariants as wanted
+use Rattle.hints.specs.declared.wrong_input.Mistake.{Mistake}
+use Rattle.hints.specs.declared.wrong_input.Mistake.TheVariants.{Empty, NothingPrinted, ListForLog, OldLog, LogForList, TextForList, PrintedForExpected}
+use Rattle.hints.specs.declared.wrong_input.ExpectedInput.{ExpectedInput}
+use Rattle.hints.specs.declared.wrong_input.ExpectedInput.TheVariants as wanted
 
 -- These bytes are at this place.
 abbrev pub has_at : List ℕ → ℕ → List ℕ → Bool

@@ -11,8 +11,8 @@ use Rattle.agent_plans.specs.declared.plan.Question.TheVariants as questions
 use Rattle.agent_plans.specs.declared.plan.Quoting.{Quoting}
 use Rattle.agent_plans.specs.declared.plan.Task.{Task}
 use Rattle.agent_plans.specs.declared.plan.Task.TheVariants as tasks
-use Rattle.hints.specs.declared.mistakes.ExpectedInput.{ExpectedInput}
-use Rattle.hints.specs.declared.mistakes.ExpectedInput.TheVariants as wanted
+use Rattle.hints.specs.declared.wrong_input.ExpectedInput.{ExpectedInput}
+use Rattle.hints.specs.declared.wrong_input.ExpectedInput.TheVariants as wanted
 
 -- ---- the names of a task's files
 

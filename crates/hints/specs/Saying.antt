@@ -6,10 +6,10 @@ use Rattle.agent_plans.specs.declared.plan.Question.{Question}
 use Rattle.agent_plans.specs.declared.plan.Task.{Task}
 use Rattle.agent_plans.specs.declared.plan.Task.TheVariants as tasks
 use Rattle.judging.specs.Requests.{Requested}
-use Rattle.hints.specs.declared.causes.Causes.{Causes}
-use Rattle.hints.specs.declared.causes.Grown.{Grown}
-use Rattle.hints.specs.declared.mistakes.Mistake.{Mistake}
-use Rattle.hints.specs.declared.mistakes.ExpectedInput.{ExpectedInput}
+use Rattle.hints.specs.declared.reasons.Causes.{Causes}
+use Rattle.hints.specs.declared.reasons.Grown.{Grown}
+use Rattle.hints.specs.declared.wrong_input.Mistake.{Mistake}
+use Rattle.hints.specs.declared.wrong_input.ExpectedInput.{ExpectedInput}
 use Rattle.hints.specs.Escaping.{escape}
 use Rattle.hints.specs.Heads.{IsLookedAt}
 use Rattle.hints.specs.Hints.{IsGrown, IsNotGrown, IsNotSeen, IsSeen}

@@ -1,18 +1,18 @@
 //! What a person is told beside the output: why a run failed, what to do next, and the progress of a measurement.
 #![tactic(auto)]
 
-mod causes;
+mod reasons;
 mod escapes;
 mod explanations;
-mod files_again;
+mod reread;
 mod hints;
-mod mistakes;
+mod wrong_input;
 mod old_aggregates;
 mod progress;
-mod second_look;
+mod rejudge;
 mod task_inputs;
 
 pub use escapes::escape;
 pub use explanations::explanation;
 pub use progress::{SystemProgress, Terminals};
-pub use second_look::{hint, hint_from};
+pub use rejudge::{hint, hint_from};

@@ -6,7 +6,7 @@ ghost use Rattle.pcr_banks.specs.Registers.{value_at};
 ghost use Rattle.hints.specs.OldAggregates.{BeginsWithOld, IsSaidOld, LogLeaves, is_old, old_aggregate, registers_in};
 ghost use Rattle.hints.specs.Refused.{list_of, log_of};
 
-use crate::files_again::head_of;
+use crate::reread::head_of;
 use crate::task_inputs::{list_of, log_of};
 use agent_inputs::{AgentFiles, RunFault};
 use agent_plans::Task;

@@ -1,7 +1,7 @@
 //! What is told beside the output: the progress of a measurement, why a run failed, and what to do next.
 
 use crate::explanations::explanation;
-use crate::second_look::hint;
+use crate::rejudge::hint;
 use measuring::FileProgress;
 use questions::{Failure, Progress};
 use std::alloc::Global;

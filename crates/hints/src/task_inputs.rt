@@ -3,7 +3,7 @@
 ghost use Rattle.std.specs.Prelude.{◌≡◌, option_map};
 ghost use Rattle.hints.specs.Refused.{as_wanted, expected_of, judged_log, list_of, log_of, quoting_of, refused_input, text_wanted};
 
-use crate::mistakes::ExpectedInput;
+use crate::wrong_input::ExpectedInput;
 use agent_inputs::RunFault;
 use agent_plans::{Attest, ConfirmedBy, Judge, Judged, Measurement, Question, Quoting, Task};
 use measure_book::BookFault;

@@ -5,7 +5,7 @@ use Rattle.std.proofs.lemmas.Iterator.Search.{find_from_yields_List}
 use Rattle.pcr_banks.specs.declared.alg.Alg.{Alg}
 use Rattle.pcr_banks.specs.Hashing.{all_algs}
 use Rattle.hints.specs.Hints.{missing_in}
-use Rattle.hints.proofs.causes.first_missing.Goals as goal
+use Rattle.hints.proofs.reasons.first_missing.Goals as goal
 
 pub returns-in_err-alg : goal.returns-in_err-alg
 returns-in_err-alg g c =

@@ -1,5 +1,5 @@
 use Rattle.hints.proofs.HintLaws.{nothing_seen}
-use Rattle.hints.proofs.second_look.on_difference.Goals as goal
+use Rattle.hints.proofs.rejudge.on_difference.Goals as goal
 
 pub returns-in-None-clause-told : goal.returns-in-None-clause-told
 returns-in-None-clause-told g c =

@@ -8,10 +8,10 @@ ghost use Rattle.hints.specs.Escaping.{is_shown};
 ghost use Rattle.hints.specs.Hints.{IsGrown, IsNotGrown, IsNotSeen, IsSeen, on_prefix};
 ghost use Rattle.hints.specs.Saying.{TellsMistake, TellsNext, TellsOf};
 
-use crate::causes::{Causes, Grown, causes_of, grown_by};
-use crate::files_again::{FilesAgain, head_of};
+use crate::reasons::{Causes, Grown, causes_of, grown_by};
+use crate::reread::{FilesAgain, head_of};
 use crate::hints::{hint_on, hints_on};
-use crate::mistakes::mistake_in;
+use crate::wrong_input::mistake_in;
 use crate::old_aggregates::is_old_aggregate;
 use crate::task_inputs::refused_input;
 use agent_inputs::{AgentFiles, RunFault};

@@ -4,7 +4,7 @@ use Rattle.std.proofs.lemmas.Iterator.Adapters.{option_map_id}
 use Rattle.std.proofs.lemmas.Iterator.Search.{find_from_yields_List}
 use Rattle.boot_verdict.specs.Requirements.{is_missing}
 use Rattle.tpm_quotes.specs.Spelling.{all_registers}
-use Rattle.hints.proofs.causes.missing_in.Goals as goal
+use Rattle.hints.proofs.reasons.missing_in.Goals as goal
 
 pub returns : goal.returns
 unfolding all_registers

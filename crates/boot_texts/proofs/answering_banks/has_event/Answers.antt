@@ -1,6 +1,6 @@
 use Rattle.std.proofs.Common.{[], sym, ap}
 use Rattle.boot_texts.specs.Answering.{has_any}
-use Rattle.boot_texts.proofs.answering.has_event.Goals as goal
+use Rattle.boot_texts.proofs.answering_banks.has_event.Goals as goal
 
 pub returns-in-Some : goal.returns-in-Some
 returns-in-Some c table events is =

@@ -2,7 +2,7 @@ use Rattle.std.proofs.Common.{arith}
 use Rattle.std.proofs.lemmas.Result.{err_from_is_err_and}
 use Rattle.agent_inputs.proofs.LoadingLemmas.{lost_nothing, lost_piece, whole}
 use Rattle.hints.proofs.HintLaws.{failed_after, head_of_all, head_of_more}
-use Rattle.hints.proofs.files_again.first_bytes.Goals as goal
+use Rattle.hints.proofs.reread.first_bytes.Goals as goal
 
 pub loop-pieces-init : goal.loop-pieces-init
 loop-pieces-init g c = lost_nothing _ _ (cc)
