@@ -11,7 +11,7 @@ use agent_plans::Form;
 use byte_streams::{Failed, VecSink};
 use judging::Request;
 use pieces::{End, Piece, Position};
-use rendering::{Given, json_fault_line, json_memory_line, output_on, status_of, write_fault};
+use rendering::{Rendered, json_fault_line, json_memory_line, output_on, status_of, write_fault};
 use std::alloc::{AllocError, Global};
 
 /// What a call returns if all is well.
@@ -199,7 +199,7 @@ fn put(text: &[u8], status: u8, fault: Option<&RunFault>, out: &mut [u8], told: 
 
 // Writes an answer and the text of a checkpoint each at the start of its room, if both fit.
 fn put_both(
-    given: &Given,
+    given: &Rendered,
     next: &mut [u8],
     next_size: &mut usize,
     out: &mut [u8],

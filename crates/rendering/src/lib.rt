@@ -12,6 +12,6 @@ mod renderer;
 
 pub use fault_lines::{status_of, write_fault};
 pub use json_faults::{json_fault_line, json_memory_line};
-pub use outputs::{Given, output_for, output_on};
+pub use outputs::{Rendered, output_for, output_on};
 pub use printed_lists::print_measured;
 pub use renderer::{Output, render, status_of_answer};

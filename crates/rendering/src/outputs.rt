@@ -36,7 +36,7 @@ pub fn output_for<F: AgentFiles>(
 
 /// An output, and where to go on.
 #[derive(Drop)]
-pub struct Given {
+pub struct Rendered {
     /// The output.
     pub output: Output,
     /// The text of the checkpoint of what a verdict is on, if all is well; else no bytes.
@@ -44,7 +44,7 @@ pub struct Given {
 }
 
 /// The output of what is asked for of bytes in memory, in this form. There are no files: one that is asked for cannot be read.
-pub fn output_on(alloc: Global, request: Request<'_>, form: Form) -> Result<Given, RunFault>
+pub fn output_on(alloc: Global, request: Request<'_>, form: Form) -> Result<Rendered, RunFault>
     ensures shown { IfOk result (λ given. GivesAnswer unknown (requested_of request.entry) form given.output.text.items given.output.status
         given.checkpoint.items) }
     ensures fault { IfErr result (IsRefusalOn unknown (requested_of request.entry)) }
@@ -52,7 +52,7 @@ pub fn output_on(alloc: Global, request: Request<'_>, form: Form) -> Result<Give
     let given = answer_request(alloc, &mut NoFiles, request)?;
     let output = render(alloc, &given, form)?;
     let checkpoint = text_of(alloc, given.next)?;
-    Ok(Given { output, checkpoint })
+    Ok(Rendered { output, checkpoint })
 }
 
 // The text of a checkpoint and its boot, if there is one.
