@@ -4,9 +4,9 @@ use Rattle.std.specs.Prelude.{ℤ, ◌⊎◌, IfErr, IfNone, IfOk, IfSome}
 use Rattle.agent_inputs.specs.declared.fault.RunFault.{RunFault}
 use Rattle.agent_inputs.specs.declared.fault.RunFault.TheVariants.{Memory}
 use Rattle.cells.specs.declared.writer.Form.{Form}
-use Rattle.pieces.specs.declared.piece.Piece.{Piece}
-use Rattle.pieces.specs.declared.piece.Position.{Position}
-use Rattle.pieces.specs.Pieces.{is_within}
+use Rattle.line_chunks.specs.declared.piece.Piece.{Piece}
+use Rattle.line_chunks.specs.declared.piece.Position.{Position}
+use Rattle.line_chunks.specs.Pieces.{is_within}
 use Rattle.ima_verify_c.specs.declared.told.Told.{Told}
 use Rattle.ima_verify_c.specs.Answers.{GivesFound, GivesLines}
 use Rattle.ima_verify_c.proofs.GivingLaws.{refused}

@@ -13,11 +13,11 @@ use Rattle.agent_inputs.specs.declared.fault.RunFault.TheVariants.{Memory}
 use Rattle.agent_inputs.specs.Faults.{fault_head}
 use Rattle.agent_inputs.specs.Loading.{unknown}
 use Rattle.rendering.specs.Rendering.{GivesAnswer, IsRefusalOn}
-use Rattle.pieces.specs.declared.piece.End.{End}
-use Rattle.pieces.specs.declared.piece.End.TheVariants.{Last, Longer, More}
-use Rattle.pieces.specs.declared.piece.Piece.{Piece}
-use Rattle.pieces.specs.declared.piece.Position.{Position}
-use Rattle.pieces.specs.Pieces.{AreEntriesBefore, FailsAfterEntries, IsEntryPiece, AreEventsBefore, FailsAfterEvents, IsEventPiece, end_in, is_within}
+use Rattle.line_chunks.specs.declared.piece.End.{End}
+use Rattle.line_chunks.specs.declared.piece.End.TheVariants.{Last, Longer, More}
+use Rattle.line_chunks.specs.declared.piece.Piece.{Piece}
+use Rattle.line_chunks.specs.declared.piece.Position.{Position}
+use Rattle.line_chunks.specs.Pieces.{AreEntriesBefore, FailsAfterEntries, IsEntryPiece, AreEventsBefore, FailsAfterEvents, IsEventPiece, end_in, is_within}
 use Rattle.rendering.specs.FaultTexts.{fault_line, json_fault_line, said_of}
 use Rattle.tpm_keys.specs.declared.kinds.KeyPart.TheVariants.{All}
 use Rattle.tpm_keys.specs.declared.kinds.Purpose.{Purpose}

@@ -25,7 +25,7 @@ use crate::requests::{
 };
 use agent_plans::Form;
 use judging::{Attesting, Input, Request, Required, ReportKind};
-use pieces::{Position, entry_lines, event_lines};
+use line_chunks::{Position, entry_lines, event_lines};
 use std::alloc::Global;
 pub use told::Told;
 

@@ -10,7 +10,7 @@ use agent_inputs::{FaultKind, RunFault};
 use agent_plans::Form;
 use byte_streams::{Failed, VecSink};
 use judging::Request;
-use pieces::{End, Piece, Position};
+use line_chunks::{End, Piece, Position};
 use rendering::{Rendered, json_fault_line, json_memory_line, output_on, status_of, write_fault};
 use std::alloc::{AllocError, Global};
 

@@ -1,0 +1,220 @@
+-- Lines that are given by pieces, each of as many whole lines as there is room for.
+use Rattle.std.specs.Prelude.{◌≡◌, ℕ, ◌+◌, ◌<◌, ◌≤◌, ◌⊎◌, ◌&&◌, Bool, nat_le, List, [], ◌∷◌, ◌++◌, length, Option, Some, None, Result, Ok, Err, flat_map}
+use Rattle.agent_inputs.specs.declared.fault.RunFault.{RunFault}
+use Rattle.agent_inputs.specs.declared.fault.RunFault.TheVariants.{Memory}
+use Rattle.line_chunks.specs.declared.piece.End.{End}
+use Rattle.line_chunks.specs.declared.piece.End.TheVariants.{Last, Longer, More}
+use Rattle.line_chunks.specs.declared.piece.Piece.{Piece}
+use Rattle.line_chunks.specs.declared.piece.Position.{Position}
+use Rattle.agent_inputs.specs.Faults.{fault_of_list, fault_of_log}
+use Rattle.cells.specs.declared.writer.Form.{Form}
+use Rattle.cells.specs.declared.writer.Form.TheVariants.{Json, Text}
+use Rattle.ima_list.specs.Lines.{line_of}
+use Rattle.ima_list.specs.ListEntry.{ListEntry}
+use Rattle.ima_list.specs.Spelling.{BeginsWith, IsReading}
+use Rattle.entry_lines.specs.EntryJson.{entry_json}
+use Rattle.cells.specs.Values as json
+use Rattle.entry_lines.specs.ListLines as shown
+use Rattle.event_lines.specs.LogLines as logged
+use Rattle.boot_log.specs.declared.header.Row.{Row}
+use Rattle.boot_log.specs.Reading.{specification_in}
+use Rattle.boot_log.specs.Spelling as logs
+use Rattle.boot_log.specs.Spelling.{LogEvent}
+use Rattle.event_lines.specs.EventJson.{header_json, event_json}
+use Rattle.cells.specs.declared.writer.Form.TheVariants as events
+use Rattle.event_lines.specs.SentEvents as sent
+
+-- Where the first line begins.
+abbrev pub start : Position
+start = record { offset = 0; number = 0 }
+
+-- So many entries or events may be before the position, in as many bytes, each of which takes one at least.
+abbrev pub is_within : Position → ℕ → Bool
+is_within position size = nat_le position.number position.offset && nat_le position.offset size
+
+abbrev pub IsWithin : Position → ℕ → Type 0
+IsWithin position size = (position.number ≤ position.offset) × (position.offset ≤ size)
+
+-- ---- lines
+
+-- Lines one after another.
+pub record Series : Type 1 where
+  -- the lines before this position have this text
+  pub AreBefore : Position → List ℕ → Type 0
+  -- after lines with this text comes this line
+  pub HasLine : List ℕ → List ℕ → Type 0
+  -- all lines have this text
+  pub AreAll : List ℕ → Type 0
+  -- after lines with this text comes this fault
+  pub FailsAfter : List ℕ → RunFault → Type 0
+
+-- The bytes begin with items whose lines are this text: as many as the number of the position, at whose offset they end. They are no more
+-- than the bytes that they take.
+pub record AreItemsBefore {A : Type 0} (Begin : List A → List ℕ → Type 0) (show : List A → List ℕ) (bytes : List ℕ) (position : Position)
+    (text : List ℕ) : Type 0 where
+  pub items : List A
+  pub rest : List ℕ
+  pub begins : Begin items rest
+  pub number_is : position.number ≡ length items
+  pub offset_is : position.offset + length rest ≡ length bytes
+  pub few : position.number ≤ position.offset
+  pub text_is : text ≡ show items
+
+-- The bytes begin with items whose lines are this text, and after them comes another, which has this line.
+pub record HasItemLine {A : Type 0} (Begin : List A → List ℕ → Type 0) (show : List A → List ℕ) (line_of : ℕ → A → List ℕ) (text line : List ℕ)
+    : Type 0 where
+  pub items : List A
+  pub item : A
+  pub rest : List ℕ
+  pub begins : Begin (items ++ item ∷ []) rest
+  pub text_is : text ≡ show items
+  pub line_is : line ≡ line_of (length items) item
+
+-- Whatever comes before the position, the line is the next, and it ends at the position after it.
+abbrev pub IsNextLine : Series → Position → Position → List ℕ → Type 0
+IsNextLine lines position after line =
+    (before : List ℕ) → lines.AreBefore position before → lines.HasLine before line × lines.AreBefore after (before ++ line)
+
+-- The line at the position was appended; or nothing was, since there is none, or it has a fault.
+abbrev pub Appends : Series → ℕ → Position → List ℕ → List ℕ → Result (Option Position) RunFault → Type 0
+Appends lines size position old new (Ok (Some after)) =
+    (position.offset < after.offset) × IsWithin after size × ((line : List ℕ) × (new ≡ old ++ line) × IsNextLine lines position after line)
+Appends lines size position old new (Ok None) =
+    (new ≡ old) × ((before : List ℕ) → lines.AreBefore position before → lines.AreAll before)
+Appends lines size position old new (Err fault) =
+    (new ≡ old) × ((fault ≡ Memory) ⊎ ((before : List ℕ) → lines.AreBefore position before → lines.FailsAfter before fault))
+
+-- ---- pieces
+
+-- Why a piece with this text ends, after lines with the text `before`. `Last`: they are all lines. `More`: it has some, and the next line has
+-- no more room, or a fault comes next. `Longer`: it has none, and the next line, of this size, has no room.
+abbrev pub EndsSo : Series → ℕ → List ℕ → List ℕ → End → Type 0
+EndsSo lines room before text Last = lines.AreAll (before ++ text)
+EndsSo lines room before text More =
+    (0 < length text)
+    × (((line : List ℕ) × lines.HasLine (before ++ text) line × (room < length text + length line))
+    ⊎ ((fault : RunFault) × lines.FailsAfter (before ++ text) fault))
+EndsSo lines room before text (Longer size) =
+    (text ≡ []) × ((line : List ℕ) × lines.HasLine before line × (size ≡ length line) × (room < size))
+
+-- The piece has the lines that come after lines with the text `before`: as many as there is room for.
+pub record IsPiece (lines : Series) (room : ℕ) (before : List ℕ) (piece : Piece) : Type 0 where
+  pub next : lines.AreBefore piece.next (before ++ piece.text.items)
+  pub ends : EndsSo lines room before piece.text.items piece.end
+
+-- The piece is given from this position, with some room.
+abbrev pub IsGiven : Series → Position → Piece → Type 0
+IsGiven lines position piece = (room : ℕ) × ((before : List ℕ) → lines.AreBefore position before → IsPiece lines room before piece)
+
+-- Pieces one after another, each from the position that the one before it gives.
+abbrev pub AreInTurn : Series → Position → List Piece → Position → Type 0
+AreInTurn lines position [] end = end ≡ position
+AreInTurn lines position (piece ∷ pieces) end = IsGiven lines position piece × AreInTurn lines piece.next pieces end
+
+-- The fault has this line, and this status after it.
+abbrev pub IsLineOf : RunFault → List ℕ → ℕ → RunFault → List ℕ → ℕ → Type 0
+IsLineOf fault line status other text answer = (other ≡ fault) × (text ≡ line) × (answer ≡ status)
+
+-- ---- the entries of a list
+
+-- How far the positions in a list go: to its end; as JSON one byte further, to where the line of how many entries it has was given too.
+abbrev pub end_in : Form → List ℕ → ℕ
+end_in Text list = length list
+end_in Json list = length list + 1
+
+-- The line of the entry with this number, in this form.
+abbrev pub line_in : Form → ℕ → ListEntry → List ℕ
+line_in Text number entry = line_of entry
+line_in Json number entry = json.line_of (entry_json number entry)
+
+-- The lines of a list's entries, in this form.
+abbrev pub lines_in : Form → List ListEntry → List ℕ
+lines_in Text entries = flat_map line_of entries
+lines_in Json entries = shown.entry_lines entries
+
+-- The lines of a whole list, in this form: as JSON also that of how many entries it has.
+abbrev pub whole_in : Form → List ListEntry → List ℕ
+whole_in Text entries = flat_map line_of entries
+whole_in Json entries = shown.list_lines entries
+
+-- The text is all lines of the list as JSON, and the position is behind the last of them.
+pub record AreCounted (form : Form) (list : List ℕ) (position : Position) (text : List ℕ) : Type 0 where
+  pub form_is : form ≡ Json
+  pub entries : List ListEntry
+  pub reading : IsReading list (Ok entries)
+  pub number_is : position.number ≡ length entries
+  pub offset_is : position.offset ≡ length list + 1
+  pub few : position.number ≤ position.offset
+  pub text_is : text ≡ shown.list_lines entries
+
+-- The list begins with entries whose lines are this text, up to the position; or the text is all of its lines as JSON.
+abbrev pub AreEntriesBefore : Form → List ℕ → Position → List ℕ → Type 0
+AreEntriesBefore form list position text =
+    AreItemsBefore (BeginsWith list) (lines_in form) list position text ⊎ AreCounted form list position text
+
+-- The bytes are a list whose entries have this text as JSON, and the line says how many they are.
+pub record HasCountLine (form : Form) (list text line : List ℕ) : Type 0 where
+  pub form_is : form ≡ Json
+  pub entries : List ListEntry
+  pub reading : IsReading list (Ok entries)
+  pub text_is : text ≡ shown.entry_lines entries
+  pub line_is : line ≡ shown.entry_count_line (length entries)
+
+-- After entries whose lines are this text comes another, which has this line; or they are all, and this is the line of how many they are.
+abbrev pub HasEntryLine : Form → List ℕ → List ℕ → List ℕ → Type 0
+HasEntryLine form list text line =
+    HasItemLine (BeginsWith list) (lines_in form) (line_in form) text line ⊎ HasCountLine form list text line
+
+-- The bytes are no list: the text is the lines of all entries that they begin with, and after these they have this fault.
+abbrev pub FailsAfterEntries : Form → List ℕ → List ℕ → RunFault → Type 0
+FailsAfterEntries form list text fault = shown.FailsAfterEntries (lines_in form) fault_of_list list text fault
+
+-- The lines of a list one after another.
+abbrev pub entries_of : Form → List ℕ → Series
+entries_of form list = record {
+  AreBefore = AreEntriesBefore form list;
+  HasLine = HasEntryLine form list;
+  AreAll = shown.AreAllEntries (whole_in form) list;
+  FailsAfter = FailsAfterEntries form list;
+}
+
+-- The piece has the lines of the next entries of the list, as many as there is room for.
+abbrev pub IsEntryPiece : Form → List ℕ → ℕ → List ℕ → Piece → Type 0
+IsEntryPiece form list room before piece = IsPiece (entries_of form list) room before piece
+
+-- ---- the algorithms and the events of a log
+
+-- The lines of a log, as JSON; no registers are compared.
+abbrev pub log_lines : List ℕ → List Row → List LogEvent → List ℕ
+log_lines log table read = sent.log_lines events.Json None log table read
+
+-- The log begins with a header and events whose lines are this text, up to the position; or nothing comes before it.
+abbrev pub AreEventsBefore : List ℕ → Position → List ℕ → Type 0
+AreEventsBefore log position text =
+    ((position ≡ start) × (text ≡ []))
+    ⊎ ((0 < position.offset) × ((table : List Row) × AreItemsBefore (logs.BeginsWith log table) (log_lines log table) log position text))
+
+-- The line is the first, that of what the header declares; or the log begins with a header and events whose lines are this text,
+-- and after them comes another, which has this line.
+abbrev pub HasEventLine : List ℕ → List ℕ → List ℕ → Type 0
+HasEventLine log text line =
+    ((text ≡ []) × ((table : List Row) × (rest : List ℕ) × logs.BeginsWith log table [] rest × (line ≡ json.line_of (header_json (specification_in log) table))))
+    ⊎ ((table : List Row)
+    × HasItemLine (logs.BeginsWith log table) (log_lines log table) (λ number event. json.line_of (event_json None (number + 1) event)) text line)
+
+-- The bytes are no log: the text is the lines of the header and of the events after it, and after these they have this fault.
+abbrev pub FailsAfterEvents : List ℕ → List ℕ → RunFault → Type 0
+FailsAfterEvents log text fault = logged.FailsAfterEvents (log_lines log) fault_of_log log text fault
+
+-- The lines of a log one after another.
+abbrev pub events_of : List ℕ → Series
+events_of log = record {
+  AreBefore = AreEventsBefore log;
+  HasLine = HasEventLine log;
+  AreAll = logged.AreAllEvents (log_lines log) log;
+  FailsAfter = FailsAfterEvents log;
+}
+
+-- The piece has the lines of the next events of the log, as many as there is room for.
+abbrev pub IsEventPiece : List ℕ → ℕ → List ℕ → Piece → Type 0
+IsEventPiece log room before piece = IsPiece (events_of log) room before piece
