@@ -9,11 +9,11 @@ ghost use Rattle.boot_texts.specs.AnswerCells.{secure_boot_cell, state_word, wor
 ghost use Rattle.boot_texts.specs.BootLines.{AreBootLines, AreCommandLines, AreImageLines, AreVariableLines};
 
 use crate::answering_banks::is_answered;
+use crate::boot_question::BootQuestion;
 use crate::commands::UntoldLine;
+use crate::event_walk::append_each;
 use crate::images::IMAGE_REGISTER;
 use crate::policies::{GRUB_REGISTER, STUB_REGISTER, append_policy};
-use crate::event_walk::append_each;
-use crate::boot_question::BootQuestion;
 use crate::versions::VersionLine;
 use crate::words::WordLine;
 use boot_answers::{SETTINGS_REGISTER, SecureBoot, firmware_version, secure_boot};

@@ -7,9 +7,9 @@ ghost use Rattle.boot_log.specs.Replaying.{is_extended_into};
 ghost use Rattle.boot_log.specs.Spelling.{IsLog, LogEvent, log_event_of};
 ghost use Rattle.boot_texts.specs.Telling.{Tells, TellsCommand, ToldOf};
 
+use crate::boot_question::BootQuestion;
 use crate::commands::{CommandLine, UntoldLine};
 use crate::images::append_if_image;
-use crate::boot_question::BootQuestion;
 use crate::variables::append_if_variable;
 use boot_answers::told_text;
 use boot_log::{Event, LogView};

@@ -92,12 +92,7 @@ fn show_image(
     show_content(alloc, "claimed ", "claimed", event.kind, event.payload, out)
 }
 
-fn show_digests(
-    alloc: Global,
-    matched: &[Pcr],
-    digests: &PerBank,
-    out: &mut CellWriter,
-) -> Written
+fn show_digests(alloc: Global, matched: &[Pcr], digests: &PerBank, out: &mut CellWriter) -> Written
     ensures { ShowsMembers result out.old out.new (object_at (codes "digests") (answered_cell matched.now digests.now)) }
 {
     out.object("digests")?;
@@ -106,12 +101,7 @@ fn show_digests(
 }
 
 // Shows the digests in the banks that answer.
-fn show_answered(
-    alloc: Global,
-    matched: &[Pcr],
-    digests: &PerBank,
-    out: &mut CellWriter,
-) -> Written
+fn show_answered(alloc: Global, matched: &[Pcr], digests: &PerBank, out: &mut CellWriter) -> Written
     ensures { ShowsMembers result out.old out.new (answered_cell matched.now digests.now) }
 {
     for alg in &Alg::ALL {

@@ -6,17 +6,17 @@
 
 mod answering_banks;
 mod asked;
-mod policy_scan;
 mod boot_lines;
+mod boot_question;
 mod commands;
 mod contents;
 mod difference_lines;
 mod differences;
+mod event_walk;
 mod images;
 pub mod laws;
 mod policies;
-mod event_walk;
-mod boot_question;
+mod policy_scan;
 mod variables;
 mod versions;
 mod words;

@@ -9,9 +9,9 @@ ghost use Rattle.boot_texts.specs.declared.policies.ImaPolicy.{ImaPolicy as Poli
 ghost use Rattle.boot_texts.specs.Policies.{IsAskingEvent, IsAskingIn, IsImaPolicy, policy_cell, policy_event, policy_word};
 
 use crate::asked::Asked;
-use crate::policy_scan::asks;
 use crate::commands::show_event;
 use crate::event_walk::is_extended_into;
+use crate::policy_scan::asks;
 use boot_answers::told_text;
 use boot_log::LogView;
 use cells::{CellWriter, Form, Shown, Written, append};

@@ -6,8 +6,8 @@ ghost use Rattle.pcr_banks.specs.Hashing.{name_of};
 ghost use Rattle.hints.specs.Escaping.{escape, is_shown};
 ghost use Rattle.hints.specs.HintTexts.{absent_hint, entry_hint, event_hint, hint_line, hints_of, is_grown, last_words, list_hint, log_hint, missing_hint, mistake_words, of_option, shown_hint, unknown_hint, values_hint};
 
-use crate::reasons::{Causes, Grown, JudgedBy};
 use crate::escapes::shown_line;
+use crate::reasons::{Causes, Grown, JudgedBy};
 use crate::wrong_input::Mistake;
 use attestations::ExpectedValues;
 use boot_verdict::{Aggregate, Stray};

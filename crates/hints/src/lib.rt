@@ -1,16 +1,16 @@
 //! What a person is told beside the output: why a run failed, what to do next, and the progress of a measurement.
 #![tactic(auto)]
 
-mod reasons;
 mod escapes;
 mod explanations;
-mod reread;
 mod hints;
-mod wrong_input;
 mod old_aggregates;
 mod progress;
+mod reasons;
 mod rejudge;
+mod reread;
 mod task_inputs;
+mod wrong_input;
 
 pub use escapes::escape;
 pub use explanations::explanation;

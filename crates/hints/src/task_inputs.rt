@@ -47,7 +47,10 @@ pub(crate) fn known_name(task: &Task, file: usize) -> Option<&str> {
 }
 
 /// The input that has this fault and what it should be, if it is a file that may be another by mistake.
-pub(crate) fn refused_input<'a>(task: &'a Task, fault: &RunFault) -> Option<(&'a str, ExpectedInput)>
+pub(crate) fn refused_input<'a>(
+    task: &'a Task,
+    fault: &RunFault,
+) -> Option<(&'a str, ExpectedInput)>
     ensures { option_map (λ refused. as_wanted refused.0.now refused.1) result ≡ refused_input fault.now task.now }
 {
     match fault {

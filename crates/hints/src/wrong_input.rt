@@ -47,7 +47,9 @@ pub(crate) fn mistake_in(wanted: ExpectedInput, head: &[u8]) -> Option<Mistake>
 {
     match wanted {
         ExpectedInput::Log | ExpectedInput::List if head.is_empty() => Some(Mistake::Empty),
-        ExpectedInput::Expected | ExpectedInput::Printed if head.is_empty() => Some(Mistake::NothingPrinted),
+        ExpectedInput::Expected | ExpectedInput::Printed if head.is_empty() => Some(
+            Mistake::NothingPrinted,
+        ),
         ExpectedInput::Log if is_list(head) => Some(Mistake::ListForLog),
         ExpectedInput::Log if is_old_log(head) => Some(Mistake::OldLog),
         ExpectedInput::List if is_log(head) => Some(Mistake::LogForList),

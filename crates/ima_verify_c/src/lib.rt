@@ -24,7 +24,7 @@ use crate::requests::{
     verdict_of,
 };
 use agent_plans::Form;
-use judging::{Attesting, Input, Request, Required, ReportKind};
+use judging::{Attesting, Input, ReportKind, Request, Required};
 use line_chunks::{Position, entry_lines, event_lines};
 use std::alloc::Global;
 pub use told::Told;

@@ -5,7 +5,7 @@ ghost use Rattle.judging.specs.Requests.{requested_of, judgement_of, location_of
 ghost use Rattle.ima_verify_c.specs.Answers.{requested_by, requested_of_key, requested_of_registers, form_of, given_bytes, purpose_of, required_by, resume_of, scope_of, verdict_of};
 
 use agent_plans::{Form, Scope};
-use judging::{Comparison, Input, Request, Required, ReportKind};
+use judging::{Comparison, Input, ReportKind, Request, Required};
 use tpm_keys::{KeyPart, Purpose};
 
 /// JSON, or lines of text.

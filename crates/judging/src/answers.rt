@@ -12,7 +12,7 @@ use crate::known_texts::known_in;
 use crate::printed_registers::printed_registers;
 use crate::registers::{after_list, after_log};
 use crate::request::{
-    Answer, Answered, Answering, Comparison, Found, Request, Required, ReportKind, answered_with,
+    Answer, Answered, Answering, Comparison, Found, ReportKind, Request, Required, answered_with,
 };
 use crate::sessions::checkpoint_in;
 use agent_inputs::{AgentFiles, RunFault, not_read};

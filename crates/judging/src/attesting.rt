@@ -17,7 +17,9 @@ ghost use Rattle.judging.specs.Requests.{VerdictOf, attested_of, judgement_of, l
 use crate::answers::{Evidence, checkpoint_of, state_in};
 use crate::inputs::{Input, load_at};
 use crate::known_texts::known_in;
-use crate::request::{Answering, Attesting, Comparison, Judged, Required, ReportKind, answered_with};
+use crate::request::{
+    Answering, Attesting, Comparison, Judged, ReportKind, Required, answered_with,
+};
 use agent_inputs::{AgentFiles, NotResumed, RunFault};
 use attestations::{
     AttestReport, ExpectedValues, Policy, Quoted, Whole, keep_confirmed, quote_for,

@@ -13,4 +13,6 @@ mod sessions;
 
 pub use answers::answer_request;
 pub use inputs::Input;
-pub use request::{Answer, Answered, Attesting, Comparison, Registers, Request, Required, ReportKind};
+pub use request::{
+    Answer, Answered, Attesting, Comparison, Registers, ReportKind, Request, Required,
+};

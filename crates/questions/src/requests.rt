@@ -5,7 +5,7 @@ ghost use Rattle.judging.specs.Requests.{requested_of, location_of, attested_of,
 ghost use Rattle.questions.specs.Questions.{attested_with, requested_by, file_of, files_of, known_by, attested_by, compared_by, judgement_by, requires_by, save_by, with_known};
 
 use agent_plans::{Attest, Judge, Judged, Question, Quoting, Scope};
-use judging::{Attesting, Comparison, Input, Request, Required, ReportKind};
+use judging::{Attesting, Comparison, Input, ReportKind, Request, Required};
 use std::alloc::{AllocError, Global};
 
 /// The texts of known files that a question names.
