@@ -57,6 +57,16 @@ passed_more old mid new passed gives telling failures within is = record {
   size = omega (arith, passed.size, gives.count_is, within, is, length-append passed.content gives.came);
 }
 
+-- One more is over what is allowed.
+pub passed_over : {limit room : ℕ} (old mid new : SourceState) {before after : List ℕ} {count : ℕ} → HasPassed limit room old mid
+    → GivesPiece mid.remaining new.remaining before after count → is_some new.remaining ≡ is_some mid.remaining
+    → new.failures ≡ mid.failures → room < count → (content : List ℕ) × HasLost old new content × (limit < length content)
+passed_over old mid new passed gives telling failures more = (
+  passed.content ++ gives.came,
+  lost_more old mid new gives.came passed.has gives.lost telling failures,
+  omega (arith, passed.size, gives.count_is, more, length-append passed.content gives.came),
+)
+
 -- A source that has nothing left lost all of its bytes.
 pub whole : (old new : Option (List ℕ)) (content : List ℕ) → Consumes old new content → IsAtEnd new → IfSome old (λ all. content ≡ all)
 whole None new content lost end = tt

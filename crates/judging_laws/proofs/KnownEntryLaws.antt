@@ -15,7 +15,7 @@ use Rattle.boot_verdict.specs.Verdicts.{Verdict, verdict_of}
 use Rattle.boot_verdict.proofs.ReplayLaws.{one_list}
 use Rattle.known_files.specs.declared.known.KnownFiles.{KnownFiles}
 use Rattle.known_files.specs.declared.unknown.Unknown.{Unknown}
-use Rattle.known_files.specs.EntryFiles.{IsResumedState, is_aggregate}
+use Rattle.known_files.specs.EntryFiles.{IsKnown, is_aggregate}
 use Rattle.known_files.specs.Known.{Knows}
 use Rattle.known_files.specs.Unknown.{AreUnknown, none_unknown, unknown_in}
 use Rattle.tpm_quotes.specs.Spelling.{TpmQuote}
@@ -58,13 +58,13 @@ no_items items e = nil_from_length items (grind (arith, nat_tests))
 
 -- All these entries are known, but for the first of the list, and for those before number `first`.
 abbrev AreKnownFrom : List (List ℕ) → ℕ → List ListEntry → Type 0
-AreKnownFrom texts first entries = AllByRecursion (IsResumedState texts) (drop (max 1 first) entries)
+AreKnownFrom texts first entries = AllByRecursion (IsKnown texts) (drop (max 1 first) entries)
 
 -- They are, where none of them is unknown; and so is the first of a list, or it is one of the boot aggregate.
 pub record KnownLaw : Type 0 where
   pub from : (texts : List (List ℕ)) (first : ℕ) (entries : List ListEntry) → AreUnknown texts first entries [] → AreKnownFrom texts first entries
   pub first : (texts : List (List ℕ)) (entry : ListEntry) (entries : List ListEntry) → unknown_in texts 0 (entry ∷ entries) ≡ []
-      → IsResumedState texts entry ⊎ (is_aggregate entry ≡ true)
+      → IsKnown texts entry ⊎ (is_aggregate entry ≡ true)
 
 known_first : KnownLaw → (texts : List (List ℕ)) (entries : List ListEntry) → AreUnknown texts 0 entries [] → IsFirstKnown texts entries
 known_first law texts [] none = tt

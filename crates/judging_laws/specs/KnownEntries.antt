@@ -5,7 +5,7 @@ use Rattle.ima_list.specs.ListEntry.{ListEntry}
 use Rattle.ima_list.specs.Spelling.{BeginsWith}
 use Rattle.boot_verdict.specs.declared.checkpoint.Checkpoint.{Checkpoint}
 use Rattle.known_files.specs.declared.unknown.Unknown.{Unknown}
-use Rattle.known_files.specs.EntryFiles.{IsResumedState, is_aggregate}
+use Rattle.known_files.specs.EntryFiles.{IsKnown, is_aggregate}
 use Rattle.agent_inputs.specs.Loading.{Inputs}
 use Rattle.judging.specs.declared.request.Answer.{Answer}
 use Rattle.judging.specs.declared.request.Answer.TheVariants as answers
@@ -24,7 +24,7 @@ entries_of answer = None
 -- The first of these entries, if there is one, is known by these texts, or one of the boot aggregate.
 abbrev pub IsFirstKnown : List (List ℕ) → List ListEntry → Type 0
 IsFirstKnown texts [] = Unit {0}
-IsFirstKnown texts (entry ∷ entries) = IsResumedState texts entry ⊎ (is_aggregate entry ≡ true)
+IsFirstKnown texts (entry ∷ entries) = IsKnown texts entry ⊎ (is_aggregate entry ≡ true)
 
 -- The list begins with as many entries as the answer is on; each of them from number `first` on is known by these texts, but that its first may
 -- be one of the boot aggregate; and none is told unknown.
@@ -34,7 +34,7 @@ pub record HasKnownEntries (given : Answered) (texts : List (List ℕ)) (first :
   pub unknown : Unknown
   pub begins : BeginsWith list entries rest
   pub count_is : entries_of given.answer ≡ Some (length entries)
-  pub are_known : AllByRecursion (IsResumedState texts) (drop (max 1 first) entries)
+  pub are_known : AllByRecursion (IsKnown texts) (drop (max 1 first) entries)
   pub first_known : first ≡ 0 → IsFirstKnown texts entries
   pub unknown_is : given.unknown ≡ Some unknown
   pub first_is : unknown.first ≡ first

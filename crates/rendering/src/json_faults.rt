@@ -1,11 +1,11 @@
 //! The line of a fault with `--json`.
 
-ghost use Rattle.std.specs.Prelude.{◌≡◌, codes, IfOk};
-ghost use Rattle.cells.specs.Cells.{ShowsMembers, if_some, number_member};
-ghost use Rattle.rendering.specs.FaultTexts.{fault_cell, json_fault_line, place_cell, told_cell};
+ghost use Rattle.std.specs.Prelude.{◌≡◌, IfOk};
+ghost use Rattle.cells.specs.Cells.{ShowsMembers, if_some, number_member, when};
+ghost use Rattle.rendering.specs.FaultTexts.{fault_cell, json_fault_line, names_entry, names_event, place_cell, told_cell};
 ghost use Rattle.agent_inputs.specs.declared.fault.RunFault.TheVariants.{Memory};
 
-use crate::fault_lines::{message_of, said_of};
+use crate::fault_lines::{message_of, said_of, widened};
 use agent_inputs::{FaultHead, FaultKind, RunFault};
 use cells::{CellWriter, Form, Shown, Written, render};
 use std::alloc::{AllocError, Global};
@@ -56,17 +56,18 @@ fn show_told(alloc: Global, fault: &RunFault, out: &mut CellWriter) -> Written
     let message = message_of(alloc, fault)?;
     let head = fault.head();
     out.word_member("kind", said_of(head.kind).1)?;
-    show_number(head.number, out)?;
+    show_number("number", widened(head.number), out)?;
     show_place(head, out)?;
     out.word("", "message", &message)?;
     out.text("\n")
 }
 
-fn show_number(number: Option<u32>, out: &mut CellWriter) -> Written
-    ensures { ShowsMembers result out.old out.new (if_some number (number_member (codes "number"))) }
+// Shows a number under this key, if there is one.
+fn show_number(key: &str, number: Option<usize>, out: &mut CellWriter) -> Written
+    ensures { ShowsMembers result out.old out.new (if_some number (number_member key.now)) }
 {
     match number {
-        Some(number) => out.number_member("number", number as u64),
+        Some(number) => out.number_member(key, number as u64),
         None => Ok(()),
     }
 }
@@ -75,12 +76,31 @@ fn show_number(number: Option<u32>, out: &mut CellWriter) -> Written
 fn show_place(head: FaultHead, out: &mut CellWriter) -> Written
     ensures { ShowsMembers result out.old out.new (place_cell head.kind head.place) }
 {
-    match (head.place, head.kind) {
-        (Some(event), FaultKind::Log) => out.number_member("event", event as u64),
-        (Some(entry), FaultKind::List | FaultKind::Replay) => out.number_member(
-            "entry",
-            entry as u64,
-        ),
-        _ => Ok(()),
+    show_if(names_event(head.kind), "event", head.place, out)?;
+    show_if(names_entry(head.kind), "entry", head.place, out)
+}
+
+// Shows a number under this key, if there is one and it is told.
+fn show_if(is_told: bool, key: &str, number: Option<usize>, out: &mut CellWriter) -> Written
+    ensures { ShowsMembers result out.old out.new (when is_told (if_some number (number_member key.now))) }
+{
+    if is_told {
+        show_number(key, number, out)
+    } else {
+        Ok(())
     }
+}
+
+// Whether the place of a fault of this kind is an event of a log.
+fn names_event(kind: FaultKind) -> bool
+    ensures { result ≡ names_event kind }
+{
+    matches!(kind, FaultKind::Log)
+}
+
+// Whether it is an entry of a list.
+fn names_entry(kind: FaultKind) -> bool
+    ensures { result ≡ names_entry kind }
+{
+    matches!(kind, FaultKind::List | FaultKind::Replay)
 }

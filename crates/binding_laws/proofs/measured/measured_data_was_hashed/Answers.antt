@@ -1,3 +1,4 @@
+use Rattle.std.proofs.Common.{◌≡◌, refl}
 use Rattle.binding_laws.proofs.BankBindingLaws.{same_or_collide}
 use Rattle.binding_laws.proofs.MeasuredBindingLaws.{was_hashed}
 use Rattle.binding_laws.proofs.measured.measured_data_was_hashed.Goals as goal
