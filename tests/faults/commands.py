@@ -31,6 +31,7 @@ from sources import crates_below  # noqa: E402
 PROGRAM = Path("crates/ima_agent_program")
 MAIN = PROGRAM / "src/main.rt"
 NOT_BUILT = 125
+SECONDS = 240  # after which a call hangs, however busy the machine is
 SONAME = "libima_verify.so.1"
 # What dist/library makes.
 MADE = {SONAME: "-rwxr-xr-x", "libima_verify.so": "lrwxrwxrwx", "libima_verify.a": "-rw-r--r--", "ima_verify.h": "-rw-r--r--"}
@@ -103,7 +104,7 @@ class Tree:
     def call(self, *words, given="", **settings):
         """The status of a call that is given this, what it writes, and what it says beside that."""
         process = self.start(*words, **settings)
-        answer, said = process.communicate(given, timeout=60)
+        answer, said = process.communicate(given, timeout=SECONDS)
         return process.returncode, answer, said
 
 
@@ -198,7 +199,7 @@ class Commands(harness.TestCase):
         edit(main)
         before = self.tree.builds.read_text()
         calls = [self.tree.start("2", DURING="sleep 1") for _ in range(3)]
-        answers = [(call.communicate(timeout=60)[0], call.returncode) for call in calls]
+        answers = [(call.communicate(timeout=SECONDS)[0], call.returncode) for call in calls]
         self.check("three calls at once are answered", answers, 3 * [("<2>\n", 2)])
         self.check("by one build", self.tree.builds.read_text().removeprefix(before), "built\n")
         edit(main)
@@ -301,7 +302,7 @@ class Commands(harness.TestCase):
         edit(source)
         before = tree.builds.read_text()
         calls = [tree.start(folder / f"made {number}", command="dist/library", DURING="sleep 1") for number in range(3)]
-        answers = [(call.communicate(timeout=60)[0], call.returncode, (folder / f"made {number}/{SONAME}").exists())
+        answers = [(call.communicate(timeout=SECONDS)[0], call.returncode, (folder / f"made {number}/{SONAME}").exists())
                    for number, call in enumerate(calls)]
         self.check("three calls at once make libraries, by one build",
                    (answers, tree.builds.read_text().removeprefix(before)), (3 * [("", 0, True)], "built\n"))
