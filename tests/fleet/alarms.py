@@ -384,7 +384,8 @@ def test_swapped(tools, folder):
         os.symlink(target, made.name)
         return made
 
-    with mock.patch.object(metrics, "NamedTemporaryFile", swapped):
+    # (no file comes from another folder, which may be in another file system)
+    with mock.patch("tempfile.tempdir", "/none"), mock.patch.object(metrics, "NamedTemporaryFile", swapped):
         metrics.write_metrics(str(file), summary, TABLE_NAME)
     tools.check("--metrics: a link in place of the new file", (target.read_text(), stat.S_IMODE(target.stat().st_mode)), ("untouched", 0o600))
 
