@@ -9,6 +9,8 @@ The library for C is asked too, wherever it has the function of a command. It ta
 The script counts commands."""
 
 import argparse
+import os
+import select
 import subprocess
 import sys
 from contextlib import nullcontext
@@ -207,6 +209,11 @@ def many_entries(size, entry, file):
     return [entry] * count
 
 
+def add_to(file, data):
+    with open(file, "ab") as stream:
+        stream.write(data)
+
+
 def booted(log, event, matching):
     """What `boot` answers on a log of an event again and again."""
     lines = [line.text for line in Boot(log._replace(events=[event]), matching).lines()]
@@ -342,6 +349,25 @@ class Limits(harness.TestCase):
             "verify L list expected": answer_of(verdict(log, entries, [row])),
             "verify --require sha256:10 --known known L list expected": answer_of((unknown.text(), unknown.matches)),
         })
+
+    def test_changed_list(self):
+        """A list that another process changes once its lines come: what was read of it then counts, and a fault comes after these."""
+        file, entry = self.room / "list", ENTRIES[1]
+        size, line = len(entry.spelling()), entry.line()
+        for title, change, lines, last, status in (
+            ("is cut within an entry", lambda half: os.truncate(file, half * size + 1), 0.5, "refused: list fault 1 at entry {}\n", 2),
+            ("is cut after an entry", lambda half: os.truncate(file, half * size), 0.5, "", 0),
+            ("grows", lambda _: add_to(file, entry.spelling()), 1, "", 0),
+            ("is removed", lambda _: file.unlink(), 1, "", 0),
+        ):
+            count = len(many_entries(24 * MEBIBYTE, entry, file))
+            lines = int(count * lines) + (title == "grows")
+            with subprocess.Popen([ASKED.program.resolve(), "show", "list"], cwd=self.room, env={}, stdout=subprocess.PIPE) as process:
+                # (its pipe holds 64 KiB, and 24 MiB are read twice)
+                select.select([process.stdout], [], [], SECONDS)
+                change(count // 2)
+                text, _ = process.communicate(timeout=SECONDS)
+            self.compare(f"a list that {title} while it is shown", (process.returncode, text), (status, line * lines + last.format(lines).encode()))
 
     def test_files(self):
         """Very many names of one file, by folders that are this one: more than `--limit` is by default; and a book that is full just then. And

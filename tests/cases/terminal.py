@@ -442,7 +442,7 @@ def further_commands():
         yield Command(f"an empty log: {escaped}", ["events", empty], Ended(2, b"refused: log fault 1 at event 0\n", said))
     memory = b"failed: memory\n"
     yield Command("an argument that is not UTF-8", ["show", b"\xff"], Ended(3, memory, b"an argument is not UTF-8\n"))
-    yield Command("little memory", ["show", "large 0"], Ended(3, memory, b"out of memory\n"), limit_memory)
+    yield Command("little memory", ["registers", "large 0"], Ended(3, memory, b"out of memory\n"), limit_memory)
     yield Command("a folder as standard input", [], Ended(3, b"failed: read -\n", b"cannot read standard input: Is a directory\n"),
                   lambda: give("."))
     yield Command("standard input without an end", [], Ended(2, b"refused: too long -\n", b"standard input is longer than 64 MiB\n"),

@@ -7,7 +7,7 @@ A command of each kind (those of `tests/faults/sweep.py`) runs again and again, 
 
 - Each read gives one byte at most, and each write takes one. The answer, and the checkpoint that is saved, must be the same.
 - Each opening of a file fails in turn, and each read, even the one at the end of a file. The answer must be `failed: read` with the name of
-  that file, which `--json` has as JSON, and status 3. Lines of entries that `show --json` wrote while it read may come before it. A command
+  that file, which `--json` has as JSON, and status 3. Lines of entries that `show` wrote while it read may come before it. A command
   that is refused in any case may be refused as it is then.
 - Where a checkpoint is saved, its file must be synced before it is renamed. The opening, each write, the syncing and the renaming of that
   file fail in turn. The answer must be `failed: write` with its name, and what has that name must stay as it was.
@@ -121,10 +121,10 @@ def second_looks(wanted, run):
 
 
 def is_read_before(text, wanted, words):
-    """Whether a text is the lines of the first entries that these words show of a list as JSON."""
+    """Whether a text is the lines of the first entries that these words show of a list."""
     lines = text.splitlines(keepends=True)
-    shows_entries = words[0] == "show" and "--json" in words
-    return shows_entries and wanted.splitlines(keepends=True)[: len(lines)] == lines and all(line.startswith(b'{"entry":') for line in lines)
+    are_entries = words[0] == "show" and ("--json" not in words or all(line.startswith(b'{"entry":') for line in lines))
+    return are_entries and wanted.splitlines(keepends=True)[: len(lines)] == lines
 
 
 def is_cut(found, wanted, _name, run):

@@ -5,8 +5,8 @@ tests/faults/sweep.py [ROOT]: the tree with the test binaries and the program th
 
 Each test whose name contains `each_allocation_refused`, and a command of each kind that the cases have, runs again and again. In the
 Nth run its Nth allocation is refused (tests/faults/refuse.c), until a run ends with none refused. A test must pass each time. A command must
-answer as its case wants, or with `failed: memory`, which `--json` has as JSON, and status 3. `show` and `events` with `--json`, and `events`
-with `--explain`, may print lines that are due before that. A test or command without a refused allocation fails, and so does a run that crashes or takes longer than a minute.
+answer as its case wants, or with `failed: memory`, which `--json` has as JSON, and status 3. `show`, `events --json` and `events --explain` may
+print lines that are due before that. A test or command without a refused allocation fails, and so does a run that crashes or takes longer than a minute.
 Allocations of a test's binary that runs no test do not count: a test makes as many before it begins. What a test allocates to prepare its
 call does count, since nothing outside shows where that begins.
 
@@ -18,8 +18,8 @@ Commands are of one kind if they have the same word, options and status, as many
 more are alike), the same fault where they are refused, and both or neither ask for help or the version, name a sample, or have a text with more
 names. Of each kind the first runs, in the order of the cases, that names no file of the system, in a case whose files have at most 64 KiB.
 
-Before that, the program measures 50 files of 40 MiB within 64 MiB of address space. It shows a list of 64 MiB as JSON, with a peak of memory
-at most 8 MiB above that of an empty list. It replays a log of 64 MiB, of events of 16 bytes, and shows its events, with a peak at most as
+Before that, the program measures 50 files of 40 MiB within 64 MiB of address space. It shows a list of 64 MiB as text and as JSON, with a peak of
+memory at most 8 MiB above that of an empty list. It replays a log of 64 MiB, of events of 16 bytes, and shows its events, with a peak at most as
 much above the log's size."""
 
 import json
@@ -107,9 +107,10 @@ class CommandRun:
         return wanted + tuple((status, text, b"out of memory\n") for status, text, _ in wanted if is_explained(self.command))
 
     def output_of_memory(self, output):
-        """What is due out of memory, of an output: of a list's or a log's lines of JSON, or those of events that are explained, the last, if
+        """What is due out of memory, of an output: of a list's lines, or a log's lines of JSON or of events that are explained, the last, if
         those before it are the first that the case wants."""
-        if self.command.words[:1] not in (["show"], ["events"]) or not {"--json", "--explain"} & set(self.command.words):
+        is_sent = self.command.words[:1] == ["show"] or self.command.words[:1] == ["events"] and {"--json", "--explain"} & set(self.command.words)
+        if not is_sent:
             return output
         *lines, last = output.splitlines(keepends=True) or [b""]
         wanted = [line.encode() + b"\n" for line in self.command.wanted[: len(lines)]]
@@ -292,22 +293,23 @@ class Sweep(harness.TestCase):
             self.fail(f"status {ended.returncode}, {(ended.stdout + ended.stderr)[-500:]!r}")
 
     def test_large_list(self):
-        """a list of 64 MiB as JSON within 8 MiB more than an empty one"""
+        """a list of 64 MiB as text and as JSON within 8 MiB more than an empty one"""
         entry = entry_of(IMA_NG, SHA256, SHA256.hash(b""), b"/usr/bin/program")
         count = LARGE_LIST_BYTES // len(entry.spelling())
         (self.room / "empty-list").write_bytes(b"")
         (self.room / "large-list").write_bytes(entry.spelling() * count)
         wanted = json.dumps({**entry.as_json(0), "entry": "N"}, separators=(",", ":")).replace('"N"', "%d").encode() + b"\n"
-        output = self.room / "large-list.json"
-        (empty_status, least), (status, peak) = (
-            peak_of([self.program, "show", "--json", name], self.room, output) for name in ("empty-list", "large-list"))
-        with open(output, "rb") as lines:
-            wrong = next((number for number in range(count) if lines.readline() != wanted % number), None)
-            rest = lines.read()
-        self.assertEqual((empty_status, status), (0, 0))
-        self.assertIsNone(wrong, "a wrong line")
-        self.assertEqual(rest, b'{"entries":%d}\n' % count)
-        self.assertLessEqual(peak, least + MOST_ABOVE_EMPTY)
+        output = self.room / "large-list.shown"
+        for options, line_of, last in (([], lambda _: entry.line(), b""), (["--json"], lambda number: wanted % number, b'{"entries":%d}\n' % count)):
+            (empty_status, least), (status, peak) = (
+                peak_of([self.program, "show", *options, name], self.room, output) for name in ("empty-list", "large-list"))
+            with open(output, "rb") as lines:
+                wrong = next((number for number in range(count) if lines.readline() != line_of(number)), None)
+                rest = lines.read()
+            self.assertEqual((empty_status, status), (0, 0))
+            self.assertIsNone(wrong, "a wrong line")
+            self.assertEqual(rest, last)
+            self.assertLessEqual(peak, least + MOST_ABOVE_EMPTY)
 
     def test_large_log(self):
         """a log of 64 MiB of small events within its size and 8 MiB"""

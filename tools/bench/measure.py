@@ -189,9 +189,10 @@ def lists():
         "show": peak_memory(["show", NO_INPUT], b""),
         "show --json": peak_memory(["show", "--json", NO_INPUT], b'{"entries":0}\n'),
     }
-    peaks = [empty["show --json"], memory["show --json"][1]]
-    if None not in peaks and peaks[1] - peaks[0] > STREAMED_LIMIT:
-        complaints.append(f"show --json takes {peaks[1] - peaks[0]:.1f} MiB more for {sizes[1]:,} entries than for none")
+    for what in ("show", "show --json"):
+        peaks = [empty[what], memory[what][1]]
+        if None not in peaks and peaks[1] - peaks[0] > STREAMED_LIMIT:
+            complaints.append(f"{what} takes {peaks[1] - peaks[0]:.1f} MiB more for {sizes[1]:,} entries than for none")
     PEAKS.extend((what, "entries", sizes, empty[what], peaks) for what, peaks in memory.items())
     return [
         (f"locate of {sizes[1]:,} entries, to verify of the same", located[1], verified[1]),

@@ -1,5 +1,5 @@
-//! Commands in which an allocation is refused: each answers that memory ran out, events that are explained after lines of theirs, or what it
-//! answers with ample memory; and then the same command answers the latter. `tests/faults/sweep.py` refuses the allocations, one in each run.
+//! Commands in which an allocation is refused: each answers that memory ran out, events that are explained and entries after lines of theirs, or
+//! what it answers with ample memory; and then the same command answers the latter. `tests/faults/sweep.py` refuses the allocations, one in each run.
 
 use crate::commands::{COMMANDS, Command, FAULTS, FILES};
 use crate::devices::{PieceFiles, arguments_of};
@@ -29,10 +29,11 @@ fn ran_with_room(
     Ok((status, sink.into_bytes()))
 }
 
-/// Whether the command explains events, the lines of which are written as they are read, and its output begins so.
+/// Whether the command explains events or shows entries, the lines of which are written as they are read, and its output begins so.
 fn is_begun(command: &Command, before: &[u8]) -> bool {
-    command.arguments.first() == Some(&"events")
-        && command.arguments.contains(&"--explain")
+    let explains = command.arguments.contains(&"--explain");
+    let word = command.arguments.first();
+    (word == Some(&"show") || word == Some(&"events") && explains)
         && command.output.strip_prefix(before).is_some()
 }
 

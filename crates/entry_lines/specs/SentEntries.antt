@@ -12,7 +12,8 @@ use Rattle.ima_list.specs.Pieces.{FailsFor, AreComplete}
 use Rattle.boot_verdict.specs.ListSources.{CameFrom}
 use Rattle.entry_lines.specs.declared.entry_lines.EntriesFault.{EntriesFault}
 use Rattle.entry_lines.specs.declared.entry_lines.EntriesFault.TheVariants as faults
-use Rattle.entry_lines.specs.ListLines.{entry_count_line, entry_lines, entry_lines_from}
+use Rattle.cells.specs.declared.writer.Form.{Form}
+use Rattle.entry_lines.specs.ListLines.{entry_lines, entry_lines_from, last_line}
 use Rattle.entry_lines.specs.declared.entry_lines.EntryLines.{EntryLines}
 
 -- The fault of reading one piece.
@@ -47,17 +48,18 @@ EndsAfter left limit list over entries (Err faults.Source) = (over ≡ []) × Ar
 EndsAfter left limit list over entries (Err faults.TooLong) = (length list ≡ limit) × (0 < length over) × AreAllIn list entries
 EndsAfter left limit list over entries (Err fault) = Unit {0}
 
--- What is sent after the lines of these entries: how many they are, after `Ok`, and where the sink failed at that line at the end of the list.
+-- What is sent after the lines of these entries: the last line, after `Ok`, and where the sink failed at that line at the end of the list.
 -- Nothing after another fault.
-abbrev pub IsSentLast : Option (List ℕ) → List ℕ → List ℕ → List ListEntry → Result (Unit {0}) EntriesFault → List ℕ → Type 0
-IsSentLast left list over entries (Ok tt) last = last ≡ entry_count_line (length entries)
-IsSentLast left list over entries (Err faults.Sink) last =
-    (last ≡ []) ⊎ ((last ≡ entry_count_line (length entries)) × (over ≡ []) × IsAtEnd left × IsReading list (Ok entries))
-IsSentLast left list over entries (Err fault) last = last ≡ []
+abbrev pub IsSentLast : Option Form → Option (List ℕ) → List ℕ → List ℕ → List ListEntry → Result (Unit {0}) EntriesFault → List ℕ → Type 0
+IsSentLast form left list over entries (Ok tt) last = last ≡ last_line form (length entries)
+IsSentLast form left list over entries (Err faults.Sink) last =
+    (last ≡ []) ⊎ ((last ≡ last_line form (length entries)) × (over ≡ []) × IsAtEnd left × IsReading list (Ok entries))
+IsSentLast form left list over entries (Err fault) last = last ≡ []
 
--- The bytes `list` came from a source, at most `limit`, and then `over`. They begin with these entries, whose lines were sent, and after them
--- `last`: all of it, and only a part if the sink failed.
-pub record SendsEntries (old new : Option (List ℕ)) (limit : ℕ) (sink_old sink_new : SinkState) (result : Result (Unit {0}) EntriesFault) : Type 0 where
+-- The bytes `list` came from a source, at most `limit`, and then `over`. They begin with these entries, whose lines were sent in this form, and
+-- after them `last`: all of it, and only a part if the sink failed.
+pub record SendsEntries (form : Option Form) (old new : Option (List ℕ)) (limit : ℕ) (sink_old sink_new : SinkState)
+    (result : Result (Unit {0}) EntriesFault) : Type 0 where
   pub list : List ℕ
   pub over : List ℕ
   pub entries : List ListEntry
@@ -65,16 +67,16 @@ pub record SendsEntries (old new : Option (List ℕ)) (limit : ℕ) (sink_old si
   pub came : CameFrom old new limit list over
   pub begins : BeginsWith list entries rest
   pub last : List ℕ
-  pub last_is : IsSentLast new list over entries result last
-  pub sends : Sends sink_old sink_new (as_sent result) (entry_lines entries ++ last)
+  pub last_is : IsSentLast form new list over entries result last
+  pub sends : Sends sink_old sink_new (as_sent result) (entry_lines form entries ++ last)
   pub ends : EndsAfter new limit list over entries result
 
--- The line of how many entries there are was sent; or only a part, if the sink failed; or nothing, since memory ran out.
-abbrev pub SendsCount : ℕ → SinkState → SinkState → Result (Unit {0}) EntriesFault → Type 0
-SendsCount entries old new (Ok tt) = Sends {A = Unit {0}} {E = EntriesFault} old new (Ok tt) (entry_count_line entries)
-SendsCount entries old new (Err faults.Sink) = Sends {A = Unit {0}} old new (Err faults.Sink) (entry_count_line entries)
-SendsCount entries old new (Err faults.Memory) = new ≡ old
-SendsCount entries old new (Err fault) = ⊥
+-- The last line was sent, after so many entries; or only a part, if the sink failed; or nothing, since memory ran out.
+abbrev pub SendsLast : Option Form → ℕ → SinkState → SinkState → Result (Unit {0}) EntriesFault → Type 0
+SendsLast form entries old new (Ok tt) = Sends {A = Unit {0}} {E = EntriesFault} old new (Ok tt) (last_line form entries)
+SendsLast form entries old new (Err faults.Sink) = Sends {A = Unit {0}} old new (Err faults.Sink) (last_line form entries)
+SendsLast form entries old new (Err faults.Memory) = new ≡ old
+SendsLast form entries old new (Err fault) = ⊥
 
 -- ---- the lines of one piece
 
@@ -98,8 +100,9 @@ StopsIn bytes number entries rest result =
     (list : List ℕ) (before : List ListEntry) → BeginsWith list before bytes → number ≡ length before
     → StopsAfter list (before ++ entries) rest result
 
--- The bytes begin with these entries, after which `rest` is left. They were counted; an entry has at least one byte.
+-- The bytes begin with these entries, after which `rest` is left. They were counted; an entry has at least one byte. The form is the same.
 pub record Counts (old new : EntryLines) (bytes : List ℕ) (entries : List ListEntry) (rest : List ℕ) : Type 0 where
+  pub form : new.form ≡ old.form
   pub begins : BeginsWith bytes entries rest
   pub count : new.entries ≡ old.entries + length entries
   pub few : new.entries + length rest ≤ old.entries + length bytes
@@ -109,16 +112,17 @@ pub record AddsLines (old new : EntryLines) (bytes : List ℕ) (result : Result 
   pub entries : List ListEntry
   pub rest : List ℕ
   pub counts : Counts old new bytes entries rest
-  pub lines : new.lines.items ≡ old.lines.items ++ entry_lines_from old.entries entries
+  pub lines : new.lines.items ≡ old.lines.items ++ entry_lines_from old.form old.entries entries
   pub stops : StopsIn bytes old.entries entries rest (without_value result)
   pub rest_is : IfOk result (λ left. left ≡ length rest)
   pub no_sink : as_sent (without_value result) ≡ Ok tt
 
 -- The lines of entries at the start of the bytes were sent. Then reading stopped, or the sink failed; after `Ok` these bytes are left.
-pub record SendsLines (old new : EntryLines) (bytes left : List ℕ) (sink_old sink_new : SinkState) (result : Result (Unit {0}) EntriesFault) : Type 0 where
+pub record SendsLines (old new : EntryLines) (bytes left : List ℕ) (sink_old sink_new : SinkState)
+    (result : Result (Unit {0}) EntriesFault) : Type 0 where
   pub entries : List ListEntry
   pub rest : List ℕ
   pub counts : Counts old new bytes entries rest
-  pub sends : Sends sink_old sink_new (as_sent result) (entry_lines_from old.entries entries)
+  pub sends : Sends sink_old sink_new (as_sent result) (entry_lines_from old.form old.entries entries)
   pub stops : StopsIn bytes old.entries entries rest result
   pub rest_is : OnOk result (left ≡ rest)

@@ -4,3 +4,4 @@ pub mod OutcomeLaws
 pub mod MatchingLaws
 pub mod BootLaws
 pub mod QuotedLaws
+pub mod AloneLaws

@@ -1,6 +1,7 @@
 -- What was sent is what is asked for, and is answered with its status.
-use Rattle.std.proofs.Common.{◌≡◌, ℕ, Bool, List, [], ◌++◌, Result, Ok, Err, refl, ap, ◌∙◌, append_assoc, append-nil, inl, inr}
-use Rattle.std.specs.Prelude.{IfErr, IfOk, OnErr, Option, None, Some, String, string_bytes}
+use Rattle.std.proofs.Common.{◌≡◌, ℕ, ◌+◌, Bool, List, [], ◌∷◌, ◌++◌, Result, Ok, Err, refl, sym, ap, ◌∙◌, append_assoc, append-nil, inl, inr}
+use Rattle.std.proofs.lemmas.List.Concat.{flat_map-cons}
+use Rattle.std.specs.Prelude.{flat_map, IfErr, IfOk, OnErr, Option, None, Some, String, string_bytes}
 use Rattle.std.specs.Global.{Global}
 use Rattle.byte_streams.specs.declared.streams.Failed.{Failed}
 use Rattle.byte_streams.specs.Streams.{Sends, SinkState}
@@ -25,8 +26,11 @@ use Rattle.questions.specs.Questions.{known_by}
 use Rattle.ima_agent.specs.Program.{Answers, IsFaultOf, IsOutcome, IsOutputFor, SendsOutput, SendsText, Streams, status_after}
 use Rattle.measured_data.specs.declared.pcr.Pcr.{Pcr}
 use Rattle.ima_agent.specs.Matching.{AreMatched, IsKnownFor}
-use Rattle.ima_agent.specs.Showing.{ShowsEntriesOf}
-use Rattle.ima_agent.specs.ShowingEvents.{Form, IsReported, ShowsEventsIn, ShowsPlainEventsIn, ShowsToldOf, plain_lines}
+use Rattle.ima_list.specs.ListEntry.{ListEntry}
+use Rattle.ima_list.specs.Lines.{line_of}
+use Rattle.entry_lines.specs.ListLines.{entry_line}
+use Rattle.ima_agent.specs.Showing.{AreAllEntries, IsReported, ShowsEntriesOf, ShowsSoundList, entry_lines, numbered_lines}
+use Rattle.ima_agent.specs.ShowingEvents.{Form, ShowsEventsIn, ShowsPlainEventsIn, ShowsToldOf, plain_lines}
 
 -- A sink that failed in a text did not take more.
 sent_less : {A B E F : Type 0} (old new : SinkState) (fault : E) (other : F) (text more : List ℕ)
@@ -108,12 +112,30 @@ module _ (inputs : Inputs) (log : String Global) (requested : DataShown) (confir
     told_outcome text status (inr (fault, none, failure)) = inr (inl (fault, inr (bytes, held, rw is none), failure, kept))
 
 pub entries_outcome : (inputs : Inputs) (list : String Global) (old new : Saved) → new ≡ old → (text : List ℕ) (status : ℕ)
-    → ShowsEntriesOf inputs (string_bytes list) text status → IsOutcome inputs (tasks.Entries list) Json old new text status
+    → ShowsEntriesOf Json inputs (string_bytes list) text status → IsOutcome inputs (tasks.Entries list) Json old new text status
 entries_outcome inputs list old new kept text status (inl ((bytes, held, all), done)) = inl ((bytes, held, inl (all, done)), kept)
 entries_outcome inputs list old new kept text status (inr (begun, fault, line, inl (bytes, held, fails), reported, is)) =
     inl ((bytes, held, inr (begun, fault, line, fails, reported, is)), kept)
 entries_outcome inputs list old new kept text status (inr (begun, fault, line, inr breaks, reported, is)) =
     inr (inr ((begun, fault, line, breaks, reported, is), kept))
+
+-- The lines of entries as text.
+text_lines : (number : ℕ) (entries : List ListEntry) → numbered_lines (entry_line (Some Text)) number entries ≡ flat_map line_of entries
+text_lines number [] = refl
+text_lines number (first ∷ entries) =
+    ap (λ (t : List ℕ). line_of first ++ t) (text_lines (number + 1) entries) ∙ sym (flat_map-cons line_of first entries)
+
+pub sound_outcome : (inputs : Inputs) (list : String Global) (old new : Saved) → new ≡ old → (text : List ℕ) (status : ℕ)
+    → ShowsSoundList inputs (string_bytes list) text status → IsOutcome inputs (tasks.Entries list) Text old new text status
+sound_outcome inputs list old new kept text status (inl (whole, inl ((bytes, held, all), done))) =
+    let as_text : AreAllEntries (flat_map line_of) bytes text = record {
+      entries = all.entries;
+      reading = all.reading;
+      text_is = all.text_is ∙ append-nil (entry_lines (Some Text) all.entries) ∙ text_lines 0 all.entries;
+    } in
+    inl (((bytes, held, as_text), done), kept)
+sound_outcome inputs list old new kept text status (inl (whole, inr stops)) = inr (inr ((whole, stops), kept))
+sound_outcome inputs list old new kept text status (inr (fault, none, reported)) = inr (inl (fault, none, reported, kept))
 
 -- ---- the answer to what was sent
 

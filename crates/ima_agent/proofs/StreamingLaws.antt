@@ -1,11 +1,11 @@
 -- Outputs that are sent while their input is read: what was sent is what the program is asked for.
-use Rattle.std.proofs.Common.{◌≡◌, ◌⊎◌, ℕ, ◌<◌, List, [], ◌++◌, length, Option, None, Some, Result, Ok, Err, refl, sym, ap, subst, ◌∙◌, append_assoc, append-nil, arith, inl, inr, codes}
+use Rattle.std.proofs.Common.{◌≡◌, ◌⊎◌, ℕ, ◌+◌, ◌<◌, List, [], ◌∷◌, ◌++◌, length, Option, None, Some, Result, Ok, Err, refl, sym, ap, subst, ◌∙◌, append_assoc, append-nil, arith, inl, inr, codes}
 use Rattle.std.specs.Prelude.{IfSome, IsTrue}
 use Rattle.std.specs.Io.KnownBytes.{IsAtEnd}
 use Rattle.std.proofs.lemmas.List.{length-append}
 use Rattle.byte_streams.specs.declared.streams.Failed.{Failed}
 use Rattle.byte_streams.specs.Streams.{Sends, SinkState}
-use Rattle.byte_streams.proofs.SinkLaws.{Sends-none, Sends-ok, Sends-same}
+use Rattle.byte_streams.proofs.SinkLaws.{Sends-none, Sends-ok, Sends-same, Sends-then}
 use Rattle.boot_log.specs.declared.fault.LogFault.{LogFault}
 use Rattle.boot_log.specs.declared.header.Row.{Row}
 use Rattle.boot_log.specs.Spelling.{LogEvent}
@@ -19,7 +19,8 @@ use Rattle.entry_lines.specs.declared.entry_lines.EntriesFault.{EntriesFault}
 use Rattle.entry_lines.specs.declared.entry_lines.EntriesFault.TheVariants as entries
 use Rattle.event_lines.specs.declared.event_lines.EventsFault.{EventsFault}
 use Rattle.event_lines.specs.declared.event_lines.EventsFault.TheVariants as events
-use Rattle.entry_lines.specs.SentEntries.{AreAllIn, SendsEntries}
+use Rattle.entry_lines.specs.ListLines.{entry_line, last_line}
+use Rattle.entry_lines.specs.SentEntries.{AreAllIn, SendsEntries, as_sent}
 use Rattle.event_lines.specs.SentEvents.{SendsEvents, SendsLines}
 use Rattle.measured_data.specs.declared.pcr.Pcr.{Pcr}
 use Rattle.cells.specs.declared.writer.Form.{Form}
@@ -27,13 +28,18 @@ use Rattle.cells.specs.declared.writer.Form.TheVariants.{Json, Text}
 use Rattle.agent_inputs.specs.declared.fault.RunFault.{RunFault}
 use Rattle.agent_inputs.specs.declared.fault.RunFault.TheVariants as runs
 use Rattle.agent_inputs.specs.Faults.{fault_of_list, fault_of_log}
-use Rattle.agent_inputs.specs.Loading.{Holds, Inputs, IsNotRead, IsTooLong, input_limit}
+use Rattle.agent_inputs.specs.Loading.{GivesAll, Holds, Inputs, IsInputFault, IsNotRead, IsTooLong, input_limit}
+use Rattle.byte_streams.specs.declared.memory.SliceSource.{SliceSource}
+use Rattle.byte_streams.specs.Memory.{slice_source_rest, slice_source_state}
 use Rattle.ima_agent.specs.declared.streams.StreamFault.{StreamFault}
 use Rattle.ima_agent.specs.declared.streams.StreamFault.TheVariants as streams
 use Rattle.rendering.specs.FaultTexts.{IsFailure, json_fault_line}
-use Rattle.ima_agent.specs.Showing.{AreAllInFile, EndsAfterEntries, ShowsEntriesOf, ShowsToFault, StopsInFile, entry_lines, list_lines}
-use Rattle.ima_agent.specs.ShowingEvents.{AreAllEvents, Form, IsReported, ShowsEventsIn, StopsInLog, log_lines}
-use Rattle.ima_agent.specs.Program.{Streams}
+use Rattle.ima_agent.specs.Showing.{AreAllInFile, EndsAfterEntries, IsNoneInFile, IsReported, IsWholeList, ShowsEntriesOf, ShowsSoundList, ShowsToFault, StopsInFile, entry_lines, list_lines, numbered_lines}
+use Rattle.ima_agent.specs.ShowingEvents.{AreAllEvents, Form, ShowsEventsIn, StopsInLog, log_lines}
+use Rattle.ima_agent.specs.Program.{IsStoppedBy, Streams}
+use Rattle.ima_agent.specs.Program as program
+use Rattle.judging.specs.Answering.{GivesInput}
+use Rattle.judging.specs.Inputs.Where.{FileOf}
 use Rattle.judging.proofs.InputLaws.{HasAll, held_more, held_whole}
 
 -- The line of `Memory`, of which there is always one.
@@ -53,39 +59,45 @@ own_or_memory Json fault line status is = is
 
 -- ---- what is shown up to a fault
 
-module _ (form : Form) (done : ℕ) (AreAll : List ℕ → Type 0) (Stops : List ℕ → RunFault → Type 0) (old new : SinkState) (text : List ℕ) where
-  all_sent : {E : Type 0} → Sends {A = Unit {0}} {E = E} old new (Ok tt) text → AreAll text
-      → Streams form (ShowsToFault done AreAll Stops (IsReported form)) old new (Ok done)
-  all_sent sends all = record { text = text; sends = Sends-ok old new tt tt text sends; goes_on = inl (all, refl) }
+-- A text was sent, and this is why what follows it is asked for: it may break off anywhere.
+module _ (form : Form) (IsWanted : List ℕ → ℕ → Type 0) (Stops : List ℕ → RunFault → Type 0)
+    (ends : (text : List ℕ) (fault : RunFault) (line : List ℕ) (status : ℕ) → Stops text fault → IsReported form fault line status
+    → IsWanted (text ++ line) status) (old new : SinkState) (text : List ℕ) where
+  -- The sink failed, and more would have come.
+  cut_by : {E : Type 0} (fault : E) (failed : Failed) → Sends {A = Unit {0}} {E = E} old new (Err fault) text
+      → (rest : List ℕ) × (status : ℕ) × IsWanted (text ++ rest) status → Streams form IsWanted old new (Err (streams.Sink failed))
+  cut_by fault failed sends more = record {
+    text = text;
+    sends = record { ok = tt; part = sends.part; telling = sends.telling; counts = sends.counts };
+    goes_on = more;
+  }
 
   cut_sent : {E : Type 0} (fault : E) (failed : Failed) → Sends {A = Unit {0}} {E = E} old new (Err fault) text → Stops text runs.Memory
-      → Streams form (ShowsToFault done AreAll Stops (IsReported form)) old new (Err (streams.Sink failed))
-  cut_sent fault failed sends memory = record {
-    text = text;
-    sends = record { ok = tt; part = sends.part; telling = sends.telling; counts = sends.counts };
-    goes_on = (memory_line form, 3, inr (text, runs.Memory, memory_line form, memory, memory_reported form, refl));
-  }
-
-  -- All is sent, and the sink failed.
-  all_cut : {E : Type 0} (fault : E) (failed : Failed) → Sends {A = Unit {0}} {E = E} old new (Err fault) text → AreAll text
-      → Streams form (ShowsToFault done AreAll Stops (IsReported form)) old new (Err (streams.Sink failed))
-  all_cut fault failed sends all = record {
-    text = text;
-    sends = record { ok = tt; part = sends.part; telling = sends.telling; counts = sends.counts };
-    goes_on = ([], done, inl (subst AreAll (sym (append-nil text)) all, refl));
-  }
+      → Streams form IsWanted old new (Err (streams.Sink failed))
+  cut_sent fault failed sends memory =
+      cut_by fault failed sends (memory_line form, 3, ends text runs.Memory (memory_line form) 3 memory (memory_reported form))
 
   line_follows : (fault : RunFault) → Stops text fault → Stops text runs.Memory → (last : List ℕ) (status : ℕ) → IsFailure form fault last status
-      → ShowsToFault done AreAll Stops (IsReported form) (text ++ last) status
+      → IsWanted (text ++ last) status
   line_follows fault stops memory last status failure = elim (own_or_memory form fault last status failure) [
-    | inl reported ↦ inr (text, fault, last, stops, reported, refl)
-    | inr reported ↦ inr (text, runs.Memory, last, memory, reported, refl)
+    | inl reported ↦ ends text fault last status stops reported
+    | inr reported ↦ ends text runs.Memory last status memory reported
   ]
 
   fault_sent : {E : Type 0} (fault : RunFault) → Sends {A = Unit {0}} {E = E} old new (Ok tt) text → Stops text fault → Stops text runs.Memory
-      → Streams form (ShowsToFault done AreAll Stops (IsReported form)) old new (Err (streams.Run fault))
+      → Streams form IsWanted old new (Err (streams.Run fault))
   fault_sent fault sends stops memory =
       record { text = text; sends = Sends-ok old new tt tt text sends; goes_on = line_follows fault stops memory }
+
+module _ (form : Form) (done : ℕ) (AreAll : List ℕ → Type 0) (Stops : List ℕ → RunFault → Type 0) where
+  all_sent : {E : Type 0} (old new : SinkState) (text : List ℕ) → Sends {A = Unit {0}} {E = E} old new (Ok tt) text → AreAll text
+      → Streams form (ShowsToFault done AreAll Stops (IsReported form)) old new (Ok done)
+  all_sent old new text sends all = record { text = text; sends = Sends-ok old new tt tt text sends; goes_on = inl (all, refl) }
+
+  -- The line of the fault is the end.
+  to_fault : (text : List ℕ) (fault : RunFault) (line : List ℕ) (status : ℕ) → Stops text fault → IsReported form fault line status
+      → ShowsToFault done AreAll Stops (IsReported form) (text ++ line) status
+  to_fault text fault line status stops reported = inr (text, fault, line, stops, reported, refl)
 
 -- What is asked for in one way is asked for in another.
 pub streams_so : {form : Form} (P Q : List ℕ → ℕ → Type 0) (old new : SinkState) (result : Result ℕ StreamFault)
@@ -130,23 +142,26 @@ module _ (form : Form) (matched : Option (List Pcr)) (done : ℕ) (log : List �
 
   pub events_cut : (failed : Failed) → SendsEvents form matched log old new (Err events.Sink) → Streams form Shown old new (Err (streams.Sink failed))
   events_cut failed (inl sent) =
-      cut_sent form done AreAll Stops old new (lines sent.table sent.events) events.Sink failed sent.sends (out (Err events.Sink) sent)
+      cut_sent form Shown Stops (to_fault form done AreAll Stops) old new (lines sent.table sent.events) events.Sink failed sent.sends
+      (out (Err events.Sink) sent)
   events_cut failed (inr none) = absurd none.refused
 
   pub events_to_fault : (first : LogFault) (fault : RunFault) → fault ≡ fault_of_log first
       → SendsEvents form matched log old new (Err (events.Log first)) → Streams form Shown old new (Err (streams.Run fault))
   events_to_fault first fault says (inl sent) =
-      fault_sent form done AreAll Stops old new (lines sent.table sent.events) fault sent.sends
+      fault_sent form Shown Stops (to_fault form done AreAll Stops) old new (lines sent.table sent.events) fault sent.sends
       (inl (first, says, inr (sent.table, sent.events, sent.ends, refl))) (out (Err (events.Log first)) sent)
   events_to_fault first fault says (inr none) =
-      fault_sent form done AreAll Stops old new [] fault none.sends (inl (first, says, inl (refl, none.refused))) (inr (inr (refl, refl)))
+      fault_sent form Shown Stops (to_fault form done AreAll Stops) old new [] fault none.sends (inl (first, says, inl (refl, none.refused)))
+      (inr (inr (refl, refl)))
 
   pub events_run_out : SendsEvents form matched log old new (Err events.Memory) → Streams form Shown old new (Err (streams.Run runs.Memory))
   events_run_out (inl sent) =
-      fault_sent form done AreAll Stops old new (lines sent.table sent.events) runs.Memory sent.sends (out (Err events.Memory) sent)
+      fault_sent form Shown Stops (to_fault form done AreAll Stops) old new (lines sent.table sent.events) runs.Memory sent.sends
+      (out (Err events.Memory) sent)
       (out (Err events.Memory) sent)
   events_run_out (inr none) =
-      fault_sent form done AreAll Stops old new [] runs.Memory none.sends (inr (inr (refl, refl))) (inr (inr (refl, refl)))
+      fault_sent form Shown Stops (to_fault form done AreAll Stops) old new [] runs.Memory none.sends (inr (inr (refl, refl))) (inr (inr (refl, refl)))
 
 -- No more than the fault is said.
 pub none_said : {form : Form} (P : List ℕ → ℕ → Type 0) (sink : SinkState) (fault : RunFault)
@@ -166,36 +181,36 @@ too_much (Some all) old new limit list over has came size some =
     let more = held_more (Some all) old new limit list over has came in
     omega (arith, size, some, more.2, sym (ap length more.1), length-append list more.0)
 
-module _ (inputs : Inputs) (name : List ℕ) where
+-- No lines.
+no_lines : (number : ℕ) (es : List ListEntry) → numbered_lines (entry_line None) number es ≡ []
+no_lines number [] = refl
+no_lines number (first ∷ es) = no_lines (number + 1) es
+
+module _ (lines : Option Form) (inputs : Inputs) (name : List ℕ) where
   source_ends : (list : List ℕ) (es : List ListEntry) (fault : RunFault) → IsTrue (inputs.may_fail (Some name)) → AreAllIn list es
       → IsNotRead name fault ⊎ (fault ≡ runs.Memory) → EndsAfterEntries inputs name list es fault
   source_ends list es fault may all (inl says) = inl ((says, may), all)
   source_ends list es fault may all (inr memory) = inr (inr memory)
 
-  -- The input was not opened.
-  pub not_opened : (sink : SinkState) (fault : RunFault) → IsReading [] (Ok []) → IsNotRead name fault ⊎ (fault ≡ runs.Memory)
-      → IsTrue (inputs.may_fail (Some name)) → Streams Json (ShowsEntriesOf inputs name) sink sink (Err (streams.Run fault))
-  not_opened sink fault nothing reason may =
-      fault_sent Json 0 (AreAllInFile inputs name) (StopsInFile inputs name) sink sink [] fault (Sends-none {E = Failed} sink tt)
-      (came_none fault (source_ends [] [] fault may (inl nothing) reason)) (came_none runs.Memory (inr (inr refl))) where
-        came_none : (fault : RunFault) → EndsAfterEntries inputs name [] [] fault → StopsInFile inputs name [] fault
-        came_none fault ends = let any = held_any (inputs.held (Some name)) in inr (record {
-          came = [];
-          more = any.0;
-          entries = [];
-          rest = [];
-          held = any.1;
-          begins = nothing.begins;
-          ends = ends;
-          text_is = refl;
-        })
+  -- Nothing came.
+  came_none : IsReading [] (Ok []) → (fault : RunFault) → EndsAfterEntries inputs name [] [] fault → StopsInFile lines inputs name [] fault
+  came_none nothing fault ends = let any = held_any (inputs.held (Some name)) in inr (record {
+    came = [];
+    more = any.0;
+    entries = [];
+    rest = [];
+    held = any.1;
+    begins = nothing.begins;
+    ends = ends;
+    text_is = refl;
+  })
 
   module _ (old new : Option (List ℕ)) (sink_old sink_new : SinkState) (has : HasAll (inputs.held (Some name)) old) where
     -- The entries of a list that fails after them.
-    damaged : (list : List ℕ) (es : List ListEntry) (rest : List ℕ) (first : ListFault) (fault : RunFault) → fault ≡ fault_of_list first
+    damaged : (list : List ℕ) (es : List ListEntry) (rest : List ℕ) (first : ListFault)
         → Holds inputs (Some name) list → BeginsWith list es rest → IsReading list (Err first) → list_fault_entry first ≡ Some (length es)
-        → StopsInFile inputs name (entry_lines es) fault
-    damaged list es rest first fault says held begins reading names = inl (
+        → StopsInFile lines inputs name (entry_lines lines es) (fault_of_list first)
+    damaged list es rest first held begins reading names = inl (
       list,
       held,
       record {
@@ -206,7 +221,7 @@ module _ (inputs : Inputs) (name : List ℕ) where
         reading = reading;
         number_is = names;
         text_is = refl;
-        fault_is = says;
+        fault_is = refl;
       },
     )
 
@@ -216,93 +231,69 @@ module _ (inputs : Inputs) (name : List ℕ) where
         held_whole (inputs.held (Some name)) old new input_limit list has
         (record { came = subst (CameFrom old new input_limit list) none came; end = end })
 
-    -- The entries of what came, if no more come.
-    breaks_off : (result : Result (Unit {0}) EntriesFault)
-        (sends : SendsEntries old new input_limit sink_old sink_new result) (fault : RunFault)
-        → EndsAfterEntries inputs name sends.list sends.entries fault → StopsInFile inputs name (entry_lines sends.entries) fault
-    breaks_off result sends fault ends =
-        let more = held_more (inputs.held (Some name)) old new input_limit sends.list sends.over has sends.came in
-        inr (record {
-          came = sends.list;
-          more = more.0;
-          entries = sends.entries;
-          rest = sends.rest;
-          held = more.1;
-          begins = sends.begins;
-          ends = ends;
-          text_is = refl;
-        })
+    module _ {result : Result (Unit {0}) EntriesFault} (sends : SendsEntries lines old new input_limit sink_old sink_new result) where
+      -- The entries of what came, if no more come.
+      breaks_off : (fault : RunFault) → EndsAfterEntries inputs name sends.list sends.entries fault
+          → StopsInFile lines inputs name (entry_lines lines sends.entries) fault
+      breaks_off fault ends =
+          let more = held_more (inputs.held (Some name)) old new input_limit sends.list sends.over has sends.came in
+          inr (record {
+            came = sends.list;
+            more = more.0;
+            entries = sends.entries;
+            rest = sends.rest;
+            held = more.1;
+            begins = sends.begins;
+            ends = ends;
+            text_is = refl;
+          })
 
-    -- Nothing was sent after the lines of entries.
-    without_last : {E : Type 0} (result : Result (Unit {0}) E) (text last : List ℕ) → last ≡ [] → Sends sink_old sink_new result (text ++ last)
-        → Sends sink_old sink_new result text
-    without_last result text last none sends =
-        Sends-same sink_old sink_new result (text ++ last) text (ap (λ (l : List ℕ). text ++ l) none ∙ append-nil text) sends
+      -- Memory ran out.
+      ran_out : StopsInFile lines inputs name (entry_lines lines sends.entries) runs.Memory
+      ran_out = breaks_off runs.Memory (inr (inr refl))
 
-    pub entries_shown : SendsEntries old new input_limit sink_old sink_new (Ok tt)
-        → Streams Json (ShowsEntriesOf inputs name) sink_old sink_new (Ok 0)
-    entries_shown sends =
-        let held = whole_of sends.list sends.over sends.came sends.ends.0 sends.ends.1 in
-        let whole = ap (λ (l : List ℕ). entry_lines sends.entries ++ l) sends.last_is in
-        all_sent Json 0 (AreAllInFile inputs name) (StopsInFile inputs name) sink_old sink_new (list_lines sends.entries)
-        (Sends-same sink_old sink_new (Ok tt) (entry_lines sends.entries ++ sends.last) (list_lines sends.entries) whole sends.sends)
-        (sends.list, held, record { entries = sends.entries; reading = sends.ends.2; text_is = refl })
+      -- Nothing was sent after the lines of entries.
+      without_last : sends.last ≡ [] → Sends sink_old sink_new (as_sent result) (entry_lines lines sends.entries)
+      without_last none =
+          Sends-same sink_old sink_new (as_sent result) (entry_lines lines sends.entries ++ sends.last) (entry_lines lines sends.entries)
+          (ap (λ (l : List ℕ). entry_lines lines sends.entries ++ l) none ∙ append-nil (entry_lines lines sends.entries)) sends.sends
 
-    pub entries_cut : (failed : Failed) → SendsEntries old new input_limit sink_old sink_new (Err entries.Sink)
-        → Streams Json (ShowsEntriesOf inputs name) sink_old sink_new (Err (streams.Sink failed))
-    entries_cut failed sends = elim sends.last_is [
-      | inl none ↦ cut_sent Json 0 (AreAllInFile inputs name) (StopsInFile inputs name) sink_old sink_new (entry_lines sends.entries) entries.Sink failed
-          (without_last (Err entries.Sink) (entry_lines sends.entries) sends.last none sends.sends)
-          (breaks_off (Err entries.Sink) sends runs.Memory (inr (inr refl)))
-      | inr counted ↦ all_cut Json 0 (AreAllInFile inputs name) (StopsInFile inputs name) sink_old sink_new (list_lines sends.entries) entries.Sink failed
-          (Sends-same sink_old sink_new (Err entries.Sink) (entry_lines sends.entries ++ sends.last) (list_lines sends.entries)
-          (ap (λ (l : List ℕ). entry_lines sends.entries ++ l) counted.0) sends.sends) (
-            sends.list,
-            whole_of sends.list sends.over sends.came counted.1 counted.2,
-            record { entries = sends.entries; reading = counted.3; text_is = refl },
-          )
-    ]
+      -- The last line was.
+      with_last : sends.last ≡ last_line lines (length sends.entries) → Sends sink_old sink_new (as_sent result) (list_lines lines sends.entries)
+      with_last is =
+          Sends-same sink_old sink_new (as_sent result) (entry_lines lines sends.entries ++ sends.last) (list_lines lines sends.entries)
+          (ap (λ (l : List ℕ). entry_lines lines sends.entries ++ l) is) sends.sends
 
-    -- Another fault of the list than `Truncated`, which no more bytes mend.
-    lasting : (first : ListFault) (sends : SendsEntries old new input_limit sink_old sink_new (Err (entries.List first)))
-        (fault : RunFault) → fault ≡ fault_of_list first → FailsFor sends.list first → list_fault_entry first ≡ Some (length sends.entries)
-        → StopsInFile inputs name (entry_lines sends.entries) fault
-    lasting first sends fault says lasts names =
-        let more = held_more (inputs.held (Some name)) old new input_limit sends.list sends.over has sends.came in
-        let begins : BeginsWith (sends.list ++ more.0) sends.entries (sends.rest ++ more.0) = record {
-          are = sends.begins.are;
-          parts = ap (λ (l : List ℕ). l ++ more.0) sends.begins.parts ∙ append_assoc (list_spelling sends.entries) sends.rest more.0;
-        } in
-        damaged (sends.list ++ more.0) sends.entries (sends.rest ++ more.0) first fault says more.1 begins (lasts.1 more.0) names
+      -- Another fault of the list than `Truncated`, which no more bytes mend.
+      lasting : (first : ListFault) → FailsFor sends.list first → list_fault_entry first ≡ Some (length sends.entries)
+          → StopsInFile lines inputs name (entry_lines lines sends.entries) (fault_of_list first)
+      lasting first lasts names =
+          let more = held_more (inputs.held (Some name)) old new input_limit sends.list sends.over has sends.came in
+          let begins : BeginsWith (sends.list ++ more.0) sends.entries (sends.rest ++ more.0) = record {
+            are = sends.begins.are;
+            parts = ap (λ (l : List ℕ). l ++ more.0) sends.begins.parts ∙ append_assoc (list_spelling sends.entries) sends.rest more.0;
+          } in
+          damaged (sends.list ++ more.0) sends.entries (sends.rest ++ more.0) first more.1 begins (lasts.1 more.0) names
+
+      all_in_file : (over_none : sends.over ≡ []) → IsAtEnd new → IsReading sends.list (Ok sends.entries)
+          → AreAllInFile lines inputs name (list_lines lines sends.entries)
+      all_in_file none end reading = (
+        sends.list,
+        whole_of sends.list sends.over sends.came none end,
+        record { entries = sends.entries; reading = reading; text_is = refl },
+      )
 
     -- The fault of a list, after the lines of the entries before it.
-    fails : (first : ListFault) (sends : SendsEntries old new input_limit sink_old sink_new (Err (entries.List first)))
-        (fault : RunFault) → fault ≡ fault_of_list first → StopsInFile inputs name (entry_lines sends.entries) fault
-    fails (lists.Truncated entry) sends fault says =
-        damaged sends.list sends.entries sends.rest (lists.Truncated entry) fault says
+    fails : (first : ListFault) (sends : SendsEntries lines old new input_limit sink_old sink_new (Err (entries.List first)))
+        → StopsInFile lines inputs name (entry_lines lines sends.entries) (fault_of_list first)
+    fails (lists.Truncated entry) sends =
+        damaged sends.list sends.entries sends.rest (lists.Truncated entry)
         (whole_of sends.list sends.over sends.came sends.ends.0 sends.ends.1) sends.begins sends.ends.2 (ap (λ (n : ℕ). Some n) sends.ends.3)
-    fails (lists.BadRegister entry) sends fault says = lasting (lists.BadRegister entry) sends fault says sends.ends.0 sends.ends.1
-    fails (lists.NameTooLong entry) sends fault says = lasting (lists.NameTooLong entry) sends fault says sends.ends.0 sends.ends.1
-    fails lists.Memory sends fault says = absurd sends.ends.0.0
+    fails (lists.BadRegister entry) sends = lasting sends (lists.BadRegister entry) sends.ends.0 sends.ends.1
+    fails (lists.NameTooLong entry) sends = lasting sends (lists.NameTooLong entry) sends.ends.0 sends.ends.1
+    fails lists.Memory sends = absurd sends.ends.0.0
 
-    pub entries_to_fault : (first : ListFault) (fault : RunFault) → fault ≡ fault_of_list first
-        → SendsEntries old new input_limit sink_old sink_new (Err (entries.List first))
-        → Streams Json (ShowsEntriesOf inputs name) sink_old sink_new (Err (streams.Run fault))
-    entries_to_fault first fault says sends =
-        fault_sent Json 0 (AreAllInFile inputs name) (StopsInFile inputs name) sink_old sink_new (entry_lines sends.entries) fault
-        (without_last (Ok tt) (entry_lines sends.entries) sends.last sends.last_is sends.sends)
-        (fails first sends fault says) (breaks_off (Err (entries.List first)) sends runs.Memory (inr (inr refl)))
-
-    pub entries_unread : (fault : RunFault) → IsTrue (inputs.may_fail (Some name)) → IsNotRead name fault ⊎ (fault ≡ runs.Memory)
-        → SendsEntries old new input_limit sink_old sink_new (Err entries.Source)
-        → Streams Json (ShowsEntriesOf inputs name) sink_old sink_new (Err (streams.Run fault))
-    entries_unread fault may reason sends =
-        fault_sent Json 0 (AreAllInFile inputs name) (StopsInFile inputs name) sink_old sink_new (entry_lines sends.entries) fault
-        (without_last (Ok tt) (entry_lines sends.entries) sends.last sends.last_is sends.sends)
-        (breaks_off (Err entries.Source) sends fault (source_ends sends.list sends.entries fault may sends.ends.1 reason))
-        (breaks_off (Err entries.Source) sends runs.Memory (inr (inr refl)))
-
-    long_ends : (sends : SendsEntries old new input_limit sink_old sink_new (Err entries.TooLong)) (fault : RunFault)
+    long_ends : (sends : SendsEntries lines old new input_limit sink_old sink_new (Err entries.TooLong)) (fault : RunFault)
         → IsTooLong name fault ⊎ (fault ≡ runs.Memory) → EndsAfterEntries inputs name sends.list sends.entries fault
     long_ends sends fault (inl says) =
         let long = too_much (inputs.held (Some name)) old new input_limit sends.list sends.over has sends.came sends.ends.0
@@ -310,19 +301,175 @@ module _ (inputs : Inputs) (name : List ℕ) where
         inr (inl (says, long, sends.ends.0, sends.ends.2))
     long_ends sends fault (inr memory) = inr (inr memory)
 
-    pub entries_too_long : (fault : RunFault) → IsTooLong name fault ⊎ (fault ≡ runs.Memory)
-        → SendsEntries old new input_limit sink_old sink_new (Err entries.TooLong)
-        → Streams Json (ShowsEntriesOf inputs name) sink_old sink_new (Err (streams.Run fault))
-    entries_too_long fault reason sends =
-        fault_sent Json 0 (AreAllInFile inputs name) (StopsInFile inputs name) sink_old sink_new (entry_lines sends.entries) fault
-        (without_last (Ok tt) (entry_lines sends.entries) sends.last sends.last_is sends.sends)
-        (breaks_off (Err entries.TooLong) sends fault (long_ends sends fault reason))
-        (breaks_off (Err entries.TooLong) sends runs.Memory (inr (inr refl)))
+    -- The file was read to its end.
+    pub whole_list : SendsEntries lines old new input_limit sink_old sink_new (Ok tt) → IsWholeList inputs name
+    whole_list sends = (
+      sends.list,
+      whole_of sends.list sends.over sends.came sends.ends.0 sends.ends.1,
+      (sends.came.within, (sends.entries, sends.ends.2)),
+    )
 
-    pub entries_run_out : SendsEntries old new input_limit sink_old sink_new (Err entries.Memory)
-        → Streams Json (ShowsEntriesOf inputs name) sink_old sink_new (Err (streams.Run runs.Memory))
-    entries_run_out sends =
-        let stops = breaks_off (Err entries.Memory) sends runs.Memory (inr (inr refl)) in
-        fault_sent Json 0 (AreAllInFile inputs name) (StopsInFile inputs name) sink_old sink_new (entry_lines sends.entries) runs.Memory
-        (without_last (Ok tt) (entry_lines sends.entries) sends.last sends.last_is sends.sends)
-        stops stops
+    -- What was sent of a list that stops is asked for, if this is: all of it, and it as far as it came, with the line of why there is no more.
+    module _ (form : Form) (IsWanted : List ℕ → ℕ → Type 0)
+        (all : (text : List ℕ) → AreAllInFile lines inputs name text → (rest : List ℕ) × (status : ℕ) × IsWanted (text ++ rest) status)
+        (ends : (text : List ℕ) (fault : RunFault) (line : List ℕ) (status : ℕ) → StopsInFile lines inputs name text fault
+        → IsReported form fault line status → IsWanted (text ++ line) status) where
+      faulted : (reason : EntriesFault) (fault : RunFault) (sends : SendsEntries lines old new input_limit sink_old sink_new (Err reason))
+          → as_sent (Err reason) ≡ Ok tt → sends.last ≡ [] → StopsInFile lines inputs name (entry_lines lines sends.entries) fault
+          → Streams form IsWanted sink_old sink_new (Err (streams.Run fault))
+      faulted reason fault sends no-sink none stops =
+          fault_sent form IsWanted (StopsInFile lines inputs name) ends sink_old sink_new (entry_lines lines sends.entries) fault
+          (rw no-sink at (without_last sends none)) stops (ran_out sends)
+
+      pub stopped : (reason : EntriesFault) (fault : StreamFault) → IsStoppedBy name reason fault
+          → (reason ≡ entries.Source → IsTrue (inputs.may_fail (Some name))) → SendsEntries lines old new input_limit sink_old sink_new (Err reason)
+          → Streams form IsWanted sink_old sink_new (Err fault)
+      stopped entries.Sink fault is may sends = rw is.1 (elim sends.last_is [
+        | inl none ↦ cut_sent form IsWanted (StopsInFile lines inputs name) ends sink_old sink_new (entry_lines lines sends.entries) entries.Sink is.0
+            (without_last sends none) (ran_out sends)
+        | inr last ↦ cut_by form IsWanted (StopsInFile lines inputs name) ends sink_old sink_new (list_lines lines sends.entries) entries.Sink is.0
+            (with_last sends last.0) (all (list_lines lines sends.entries) (all_in_file sends last.1 last.2 last.3))
+      ])
+      stopped (entries.List first) fault is may sends =
+          rw is (faulted (entries.List first) (fault_of_list first) sends refl sends.last_is (fails first sends))
+      stopped entries.Source fault is may sends =
+          rw is.2 (faulted entries.Source is.0 sends refl sends.last_is
+          (breaks_off sends is.0 (source_ends sends.list sends.entries is.0 (may refl) sends.ends.1 is.1)))
+      stopped entries.TooLong fault is may sends =
+          rw is.2 (faulted entries.TooLong is.0 sends refl sends.last_is (breaks_off sends is.0 (long_ends sends is.0 is.1)))
+      stopped entries.Memory fault is may sends = rw is (faulted entries.Memory runs.Memory sends refl sends.last_is (ran_out sends))
+
+-- ---- entries in a form
+
+module _ (form : Form) (inputs : Inputs) (name : List ℕ) where
+  abbrev AllOf : List ℕ → Type 0
+  AllOf = AreAllInFile (Some form) inputs name
+
+  abbrev StopsOf : List ℕ → RunFault → Type 0
+  StopsOf = StopsInFile (Some form) inputs name
+
+  -- The input was not opened.
+  pub not_opened : (sink : SinkState) (fault : RunFault) → IsReading [] (Ok []) → IsNotRead name fault ⊎ (fault ≡ runs.Memory)
+      → IsTrue (inputs.may_fail (Some name)) → Streams form (ShowsEntriesOf form inputs name) sink sink (Err (streams.Run fault))
+  not_opened sink fault nothing reason may =
+      fault_sent form (ShowsEntriesOf form inputs name) StopsOf (to_fault form 0 AllOf StopsOf) sink sink [] fault
+      (Sends-none {E = Failed} sink tt)
+      (came_none (Some form) inputs name nothing fault (source_ends (Some form) inputs name [] [] fault may (inl nothing) reason))
+      (came_none (Some form) inputs name nothing runs.Memory (inr (inr refl)))
+
+  module _ (old new : Option (List ℕ)) (sink_old sink_new : SinkState) (has : HasAll (inputs.held (Some name)) old) where
+    pub entries_shown : SendsEntries (Some form) old new input_limit sink_old sink_new (Ok tt)
+        → Streams form (ShowsEntriesOf form inputs name) sink_old sink_new (Ok 0)
+    entries_shown sends =
+        all_sent form 0 AllOf StopsOf sink_old sink_new (list_lines (Some form) sends.entries)
+        (with_last (Some form) inputs name old new sink_old sink_new has sends sends.last_is)
+        (all_in_file (Some form) inputs name old new sink_old sink_new has sends sends.ends.0 sends.ends.1 sends.ends.2)
+
+    pub entries_stopped : (reason : EntriesFault) (fault : StreamFault) → IsStoppedBy name reason fault
+        → (reason ≡ entries.Source → IsTrue (inputs.may_fail (Some name))) → SendsEntries (Some form) old new input_limit sink_old sink_new (Err reason)
+        → Streams form (ShowsEntriesOf form inputs name) sink_old sink_new (Err fault)
+    entries_stopped =
+        stopped (Some form) inputs name old new sink_old sink_new has form (ShowsEntriesOf form inputs name)
+        (λ text all. ([], 0, inl (rw (append-nil text) all, refl))) (to_fault form 0 AllOf StopsOf)
+
+-- ---- entries as text, of a list that was read through before
+
+module _ (inputs : Inputs) (name : List ℕ) where
+  -- The fault is alone.
+  pub alone : (fault : RunFault) (line : List ℕ) (status : ℕ) → IsNoneInFile inputs name fault → IsReported Text fault line status
+      → ShowsSoundList inputs name line status
+  alone fault line status none reported = inr (fault, none, reported)
+
+  none_in_file : (text : List ℕ) (fault : RunFault) → StopsInFile None inputs name text fault → IsNoneInFile inputs name fault
+  none_in_file text fault (inl (list, held, fails)) = inr (list, held, (fails.first, fails.reading, fails.fault_is))
+  none_in_file text fault (inr breaks) = elim breaks.ends [
+    | inl unread ↦ inl (inr (inl unread.0))
+    | inr (inl long) ↦ inl (inl (long.0, long.1))
+    | inr (inr memory) ↦ inl (inr (inr memory))
+  ]
+
+  unsent : (text : List ℕ) (fault : RunFault) → StopsInFile None inputs name text fault → text ≡ []
+  unsent text fault (inl (list, held, fails)) = fails.text_is ∙ no_lines 0 fails.entries
+  unsent text fault (inr breaks) = breaks.text_is ∙ no_lines 0 breaks.entries
+
+  -- The list was not read through.
+  pub not_sound : (old new : Option (List ℕ)) (sink_old sink_new : SinkState) → HasAll (inputs.held (Some name)) old
+      → (reason : EntriesFault) (fault : StreamFault) → IsStoppedBy name reason fault
+      → (reason ≡ entries.Source → IsTrue (inputs.may_fail (Some name))) → SendsEntries None old new input_limit sink_old sink_new (Err reason)
+      → Streams Text (ShowsSoundList inputs name) sink_old sink_new (Err fault)
+  not_sound old new sink_old sink_new has =
+      stopped None inputs name old new sink_old sink_new has Text (ShowsSoundList inputs name)
+      (λ text all. (
+        memory_line Text,
+        3,
+        rw (all.2.text_is ∙ append-nil (entry_lines None all.2.entries) ∙ no_lines 0 all.2.entries)
+            (alone runs.Memory (memory_line Text) 3 (inl (inr (inr refl))) (memory_reported Text)),
+      ))
+      (λ text fault line status stops reported. rw (unsent text fault stops) (alone fault line status (none_in_file text fault stops) reported))
+
+  -- It was, and has a fault.
+  pub damaged_alone : (old new : Option (List ℕ)) (sink_old sink_new : SinkState) → HasAll (inputs.held (Some name)) old
+      → (first : ListFault) → SendsEntries None old new input_limit sink_old sink_new (Err (entries.List first))
+      → (fault : RunFault) → (fault ≡ fault_of_list first) ⊎ IsInputFault inputs (Some name) fault
+      → Streams Text (ShowsSoundList inputs name) sink_old sink_new (Err (streams.Run fault))
+  damaged_alone old new sink_old sink_new has first sends fault reason =
+      let none = without_last None inputs name old new sink_old sink_new has sends sends.last_is in
+      let why : IsNoneInFile inputs name fault = elim reason [
+        | inl is ↦ rw is (none_in_file (entry_lines None sends.entries) (fault_of_list first) (fails None inputs name old new sink_old sink_new has first sends))
+        | inr input ↦ inl input
+      ] in
+      record {
+        text = [];
+        sends = Sends-ok sink_old sink_new tt tt [] (rw (no_lines 0 sends.entries) at none);
+        goes_on = λ last status failure. alone fault last status why failure;
+      }
+
+  -- It was, and then sent while it was read again.
+  pub sound : (old new : Option (List ℕ)) (first mid last : SinkState) → HasAll (inputs.held (Some name)) old
+      → SendsEntries None old new input_limit first mid (Ok tt) → (result : Result ℕ StreamFault)
+      → Streams Text (ShowsEntriesOf Text inputs name) mid last result → Streams Text (ShowsSoundList inputs name) first last result
+  sound old new first mid last has sends result sent =
+      let whole = whole_list None inputs name old new first mid has sends in
+      let none = rw (no_lines 0 sends.entries) at (with_last None inputs name old new first mid has sends sends.last_is) in
+      let shown = streams_so (ShowsEntriesOf Text inputs name) (ShowsSoundList inputs name) mid last result (λ text status is. inl (whole, is)) sent in
+      record {
+        text = shown.text;
+        sends = Sends-then first mid last tt (program.as_sent result) [] shown.text none shown.sends;
+        goes_on = shown.goes_on;
+      }
+
+-- ---- inputs
+
+-- The input is too long.
+pub too_long_for : (inputs : Inputs) (name : List ℕ) (left : Option (List ℕ)) (fault : RunFault) → HasAll (inputs.held (Some name)) left
+    → IfSome left (λ all. input_limit < length all) → IsTooLong name fault ⊎ (fault ≡ runs.Memory) → IsInputFault inputs (Some name) fault
+too_long_for inputs name left fault has more (inl says) = inl (says, held_more_than (inputs.held (Some name)) left has more) where
+  held_more_than : (known left : Option (List ℕ)) → HasAll known left → IfSome left (λ all. input_limit < length all)
+      → IfSome known (λ all. input_limit < length all)
+  held_more_than None left has more = tt
+  held_more_than (Some all) left has more = rw has at more
+too_long_for inputs name left fault has more (inr memory) = inr (inr memory)
+
+-- It could not be read.
+pub unread_for : (inputs : Inputs) (name : List ℕ) (fault : RunFault) → IsTrue (inputs.may_fail (Some name))
+    → IsNotRead name fault ⊎ (fault ≡ runs.Memory) → IsInputFault inputs (Some name) fault
+unread_for inputs name fault may (inl says) = inr (inl (says, may))
+unread_for inputs name fault may (inr memory) = inr (inr memory)
+
+-- It was not opened.
+pub not_opened_alone : (inputs : Inputs) (name : List ℕ) (sink : SinkState) (fault : RunFault) → IsNotRead name fault ⊎ (fault ≡ runs.Memory)
+    → IsTrue (inputs.may_fail (Some name)) → Streams Text (ShowsSoundList inputs name) sink sink (Err (streams.Run fault))
+not_opened_alone inputs name sink fault reason may =
+    none_said (ShowsSoundList inputs name) sink fault
+    (λ last status failure. alone inputs name fault last status (inl (unread_for inputs name fault may reason)) failure)
+
+-- A source over the bytes of a file gives it.
+pub slice_gives : (inputs : Inputs) (name : List ℕ) (old new : SliceSource) → Holds inputs (Some name) (slice_source_rest old)
+    → GivesInput inputs (FileOf name) (slice_source_state old) (slice_source_state new)
+slice_gives inputs name old new held = record {
+  all = gives_held (inputs.held (Some name)) held;
+  failing = λ failed. absurd (omega (arith, failed.counts));
+} where
+  gives_held : (known : Option (List ℕ)) → IfSome known (λ all. slice_source_rest old ≡ all) → GivesAll known (slice_source_state old)
+  gives_held None is = tt
+  gives_held (Some all) is = ap (λ (l : List ℕ). Some l) is

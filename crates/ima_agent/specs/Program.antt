@@ -6,8 +6,8 @@ use Rattle.byte_streams.specs.Streams.{SinkState, Sends}
 use Rattle.ima_list.specs.Lines.{line_of}
 use Rattle.agent_inputs.specs.declared.fault.RunFault.{RunFault}
 use Rattle.agent_inputs.specs.declared.fault.RunFault.TheVariants as runs
-use Rattle.agent_inputs.specs.Faults.{IsArgumentsFault}
-use Rattle.agent_inputs.specs.Loading.{Inputs, IsInputFault, OfInput, Saved}
+use Rattle.agent_inputs.specs.Faults.{IsArgumentsFault, fault_of_list}
+use Rattle.agent_inputs.specs.Loading.{Inputs, IsInputFault, IsNotRead, IsTooLong, OfInput, Saved}
 use Rattle.cells.specs.declared.writer.Form.{Form}
 use Rattle.cells.specs.declared.writer.Form.TheVariants as forms
 use Rattle.agent_plans.specs.declared.plan.Plan.{Plan}
@@ -19,11 +19,13 @@ use Rattle.measuring.specs.declared.file_book.Measured.{Measured}
 use Rattle.measuring.specs.Measuring.{IsMeasured, IsMeasuringFault}
 use Rattle.rendering.specs.declared.renderer.Output.{Output}
 use Rattle.rendering.specs.Rendering.{IsOutputFault, ShowsAnswer, print_measured}
+use Rattle.entry_lines.specs.declared.entry_lines.EntriesFault.{EntriesFault}
+use Rattle.entry_lines.specs.declared.entry_lines.EntriesFault.TheVariants as entries
 use Rattle.ima_agent.specs.declared.streams.StreamFault.{StreamFault}
 use Rattle.ima_agent.specs.declared.streams.StreamFault.TheVariants as streams
 use Rattle.rendering.specs.FaultTexts.{fault_line, fault_status, IsFailure, IsReportedAsJson}
 use Rattle.questions.specs.Questions.{known_by, requested_by, save_by}
-use Rattle.ima_agent.specs.Showing.{AreAllEntries, BreaksOffAfterEntries, EndsWithFault, IsNoListFor, IsRefusedFor, ShowsEntries, ShowsHexadecimal, version_text}
+use Rattle.ima_agent.specs.Showing.{AreAllEntries, BreaksOffAfterEntries, EndsWithFault, IsNoneInFile, IsRefusedFor, IsReported, IsWholeList, ShowsEntries, ShowsHexadecimal, StopsInFile, version_text}
 use Rattle.ima_agent.specs.ShowingBoot.{IsNoBootFor, ShowsBoot}
 use Rattle.ima_agent.specs.ShowingEvents.{BreaksOffAfterEvents, IsNoneShownFor, ShowsEvents, plain_lines}
 
@@ -68,16 +70,20 @@ IsFaultOf inputs (tasks.Boot log confirmed_by before) form fault =
     IsInputFault inputs (Some (string_bytes log)) fault
     ⊎ OfInput inputs (Some (string_bytes log)) (λ bytes. IsNoBootFor inputs confirmed_by (option_map string_bytes before) bytes fault)
 IsFaultOf inputs (tasks.Entries list) forms.Text fault =
-    IsInputFault inputs (Some (string_bytes list)) fault
-    ⊎ OfInput inputs (Some (string_bytes list)) (λ bytes. IsNoListFor bytes fault)
+    IsNoneInFile inputs (string_bytes list) fault
 IsFaultOf inputs task form fault = ⊥
 
--- The output of a task that is written while its input is read, if it fails in between: what was read till then, and then the fault.
+-- The output of a task that is written while its input is read, if it fails in between: what was read till then, and then the fault. As text that
+-- comes only of a list that had none when it was read through before.
 abbrev pub IsBrokenOff : Inputs → Task → Form → List ℕ → ℕ → Type 0
 IsBrokenOff inputs (tasks.Events log requested confirmed_by) form text status =
     OfInput inputs (Some (string_bytes log)) (λ bytes.
     BreaksOffAfterEvents inputs form (plain_lines form requested) confirmed_by bytes text status)
-IsBrokenOff inputs (tasks.Entries list) forms.Json text status = EndsWithFault (BreaksOffAfterEntries inputs (string_bytes list)) IsReportedAsJson text status
+IsBrokenOff inputs (tasks.Entries list) forms.Json text status =
+    EndsWithFault (BreaksOffAfterEntries (Some forms.Json) inputs (string_bytes list)) IsReportedAsJson text status
+IsBrokenOff inputs (tasks.Entries list) forms.Text text status =
+    IsWholeList inputs (string_bytes list)
+    × EndsWithFault (StopsInFile (Some forms.Text) inputs (string_bytes list)) (IsReported forms.Text) text status
 IsBrokenOff inputs task form text status = ⊥
 
 -- The text to be written for the task, the status if the sink takes it all, and what was saved before and after: the task's output, with
@@ -149,3 +155,11 @@ SendsText text status old new (Err (streams.Run fault)) = ⊥
 abbrev pub SendsOutput : Result Output RunFault → SinkState → SinkState → Result ℕ StreamFault → Type 0
 SendsOutput (Ok output) old new result = SendsText output.text.items output.status old new result
 SendsOutput (Err fault) old new result = (new ≡ old) × (result ≡ Err (streams.Run fault))
+
+-- Why no more of the list in the input of this name was sent, which this stopped.
+abbrev pub IsStoppedBy : List ℕ → EntriesFault → StreamFault → Type 0
+IsStoppedBy name entries.Sink reason = (failed : Failed) × (reason ≡ streams.Sink failed)
+IsStoppedBy name (entries.List first) reason = reason ≡ streams.Run (fault_of_list first)
+IsStoppedBy name entries.Source reason = (fault : RunFault) × (IsNotRead name fault ⊎ (fault ≡ runs.Memory)) × (reason ≡ streams.Run fault)
+IsStoppedBy name entries.TooLong reason = (fault : RunFault) × (IsTooLong name fault ⊎ (fault ≡ runs.Memory)) × (reason ≡ streams.Run fault)
+IsStoppedBy name entries.Memory reason = reason ≡ streams.Run runs.Memory

@@ -1,5 +1,5 @@
 -- What the tasks show that ask no question: the registers and the events of a log, the entries of a list, the version.
-use Rattle.std.specs.Prelude.{◌≡◌, ℕ, ◌<◌, ◌⊎◌, ◌==◌, ◌||◌, not, Bool, List, ◌++◌, codes, filter, length, Some, Ok, Err, IsErr}
+use Rattle.std.specs.Prelude.{◌≡◌, ℕ, ◌≤◌, ◌⊎◌, ◌==◌, ◌||◌, not, Bool, List, ◌++◌, codes, filter, length, Option, Some, Ok, Err, IsErr}
 use Rattle.hex.specs.Hex.{decode_of}
 use Rattle.ima_list.specs.declared.fault.ListFault.{ListFault}
 use Rattle.ima_list.specs.ListEntry.{ListEntry}
@@ -9,14 +9,15 @@ pub use Rattle.cells.specs.ItemLines.{numbered_lines, EndsWithFault}
 pub use Rattle.entry_lines.specs.ListLines.{entry_lines, list_lines, AreAllEntries, FailsAfterEntries}
 use Rattle.entry_lines.specs.SentEntries.{AreAllIn}
 use Rattle.cells.specs.declared.writer.Form.{Form}
+use Rattle.cells.specs.declared.writer.Form.TheVariants.{Json, Text}
 use Rattle.agent_inputs.specs.declared.fault.RunFault.{RunFault}
 use Rattle.agent_inputs.specs.declared.fault.RunFault.TheVariants as runs
 use Rattle.agent_inputs.specs.Faults.{HasLogFault, fault_of_list}
-use Rattle.agent_inputs.specs.Loading.{Holds, HoldsTooMuch, Inputs, IsReadFailure, IsTooLong, OfInput, input_limit, unknown}
+use Rattle.agent_inputs.specs.Loading.{Holds, HoldsTooMuch, Inputs, IsInputFault, IsReadFailure, IsTooLong, OfInput, input_limit, unknown}
 use Rattle.judging.specs.Requests.{LogRegistersOf}
 use Rattle.judging.specs.Inputs.{BytesOf}
 use Rattle.rendering.specs.Rendering.{GivesAnswer, IsRefusalOn}
-use Rattle.rendering.specs.FaultTexts.{IsReportedAsJson}
+use Rattle.rendering.specs.FaultTexts.{fault_line, fault_status, IsReportedAsJson}
 
 -- The program and its version; and the logic that the proofs rest on, as the kit's `rt version` names it.
 abbrev pub version_text : List ℕ
@@ -53,22 +54,26 @@ IsRefusedFor text fault =
 abbrev pub IsNoLogFor : List ℕ → RunFault → Type 0
 IsNoLogFor log fault = HasLogFault log fault ⊎ ((fault ≡ runs.Memory) × IsSomeLog log)
 
--- Why no list is shown: the bytes are no list, and the fault is that of their reading; or they begin with entries, and memory ran out.
+-- The bytes are no list, and the fault is that of their reading.
 abbrev pub IsNoListFor : List ℕ → RunFault → Type 0
-IsNoListFor list fault =
-    ((first : ListFault) × IsReading list (Err first) × (fault ≡ fault_of_list first))
-    ⊎ ((fault ≡ runs.Memory) × ((entries : List ListEntry) × (rest : List ℕ) × BeginsWith list entries rest × (0 < length entries)))
+IsNoListFor list fault = (first : ListFault) × IsReading list (Err first) × (fault ≡ fault_of_list first)
+
+-- The line of a fault in this form, and its status.
+abbrev pub IsReported : Form → RunFault → List ℕ → ℕ → Type 0
+IsReported Text fault text status = (text ≡ fault_line fault) × (status ≡ fault_status fault)
+IsReported Json fault text status = IsReportedAsJson fault text status
 
 -- All is shown, with this status; or what comes before a fault, and then the line of the fault, with its status.
 abbrev pub ShowsToFault : ℕ → (List ℕ → Type 0) → (List ℕ → RunFault → Type 0) → (RunFault → List ℕ → ℕ → Type 0) → List ℕ → ℕ → Type 0
 ShowsToFault done AreAll Fails IsLine shown status = (AreAll shown × (status ≡ done)) ⊎ EndsWithFault Fails IsLine shown status
 
--- ---- entries as JSON
+-- ---- entries
 
--- What can be read of the bytes as a list is shown, and at the end of a list how many entries it has.
+-- What can be read of the bytes as a list is shown as JSON, and at the end of a list how many entries it has.
 abbrev pub ShowsEntries : List ℕ → List ℕ → ℕ → Type 0
 ShowsEntries list shown status =
-    ShowsToFault 0 (AreAllEntries list_lines list) (FailsAfterEntries entry_lines fault_of_list list) IsReportedAsJson shown status
+    ShowsToFault 0 (AreAllEntries (list_lines (Some Json)) list) (FailsAfterEntries (entry_lines (Some Json)) fault_of_list list)
+    IsReportedAsJson shown status
 
 -- Why no more entries of the file of this name are shown, of which the bytes `came` were read. It could not be opened or read, or it is
 -- longer than an input may be and its first bytes came, as many as one may have: then these are all entries of what came, of which none was refused (how much of a file
@@ -79,8 +84,9 @@ EndsAfterEntries inputs name came entries fault =
     ⊎ (IsTooLong name fault × HoldsTooMuch inputs (Some name) × (length came ≡ input_limit) × AreAllIn came entries)
     ⊎ (fault ≡ runs.Memory)
 
--- The file of this name begins with the bytes `came`, and these with entries, whose lines are the text, and this is why there are no more.
-pub record BreaksOffAfterEntries (inputs : Inputs) (name text : List ℕ) (fault : RunFault) : Type 0 where
+-- The file of this name begins with the bytes `came`, and these with entries, whose lines in this form are the text, and this is why there are no
+-- more.
+pub record BreaksOffAfterEntries (form : Option Form) (inputs : Inputs) (name text : List ℕ) (fault : RunFault) : Type 0 where
   pub came : List ℕ
   pub more : List ℕ
   pub entries : List ListEntry
@@ -88,19 +94,38 @@ pub record BreaksOffAfterEntries (inputs : Inputs) (name text : List ℕ) (fault
   pub held : Holds inputs (Some name) (came ++ more)
   pub begins : BeginsWith came entries rest
   pub ends : EndsAfterEntries inputs name came entries fault
-  pub text_is : text ≡ entry_lines entries
+  pub text_is : text ≡ entry_lines form entries
 
 -- ---- what is shown while its input is read
 
--- The file of this name is a list, and the text is the lines of its entries as JSON, and of how many they are.
-abbrev pub AreAllInFile : Inputs → List ℕ → List ℕ → Type 0
-AreAllInFile inputs name text = OfInput inputs (Some name) (λ list. AreAllEntries list_lines list text)
+-- The file of this name is a list, and the text is the lines of its entries in this form, and the last.
+abbrev pub AreAllInFile : Option Form → Inputs → List ℕ → List ℕ → Type 0
+AreAllInFile form inputs name text = OfInput inputs (Some name) (λ list. AreAllEntries (list_lines form) list text)
 
 -- Why no more of the list in the file of this name is shown than this text: it fails, or it comes no further.
-abbrev pub StopsInFile : Inputs → List ℕ → List ℕ → RunFault → Type 0
-StopsInFile inputs name text fault =
-    OfInput inputs (Some name) (λ list. FailsAfterEntries entry_lines fault_of_list list text fault) ⊎ BreaksOffAfterEntries inputs name text fault
+abbrev pub StopsInFile : Option Form → Inputs → List ℕ → List ℕ → RunFault → Type 0
+StopsInFile form inputs name text fault =
+    OfInput inputs (Some name) (λ list. FailsAfterEntries (entry_lines form) fault_of_list list text fault)
+    ⊎ BreaksOffAfterEntries form inputs name text fault
 
--- The list in the file of this name is shown as JSON while it is read, as far as it comes.
-abbrev pub ShowsEntriesOf : Inputs → List ℕ → List ℕ → ℕ → Type 0
-ShowsEntriesOf inputs name shown status = ShowsToFault 0 (AreAllInFile inputs name) (StopsInFile inputs name) IsReportedAsJson shown status
+-- The list in the file of this name is shown in this form while it is read, as far as it comes.
+abbrev pub ShowsEntriesOf : Form → Inputs → List ℕ → List ℕ → ℕ → Type 0
+ShowsEntriesOf form inputs name shown status =
+    ShowsToFault 0 (AreAllInFile (Some form) inputs name) (StopsInFile (Some form) inputs name) (IsReported form) shown status
+
+-- ---- a list that is read through before its lines are sent
+
+-- The file of this name is a list, no longer than an input may be.
+abbrev pub IsWholeList : Inputs → List ℕ → Type 0
+IsWholeList inputs name =
+    OfInput inputs (Some name) (λ list. (length list ≤ input_limit) × ((entries : List ListEntry) × IsReading list (Ok entries)))
+
+-- Why no line of the list in the file of this name is shown: it was not read, or it is none.
+abbrev pub IsNoneInFile : Inputs → List ℕ → RunFault → Type 0
+IsNoneInFile inputs name fault = IsInputFault inputs (Some name) fault ⊎ OfInput inputs (Some name) (λ list. IsNoListFor list fault)
+
+-- It was read through as a list, and then shown as text while it was read again, as far as it came; or its fault is shown, alone.
+abbrev pub ShowsSoundList : Inputs → List ℕ → List ℕ → ℕ → Type 0
+ShowsSoundList inputs name shown status =
+    (IsWholeList inputs name × ShowsEntriesOf Text inputs name shown status)
+    ⊎ ((fault : RunFault) × IsNoneInFile inputs name fault × IsReported Text fault shown status)

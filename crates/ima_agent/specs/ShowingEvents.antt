@@ -16,8 +16,9 @@ use Rattle.agent_inputs.specs.declared.fault.RunFault.{RunFault}
 use Rattle.agent_inputs.specs.declared.fault.RunFault.TheVariants as runs
 use Rattle.agent_inputs.specs.Faults.{HasLogFault, fault_of_log}
 use Rattle.agent_inputs.specs.Loading.{Inputs}
-use Rattle.rendering.specs.FaultTexts.{fault_line, fault_status, IsFailure, IsReportedAsJson}
+use Rattle.rendering.specs.FaultTexts.{IsFailure}
 use Rattle.ima_agent.specs.Matching.{AreMatched, IsKnownFor, IsNotTold}
+pub use Rattle.ima_agent.specs.Showing.{IsReported}
 use Rattle.ima_agent.specs.Showing.{ShowsToFault}
 
 -- Whether plain lines have the data, where events are shown in plain lines in this form; in others what the data says is told.
@@ -26,11 +27,6 @@ plain_lines forms.Text Size = Some false
 plain_lines forms.Text Bytes = Some true
 plain_lines forms.Text Meaning = None
 plain_lines forms.Json requested = None
-
--- The line of a fault in this form, and its status.
-abbrev pub IsReported : Form → RunFault → List ℕ → ℕ → Type 0
-IsReported forms.Text fault text status = (text ≡ fault_line fault) × (status ≡ fault_status fault)
-IsReported forms.Json fault text status = IsReportedAsJson fault text status
 
 -- What can be read of the bytes as a log is shown with what its data says, and with what the registers that match confirm; with this status, if
 -- that is all.

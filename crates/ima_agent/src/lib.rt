@@ -6,6 +6,7 @@
 mod boot;
 mod events;
 mod hexadecimal;
+pub mod laws;
 mod matches;
 mod program;
 mod quoted;

@@ -96,9 +96,11 @@ fn exits_with(status: u8) -> ExitCode
 /// and `show` the lines of a list's entries; `--help` writes the help, and `--version` the version.
 ///
 /// The whole output is prepared before its first byte is written; a fault is written as one line. But `events` looks its log through
-/// for a fault, and then writes the lines of the events one after another, so that memory does not grow with them; `show --json` writes the lines of
-/// the entries while it reads the list, so that memory does not grow with the list, and `events --json` those of the events while it
-/// reads the loaded log: a fault's line then comes after those of the entries or events before it, whatever the fault. With `--expected` or
+/// for a fault, and then writes the lines of the events one after another, so that memory does not grow with them; `show` reads its list through for a
+/// fault, and then writes the lines of the entries while it reads the list again, so that memory does not grow with it, unless it is no regular file.
+/// `show --json` writes them while it reads the list for the first time, and `events --json` those of the events while it
+/// reads the loaded log: a fault's line then comes after those of the entries or events before it, whatever the fault. So it does with `show` if a
+/// fault is found only when the list is read again: the list has changed, cannot be read, or memory runs out. With `--expected` or
 /// `--quote` the log is looked through before, and so it is with `--explain`: then only the line of a fault of memory may come after some. The status is 0 on success, 1
 /// if the report does not match, a register's value was not reached, none was looked for or a required one is missing, 2 for refused
 /// input, 3 if memory ran out, outcomes do not account for the book, or a device failed, and 4 for a refused quote, or one whose signature

@@ -14,7 +14,7 @@ use Rattle.ima_list.specs.ListFaults.{list_fault_entry}
 use Rattle.ima_list.specs.Spelling.{BeginsWith, IsReading, list_spelling}
 use Rattle.entry_lines.specs.EntryJson.{entry_json}
 use Rattle.cells.specs.Values as json
-use Rattle.entry_lines.specs.ListLines.{AreAllEntries, entry_count_line, entry_lines}
+use Rattle.entry_lines.specs.ListLines.{AreAllEntries, entry_lines, last_line}
 use Rattle.line_chunks.specs.declared.piece.Position.{Position}
 use Rattle.line_chunks.specs.Pieces.{AreEntriesBefore, AreItemsBefore, FailsAfterEntries, HasEntryLine, end_in, is_within, line_in, lines_in, whole_in}
 use Rattle.line_chunks.proofs.LineLaws.{next_item, numbered_last, part_is}
@@ -120,10 +120,10 @@ module _ (list : List ℕ) (position : Position) (end : length list ≤ position
 
   -- The number comes next.
   pub count_next : position.offset ≤ length list → AreEntriesBefore Json list position before
-      → HasEntryLine Json list before (entry_count_line position.number)
-      × AreEntriesBefore Json list (record { offset = position.offset + 1; number = position.number }) (before ++ entry_count_line position.number)
+      → HasEntryLine Json list before (last_line (Some Json) position.number)
+      × AreEntriesBefore Json list (record { offset = position.offset + 1; number = position.number }) (before ++ last_line (Some Json) position.number)
   count_next within (inl are) =
-      let number = ap (λ (n : ℕ). entry_count_line n) are.number_is in (
+      let number = ap (λ (n : ℕ). last_line (Some Json) n) are.number_is in (
         inr (record { form_is = refl; entries = are.items; reading = reading_here are; text_is = are.text_is; line_is = number }),
         inr (record {
           form_is = refl;
@@ -132,8 +132,8 @@ module _ (list : List ℕ) (position : Position) (end : length list ≤ position
           number_is = are.number_is;
           offset_is = omega (arith, end, within);
           few = omega (arith, are.few);
-          text_is = ap (λ (t : List ℕ). t ++ entry_count_line position.number) are.text_is
-              ∙ ap (λ (t : List ℕ). entry_lines are.items ++ t) number;
+          text_is = ap (λ (t : List ℕ). t ++ last_line (Some Json) position.number) are.text_is
+              ∙ ap (λ (t : List ℕ). entry_lines (Some Json) are.items ++ t) number;
         }),
       )
   count_next within (inr all) = absurd (omega (arith, within, all.offset_is))

@@ -130,12 +130,12 @@ line_in Json number entry = json.line_of (entry_json number entry)
 -- The lines of a list's entries, in this form.
 abbrev pub lines_in : Form → List ListEntry → List ℕ
 lines_in Text entries = flat_map line_of entries
-lines_in Json entries = shown.entry_lines entries
+lines_in Json entries = shown.entry_lines (Some Json) entries
 
 -- The lines of a whole list, in this form: as JSON also that of how many entries it has.
 abbrev pub whole_in : Form → List ListEntry → List ℕ
 whole_in Text entries = flat_map line_of entries
-whole_in Json entries = shown.list_lines entries
+whole_in Json entries = shown.list_lines (Some Json) entries
 
 -- The text is all lines of the list as JSON, and the position is behind the last of them.
 pub record AreCounted (form : Form) (list : List ℕ) (position : Position) (text : List ℕ) : Type 0 where
@@ -145,7 +145,7 @@ pub record AreCounted (form : Form) (list : List ℕ) (position : Position) (tex
   pub number_is : position.number ≡ length entries
   pub offset_is : position.offset ≡ length list + 1
   pub few : position.number ≤ position.offset
-  pub text_is : text ≡ shown.list_lines entries
+  pub text_is : text ≡ shown.list_lines (Some Json) entries
 
 -- The list begins with entries whose lines are this text, up to the position; or the text is all of its lines as JSON.
 abbrev pub AreEntriesBefore : Form → List ℕ → Position → List ℕ → Type 0
@@ -157,8 +157,8 @@ pub record HasCountLine (form : Form) (list text line : List ℕ) : Type 0 where
   pub form_is : form ≡ Json
   pub entries : List ListEntry
   pub reading : IsReading list (Ok entries)
-  pub text_is : text ≡ shown.entry_lines entries
-  pub line_is : line ≡ shown.entry_count_line (length entries)
+  pub text_is : text ≡ shown.entry_lines (Some Json) entries
+  pub line_is : line ≡ shown.last_line (Some Json) (length entries)
 
 -- After entries whose lines are this text comes another, which has this line; or they are all, and this is the line of how many they are.
 abbrev pub HasEntryLine : Form → List ℕ → List ℕ → List ℕ → Type 0

@@ -55,7 +55,7 @@ abbrev pub print_measured : Form → Print → Measured → List ℕ
 print_measured form prints.Registers given = rendered form (registers_cell given.book.banks given.reset)
 print_measured forms.Text prints.Ascii given = flat_map entry_text given.book.entries
 print_measured forms.Text prints.Binary given = exported given.book
-print_measured forms.Json print given = entry_lines given.book.entries
+print_measured forms.Json print given = entry_lines (Some forms.Json) given.book.entries
 
 -- ---- outputs
 

@@ -1,7 +1,8 @@
 //! What is printed of a measurement.
 
-ghost use Rattle.std.specs.Prelude.{◌≡◌, flat_map, IfOk};
+ghost use Rattle.std.specs.Prelude.{◌≡◌, flat_map, Some, IfOk};
 ghost use Rattle.ima_list.specs.Lines.{line_of};
+ghost use Rattle.cells.specs.declared.writer.Form.TheVariants.{Json};
 ghost use Rattle.entry_lines.specs.ListLines.{entry_lines};
 ghost use Rattle.measure_book.specs.Books.{exported};
 ghost use Rattle.rendering.specs.Rendering.{print_measured};
@@ -62,7 +63,7 @@ fn texts(alloc: Global, entries: &[Entry]) -> Result<Vec<u8>, AllocError>
 
 // The lines of the entries as JSON.
 fn lines(alloc: Global, entries: &[Entry]) -> Result<Vec<u8>, AllocError>
-    ensures { IfOk result (λ text. text.items ≡ entry_lines entries.now) }
+    ensures { IfOk result (λ text. text.items ≡ entry_lines (Some Json) entries.now) }
 {
     let mut text = Vec::new(alloc);
     for number in 0..entries.len() {
