@@ -113,8 +113,9 @@ class CommandRun:
         if not is_sent:
             return output
         *lines, last = output.splitlines(keepends=True) or [b""]
-        wanted = [line.encode() + b"\n" for line in self.command.wanted[: len(lines)]]
-        return last if lines == wanted else output
+        file = self.folder / (self.command.output or "")
+        wanted = file.read_bytes().splitlines(keepends=True) if file.is_file() else [line.encode() + b"\n" for line in self.command.wanted]
+        return last if lines == wanted[: len(lines)] else output
 
     def fault(self, settings, met):
         """What is wrong with a run under these settings, in which an allocation was refused if the file `met` is there, or None."""
