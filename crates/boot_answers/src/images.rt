@@ -6,7 +6,6 @@ ghost use Rattle.boot_log.specs.Spelling.{log_event_of};
 ghost use Rattle.event_data.specs.Forms.{IsSeparator, IsText};
 ghost use Rattle.boot_answers.specs.Images.{IsNoImage, MayBeImage};
 
-use crate::register_events::extends;
 use crate::wholes::is_whole;
 use boot_log::Event;
 use event_data::{read_separator, read_text};
@@ -35,7 +34,7 @@ fn is_no_image(event: &Event<'_>, alg: Alg) -> bool
 pub fn may_be_image(event: &Event<'_>, alg: Alg) -> bool
     ensures { IsTrue result ↔ MayBeImage alg (log_event_of event.now) }
 {
-    extends(event, IMAGE_REGISTER) && !is_no_image(event, alg)
+    event.is_extended_into(IMAGE_REGISTER) && !is_no_image(event, alg)
 }
 
 /// The digest of the image that the event may be, in the algorithm's bank: its Authenticode hash, if the firmware follows its specification.

@@ -4,7 +4,6 @@ ghost use Rattle.std.specs.Prelude.{◌≡◌, ◌++◌, [], drop, false, get_or
 ghost use Rattle.pcr_banks.specs.Digests.{bytes_of};
 ghost use Rattle.boot_log.specs.declared.header.Row.{Row};
 ghost use Rattle.boot_log.specs.LogViews.{log_bytes};
-ghost use Rattle.boot_log.specs.Replaying.{is_extended_into};
 ghost use Rattle.boot_log.specs.Spelling.{IsLog, LogEvent, log_event_of};
 ghost use Rattle.cells.specs.Cells.{ShowsMembers, hex, if_some};
 ghost use Rattle.event_lines.specs.EventJson.{event_content_json};
@@ -16,9 +15,6 @@ use boot_log::{Event, LogView};
 use cells::{CellWriter, Form, Shown, Written, append};
 use pcr_banks::{Alg, Digest};
 use std::alloc::Global;
-
-/// The type of an event that is not extended.
-const EV_NO_ACTION: u32 = 3;
 
 /// One of the boots that are compared.
 #[derive(Clone, Copy)]
@@ -111,7 +107,7 @@ pub(crate) fn append_events(
     let mut later = marks;
     let mut events = log.events();
     while let Some(event) = events.next_event() {
-        if !is_extended(&event, line.register) {
+        if !event.is_extended_into(line.register) {
             continue;
         }
         if left > 0 {
@@ -154,13 +150,6 @@ fn append_unless(
     } else {
         append_event(alloc, boot, line, number, event, lines)
     }
-}
-
-// Whether the event is extended into the register.
-fn is_extended(event: &Event<'_>, register: u32) -> bool
-    ensures { result ≡ is_extended_into register (log_event_of event.now) }
-{
-    event.kind != EV_NO_ACTION && event.register == register
 }
 
 fn append_event(

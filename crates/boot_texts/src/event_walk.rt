@@ -3,7 +3,6 @@
 ghost use Rattle.std.specs.Prelude.{◌≡◌, List, ℕ, ◌++◌, IfOk, OnOk, Ok, true, false};
 ghost use Rattle.boot_log.specs.declared.header.Row.{Row};
 ghost use Rattle.boot_log.specs.LogViews.{log_bytes};
-ghost use Rattle.boot_log.specs.Replaying.{is_extended_into};
 ghost use Rattle.boot_log.specs.Spelling.{IsLog, LogEvent, log_event_of};
 ghost use Rattle.boot_texts.specs.Telling.{Tells, TellsCommand, ToldOf};
 
@@ -16,16 +15,6 @@ use boot_log::{Event, LogView};
 use cells::{Form, Written, append};
 use measured_data::Pcr;
 use std::alloc::{AllocError, Global};
-
-/// The type of an event that is not extended.
-const EV_NO_ACTION: u32 = 3;
-
-/// Whether the event is extended into the register.
-pub(crate) fn is_extended_into(register: u32, event: &Event<'_>) -> bool
-    ensures { result ≡ is_extended_into register (log_event_of event.now) }
-{
-    event.kind != EV_NO_ACTION && event.register == register
-}
 
 /// Appends what the events of the log tell of the subject, up to the first after which nothing is told.
 pub(crate) fn append_each(
@@ -88,7 +77,7 @@ fn append_if_command(
     ensures { IfOk result (λ goes. (text : List ℕ) × TellsCommand register form matched.now number (log_event_of event.now) goes text
         × (lines.new.items ≡ lines.old.items ++ text)) }
 {
-    if !is_extended_into(register, event) {
+    if !event.is_extended_into(register) {
         return Ok(true);
     }
     match told_text(event, matched) {

@@ -10,7 +10,6 @@ ghost use Rattle.boot_texts.specs.Policies.{IsAskingEvent, IsAskingIn, IsImaPoli
 
 use crate::asked::Asked;
 use crate::commands::show_event;
-use crate::event_walk::is_extended_into;
 use crate::policy_scan::asks;
 use boot_answers::told_text;
 use boot_log::LogView;
@@ -52,7 +51,7 @@ fn first_asking(
 {
     let mut events = log.events();
     while let Some(event) = events.next_event() {
-        if is_extended_into(register, &event) {
+        if event.is_extended_into(register) {
             let Some(text) = told_text(&event, matched) else {
                 return Ok(None);
             };

@@ -13,7 +13,6 @@ ghost use Rattle.boot_texts.specs.Telling.{IsSeparatorBy, MayBeSeparatorIn, Tell
 
 use crate::answering_banks::answers;
 use crate::contents::show_content;
-use crate::event_walk::is_extended_into;
 use boot_answers::{SETTINGS_REGISTER, may_be_separator};
 use boot_log::Event;
 use cells::{CellWriter, Form, Shown, Written, append};
@@ -37,7 +36,7 @@ pub(crate) fn append_if_variable(
     ensures { IfOk result (λ goes. (text : List ℕ) × TellsVariable form matched.now number (log_event_of event.now) goes text
         × (lines.new.items ≡ lines.old.items ++ text)) }
 {
-    if is_extended_into(SETTINGS_REGISTER, event) {
+    if event.is_extended_into(SETTINGS_REGISTER) {
         append_setting(alloc, form, matched, number, event, lines)
     } else {
         Ok(true)

@@ -3,19 +3,15 @@
 ghost use Rattle.std.specs.Prelude.{◌≡◌, List, [], ◌∷◌, ◌++◌, length};
 ghost use Rattle.boot_log.specs.declared.header.Row.{Row as TableRow};
 ghost use Rattle.boot_log.specs.LogViews.{log_bytes};
-ghost use Rattle.boot_log.specs.Spelling.{LogEvent, IsLog, log_event_of};
-ghost use Rattle.boot_log.specs.Replaying.{is_extended_into};
+ghost use Rattle.boot_log.specs.Spelling.{LogEvent, IsLog};
 ghost use Rattle.ima_list.specs.ListEntry.{ListEntry};
-ghost use Rattle.boot_verdict.specs.Isolation.{are_none, first_extending, first_stray, list_register};
+ghost use Rattle.boot_verdict.specs.Isolation.{are_none, first_extending, first_stray};
 
-use boot_log::{Event, LogView};
+use boot_log::LogView;
 use ima_list::EntryRef;
 
 /// The register that IMA extends, and nothing else does.
 pub const LIST_REGISTER: u32 = 10;
-
-/// The type of an event that is not extended.
-const EV_NO_ACTION: u32 = 3;
 
 /// An entry of a list that extends another register than [`LIST_REGISTER`].
 #[derive(Clone, Copy, PartialEq, Eq)]
@@ -44,20 +40,13 @@ impl Strays {
     }
 }
 
-// Whether the event extends the list's register.
-fn extends(event: &Event<'_>) -> bool
-    ensures { result ≡ is_extended_into list_register (log_event_of event.now) }
-{
-    event.kind != EV_NO_ACTION && event.register == LIST_REGISTER
-}
-
 /// The number of the first event of the log that extends the list's register, if one does. Events count from 1.
 pub fn first_extending(log: &LogView<'_>) -> Option<usize>
     ensures { (table : List TableRow) (events : List LogEvent) → IsLog (log_bytes log.now) table events → result ≡ first_extending events }
 {
     let mut events = log.events();
     while let Some(event) = events.next_event() {
-        if extends(&event) {
+        if event.is_extended_into(LIST_REGISTER) {
             return Some(events.count());
         }
     }

@@ -1,11 +1,12 @@
 -- Which part of an event's data was measured: the part whose hash the event's digest is. The type is left out of account, since no
 -- register covers it; the register is not.
-use Rattle.std.specs.Prelude.{◌≡◌, ℕ, ◌<◌, ◌&&◌, ◌==◌, Bool, false, not, if◌then◌else◌, List, [], ◌∷◌, find, Option, Some, None, option_map}
+use Rattle.std.specs.Prelude.{◌≡◌, ℕ, ◌<◌, ◌&&◌, ◌==◌, Bool, false, if◌then◌else◌, List, [], ◌∷◌, find, Option, Some, None, option_map}
 use Rattle.std.specs.Str.{bytes_eq}
 use Rattle.std.specs.Option.{option_map_or}
 use Rattle.pcr_banks.specs.declared.alg.Alg.{Alg}
 use Rattle.pcr_banks.specs.Hashing.{hash_of}
 use Rattle.pcr_banks.specs.Sets.{digest_in}
+use Rattle.boot_log.specs.Replaying.{is_extended}
 use Rattle.boot_log.specs.Spelling.{LogEvent, no_action}
 use Rattle.event_data.specs.Forms.{CommandData, IsCommand, VariableData, IsVariable}
 use Rattle.event_data.specs.Reading.{variable_in}
@@ -70,7 +71,7 @@ part_in Command event =
 -- Whether the event is extended, and the algorithm's digest of it is the hash of these bytes.
 abbrev pub has_digest_of : Alg → LogEvent → List ℕ → Bool
 has_digest_of alg event bytes =
-    not (event.kind == no_action)
+    is_extended event
     && option_map_or (λ digest. bytes_eq digest (hash_of alg bytes)) (digest_in event.digests alg) false
 
 -- Whether the event is extended, and the algorithm's digest of it is the hash of this part of its data.

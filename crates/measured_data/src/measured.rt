@@ -10,9 +10,6 @@ use boot_log::Event;
 use event_data::{read_command, read_variable};
 use pcr_banks::{Alg, hash};
 
-/// The type of an event that is not extended.
-const EV_NO_ACTION: u32 = 0x0000_0003;
-
 /// The register of the firmware's settings, into which the values of variables are extended without their names.
 const SETTINGS_REGISTER: u32 = 1;
 
@@ -43,7 +40,7 @@ pub(crate) fn part_of<'a>(part: Part, event: &Event<'a>) -> Option<&'a [u8]>
 pub(crate) fn has_digest_of(event: &Event<'_>, alg: Alg, bytes: &[u8]) -> bool
     ensures { result ≡ has_digest_of alg (log_event_of event.now) bytes.now }
 {
-    if event.kind == EV_NO_ACTION {
+    if !event.is_extended() {
         return false;
     }
     match event.digests.get(alg) {

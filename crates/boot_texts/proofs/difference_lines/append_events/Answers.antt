@@ -17,11 +17,11 @@ loop-event-init c =
       sym (append-nil lines) ∙ ap (λ (l : List ℕ). lines ++ l) (sym (no_lines c.args.boot c.args.line c.args.place marks)),
     )
 
-pub loop-event-preserved-then-not-is_extended : goal.loop-event-preserved-then-not-is_extended
-loop-event-preserved-then-not-is_extended c =
+pub loop-event-preserved-then-not-is_extended_into : goal.loop-event-preserved-then-not-is_extended_into
+loop-event-preserved-then-not-is_extended_into c =
     let event = log_event_of c.in-Some.event in
     let (read, borrowed, left, later, text) = c.loop-event.invariant in
-    let other = sym c.is_extended.ensures ∙ c.if-not-is_extended.true in
+    let other = sym c.is_extended_into.ensures ∙ c.if-not-is_extended_into.true in
     let boot = c.args.boot in
     let line = c.args.line in
     let place = c.args.place in
@@ -38,7 +38,7 @@ pub loop-event-preserved-then-left-gt0 : goal.loop-event-preserved-then-left-gt0
 loop-event-preserved-then-left-gt0 c =
     let event = log_event_of c.in-Some.event in
     let (read, borrowed, left, later, text) = c.loop-event.invariant in
-    let own = sym c.is_extended.ensures ∙ c.if-not-is_extended.false in
+    let own = sym c.is_extended_into.ensures ∙ c.if-not-is_extended_into.false in
     let boot = c.args.boot in
     let line = c.args.line in
     let place = c.args.place in
@@ -58,7 +58,7 @@ loop-event-preserved c =
     let event = log_event_of c.in-Some.event in
     let (read, borrowed, left, later, text) = c.loop-event.invariant in
     let more = (rw c.in-Some.is at c.next_event.ensures.event) _ read borrowed in
-    let own = sym c.is_extended.ensures ∙ c.if-not-is_extended.false in
+    let own = sym c.is_extended_into.ensures ∙ c.if-not-is_extended_into.false in
     let boot = c.args.boot in
     let line = c.args.line in
     let place = c.args.place in

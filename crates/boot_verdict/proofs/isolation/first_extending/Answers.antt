@@ -12,11 +12,11 @@ loop-event-preserved c =
     let before = c.loop-event.invariant in (
       before.0 ++ event ∷ [],
       (rw c.in-Some.is at c.next_event.ensures.event) _ before.0 before.1,
-      extending_never 1 before.0 event before.2 (sym c.extends.ensures ∙ c.if-extends.false),
+      extending_never 1 before.0 event before.2 (sym c.is_extended_into.ensures ∙ c.if-is_extended_into.false),
     )
 
-pub returns-then-extends : goal.returns-then-extends
-returns-then-extends c =
+pub returns-then-is_extended_into : goal.returns-then-is_extended_into
+returns-then-is_extended_into c =
     let event = log_event_of c.in-Some.event in
     let before = c.loop-event.invariant in
     let read = (rw c.in-Some.is at c.next_event.ensures.event) _ before.0 before.1 in
@@ -25,7 +25,7 @@ returns-then-extends c =
     λ table events is.
     let whole = (rw c.in-Some.is at c.next_event.ensures.prefix) _ table before.0 events before.1 is in
     ap (λ (n : ℕ). Some n) same
-    ∙ sym (extending_here 1 before.0 whole.0 event before.2 (sym c.extends.ensures ∙ c.if-extends.true))
+    ∙ sym (extending_here 1 before.0 whole.0 event before.2 (sym c.is_extended_into.ensures ∙ c.if-is_extended_into.true))
     ∙ ap first_extending (sym whole.1)
 
 pub returns : goal.returns
