@@ -6,8 +6,8 @@ use Rattle.pcr_banks.specs.declared.alg.Alg.{Alg}
 use Rattle.pcr_banks.specs.Hashing.{all_algs}
 use Rattle.boot_log.specs.Replaying.{is_extended_into}
 use Rattle.boot_log.specs.Spelling.{LogEvent}
-use Rattle.event_data.specs.declared.value_forms.ValueForm.{ValueForm}
-use Rattle.event_data.specs.declared.value_forms.ValueForm.TheVariants as forms
+use Rattle.event_data.specs.declared.value.ValueForm.{ValueForm}
+use Rattle.event_data.specs.declared.value.ValueForm.TheVariants as forms
 use Rattle.event_data.specs.Forms.{VariableData}
 use Rattle.event_data.specs.Reading.{variable_in}
 use Rattle.event_data.specs.Values.{value_form}

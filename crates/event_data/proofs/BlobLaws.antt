@@ -2,10 +2,10 @@
 use Rattle.std.proofs.Common.{◌≡◌, ℕ, List, [], Option, Some, None, unwrap_or, Result, Ok, Err, refl, sym, ap, ◌∙◌}
 use Rattle.std.specs.Result.{result_ok}
 use Rattle.byte_fields.specs.Formats.{whole}
-use Rattle.event_data.specs.declared.mismatch.Mismatch.{Mismatch}
+use Rattle.event_data.specs.declared.content.Mismatch.{Mismatch}
 use Rattle.byte_fields.proofs.Steps.{IsBytes}
 use Rattle.byte_fields.proofs.FormatLaws.{Exact, byte_exact, number32_exact, number64_exact, sized_exact, sized_by_exact, followed_exact, mapped_exact, whole_takes, whole_again}
-use Rattle.event_data.specs.declared.mismatch.Mismatch.TheVariants.{Form}
+use Rattle.event_data.specs.declared.content.Mismatch.TheVariants.{Form}
 use Rattle.event_data.specs.Blobs.{BlobData, TaggedData, IsPlainBlob, IsDescribedBlob, IsTagged}
 use Rattle.event_data.specs.BlobReading.{plain_blob, plain_blob_in, described_blob, described_blob_in, tagged, tagged_in}
 use Rattle.event_data.proofs.FormLaws.{AnyFault}

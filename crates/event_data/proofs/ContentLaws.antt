@@ -2,8 +2,8 @@
 use Rattle.std.proofs.Common.{◌≡◌, ℕ, true, List, [], ◌∷◌, ◌++◌, Option, Some, None, option_map, unwrap_or, refl, sym, ap, ◌∙◌, ◌⊎◌, inl, inr, ⊎_elim, append_assoc}
 use Rattle.std.proofs.lemmas.List.{append_cancel_right}
 use Rattle.byte_fields.proofs.Steps.{IsBytes}
-use Rattle.event_data.specs.declared.form.Form.{Form}
-use Rattle.event_data.specs.declared.form.Form.TheVariants as forms
+use Rattle.event_data.specs.declared.content.Form.{Form}
+use Rattle.event_data.specs.declared.content.Form.TheVariants as forms
 use Rattle.event_data.specs.Forms.{CommandData, IsCommand, has_no_nul}
 use Rattle.event_data.specs.EventForms.{Content, separator, text, wide_text, guid, command, variable, image, gpt, blob, tagged, locality, unknown, SaysText, SaysVersion, SaysLoader, SaysPostCode, SaysIn, Says, SaysKnown, form_of}
 use Rattle.event_data.specs.ContentReading.{text_content, version_content, loader_content, post_code_content, form_content, content_in}

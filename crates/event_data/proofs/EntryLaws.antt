@@ -2,7 +2,7 @@
 use Rattle.std.proofs.Common.{◌≡◌, ℕ, ◌+◌, ◌-◌, ◌≤◌, List, [], ◌++◌, length, Ok, Err, refl, sym, ap, subst, ◌∙◌, arith, length-append}
 use Rattle.byte_fields.proofs.Steps.{IsBytes, bind_ok, ok_is}
 use Rattle.byte_fields.proofs.FormatLaws.{Exact, takes, again, number64_exact, part_exact, followed_exact, mapped_exact, IsBytes-behind}
-use Rattle.event_data.specs.declared.mismatch.Mismatch.TheVariants.{Form}
+use Rattle.event_data.specs.declared.content.Mismatch.TheVariants.{Form}
 use Rattle.event_data.specs.GptForms.{PartitionData, IsPartition}
 use Rattle.event_data.specs.GptReading.{EntryFields, entry, told_entry, partition_at}
 use Rattle.event_data.proofs.FormLaws.{AnyFault}

@@ -6,8 +6,8 @@ use Rattle.std.proofs.lemmas.Bool.Decides.{Decides-eqb}
 use Rattle.byte_fields.specs.Items.{AreItems}
 use Rattle.byte_fields.proofs.Steps.{IsBytes, bind_ok, test_ok, ok_is}
 use Rattle.byte_fields.proofs.FormatLaws.{Exact, takes, again, passes, number32_exact, number64_exact, part_exact, followed_exact, unless_exact, mapped_exact, IsBytes-behind}
-use Rattle.event_data.specs.declared.mismatch.Mismatch.{Mismatch}
-use Rattle.event_data.specs.declared.mismatch.Mismatch.TheVariants.{Form}
+use Rattle.event_data.specs.declared.content.Mismatch.{Mismatch}
+use Rattle.event_data.specs.declared.content.Mismatch.TheVariants.{Form}
 use Rattle.event_data.specs.GptForms.{GptData, PartitionData, IsGpt, IsPartition}
 use Rattle.event_data.specs.GptReading.{TableFront, table_front, table_in, fitting, gpt_in, partition_at, then_more, partitions_within, partitions_in}
 use Rattle.byte_fields.specs.Spelling.{number32, number64}

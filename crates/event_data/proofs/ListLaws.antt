@@ -7,7 +7,7 @@ use Rattle.std.proofs.lemmas.List.{length-append, length-take, length-drop, take
 use Rattle.byte_fields.specs.Spelling.{number32}
 use Rattle.byte_fields.proofs.Steps.{IsBytes}
 use Rattle.byte_fields.proofs.FormatLaws.{Exact, again, passes, number32_exact, part_exact, followed_exact, unless_exact, mapped_exact, IsBytes-behind}
-use Rattle.event_data.specs.declared.mismatch.Mismatch.TheVariants.{Form}
+use Rattle.event_data.specs.declared.content.Mismatch.TheVariants.{Form}
 use Rattle.event_data.specs.ValueForms.{ListData, IsSignatureList, SignatureData, IsSignatureOf, AreSignatures}
 use Rattle.event_data.specs.ValueReading.{signatures_of, signature, signature_list, signatures_in}
 use Rattle.event_data.proofs.FormLaws.{AnyFault}

@@ -5,8 +5,8 @@ use Rattle.std.proofs.lemmas.List.{length-append}
 use Rattle.byte_fields.specs.Items.{HasNoItem}
 use Rattle.byte_fields.proofs.Steps.{IsBytes, ok_not_err}
 use Rattle.byte_fields.proofs.FormatLaws.{Exact, takes, again, passes, number16_exact, byte_exact, part_exact, followed_exact, unless_exact, mapped_exact, IsBytes-behind}
-use Rattle.event_data.specs.declared.mismatch.Mismatch.{Mismatch}
-use Rattle.event_data.specs.declared.mismatch.Mismatch.TheVariants.{Form}
+use Rattle.event_data.specs.declared.content.Mismatch.{Mismatch}
+use Rattle.event_data.specs.declared.content.Mismatch.TheVariants.{Form}
 use Rattle.event_data.specs.Forms.{NodeData, IsNode}
 use Rattle.event_data.specs.Reading.{node, and_more, nodes_within, nodes_in}
 use Rattle.event_data.proofs.FormLaws.{AnyFault}

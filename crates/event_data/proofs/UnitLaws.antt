@@ -5,8 +5,8 @@ use Rattle.std.proofs.lemmas.List.{take_at, take_all, length-append, append-nil}
 use Rattle.byte_fields.specs.Formats.{Begins, IsRead}
 use Rattle.byte_fields.proofs.Steps.{ok_not_err}
 use Rattle.byte_fields.proofs.FormatLaws.{Exact}
-use Rattle.event_data.specs.declared.mismatch.Mismatch.{Mismatch}
-use Rattle.event_data.specs.declared.mismatch.Mismatch.TheVariants.{Form}
+use Rattle.event_data.specs.declared.content.Mismatch.{Mismatch}
+use Rattle.event_data.specs.declared.content.Mismatch.TheVariants.{Form}
 use Rattle.event_data.specs.ValueForms.{are_units}
 use Rattle.event_data.specs.ValueReading.{behind, units_at, units}
 use Rattle.event_data.proofs.FormLaws.{AnyFault}

@@ -6,8 +6,8 @@ use Rattle.byte_fields.specs.Reading.{◌>>=◌, part_at}
 use Rattle.byte_fields.specs.Spelling.{number16, number32}
 use Rattle.byte_fields.proofs.Steps.{IsBytes}
 use Rattle.byte_fields.proofs.FormatLaws.{Exact, takes, again, fault, number16_exact, number32_exact, part_exact, followed_exact, mapped_exact}
-use Rattle.event_data.specs.declared.mismatch.Mismatch.{Mismatch}
-use Rattle.event_data.specs.declared.mismatch.Mismatch.TheVariants.{Form}
+use Rattle.event_data.specs.declared.content.Mismatch.{Mismatch}
+use Rattle.event_data.specs.declared.content.Mismatch.TheVariants.{Form}
 use Rattle.event_data.specs.ValueForms.{LoadOptionData, IsLoadOption, IsBootNumber, SignatureData, IsSignature}
 use Rattle.event_data.specs.ValueReading.{load_option, load_option_in, boot_number, numbers_in, signature, signature_in, with_more, taken_within}
 use Rattle.event_data.proofs.FormLaws.{AnyFault}

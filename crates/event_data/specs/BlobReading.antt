@@ -3,8 +3,8 @@ use Rattle.std.specs.Prelude.{ℕ, List, [], Option, Some, None, unwrap_or}
 use Rattle.std.specs.Result.{result_ok}
 use Rattle.std.specs.Int.{w32, w64}
 use Rattle.byte_fields.specs.Formats.{Format, number, byte, ◌followed_by◌, mapped, sized, sized_by, whole}
-use Rattle.event_data.specs.declared.mismatch.Mismatch.{Mismatch}
-use Rattle.event_data.specs.declared.mismatch.Mismatch.TheVariants.{Form}
+use Rattle.event_data.specs.declared.content.Mismatch.{Mismatch}
+use Rattle.event_data.specs.declared.content.Mismatch.TheVariants.{Form}
 use Rattle.event_data.specs.Blobs.{BlobData, TaggedData}
 
 -- Where a blob was in memory, and the number of its bytes.

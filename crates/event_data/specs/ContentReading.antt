@@ -1,8 +1,8 @@
 -- What the data of an event says, by its type: functions, where EventForms has relations.
 use Rattle.std.specs.Prelude.{ℕ, List, Option, None, option_map, unwrap_or}
 use Rattle.std.specs.Option.{option_or}
-use Rattle.event_data.specs.declared.form.Form.{Form}
-use Rattle.event_data.specs.declared.form.Form.TheVariants as forms
+use Rattle.event_data.specs.declared.content.Form.{Form}
+use Rattle.event_data.specs.declared.content.Form.TheVariants as forms
 use Rattle.event_data.specs.EventForms.{Content, separator, text, wide_text, guid, command, variable, image, gpt, blob, tagged, locality, unknown, form_of}
 use Rattle.event_data.specs.Reading.{separator_in, variable_in, image_in}
 use Rattle.event_data.specs.Results.{text_in, wide_text_in, command_in, guid_in, locality_in}

@@ -1,5 +1,5 @@
 -- What contracts see of a partition.
-use Rattle.event_data.specs.declared.partition.Partition.{Partition}
+use Rattle.event_data.specs.declared.gpt.Partition.{Partition}
 use Rattle.event_data.specs.GptForms.{PartitionData}
 
 abbrev pub partition_of : Partition → PartitionData

@@ -3,8 +3,8 @@ use Rattle.std.specs.Prelude.{◌≡◌, ℕ, ◌⊎◌, Bool, ◌==◌, if◌th
 use Rattle.std.specs.List.{list_any}
 use Rattle.event_data.specs.declared.content.EventContent.{EventContent}
 use Rattle.event_data.specs.declared.content.EventContent.TheVariants as contents
-use Rattle.event_data.specs.declared.form.Form.{Form}
-use Rattle.event_data.specs.declared.form.Form.TheVariants as forms
+use Rattle.event_data.specs.declared.content.Form.{Form}
+use Rattle.event_data.specs.declared.content.Form.TheVariants as forms
 use Rattle.event_data.specs.Forms.{CommandData, VariableData, ImageData, IsSeparator, IsText, IsWideText, IsCommand, IsVariable, IsImage, command_of, variable_of, image_of}
 use Rattle.event_data.specs.Blobs.{BlobData, TaggedData, IsPlainBlob, IsDescribedBlob, IsTagged, IsLocality, IsGuid, blob_of, tagged_of}
 use Rattle.event_data.specs.GptForms.{GptData, IsGpt}

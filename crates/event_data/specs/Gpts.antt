@@ -1,7 +1,7 @@
 -- What contracts see of a table of partitions, and of partitions that are lent.
 use Rattle.std.specs.Prelude.{List}
 use Rattle.event_data.specs.declared.gpt.Gpt.{Gpt}
-use Rattle.event_data.specs.declared.partitions.Partitions.{Partitions}
+use Rattle.event_data.specs.declared.gpt.Partitions.{Partitions}
 use Rattle.event_data.specs.GptForms.{GptData, PartitionData}
 use Rattle.event_data.specs.GptReading.{partitions_in}
 

@@ -1,5 +1,5 @@
 -- What contracts see of a device path's nodes.
-use Rattle.event_data.specs.declared.node.PathNode.{PathNode}
+use Rattle.event_data.specs.declared.path.PathNode.{PathNode}
 use Rattle.event_data.specs.Forms.{NodeData}
 
 abbrev pub node_of : PathNode → NodeData

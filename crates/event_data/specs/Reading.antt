@@ -3,8 +3,8 @@ use Rattle.std.specs.Prelude.{ℕ, zero, suc, ◌+◌, ◌-◌, ◌*◌, ◌/◌
 use Rattle.std.specs.Result.{result_ok}
 use Rattle.std.specs.Int.{w16, w32, w64}
 use Rattle.byte_fields.specs.Formats.{Format, number, part, byte, ◌followed_by◌, unless, mapped, whole}
-use Rattle.event_data.specs.declared.mismatch.Mismatch.{Mismatch}
-use Rattle.event_data.specs.declared.mismatch.Mismatch.TheVariants.{Form}
+use Rattle.event_data.specs.declared.content.Mismatch.{Mismatch}
+use Rattle.event_data.specs.declared.content.Mismatch.TheVariants.{Form}
 use Rattle.event_data.specs.Forms.{VariableData, ImageData, NodeData}
 
 unfoldable pub variable : Format VariableData Mismatch

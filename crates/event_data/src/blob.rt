@@ -5,7 +5,7 @@ ghost use Rattle.byte_fields.specs.Reading.{Reads};
 ghost use Rattle.event_data.specs.Blobs.{BlobData, IsPlainBlob, IsDescribedBlob, blob_of};
 ghost use Rattle.event_data.specs.BlobReading.{place, plain_blob, described_blob, plain_blob_in, described_blob_in};
 
-use crate::mismatch::Mismatch;
+use crate::content::Mismatch;
 use byte_fields::{part_at, u8_at, u64_at};
 
 /// A blob of firmware that was measured (PC Client Platform Firmware Profile, `UEFI_PLATFORM_FIRMWARE_BLOB` and

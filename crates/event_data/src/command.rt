@@ -4,7 +4,7 @@ ghost use Rattle.std.specs.Prelude.{◌≡◌, Some, IfSome, option_map};
 ghost use Rattle.event_data.specs.Forms.{CommandData, IsCommand, command_of, command_prefix};
 ghost use Rattle.event_data.specs.Results.{any_command, command_as, command_in};
 
-use crate::affixes::{after_prefix, before_suffix};
+use crate::text::{after_prefix, before_suffix};
 
 /// What kind of command GRUB measured, into register 8.
 #[derive(Clone, Copy)]

@@ -1,22 +1,76 @@
-//! What an event's data says.
+//! The forms that the data of events have, by type, and what the data says.
 
 ghost use Rattle.std.specs.Prelude.{◌≡◌, option_map};
-ghost use Rattle.event_data.specs.EventForms.{Says, content_of, form_of};
+ghost use Rattle.event_data.specs.EventForms.{form_of, Says, content_of};
 ghost use Rattle.event_data.specs.ContentReading.{content_in, form_content, loader_content, post_code_content, text_content, version_content};
 
 use crate::blob::{Blob, read_described_blob, read_plain_blob};
 use crate::command::{Command, read_command};
-use crate::form::{Form, form_of};
 use crate::gpt::Gpt;
 use crate::gpt_reader::read_gpt;
-use crate::guid::Guid;
-use crate::guid_reader::read_guid;
+use crate::guid::{Guid, read_guid};
 use crate::image::{Image, read_image};
 use crate::locality::read_locality;
 use crate::tagged::{Tagged, read_tagged};
 use crate::text::{read_separator, read_text, read_wide_text};
 use crate::variable::Variable;
 use crate::variable_reader::read_variable;
+
+/// A form of an event's data.
+#[derive(Clone, Copy)]
+pub enum Form {
+    /// Four bytes.
+    Separator,
+    /// A text, in UTF-8 or UTF-16.
+    Text,
+    /// A text, in UTF-8 or UTF-16, or a GUID.
+    Version,
+    /// What a boot loader measured: a command of GRUB, or a text in UTF-8 or UTF-16.
+    Loader,
+    /// A text in UTF-8, or a blob without a description.
+    PostCode,
+    /// A UEFI variable.
+    Variable,
+    /// An image that was loaded.
+    Image,
+    /// A disk's table of partitions.
+    Gpt,
+    /// A blob of firmware without a description.
+    PlainBlob,
+    /// A blob of firmware with a description.
+    DescribedBlob,
+    /// A tagged event.
+    Tagged,
+    /// The locality of the startup command.
+    Locality,
+    /// No form that is known here.
+    Other,
+}
+
+/// The form that the data of events of this type has.
+pub fn form_of(kind: u32) -> Form
+    ensures { result ≡ form_of kind }
+{
+    match kind {
+        0x0000_0001 => Form::PostCode,
+        0x0000_0003 => Form::Locality,
+        0x0000_0004 => Form::Separator,
+        0x0000_0006 => Form::Tagged,
+        0x0000_0008 => Form::Version,
+        0x0000_000D => Form::Loader,
+        0x8000_0008 => Form::PlainBlob,
+        0x0000_0005 | 0x0000_0007 | 0x0000_000C | 0x0000_0012 | 0x8000_0007 | 0x8000_0010 => {
+            Form::Text
+        }
+        0x8000_0001 | 0x8000_0002 | 0x8000_000C | 0x8000_00E0 | 0x8000_00E3 | 0x8000_00E4 => {
+            Form::Variable
+        }
+        0x8000_0003 | 0x8000_0004 | 0x8000_0005 => Form::Image,
+        0x8000_0006 | 0x8000_000D => Form::Gpt,
+        0x0000_0013 | 0x8000_000A => Form::DescribedBlob,
+        _ => Form::Other,
+    }
+}
 
 /// What an event's data says.
 #[derive(Clone, Copy)]
@@ -117,4 +171,10 @@ pub fn event_content(kind: u32, bytes: &[u8]) -> EventContent<'_>
         Some(content) => content,
         None => EventContent::Unknown(bytes),
     }
+}
+
+/// Bytes do not have the form.
+#[derive(Clone, Copy)]
+pub(crate) enum Mismatch {
+    Form,
 }

@@ -1,14 +1,15 @@
-//! The reader of tables of partitions.
+//! The readers of tables of partitions and of their entries.
 
 ghost use Rattle.std.specs.Prelude.{◌≡◌, ◌≤◌, Some, IfSome, IfOk, length, option_map};
 ghost use Rattle.byte_fields.specs.Reading.{Reads};
 ghost use Rattle.event_data.specs.Gpts.{gpt_of};
 ghost use Rattle.event_data.specs.GptForms.{GptData, IsGpt};
-ghost use Rattle.event_data.specs.GptReading.{front_at, table_in, gpt_in};
+ghost use Rattle.event_data.specs.GptReading.{front_at, table_in, gpt_in, partition_at};
+ghost use Rattle.event_data.specs.Entries.{partition_of};
 
-use crate::affixes::after_prefix;
-use crate::gpt::Gpt;
-use crate::mismatch::Mismatch;
+use crate::content::Mismatch;
+use crate::gpt::{Gpt, Partition};
+use crate::text::{after_prefix, up_to_nul};
 use byte_fields::{part_at, u32_at, u64_at};
 
 // Reads the disk's GUID, the size of an entry and the number of entries, after the signature. Returns them and the remaining bytes.
@@ -51,4 +52,28 @@ pub fn read_gpt(bytes: &[u8]) -> Option<Gpt<'_>>
         Some(rest) => table_in(rest).ok(),
         None => None,
     }
+}
+
+/// Reads the entry of `size` bytes at the front of the bytes. Returns the partition and the remaining bytes.
+#[tactic(auto, unfolding(crate::specs::GptReading::entry))]
+pub(crate) fn entry_at(size: u32, bytes: &[u8]) -> Result<(Partition<'_>, &[u8]), Mismatch>
+    requires { 128 ≤ size }
+    ensures { Reads (λ x. (partition_of x.0, x.1.now)) result (partition_at size bytes.now) }
+{
+    let (kind, rest) = part_at(Mismatch::Form, 16, bytes)?;
+    let (guid, rest) = part_at(Mismatch::Form, 16, rest)?;
+    let (first, rest) = u64_at(Mismatch::Form, rest)?;
+    let (last, rest) = u64_at(Mismatch::Form, rest)?;
+    let (attributes, rest) = u64_at(Mismatch::Form, rest)?;
+    let (name, rest) = part_at(Mismatch::Form, 72, rest)?;
+    let (_, rest) = part_at(Mismatch::Form, size as usize - 128, rest)?;
+    let partition = Partition {
+        kind,
+        guid,
+        first,
+        last,
+        attributes,
+        name: up_to_nul(name),
+    };
+    Ok((partition, rest))
 }

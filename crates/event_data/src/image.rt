@@ -5,7 +5,7 @@ ghost use Rattle.byte_fields.specs.Reading.{Reads};
 ghost use Rattle.event_data.specs.Forms.{ImageData, IsImage, image_of};
 ghost use Rattle.event_data.specs.Reading.{image, image_in};
 
-use crate::mismatch::Mismatch;
+use crate::content::Mismatch;
 use byte_fields::{part_at, u64_at};
 
 /// An image that the firmware loaded (PC Client Platform Firmware Profile, `UEFI_IMAGE_LOAD_EVENT`).

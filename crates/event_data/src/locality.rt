@@ -4,7 +4,7 @@ ghost use Rattle.std.specs.Prelude.{◌≡◌, ℕ, Some, IfSome};
 ghost use Rattle.event_data.specs.Blobs.{IsLocality};
 ghost use Rattle.event_data.specs.Results.{locality_in};
 
-use crate::affixes::after_prefix;
+use crate::text::after_prefix;
 
 /// The locality that the bytes tell, from which the TPM was started (PC Client Platform Firmware Profile,
 /// `TCG_EfiStartupLocalityEvent`); `None` where they tell none.

@@ -5,7 +5,7 @@ ghost use Rattle.byte_fields.specs.Reading.{Reads};
 ghost use Rattle.event_data.specs.Blobs.{TaggedData, IsTagged, tagged_of};
 ghost use Rattle.event_data.specs.BlobReading.{tagged, tagged_in};
 
-use crate::mismatch::Mismatch;
+use crate::content::Mismatch;
 use byte_fields::{sized_at, u32_at};
 
 /// A tagged event (PC Client Platform Firmware Profile, `TCG_PCClientTaggedEvent`).

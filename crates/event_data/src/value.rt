@@ -1,9 +1,25 @@
-//! What the value of a UEFI variable says.
+//! The forms that the values of UEFI variables have, and what the values say.
 
-use crate::boot_order::BootOrder;
-use crate::load_option::LoadOption;
+use crate::load_option::{BootOrder, LoadOption};
 use crate::signature::Signature;
-use crate::signature_lists::SignatureLists;
+use crate::signature_list::SignatureLists;
+
+/// A form of a variable's value.
+#[derive(Clone, Copy)]
+pub enum ValueForm {
+    /// One byte.
+    Flag,
+    /// Numbers of load options.
+    Order,
+    /// A load option.
+    LoadOption,
+    /// Lists of signatures.
+    Lists,
+    /// One signature.
+    Signature,
+    /// No form that is known here.
+    Other,
+}
 
 /// What the value of a UEFI variable says.
 #[derive(Clone, Copy)]

@@ -1,20 +1,130 @@
-//! The reader of variables' values.
+//! The form of a variable's value, by vendor and name, and the reader of values.
 
-ghost use Rattle.std.specs.Prelude.{◌≡◌, ◌==◌, ◌⊎◌, length};
+ghost use Rattle.std.specs.Prelude.{◌≡◌, ◌&&◌, bytes_eq, length, ◌==◌, ◌⊎◌};
 ghost use Rattle.event_data.specs.Forms.{variable_of};
-ghost use Rattle.event_data.specs.declared.value_forms.ValueForm.TheVariants.{Lists, Order};
+ghost use Rattle.event_data.specs.Values.{are_digits, is_authority, is_digit, is_flag, is_lists, is_load_option, is_option_name, is_order, value_form, SaysValue, ValueSays, ValueSaysIn, says_in, unknown, value_in};
+ghost use Rattle.event_data.specs.declared.value.ValueForm.TheVariants.{Lists, Order};
 ghost use Rattle.event_data.specs.ValueContents.{says_of};
 ghost use Rattle.event_data.specs.ValueReading.{lists_in};
-ghost use Rattle.event_data.specs.Values.{SaysValue, ValueSays, ValueSaysIn, says_in, unknown, value_in};
 
-use crate::boot_order::BootOrder;
-use crate::load_option::read_load_option;
-use crate::signature_lists::SignatureLists;
+use crate::load_option::{BootOrder, read_load_option};
+use crate::signature_list::SignatureLists;
 use crate::signature_reader::read_signature;
-use crate::value::ValueContent;
-use crate::value_forms::ValueForm;
-use crate::value_names::value_form;
+use crate::value::{ValueContent, ValueForm};
 use crate::variable::Variable;
+
+// 8be4df61-93ca-11d2-aa0d-00e098032b8c.
+const GLOBAL: [u8; 16] = [
+    0x61, 0xDF, 0xE4, 0x8B, 0xCA, 0x93, 0xD2, 0x11, 0xAA, 0x0D, 0x00, 0xE0, 0x98, 0x03, 0x2B, 0x8C,
+];
+
+// d719b2cb-3d3a-4596-a3bc-dad00e67656f.
+const IMAGE_SECURITY: [u8; 16] = [
+    0xCB, 0xB2, 0x19, 0xD7, 0x3A, 0x3D, 0x96, 0x45, 0xA3, 0xBC, 0xDA, 0xD0, 0x0E, 0x67, 0x65, 0x6F,
+];
+
+// 605dab50-e046-4300-abb6-3dd810dd8b23.
+const SHIM: [u8; 16] = [
+    0x50, 0xAB, 0x5D, 0x60, 0x46, 0xE0, 0x00, 0x43, 0xAB, 0xB6, 0x3D, 0xD8, 0x10, 0xDD, 0x8B, 0x23,
+];
+
+// Whether the variable has this vendor, and this name in units of two bytes.
+fn is_named(vendor: &[u8], name: &[u8], variable: &Variable<'_>) -> bool
+    ensures { result ≡ (bytes_eq variable.now.guid.now vendor.now && bytes_eq variable.now.name.now name.now) }
+{
+    variable.guid == vendor && variable.name == name
+}
+
+fn is_digit(code: u8) -> bool
+    ensures { result ≡ is_digit code }
+{
+    (code >= 48 && code < 58) || (code >= 65 && code < 71)
+}
+
+fn are_digits(units: &[u8]) -> bool
+    requires { length units.now ≡ 8 }
+    ensures { result ≡ are_digits units.now }
+{
+    is_digit(units[0])
+        && units[1] == 0
+        && is_digit(units[2])
+        && units[3] == 0
+        && is_digit(units[4])
+        && units[5] == 0
+        && is_digit(units[6])
+        && units[7] == 0
+}
+
+// `Boot` and four digits.
+fn is_option_name(name: &[u8]) -> bool
+    ensures { result ≡ is_option_name name.now }
+{
+    if name.len() != 16 {
+        return false;
+    }
+    let (boot, digits) = name.split_at(8);
+    boot == b"B\0o\0o\0t\0".as_slice() && are_digits(digits)
+}
+
+fn is_flag(variable: &Variable<'_>) -> bool
+    ensures { result ≡ is_flag (variable_of variable.now) }
+{
+    is_named(&GLOBAL, b"S\0e\0c\0u\0r\0e\0B\0o\0o\0t\0", variable)
+        || is_named(&GLOBAL, b"S\0e\0t\0u\0p\0M\0o\0d\0e\0", variable)
+        || is_named(&GLOBAL, b"A\0u\0d\0i\0t\0M\0o\0d\0e\0", variable)
+        || is_named(&GLOBAL, b"D\0e\0p\0l\0o\0y\0e\0d\0M\0o\0d\0e\0", variable)
+}
+
+fn is_order(variable: &Variable<'_>) -> bool
+    ensures { result ≡ is_order (variable_of variable.now) }
+{
+    is_named(&GLOBAL, b"B\0o\0o\0t\0O\0r\0d\0e\0r\0", variable)
+}
+
+fn is_load_option(variable: &Variable<'_>) -> bool
+    ensures { result ≡ is_load_option (variable_of variable.now) }
+{
+    variable.guid == GLOBAL.as_slice() && is_option_name(variable.name)
+}
+
+fn is_lists(variable: &Variable<'_>) -> bool
+    ensures { result ≡ is_lists (variable_of variable.now) }
+{
+    is_named(&GLOBAL, b"P\0K\0", variable)
+        || is_named(&GLOBAL, b"K\0E\0K\0", variable)
+        || is_named(&IMAGE_SECURITY, b"d\0b\0", variable)
+        || is_named(&IMAGE_SECURITY, b"d\0b\0x\0", variable)
+        || is_named(&SHIM, b"M\0o\0k\0L\0i\0s\0t\0", variable)
+        || is_named(&SHIM, b"M\0o\0k\0L\0i\0s\0t\0X\0", variable)
+}
+
+fn is_authority(kind: u32, variable: &Variable<'_>) -> bool
+    ensures { result ≡ is_authority kind (variable_of variable.now) }
+{
+    kind == 0x8000_00E0
+        && (is_named(&IMAGE_SECURITY, b"d\0b\0", variable)
+            || is_named(&SHIM, b"M\0o\0k\0L\0i\0s\0t\0", variable)
+            || is_named(&SHIM, b"M\0o\0k\0L\0i\0s\0t\0R\0T\0", variable))
+}
+
+/// The form that the value of this variable has, in an event of this type.
+pub fn value_form(kind: u32, variable: &Variable<'_>) -> ValueForm
+    ensures { result ≡ value_form kind (variable_of variable.now) }
+{
+    if is_authority(kind, variable) {
+        ValueForm::Signature
+    } else if is_flag(variable) {
+        ValueForm::Flag
+    } else if is_order(variable) {
+        ValueForm::Order
+    } else if is_load_option(variable) {
+        ValueForm::LoadOption
+    } else if is_lists(variable) {
+        ValueForm::Lists
+    } else {
+        ValueForm::Other
+    }
+}
 
 // Whether the bytes are lists of signatures.
 fn are_lists(bytes: &[u8]) -> bool

@@ -4,9 +4,9 @@ ghost use Rattle.std.specs.Prelude.{◌≡◌, ◌*◌, Some, IfSome, option_map
 ghost use Rattle.byte_fields.specs.Reading.{Reads, part_at};
 ghost use Rattle.event_data.specs.Forms.{IsVariable, VariableData, variable_of};
 ghost use Rattle.event_data.specs.Reading.{variable, variable_in};
-ghost use Rattle.event_data.specs.declared.mismatch.Mismatch.TheVariants.{Form};
+ghost use Rattle.event_data.specs.declared.content.Mismatch.TheVariants.{Form};
 
-use crate::mismatch::Mismatch;
+use crate::content::Mismatch;
 use crate::variable::Variable;
 use byte_fields::{part_at, u64_at};
 

@@ -1,5 +1,0 @@
-use Rattle.event_data.proofs.ListLaws.{list_signatures}
-use Rattle.event_data.proofs.value_laws.list_is_its_signatures.Goals as goal
-
-pub returns : goal.returns
-returns c = list_signatures
