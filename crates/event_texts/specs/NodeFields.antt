@@ -3,8 +3,8 @@ use Rattle.std.specs.Prelude.{ℕ, List, [], ◌∷◌, ◌++◌, codes, decimal
 use Rattle.std.specs.Int.{w16, w32, w64, from_le_bytes}
 use Rattle.hex.specs.Hex.{encode_lower}
 use Rattle.event_data.specs.Forms.{NodeData}
-use Rattle.event_texts.specs.declared.node_field.Field.{Field}
-use Rattle.event_texts.specs.declared.node_field.Field.TheVariants.{Kind, Subtype, U8, U16, U32, U64, Decimal, Guid, Bytes, Rest, Eui, Pnp, Gpt, Mbr}
+use Rattle.event_texts.specs.declared.node_row.Field.{Field}
+use Rattle.event_texts.specs.declared.node_row.Field.TheVariants.{Kind, Subtype, U8, U16, U32, U64, Decimal, Guid, Bytes, Rest, Eui, Pnp, Gpt, Mbr}
 use Rattle.event_texts.specs.Guids.{bytes_at, guid_text}
 use Rattle.event_texts.specs.Numbers.{hex_number}
 

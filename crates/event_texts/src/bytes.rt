@@ -1,9 +1,11 @@
-//! Bytes in hexadecimal, and places in bytes.
+//! Bytes, numbers and GUIDs in hexadecimal, and places in bytes.
 
-ghost use Rattle.std.specs.Prelude.{◌≡◌, [], ◌∷◌, ◌++◌, OnOk, drop, slice_index, take};
+ghost use Rattle.std.specs.Prelude.{◌≡◌, [], ◌∷◌, ◌++◌, OnOk, drop, slice_index, take, IfOk};
 ghost use Rattle.std.specs.String.{string_bytes};
 ghost use Rattle.hex.specs.Hex.{encode_lower};
 ghost use Rattle.event_texts.specs.NodeFields.{dashed};
+ghost use Rattle.event_texts.specs.Numbers.{hex_number};
+ghost use Rattle.event_texts.specs.Guids.{guid_text};
 
 use std::alloc::{AllocError, Global};
 
@@ -64,4 +66,66 @@ pub(crate) fn push_dashed(bytes: &[u8], text: &mut String) -> Result<(), AllocEr
         }
     }
     Ok(())
+}
+
+/// Appends a number as [`hex_number`] tells it.
+pub(crate) fn push_number(value: u64, text: &mut String) -> Result<(), AllocError>
+    ensures { OnOk result (string_bytes text.new ≡ string_bytes text.old ++ hex_number value) }
+{
+    write!(text, "0x{value:x}")
+}
+
+/// The text of a number: '0x' and lower case hexadecimal digits, without leading zeros.
+pub fn hex_number(alloc: Global, value: u64) -> Result<String, AllocError>
+    ensures { IfOk result (λ text. string_bytes text ≡ hex_number value) }
+{
+    let mut text = String::new(alloc);
+    push_number(value, &mut text)?;
+    Ok(text)
+}
+
+/// Appends the text of a GUID, as [`guid_text`] tells it.
+#[tactic(auto, unfolding(crate::specs::Guids::guid_text))]
+pub(crate) fn push_guid(alloc: Global, guid: &[u8], text: &mut String) -> Result<(), AllocError>
+    ensures { OnOk result (string_bytes text.new ≡ string_bytes text.old ++ guid_text guid.now) }
+{
+    push_hex(
+        alloc,
+        &[
+            byte_at(guid, 3),
+            byte_at(guid, 2),
+            byte_at(guid, 1),
+            byte_at(guid, 0),
+        ],
+        text,
+    )?;
+    text.push_str("-")?;
+    push_hex(alloc, &[byte_at(guid, 5), byte_at(guid, 4)], text)?;
+    text.push_str("-")?;
+    push_hex(alloc, &[byte_at(guid, 7), byte_at(guid, 6)], text)?;
+    text.push_str("-")?;
+    push_hex(alloc, &[byte_at(guid, 8), byte_at(guid, 9)], text)?;
+    text.push_str("-")?;
+    push_hex(
+        alloc,
+        &[
+            byte_at(guid, 10),
+            byte_at(guid, 11),
+            byte_at(guid, 12),
+            byte_at(guid, 13),
+            byte_at(guid, 14),
+            byte_at(guid, 15),
+        ],
+        text,
+    )
+}
+
+/// The text of a GUID (RFC 4122, section 3; its first three numbers are little endian in the bytes, as UEFI has them), in lower case. Of
+/// fewer than 16 bytes those that are missing count as 0.
+pub fn guid_text(alloc: Global, guid: &[u8]) -> Result<String, AllocError>
+    ensures { IfOk result (λ text. string_bytes text ≡ guid_text guid.now) }
+{
+    let mut text = String::new(alloc);
+    push_guid(alloc, guid, &mut text)?;
+    Ok(text)
 }

@@ -2,14 +2,10 @@
 #![tactic(auto)]
 
 mod bytes;
-mod guids;
-mod node_field;
 mod node_row;
-mod numbers;
 mod paths;
 mod wide_texts;
 
-pub use guids::guid_text;
-pub use numbers::hex_number;
+pub use bytes::{guid_text, hex_number};
 pub use paths::path_text;
 pub use wide_texts::wide_text;

@@ -3,7 +3,7 @@ use Rattle.std.specs.Prelude.{codes, flat_map}
 use Rattle.std.specs.String.{string_bytes}
 use Rattle.event_data.specs.PathNodes.{node_of}
 use Rattle.event_texts.specs.NodeFields.{field_text}
-use Rattle.event_texts.proofs.node_field.push_fields.Given as goal
+use Rattle.event_texts.proofs.node_row.push_fields.Given as goal
 
 abbrev pub invariant-loop-field : goal.invariant-loop-field
 invariant-loop-field l =
