@@ -21,7 +21,7 @@ mod line;
 mod list_reader;
 mod list_replay;
 mod payload;
-mod pieces;
+mod slices;
 mod template;
 
 pub use aggregate::{BOOT_AGGREGATE_PATH, boot_aggregate};
