@@ -3,8 +3,8 @@ use Rattle.std.proofs.Common.{◌≡◌, ℕ, ◌+◌, ◌-◌, ◌<◌, ◌≤�
 use Rattle.std.specs.Prelude.{◌⊎◌, IfOk, IfSome, MatchResult, String, is_some}
 use Rattle.std.specs.Global.{Global}
 use Rattle.std.specs.Io.KnownBytes.{Consumes, IsAtEnd, Keeps}
-use Rattle.byte_streams.specs.declared.pieces.ReadFault.{ReadFault}
-use Rattle.byte_streams.specs.declared.pieces.ReadFault.TheVariants as reads
+use Rattle.byte_streams.specs.declared.piece_reader.ReadFault.{ReadFault}
+use Rattle.byte_streams.specs.declared.piece_reader.ReadFault.TheVariants as reads
 use Rattle.byte_streams.specs.Streams.{GivesPiece, SourceState, failures_after_reading}
 use Rattle.byte_streams.proofs.SourceLaws.{Consumes-kept, Consumes-none, Consumes-then}
 use Rattle.boot_verdict.specs.ListSources.{failures_after_list}

@@ -2,8 +2,8 @@
 use Rattle.std.specs.Prelude.{◌≡◌, ℕ, ◌+◌, ◌<◌, ◌⊎◌, Bool, true, List, [], ◌∷◌, ◌++◌, length, codes, Option, None, Some, is_some, ⊤, Result, Err, IfSome, IsErrOf, IsTrue, OnOk, String, string_bytes, ◌≤◌}
 use Rattle.std.specs.Io.KnownBytes.{IsAtEnd}
 use Rattle.std.specs.Global.{Global}
-use Rattle.byte_streams.specs.declared.pieces.ReadFault.{ReadFault}
-use Rattle.byte_streams.specs.declared.pieces.ReadFault.TheVariants as reads
+use Rattle.byte_streams.specs.declared.piece_reader.ReadFault.{ReadFault}
+use Rattle.byte_streams.specs.declared.piece_reader.ReadFault.TheVariants as reads
 use Rattle.byte_streams.specs.Streams.{LosesPrefix, SourceState, failures_after}
 use Rattle.agent_inputs.specs.declared.loader.LoadFault.{LoadFault}
 use Rattle.agent_inputs.specs.declared.loader.LoadFault.TheVariants.{TooLong, Source, Memory}

@@ -8,8 +8,8 @@ use Rattle.pcr_banks.specs.Hashing.{hash_of, same_alg}
 use Rattle.pcr_banks.specs.Digests.{alg_of, bytes_of, digest_of}
 use Rattle.pcr_banks.specs.Sets.{has_alg}
 use Rattle.pcr_banks.specs.Registers.{register_count, extended_by_all}
-use Rattle.byte_streams.specs.declared.pieces.ReadFault.{ReadFault}
-use Rattle.byte_streams.specs.declared.pieces.ReadFault.TheVariants as reads
+use Rattle.byte_streams.specs.declared.piece_reader.ReadFault.{ReadFault}
+use Rattle.byte_streams.specs.declared.piece_reader.ReadFault.TheVariants as reads
 use Rattle.pcr_values.specs.declared.expected.Expected.{Expected}
 use Rattle.boot_log.specs.declared.fault.LogFault.{LogFault}
 use Rattle.boot_log.specs.declared.fault.LogFault.TheVariants as logs

@@ -1,8 +1,8 @@
 -- The state of sinks and sources, and how a call changes it.
 use Rattle.std.specs.Prelude.{◌≡◌, ℕ, ◌+◌, ◌-◌, ◌^◌, ◌<◌, ◌≤◌, min, List, ◌++◌, length, Option, is_some, Result, Ok, Err, IfOk, OnOk}
 use Rattle.std.specs.Io.KnownBytes.{Appends, Consumes, IsAtEnd, ReadConsumes, WriteAppends}
-use Rattle.byte_streams.specs.declared.pieces.ReadFault.{ReadFault}
-use Rattle.byte_streams.specs.declared.pieces.ReadFault.TheVariants.{Source, Memory}
+use Rattle.byte_streams.specs.declared.piece_reader.ReadFault.{ReadFault}
+use Rattle.byte_streams.specs.declared.piece_reader.ReadFault.TheVariants.{Source, Memory}
 
 -- A sink: the bytes that it took (`None` where it does not tell them), and how many times it failed.
 pub record SinkState : Type 0 where

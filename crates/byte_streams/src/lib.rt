@@ -6,11 +6,11 @@
 #![tactic(auto)]
 
 mod memory;
-mod pieces;
+mod piece_reader;
 mod senders;
 mod streams;
 
 pub use memory::{SliceSource, VecSink};
-pub use pieces::{PieceReader, ReadFault, remove_prefix};
+pub use piece_reader::{PieceReader, ReadFault, remove_prefix};
 pub use senders::{send, send_pieces};
 pub use streams::{Failed, Sink, Source};

@@ -1,8 +1,8 @@
 -- The entries of a list that comes from a source, whose lines are sent as they come.
 use Rattle.std.specs.Prelude.{◌≡◌, ◌⊎◌, ℕ, ◌<◌, List, [], length, Option, Some, Result, Ok, Err, ◌+◌, ◌≤◌, ◌++◌, IfOk, OnOk}
 use Rattle.std.specs.Io.KnownBytes.{IsAtEnd}
-use Rattle.byte_streams.specs.declared.pieces.ReadFault.{ReadFault}
-use Rattle.byte_streams.specs.declared.pieces.ReadFault.TheVariants as reads
+use Rattle.byte_streams.specs.declared.piece_reader.ReadFault.{ReadFault}
+use Rattle.byte_streams.specs.declared.piece_reader.ReadFault.TheVariants as reads
 use Rattle.byte_streams.specs.Streams.{SinkState, Sends, failures_after}
 use Rattle.ima_list.specs.declared.fault.ListFault.TheVariants as lists
 use Rattle.ima_list.specs.ListEntry.{ListEntry}

@@ -2,8 +2,8 @@
 use Rattle.std.proofs.Common.{◌≡◌, ℕ, ◌≤◌, List, [], length, Option, None, Some, Err, refl, sym, ◌∙◌, append-nil, arith, inl}
 use Rattle.std.specs.Prelude.{IfSome, is_some}
 use Rattle.std.specs.Io.KnownBytes.{Consumes}
-use Rattle.byte_streams.specs.declared.pieces.ReadFault.{ReadFault}
-use Rattle.byte_streams.specs.declared.pieces.ReadFault.TheVariants.{Memory, Source}
+use Rattle.byte_streams.specs.declared.piece_reader.ReadFault.{ReadFault}
+use Rattle.byte_streams.specs.declared.piece_reader.ReadFault.TheVariants.{Memory, Source}
 use Rattle.byte_streams.specs.Streams.{SourceState, failures_after_reading}
 use Rattle.agent_inputs.specs.Loading.{HasFailed, Inputs}
 use Rattle.agent_inputs.proofs.LoadingLemmas.{HasLost}

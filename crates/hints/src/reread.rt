@@ -1,7 +1,7 @@
 //! Files that are read again, after a run.
 
 ghost use Rattle.std.specs.Prelude.{◌≡◌, option_map, IfOk, IfSome, IsErrOf};
-ghost use Rattle.byte_streams.specs.declared.pieces.ReadFault.{ReadFault};
+ghost use Rattle.byte_streams.specs.declared.piece_reader.ReadFault.{ReadFault};
 ghost use Rattle.agent_inputs.specs.Loading.{HasFailed};
 ghost use Rattle.hints.specs.Heads.{IsHead, IsLookedAt};
 

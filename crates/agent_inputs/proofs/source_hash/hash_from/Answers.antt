@@ -1,6 +1,6 @@
 use Rattle.std.proofs.Common.{◌<◌, ◌≤◌, length, refl, ◌∙◌, arith}
 use Rattle.std.proofs.lemmas.Result.{err_from_is_err_and}
-use Rattle.byte_streams.specs.declared.pieces.ReadFault.TheVariants.{Memory, Source}
+use Rattle.byte_streams.specs.declared.piece_reader.ReadFault.TheVariants.{Memory, Source}
 use Rattle.agent_inputs.proofs.HashingLaws.{hashed_all, hashed_more, hashed_nothing, past_room, read_back}
 use Rattle.agent_inputs.proofs.LoadingLemmas.{drained_all, drained_failed, drained_more, had, kept_same, lost_more}
 use Rattle.agent_inputs.proofs.source_hash.hash_from.Goals as goal
