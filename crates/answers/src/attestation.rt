@@ -10,9 +10,9 @@ ghost use Rattle.answers.specs.AttestationCells.{attestation_cell, attestation_c
 
 use crate::prefix::show_prefix_counts;
 use crate::quoted::show_stated;
-use crate::report::{show_aggregate, show_counts, show_report_rows, verdict_word};
-use crate::strays::show_extends;
-use crate::unknown::show_unknown;
+use crate::report::{
+    show_aggregate, show_counts, show_extends, show_report_rows, show_unknown, verdict_word,
+};
 use attestations::{AttestReport, ExpectedValues, Whole};
 use boot_verdict::{Report, Row};
 use cells::{CellWriter, Written};

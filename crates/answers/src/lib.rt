@@ -14,8 +14,6 @@ mod registers;
 mod report;
 mod report_texts;
 mod rows;
-mod strays;
-mod unknown;
 
 pub use attestation::show_attestation;
 pub use keys::show_key;

@@ -5,9 +5,7 @@ ghost use Rattle.boot_verdict.specs.ListVerdicts.{list_verdict_of};
 ghost use Rattle.cells.specs.Cells.{ShowsMembers};
 ghost use Rattle.answers.specs.ReportCells.{list_meets, list_report_cell};
 
-use crate::report::{show_compared, show_report_rows, show_verdict};
-use crate::strays::show_strays;
-use crate::unknown::show_unknown;
+use crate::report::{show_compared, show_report_rows, show_strays, show_unknown, show_verdict};
 use boot_verdict::{ListReport, Requirement};
 use cells::{CellWriter, Written};
 use known_files::Unknown;

@@ -1,16 +1,16 @@
 //! The report on a log, a list and expected registers.
 
-ghost use Rattle.std.specs.Prelude.{◌≡◌, ◌&&◌, option_copied};
+ghost use Rattle.std.specs.Prelude.{◌≡◌, ◌&&◌, codes, option_copied};
 ghost use Rattle.boot_verdict.specs.declared.report.State.TheVariants.{Differ};
 ghost use Rattle.boot_verdict.specs.Verdicts.{verdict_of};
 ghost use Rattle.known_files.specs.Unknown.{none_unknown};
-ghost use Rattle.cells.specs.Cells.{ShowsMembers, if_some};
-ghost use Rattle.answers.specs.ReportCells.{aggregate_cell, compared_cell, counts_cell, meets, outcome_cell, report_cell, report_rows, state_cell, verdict_cell, verdict_word};
+ghost use Rattle.cells.specs.Cells.{ShowsItems, ShowsMembers, each, if_some, item_number};
+ghost use Rattle.answers.specs.ReportCells.{aggregate_cell, compared_cell, counts_cell, meets, outcome_cell, report_cell, report_rows, state_cell, stray_cell, stray_entry, stray_event, strays_cell, unknown_cell, verdict_cell, verdict_word};
 
 use crate::rows::{Says, show_rows};
-use crate::strays::show_strays;
-use crate::unknown::show_unknown;
-use boot_verdict::{Aggregate, Report, Requirement, Row, State, aggregate_word};
+use boot_verdict::{
+    Aggregate, LIST_REGISTER, Report, Requirement, Row, State, Stray, Strays, aggregate_word,
+};
 use cells::{CellWriter, Written};
 use known_files::{Unknown, none_unknown};
 use pcr_banks::Digest;
@@ -162,4 +162,94 @@ pub fn meets(report: &Report, requirement: Option<&Requirement>) -> bool
         Some(requirement) => report.meets(requirement),
         None => report.matches(),
     }
+}
+
+/// Shows the first event and the first entry that extend a register that is not their own, where registers are required.
+pub(crate) fn show_strays(
+    strays: Strays,
+    requirement: Option<&Requirement>,
+    out: &mut CellWriter,
+) -> Written
+    ensures { ShowsMembers result out.old out.new (if_some (option_copied requirement.entry) (λ ranges. strays_cell strays)) }
+{
+    match requirement {
+        None => Ok(()),
+        Some(_) => show_extends(strays, out),
+    }
+}
+
+/// Shows the first event and the first entry that extend a register that is not their own, if any.
+pub(crate) fn show_extends(strays: Strays, out: &mut CellWriter) -> Written
+    ensures { ShowsMembers result out.old out.new (strays_cell strays) }
+{
+    if strays.are_none() {
+        return Ok(());
+    }
+    out.list("extends")?;
+    show_event(strays.event, out)?;
+    show_entry(strays.entry, out)?;
+    out.end_list()
+}
+
+fn show_event(event: Option<usize>, out: &mut CellWriter) -> Written
+    ensures { ShowsItems result out.old out.new (stray_event event) }
+{
+    match event {
+        None => Ok(()),
+        Some(event) => show_stray("event ", "event", event, LIST_REGISTER, out),
+    }
+}
+
+fn show_entry(entry: Option<Stray>, out: &mut CellWriter) -> Written
+    ensures { ShowsItems result out.old out.new (stray_entry entry) }
+{
+    match entry {
+        None => Ok(()),
+        Some(stray) => show_stray("entry ", "entry", stray.entry, stray.register, out),
+    }
+}
+
+fn show_stray(
+    before: &str,
+    word: &str,
+    number: usize,
+    register: u32,
+    out: &mut CellWriter,
+) -> Written
+    ensures { ShowsItems result out.old out.new (stray_cell before.now word.now number register) }
+{
+    out.begin()?;
+    out.number(before, word, number as u64)?;
+    out.number(" extends ", "register", register as u64)?;
+    out.text("\n")?;
+    out.end()
+}
+
+/// Shows from which number on entries were looked at, and the numbers of those that are not known; nothing where no files are known.
+pub(crate) fn show_unknown(unknown: Option<&Unknown>, out: &mut CellWriter) -> Written
+    ensures { ShowsMembers result out.old out.new (if_some (option_copied unknown.entry) unknown_cell) }
+{
+    match unknown {
+        None => Ok(()),
+        Some(unknown) => show_numbers(unknown, out),
+    }
+}
+
+fn show_numbers(unknown: &Unknown, out: &mut CellWriter) -> Written
+    ensures { ShowsMembers result out.old out.new (unknown_cell unknown.now) }
+{
+    out.number("known_from ", "known_from", unknown.first as u64)?;
+    out.text("\n")?;
+    out.list("unknown")?;
+    show_each(&unknown.numbers, out)?;
+    out.end_list()
+}
+
+fn show_each(numbers: &[usize], out: &mut CellWriter) -> Written
+    ensures { ShowsItems result out.old out.new (each (λ number. item_number (codes "unknown entry ") number (codes "\n")) numbers.now) }
+{
+    for number in numbers {
+        out.item_number("unknown entry ", *number as u64, "\n")?;
+    }
+    Ok(())
 }

@@ -1,5 +1,5 @@
 use Rattle.cells.proofs.CellLaws.{in_list, joined}
-use Rattle.answers.proofs.unknown.show_numbers.Goals as goal
+use Rattle.answers.proofs.report.show_numbers.Goals as goal
 
 pub returns : goal.returns
 returns c =

@@ -1,5 +1,5 @@
 use Rattle.cells.proofs.CellLaws.{in_object, joined}
-use Rattle.answers.proofs.strays.show_stray.Goals as goal
+use Rattle.answers.proofs.report.show_stray.Goals as goal
 
 pub returns : goal.returns
 returns c =

@@ -1,7 +1,7 @@
 use Rattle.std.proofs.Common.{arith, codes}
 use Rattle.cells.specs.Cells.{item_number}
 use Rattle.cells.proofs.CellLaws.{all_shown, no_rows, one_more}
-use Rattle.answers.proofs.unknown.show_each.Goals as goal
+use Rattle.answers.proofs.report.show_each.Goals as goal
 
 pub loop-number-init : goal.loop-number-init
 loop-number-init c = no_rows (λ number. item_number (codes "unknown entry ") number (codes "\n")) _
