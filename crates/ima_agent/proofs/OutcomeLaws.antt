@@ -18,7 +18,7 @@ use Rattle.agent_plans.specs.declared.plan.Question.{Question}
 use Rattle.agent_plans.specs.declared.plan.Question.TheVariants as questions
 use Rattle.agent_plans.specs.declared.plan.Task.{Task}
 use Rattle.agent_plans.specs.declared.plan.Task.TheVariants as tasks
-use Rattle.rendering.specs.declared.renderer.Output.{Output}
+use Rattle.rendering.specs.declared.outputs.Output.{Output}
 use Rattle.ima_agent.specs.declared.streams.StreamFault.{StreamFault}
 use Rattle.ima_agent.specs.declared.streams.StreamFault.TheVariants as streams
 use Rattle.rendering.specs.FaultTexts.{IsFailure}

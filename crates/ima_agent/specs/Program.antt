@@ -17,7 +17,7 @@ use Rattle.agent_plans.specs.Plans.{IsWithinRanges, task_of}
 use Rattle.command_line.specs.Arguments.{IsRequestedBy}
 use Rattle.measuring.specs.declared.file_book.Measured.{Measured}
 use Rattle.measuring.specs.Measuring.{IsMeasured, IsMeasuringFault}
-use Rattle.rendering.specs.declared.renderer.Output.{Output}
+use Rattle.rendering.specs.declared.outputs.Output.{Output}
 use Rattle.rendering.specs.Rendering.{IsOutputFault, ShowsAnswer, print_measured}
 use Rattle.entry_lines.specs.declared.entry_lines.EntriesFault.{EntriesFault}
 use Rattle.entry_lines.specs.declared.entry_lines.EntriesFault.TheVariants as entries

@@ -1,18 +1,59 @@
-//! Outputs of what is asked for.
+//! Outputs of what is asked for: answers as text or JSON, and the checkpoint of what a verdict is on.
 
-ghost use Rattle.std.specs.Prelude.{◌≡◌, option_map, IfOk, IfErr, OnErr};
+ghost use Rattle.std.specs.Prelude.{◌≡◌, option_map, IfOk, IfErr, OnErr, OnOk};
 ghost use Rattle.agent_inputs.specs.Loading.{unknown};
 ghost use Rattle.judging.specs.Requests.{requested_of};
-ghost use Rattle.rendering.specs.Rendering.{GivesAnswer, IsOutputFault, IsRefusalOn, ShowsAnswer, state_of};
+ghost use Rattle.rendering.specs.Rendering.{GivesAnswer, HasSaved, IsNotSaved, IsOutputFault, IsRefusalOn, ShowsAnswer, answer_cell, answer_status, render, state_of};
+ghost use Rattle.cells.specs.Cells.{ShowsMembers};
 
-use crate::checkpoints::save;
 use crate::no_files::NoFiles;
-use crate::renderer::{Output, render};
-use agent_inputs::{AgentFiles, RunFault};
-use agent_plans::Form;
+use agent_inputs::{AgentFiles, RunFault, not_written};
+use answers::{
+    show_attestation, show_expected, show_key, show_list_report, show_positions, show_prefix,
+    show_registers, show_report,
+};
+use byte_streams::Failed;
+use cells::{CellWriter, Form, Shown, Written};
 use growing_lists::{SavedState, write_checkpoint};
-use judging::{Request, answer_request};
+use judging::{Answer, Answered, Request, answer_request};
 use std::alloc::{AllocError, Global};
+
+/// A whole output, before its first byte is written.
+#[derive(Drop)]
+pub struct Output {
+    /// The text, or a binary list.
+    pub text: Vec<u8>,
+    /// The exit status once all of it is written: 0; 1 for a verdict that does not match or a value that was not reached; 4 for a quote whose
+    /// signature nobody verified; or that of the fault that a text of JSON lines ends with.
+    pub status: u8,
+}
+
+impl Output {
+    /// The output of a command that succeeded.
+    pub fn done(text: Vec<u8>) -> Self
+        ensures { (result.text ≡ text) × (result.status ≡ 0) }
+    {
+        Output { text, status: DONE }
+    }
+}
+
+// The exit status of success.
+const DONE: u8 = 0;
+
+// The exit status of a report that does not match.
+const DIFFERS: u8 = 1;
+
+// The exit status of a report by a quote whose signature nobody verified.
+const UNSIGNED: u8 = 4;
+
+/// An output, and where to go on.
+#[derive(Drop)]
+pub struct Rendered {
+    /// The output.
+    pub output: Output,
+    /// The text of the checkpoint of what a verdict is on, if all is well; else no bytes.
+    pub checkpoint: Vec<u8>,
+}
 
 /// The output of what is asked for, in this form. If all is well, the checkpoint of what a verdict is on is saved last, if a name is given
 /// for it.
@@ -34,13 +75,27 @@ pub fn output_for<F: AgentFiles>(
     Ok(output)
 }
 
-/// An output, and where to go on.
-#[derive(Drop)]
-pub struct Rendered {
-    /// The output.
-    pub output: Output,
-    /// The text of the checkpoint of what a verdict is on, if all is well; else no bytes.
-    pub checkpoint: Vec<u8>,
+// Saves the checkpoint, if there is one, under this name, if there is one.
+fn save<F: AgentFiles>(
+    alloc: Global,
+    files: &mut F,
+    name: Option<&str>,
+    next: Option<SavedState>,
+) -> Result<(), RunFault>
+    ensures saved { OnOk result (HasSaved (F.saved files.old) (F.saved files.new) (option_map (λ name. name.now) name.entry) next) }
+    ensures kept { OnErr result (F.saved files.new ≡ F.saved files.old) }
+    ensures fault { IfErr result (IsNotSaved (option_map (λ name. name.now) name.entry) next) }
+{
+    match (name, next) {
+        (Some(name), Some(next)) => {
+            let text = write_checkpoint(alloc, &next)?;
+            match files.replace(name, &text) {
+                Ok(()) => Ok(()),
+                Err(Failed) => Err(not_written(alloc, name)),
+            }
+        }
+        _ => Ok(()),
+    }
 }
 
 /// The output of what is asked for of bytes in memory, in this form. There are no files: one that is asked for cannot be read.
@@ -62,5 +117,60 @@ fn text_of(alloc: Global, next: Option<SavedState>) -> Result<Vec<u8>, AllocErro
     match next {
         None => Ok(Vec::new(alloc)),
         Some(next) => write_checkpoint(alloc, &next),
+    }
+}
+
+/// The output of an answer in this form: its status says whether all is well, or that nobody verified the signature of a quote.
+pub fn render(alloc: Global, given: &Answered, form: Form) -> Result<Output, AllocError>
+    ensures text { IfOk result (λ output. output.text.items ≡ render form given.now) }
+    ensures status { IfOk result (λ output. output.status ≡ answer_status given.now.is_success given.now.answer) }
+{
+    Ok(Output {
+        text: cells::render(alloc, form, &ShownAnswer { given })?,
+        status: status_of_answer(given),
+    })
+}
+
+/// The exit status of an answer.
+pub fn status_of_answer(given: &Answered) -> u8
+    ensures { result ≡ answer_status given.now.is_success given.now.answer }
+{
+    match (given.is_success, &given.answer) {
+        (true, _) => DONE,
+        (false, Answer::Attestation(report)) if !report.is_signed => UNSIGNED,
+        (false, _) => DIFFERS,
+    }
+}
+
+// An answer that is shown.
+#[derive(Drop)]
+struct ShownAnswer<'a> {
+    given: &'a Answered,
+}
+
+impl Shown for ShownAnswer<'_> {
+    ghost cell_of = { λ shown. answer_cell shown.given.now.is_success shown.given.now.requirement shown.given.now.unknown shown.given.now.answer };
+
+    fn show(&self, alloc: Global, out: &mut CellWriter) -> Written {
+        show_answer(alloc, self.given, out)
+    }
+}
+
+fn show_answer(alloc: Global, given: &Answered, out: &mut CellWriter) -> Written
+    ensures { ShowsMembers result out.old out.new (answer_cell given.now.is_success given.now.requirement given.now.unknown given.now.answer) }
+{
+    let requirement = given.requirement.as_ref();
+    let unknown = given.unknown.as_ref();
+    match &given.answer {
+        Answer::Attestation(report) => show_attestation(alloc, report, unknown, out),
+        Answer::Report(report) => {
+            show_report(alloc, report, requirement, unknown, given.is_success, out)
+        }
+        Answer::Prefix(prefix) => show_prefix(alloc, prefix, requirement, unknown, out),
+        Answer::Positions(positions) => show_positions(alloc, positions, requirement, out),
+        Answer::ListReport(report) => show_list_report(alloc, report, requirement, unknown, out),
+        Answer::Registers(banks) => show_registers(alloc, &banks.now, &banks.start, out),
+        Answer::Expected(expected) => show_expected(alloc, expected, out),
+        Answer::Key { report, part } => show_key(alloc, report, *part, out),
     }
 }

@@ -7,7 +7,7 @@ ghost use Rattle.entry_lines.specs.ListLines.{entry_lines};
 ghost use Rattle.measure_book.specs.Books.{exported};
 ghost use Rattle.rendering.specs.Rendering.{print_measured};
 
-use crate::renderer::{Output, render};
+use crate::outputs::{Output, render};
 use agent_plans::{Form, Print};
 use byte_streams::VecSink;
 use entry_lines::append_entry;
