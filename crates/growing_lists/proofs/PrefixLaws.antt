@@ -25,8 +25,8 @@ use Rattle.ima_list.proofs.PieceLaws.{reading_to_the_end}
 use Rattle.boot_verdict.specs.declared.checkpoint.Checkpoint.{Checkpoint}
 use Rattle.boot_verdict.specs.declared.prefix_report.Unconfirmed.{Unconfirmed}
 use Rattle.boot_verdict.specs.declared.prefix_report.Unconfirmed.TheVariants as unconfirmed
-use Rattle.growing_lists.specs.declared.prefixes.Confirming.{Confirming}
-use Rattle.growing_lists.specs.declared.prefixes.Prefix.{Prefix}
+use Rattle.growing_lists.specs.declared.confirmation.Confirming.{Confirming}
+use Rattle.growing_lists.specs.declared.confirmation.Prefix.{Prefix}
 use Rattle.boot_verdict.specs.declared.list_replay.ListReplay.{ListReplay}
 use Rattle.boot_verdict.specs.declared.positions.Position.{Position}
 use Rattle.boot_verdict.specs.declared.positions.Position.TheVariants.{Reset, Event, Entry, Nowhere, Absent}
@@ -38,7 +38,7 @@ use Rattle.boot_verdict.specs.Positions.{is_reached, position_after}
 use Rattle.boot_verdict.specs.Steps.{Step, OfEntry, entries_as_steps, least_prefix, value_after}
 use Rattle.boot_verdict.specs.Verdicts.{aggregate_of, is_good, is_match, pcr_after_log_and_list, row_on, recorded_aggregate}
 use Rattle.tpm_quotes.specs.Quoting.{Values}
-use Rattle.growing_lists.specs.declared.goal.Goal.{Goal}
+use Rattle.growing_lists.specs.declared.confirmation.Goal.{Goal}
 use Rattle.growing_lists.specs.Goals.{Aim, OfExpected, OfQuote, aim_of, is_confirmed, is_met}
 use Rattle.growing_lists.specs.parts.Confirming.{PrefixIs, IsConfirmingAfter, IsPrefixAt, confirms, prefix_at, is_late, search_after, search_before, size_after, size_more, values_after}
 use Rattle.boot_verdict.specs.Tracking.{After, AreAfter}

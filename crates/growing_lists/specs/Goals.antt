@@ -9,8 +9,8 @@ use Rattle.boot_verdict.specs.Positions.{is_reached}
 use Rattle.boot_verdict.specs.Verdicts.{aggregate_of, is_good, matches, pcr_after_log_and_list, recorded_aggregate, verdict_on}
 use Rattle.tpm_quotes.specs.Quoting.{Values, confirms}
 use Rattle.tpm_quotes.specs.Spelling.{TpmQuote, quote_of}
-use Rattle.growing_lists.specs.declared.goal.Goal.{Goal}
-use Rattle.growing_lists.specs.declared.goal.Goal.TheVariants as goals
+use Rattle.growing_lists.specs.declared.confirmation.Goal.{Goal}
+use Rattle.growing_lists.specs.declared.confirmation.Goal.TheVariants as goals
 
 -- What is sought: that each of these registers has its value; or that the quote is of the registers.
 pub data Aim : Type 0 where

@@ -10,19 +10,51 @@ ghost use Rattle.boot_verdict.specs.declared.prefix_report.Unconfirmed.{Unconfir
 ghost use Rattle.boot_verdict.specs.Checkpoints.{IsCheckpoint, IsMoreFault, most_after};
 ghost use Rattle.boot_verdict.specs.ListSources.{failures_after_list};
 ghost use Rattle.boot_verdict.specs.Verdicts.{aggregate_of, is_good};
-ghost use Rattle.growing_lists.specs.Goals.{aim_of};
-ghost use Rattle.growing_lists.specs.parts.Confirming.{IsConfirmingAfter, search_before};
+ghost use Rattle.growing_lists.specs.Goals.{aim_of, are_reached, is_met};
+ghost use Rattle.growing_lists.specs.parts.Confirming.{IsConfirmingAfter, prefix_at, search_after, search_before, size_of_step};
 ghost use Rattle.boot_verdict.specs.ListReplays.{AreTracked, ReplaysAll};
 ghost use Rattle.growing_lists.specs.parts.Searches.{IsNoListFault, Searches, WatchesSearch, fault_in, prefix_after, stray_within, whole_after, wrong_with};
+ghost use Rattle.pcr_banks.specs.Registers.{value_at};
+ghost use Rattle.boot_verdict.specs.Tracking.{step_of};
 
-use crate::goal::Goal;
-use crate::prefixes::Confirming;
 use crate::session::Session;
 use boot_verdict::{
-    Aggregate, Checkpoint, ListReplay, Stray, Tracker, Unconfirmed, VerifyFault, aggregate_of,
+    Aggregate, Checkpoint, ListReplay, Position, Step, Stray, Tracker, Unconfirmed, VerifyFault,
+    aggregate_of, is_reached,
 };
 use byte_streams::Source;
+use pcr_banks::Banks;
+use pcr_values::Expected;
 use std::alloc::Global;
+use tpm_quotes::Quote;
+
+/// What the registers after a prefix must be, for it to be confirmed.
+#[derive(Clone, Copy)]
+pub enum Goal<'a> {
+    /// Each of these has its value.
+    Expected(&'a [Expected]),
+    /// The quote is of them.
+    Quote(&'a Quote<'a>),
+}
+
+impl Goal<'_> {
+    // Whether these registers are so.
+    fn is_met(&self, banks: &Banks) -> bool
+        ensures { result ≡ is_met (aim_of self.now) (value_at banks.now) }
+    {
+        match self {
+            Goal::Expected(expected) => are_reached(expected, banks),
+            Goal::Quote(quote) => quote.is_of(banks),
+        }
+    }
+}
+
+// Whether each expected register has its value in these banks.
+fn are_reached(expected: &[Expected], banks: &Banks) -> bool
+    ensures { result ≡ are_reached expected.now (value_at banks.now) }
+{
+    expected.iter().all(|expected| is_reached(expected, banks))
+}
 
 /// What comes with a confirmed prefix, which the session has taken.
 #[derive(Clone, Copy)]
@@ -236,5 +268,94 @@ fn whole_of(whole: Result<Checkpoint, Unconfirmed>) -> Result<Checkpoint, Verify
         Ok(whole) => Ok(whole),
         Err(Unconfirmed::List(fault)) => Err(VerifyFault::List(fault)),
         Err(Unconfirmed::Replay(fault)) => Err(VerifyFault::Replay(fault)),
+    }
+}
+
+// A prefix of the list that ends with an entry.
+#[derive(Clone, Copy)]
+struct Prefix {
+    // The registers after it.
+    registers: Banks,
+    // The number of its last entry.
+    last: usize,
+    // How many bytes it has.
+    bytes: u64,
+}
+
+// Registers, and the first prefix after which they were as is sought.
+#[derive(Drop)]
+struct Confirming<'a> {
+    // The registers.
+    banks: Banks,
+    // How many bytes the entries so far have.
+    bytes: u64,
+    // The number of the first entry that may be the last of a prefix.
+    first: usize,
+    // What is sought.
+    goal: Goal<'a>,
+    // The prefix, if there is one so far.
+    prefix: Option<Prefix>,
+}
+
+impl<'a> Confirming<'a> {
+    // After the list of this checkpoint: its end may be the prefix.
+    fn after(known: &Checkpoint, goal: Goal<'a>) -> Self
+        ensures { result ≡ search_after known.now goal.entry }
+    {
+        let search = Confirming {
+            banks: known.after,
+            bytes: known.bytes,
+            first: known.entries.saturating_sub(1),
+            goal,
+            prefix: None,
+        };
+        if known.entries == 0 {
+            return search;
+        }
+        Confirming {
+            prefix: search.prefix_at(Position::Entry(search.first)),
+            ..search
+        }
+    }
+
+    // The prefix that ends at this position, if it is that of an entry that may be the last, and the registers are as is sought now.
+    fn prefix_at(&self, position: Position) -> Option<Prefix>
+        ensures { result ≡ prefix_at self.now position }
+    {
+        let Position::Entry(last) = position else {
+            return None;
+        };
+        if last >= self.first && self.goal.is_met(&self.banks) {
+            Some(Prefix {
+                registers: self.banks,
+                last,
+                bytes: self.bytes,
+            })
+        } else {
+            None
+        }
+    }
+}
+
+impl Tracker for Confirming<'_> {
+    ghost is_after = { IsConfirmingAfter };
+
+    // Replays the step, and looks at the registers, if there is no prefix yet.
+    fn step(&mut self, step: &Step<'_>, position: Position) {
+        step.replay_into(&mut self.banks);
+        self.bytes = self.bytes.saturating_add(size_of(step));
+        if self.prefix.is_none() {
+            self.prefix = self.prefix_at(position);
+        }
+    }
+}
+
+// How many bytes the step has in the list.
+fn size_of(step: &Step<'_>) -> u64
+    ensures { result ≡ size_of_step (step_of step.now) }
+{
+    match step {
+        Step::Event(_) => 0,
+        Step::Entry(entry) => entry.size() as u64,
     }
 }

@@ -4,17 +4,14 @@
 
 mod checkpoint_reader;
 mod confirmation;
-mod goal;
 pub mod laws;
-mod prefixes;
 mod same_banks;
 mod saved_state;
 mod session;
 mod texts;
 
 pub use checkpoint_reader::read_checkpoint;
-pub use confirmation::Confirmed;
-pub use goal::Goal;
+pub use confirmation::{Confirmed, Goal};
 pub use saved_state::{Boot, SavedState};
 pub use session::{Session, leaves_room};
 pub use texts::write_checkpoint;

@@ -5,9 +5,9 @@ use Rattle.pcr_banks.specs.Registers.{value_at}
 use Rattle.ima_list.specs.Spelling.{spelling}
 use Rattle.boot_verdict.specs.declared.checkpoint.Checkpoint.{Checkpoint}
 use Rattle.tpm_quotes.specs.Quoting.{Values}
-use Rattle.growing_lists.specs.declared.goal.Goal.{Goal}
-use Rattle.growing_lists.specs.declared.prefixes.Confirming.{Confirming}
-use Rattle.growing_lists.specs.declared.prefixes.Prefix.{Prefix}
+use Rattle.growing_lists.specs.declared.confirmation.Goal.{Goal}
+use Rattle.growing_lists.specs.declared.confirmation.Confirming.{Confirming}
+use Rattle.growing_lists.specs.declared.confirmation.Prefix.{Prefix}
 use Rattle.boot_verdict.specs.declared.positions.Position.{Position}
 use Rattle.boot_verdict.specs.declared.positions.Position.TheVariants.{Reset, Event, Entry, Nowhere, Absent}
 use Rattle.boot_verdict.specs.Positions.{position_after}

@@ -10,8 +10,8 @@ use Rattle.growing_lists.specs.declared.confirmation.Search.{Search}
 use Rattle.boot_verdict.specs.declared.isolation.Stray.{Stray}
 use Rattle.boot_verdict.specs.declared.prefix_report.Unconfirmed.{Unconfirmed}
 use Rattle.boot_verdict.specs.declared.prefix_report.Unconfirmed.TheVariants as unconfirmed
-use Rattle.growing_lists.specs.declared.prefixes.Confirming.{Confirming}
-use Rattle.growing_lists.specs.declared.prefixes.Prefix.{Prefix}
+use Rattle.growing_lists.specs.declared.confirmation.Confirming.{Confirming}
+use Rattle.growing_lists.specs.declared.confirmation.Prefix.{Prefix}
 use Rattle.boot_verdict.specs.declared.list_replay.ListReplay.{ListReplay}
 use Rattle.boot_verdict.specs.declared.verifier.VerifyFault.{VerifyFault}
 use Rattle.boot_verdict.specs.declared.verifier.VerifyFault.TheVariants as faults

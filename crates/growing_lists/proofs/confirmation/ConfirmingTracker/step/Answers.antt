@@ -1,11 +1,11 @@
 use Rattle.std.proofs.Common.{◌≡◌, true, false, Option, Some, None, refl, ap, ◌∙◌}
 use Rattle.std.specs.Prelude.{is_some, not}
 use Rattle.std.specs.Option.{option_or}
-use Rattle.growing_lists.specs.declared.prefixes.Confirming.{Confirming}
-use Rattle.growing_lists.specs.declared.prefixes.Prefix.{Prefix}
+use Rattle.growing_lists.specs.declared.confirmation.Confirming.{Confirming}
+use Rattle.growing_lists.specs.declared.confirmation.Prefix.{Prefix}
 use Rattle.boot_verdict.specs.Tracking.{step_of}
 use Rattle.growing_lists.proofs.PrefixLaws.{search_more}
-use Rattle.growing_lists.proofs.prefixes.ConfirmingTracker.step.Goals as goal
+use Rattle.growing_lists.proofs.confirmation.ConfirmingTracker.step.Goals as goal
 
 none_yet : (old next : Option Prefix) → is_some old ≡ false → next ≡ option_or old next
 none_yet None next is = refl
