@@ -5,7 +5,7 @@ use Rattle.pcr_banks.specs.Hashing.{name_of}
 use Rattle.pcr_values.specs.RegisterTexts.{all_registers}
 use Rattle.boot_verdict.specs.declared.report.Row.{Row}
 use Rattle.boot_verdict.specs.Verdicts.{Verdict}
-use Rattle.tpm_quotes.specs.declared.clock.Clock.{Clock}
+use Rattle.tpm_quotes.specs.declared.quote.Clock.{Clock}
 use Rattle.tpm_quotes.specs.Spelling.{BankSelection, is_selected, selects_one}
 use Rattle.attestations.specs.declared.expected.ExpectedValues.{ExpectedValues}
 use Rattle.attestations.specs.declared.expected.ExpectedValues.TheVariants.{NotGiven, Confirmed, Unconfirmed}

@@ -5,7 +5,7 @@ use Rattle.boot_verdict.specs.declared.isolation.Strays.{Strays}
 use Rattle.boot_verdict.specs.declared.positions.Position.{Position}
 use Rattle.boot_verdict.specs.declared.positions.Position.TheVariants.{Event, Entry}
 use Rattle.boot_verdict.specs.Words.{unconfirmed_entry}
-use Rattle.tpm_quotes.specs.declared.clock.Clock.{Clock}
+use Rattle.tpm_quotes.specs.declared.quote.Clock.{Clock}
 use Rattle.attestations.specs.declared.report.Whole.{Whole}
 use Rattle.known_files.specs.declared.unknown.Unknown.{Unknown}
 use Rattle.cells.specs.Values.{IsCount}

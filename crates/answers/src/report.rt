@@ -129,41 +129,6 @@ fn show_differing(alloc: Global, value: &Digest, out: &mut CellWriter) -> Writte
     out.hex(alloc, " ", "value", value.bytes())
 }
 
-pub(crate) fn show_verdict(
-    unknown: Option<&Unknown>,
-    is_match: bool,
-    out: &mut CellWriter,
-) -> Written
-    ensures { ShowsMembers result out.old out.new (verdict_cell (option_copied unknown.entry) is_match) }
-{
-    let word = verdict_word(is_all_known(unknown, is_match));
-    out.word("verdict ", "verdict", word)?;
-    out.text("\n")
-}
-
-// Whether no entry is unknown, and the rest is a match.
-fn is_all_known(unknown: Option<&Unknown>, is_match: bool) -> bool
-    ensures { result ≡ none_unknown (option_copied unknown.entry) && is_match }
-{
-    none_unknown(unknown) && is_match
-}
-
-pub(crate) fn verdict_word(is_match: bool) -> &'static str
-    ensures { result.now ≡ verdict_word is_match }
-{
-    if is_match { "match" } else { "differ" }
-}
-
-/// Whether the report matches, and all that is required holds.
-pub fn meets(report: &Report, requirement: Option<&Requirement>) -> bool
-    ensures { result ≡ meets (option_copied requirement.entry) (verdict_of report.now) }
-{
-    match requirement {
-        Some(requirement) => report.meets(requirement),
-        None => report.matches(),
-    }
-}
-
 /// Shows the first event and the first entry that extend a register that is not their own, where registers are required.
 pub(crate) fn show_strays(
     strays: Strays,
@@ -252,4 +217,39 @@ fn show_each(numbers: &[usize], out: &mut CellWriter) -> Written
         out.item_number("unknown entry ", *number as u64, "\n")?;
     }
     Ok(())
+}
+
+pub(crate) fn show_verdict(
+    unknown: Option<&Unknown>,
+    is_match: bool,
+    out: &mut CellWriter,
+) -> Written
+    ensures { ShowsMembers result out.old out.new (verdict_cell (option_copied unknown.entry) is_match) }
+{
+    let word = verdict_word(is_all_known(unknown, is_match));
+    out.word("verdict ", "verdict", word)?;
+    out.text("\n")
+}
+
+// Whether no entry is unknown, and the rest is a match.
+fn is_all_known(unknown: Option<&Unknown>, is_match: bool) -> bool
+    ensures { result ≡ none_unknown (option_copied unknown.entry) && is_match }
+{
+    none_unknown(unknown) && is_match
+}
+
+pub(crate) fn verdict_word(is_match: bool) -> &'static str
+    ensures { result.now ≡ verdict_word is_match }
+{
+    if is_match { "match" } else { "differ" }
+}
+
+/// Whether the report matches, and all that is required holds.
+pub fn meets(report: &Report, requirement: Option<&Requirement>) -> bool
+    ensures { result ≡ meets (option_copied requirement.entry) (verdict_of report.now) }
+{
+    match requirement {
+        Some(requirement) => report.meets(requirement),
+        None => report.matches(),
+    }
 }

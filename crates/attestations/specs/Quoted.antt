@@ -1,6 +1,6 @@
 -- What a report keeps of a quote.
 use Rattle.std.specs.Prelude.{ℕ, List, map}
-use Rattle.tpm_quotes.specs.declared.clock.Clock.{Clock}
+use Rattle.tpm_quotes.specs.declared.quote.Clock.{Clock}
 use Rattle.tpm_quotes.specs.Spelling.{BankSelection, TpmQuote}
 use Rattle.attestations.specs.declared.quoted.Quoted.{Quoted}
 use Rattle.attestations.specs.declared.quoted.Selected.{Selected}

@@ -15,7 +15,7 @@ use Rattle.pcr_banks.specs.Digests.{bytes_of, digest_of}
 use Rattle.tpm_quotes.specs.declared.fault.QuoteFault.{QuoteFault}
 use Rattle.tpm_quotes.specs.declared.fault.QuoteFault.TheVariants.{Truncated, NotQuote, BadClock, DigestSize, Trailing}
 use Rattle.tpm_quotes.specs.declared.quote.Quote.{Quote}
-use Rattle.tpm_quotes.specs.declared.clock.Clock.{Clock}
+use Rattle.tpm_quotes.specs.declared.quote.Clock.{Clock}
 use Rattle.tpm_quotes.specs.Spelling.{IsClock, IsQuote, TpmQuote, clock_spelling, digest_with, quote_head, quote_of, quote_spelling, selection_spelling, sized16, yes_no}
 use Rattle.tpm_quotes.specs.Reading.{clock, digest, flag, flag_with, origin, quote, quote_fault, quote_in, sized, times}
 use Rattle.tpm_quotes.proofs.SelectionLaws.{AnyFault, any_refusal, are_selections, selections_are, selections_exact, selections_spelled}

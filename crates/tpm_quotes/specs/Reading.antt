@@ -8,7 +8,7 @@ use Rattle.pcr_banks.specs.declared.alg.Alg.{Alg}
 use Rattle.pcr_banks.specs.declared.digest.Digest.{Digest}
 use Rattle.pcr_banks.specs.Hashing.{tpm_id_of, all_algs}
 use Rattle.pcr_banks.specs.Digests.{bytes_of}
-use Rattle.tpm_quotes.specs.declared.clock.Clock.{Clock}
+use Rattle.tpm_quotes.specs.declared.quote.Clock.{Clock}
 use Rattle.tpm_quotes.specs.declared.fault.QuoteFault.{QuoteFault}
 use Rattle.tpm_quotes.specs.declared.fault.QuoteFault.TheVariants.{Truncated, NotQuote, BadClock, UnknownBank, BankTwice, ManyBanks, BadRegister, NothingSelected, DigestSize, Trailing}
 use Rattle.tpm_quotes.specs.Spelling.{BankSelection, TpmQuote, digest_with, is_low, most_banks, quote_head, selects_some, yes_no}

@@ -9,7 +9,7 @@ use Rattle.pcr_banks.specs.declared.digest.Digest.{Digest}
 use Rattle.pcr_banks.specs.Hashing.{tpm_id_of}
 use Rattle.pcr_banks.specs.Digests.{bytes_of, digest_of}
 use Rattle.pcr_banks.specs.Registers.{register_count}
-use Rattle.tpm_quotes.specs.declared.clock.Clock.{Clock}
+use Rattle.tpm_quotes.specs.declared.quote.Clock.{Clock}
 use Rattle.tpm_quotes.specs.declared.quote.Quote.{Quote}
 use Rattle.tpm_quotes.specs.declared.selection.Selection.{Selection}
 

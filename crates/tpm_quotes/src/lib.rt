@@ -4,15 +4,11 @@
 //! No call of this crate allocates. Whether a quote is signed, by which key, is not looked at here.
 #![tactic(auto)]
 
-mod clock;
 mod fault;
 pub mod laws;
 mod quote;
 mod selection;
-mod values;
 
-pub use clock::Clock;
 pub use fault::QuoteFault;
-pub use quote::{Quote, read_quote};
+pub use quote::{Clock, Quote, RegisterValues, read_quote};
 pub use selection::Selection;
-pub use values::RegisterValues;

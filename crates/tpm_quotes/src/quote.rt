@@ -3,24 +3,38 @@
 ghost use Rattle.std.specs.Prelude.{◌≡◌, ℕ, List, map, Some, Ok, option_map, IfOk, IfErr};
 ghost use Rattle.byte_fields.specs.Reading.{Reads};
 ghost use Rattle.pcr_banks.specs.declared.alg.Alg.{Alg};
-ghost use Rattle.pcr_banks.specs.Digests.{digest_of};
+ghost use Rattle.pcr_banks.specs.Digests.{bytes_of, digest_of};
 ghost use Rattle.pcr_banks.specs.Hashers.{HasTaken};
 ghost use Rattle.pcr_banks.specs.Hashing.{hash_of};
 ghost use Rattle.tpm_quotes.specs.Spelling.{IsQuote, TpmQuote, digest_with, quote_of, selected, selected_in, selection_of};
-ghost use Rattle.tpm_quotes.specs.Quoting.{joined};
+ghost use Rattle.tpm_quotes.specs.Quoting.{Values, joined};
 ghost use Rattle.tpm_quotes.specs.parts.Hashing.{Takes};
-ghost use Rattle.tpm_quotes.specs.Reading.{digest, origin, quote, quote_fault, quote_in, sized, times};
+ghost use Rattle.tpm_quotes.specs.Reading.{clock, digest, flag, origin, quote, quote_fault, quote_in, sized, times};
+ghost use Rattle.pcr_banks.specs.Registers.{value_at};
 
-use crate::clock::{Clock, clock_at};
 use crate::fault::QuoteFault;
 use crate::selection::{Selection, Selections, selections_at};
-use crate::values::RegisterValues;
-use byte_fields::{big_endian_u16_at, big_endian_u64_at, part_at};
-use pcr_banks::{Alg, Digest, Hasher, REGISTERS};
+use byte_fields::{big_endian_u16_at, big_endian_u32_at, big_endian_u64_at, part_at, u8_at};
+use pcr_banks::{Alg, Banks, Digest, Hasher, REGISTERS};
 
 /// What a quote begins with: `TPM_GENERATED_VALUE`, with which a restricted key signs only what its TPM made, and
 /// `TPM_ST_ATTEST_QUOTE`.
 const HEAD: &[u8] = &[0xFF, 0x54, 0x43, 0x47, 0x80, 0x18];
+
+/// A TPM's clock and its counts when it signed (TPM 2.0 Library, part 2, TPMS_CLOCK_INFO). By a key that is neither in the endorsement nor in
+/// the platform hierarchy a TPM adds to resets, restarts and the version of the firmware what hides them, the same each time (part 3,
+/// 'Attestation Commands'): only differences between two quotes by one key say something.
+#[derive(Clone, Copy)]
+pub struct Clock {
+    /// For how many milliseconds the TPM has had power since it was last cleared.
+    pub milliseconds: u64,
+    /// How often the TPM was reset since it was last cleared: each boot is one.
+    pub resets: u32,
+    /// How often it was restarted or resumed since the last reset.
+    pub restarts: u32,
+    /// Whether the TPM never had a greater value of the clock.
+    pub is_safe: bool,
+}
 
 /// What a quote states. All slices are borrowed from its bytes.
 #[derive(Drop)]
@@ -37,6 +51,23 @@ pub struct Quote<'a> {
     pub(crate) selections: Selections<'a>,
     /// The digest of their values.
     pub digest: Digest,
+}
+
+/// Values of registers, bank by bank.
+pub trait RegisterValues {
+    ghost values: { Self → Values };
+
+    /// The value of a register of the bank of this algorithm, if there is one.
+    fn value_of(&self, alg: Alg, register: u32) -> Option<Digest>
+        ensures { option_map bytes_of result ≡ values self.now alg register };
+}
+
+impl RegisterValues for Banks {
+    ghost values = { value_at };
+
+    fn value_of(&self, alg: Alg, register: u32) -> Option<Digest> {
+        self.read(alg, register)
+    }
 }
 
 /// Reads a quote: the message that a TPM signs, to its last byte. Returns the first fault from left to right.
@@ -104,6 +135,37 @@ fn times_at(bytes: &[u8]) -> Result<((Clock, u64), &[u8]), QuoteFault>
     let (clock, rest) = clock_at(bytes)?;
     let (firmware, rest) = big_endian_u64_at(QuoteFault::Truncated, rest)?;
     Ok(((clock, firmware), rest))
+}
+
+// Reads the clock. Returns it and the remaining bytes.
+#[tactic(auto, unfolding(crate::specs::Reading::clock))]
+fn clock_at(bytes: &[u8]) -> Result<(Clock, &[u8]), QuoteFault>
+    ensures { Reads (λ x. (x.0, x.1.now)) result (clock.at bytes.now) }
+{
+    let (milliseconds, rest) = big_endian_u64_at(QuoteFault::Truncated, bytes)?;
+    let (resets, rest) = big_endian_u32_at(QuoteFault::Truncated, rest)?;
+    let (restarts, rest) = big_endian_u32_at(QuoteFault::Truncated, rest)?;
+    let (is_safe, rest) = flag_at(rest)?;
+    let clock = Clock {
+        milliseconds,
+        resets,
+        restarts,
+        is_safe,
+    };
+    Ok((clock, rest))
+}
+
+// Reads a flag. Returns it and the remaining bytes.
+#[tactic(auto, unfolding(crate::specs::Reading::flag))]
+fn flag_at(bytes: &[u8]) -> Result<(bool, &[u8]), QuoteFault>
+    ensures { Reads (λ x. (x.0, x.1.now)) result (flag.at bytes.now) }
+{
+    let (byte, rest) = u8_at(QuoteFault::Truncated, bytes)?;
+    match byte {
+        0 => Ok((false, rest)),
+        1 => Ok((true, rest)),
+        _ => Err(QuoteFault::BadClock),
+    }
 }
 
 // Reads bytes whose number stands before them, in two bytes. Returns them and the remaining bytes.
