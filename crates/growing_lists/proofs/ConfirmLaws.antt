@@ -17,7 +17,7 @@ use Rattle.boot_verdict.specs.ListReplays.{AreTracked, IsReplayedOrForged}
 use Rattle.boot_verdict.specs.Tracking.{After}
 use Rattle.boot_verdict.proofs.ReplayLaws.{none_forged, one_list}
 use Rattle.growing_lists.specs.Goals.{Aim}
-use Rattle.growing_lists.specs.Prefixes.{AreUnconfirmed, IsPrefixTaken, IsUnconfirmedFault, IsWrongWith, TakesUnconfirmed, WatchesPrefix}
+use Rattle.growing_lists.specs.Prefixes.{AreUnconfirmed, CameWrong, IsPrefixTaken, IsUnconfirmedFault, TakesUnconfirmed, WatchesPrefix}
 use Rattle.growing_lists.specs.Sessions.{HasTaken, WatchesMore}
 use Rattle.growing_lists.specs.parts.Searches.{FindsPrefix, IsConfirmedAt, IsWhole, Searches, WatchesSearch, fault_in, wrong_with}
 use Rattle.growing_lists.proofs.PrefixLaws.{within_genuine}
@@ -44,9 +44,9 @@ module _ (session : Session) (log list : List ℕ) (has : HasTaken log list sess
   pub refused_by : (wrong : Unconfirmed) → search.whole ≡ Err wrong → search.prefix ≡ None
       → IsMoreFault list old new limit (fault_in wrong) × IsUnconfirmedFault log list old new limit aim session.known.entries (fault_in wrong)
   refused_by wrong is none = by wrong (subst (IsWhole session.known list old new limit searches.entries) is searches.whole)
-      (subst (λ (whole : Result Checkpoint Unconfirmed). IsWrongWith list old new limit search.entries (wrong_with whole)) is searches.wrong)
+      (subst (λ (whole : Result Checkpoint Unconfirmed). CameWrong list old new limit search.entries (wrong_with whole)) is searches.wrong)
     where
-      by : (wrong : Unconfirmed) → IsWhole session.known list old new limit searches.entries (Err wrong) → IsWrongWith list old new limit search.entries (Some wrong)
+      by : (wrong : Unconfirmed) → IsWhole session.known list old new limit searches.entries (Err wrong) → CameWrong list old new limit search.entries (Some wrong)
           → IsMoreFault list old new limit (fault_in wrong) × IsUnconfirmedFault log list old new limit aim session.known.entries (fault_in wrong)
       by (unconfirmed.List fault) whole why = (
         why.0,
@@ -65,7 +65,7 @@ module _ (session : Session) (log list : List ℕ) (has : HasTaken log list sess
           },
         ),
       )
-      by (unconfirmed.Replay fault) (more, came, reading) (most, entries, all, list_is, first, counted) = (
+      by (unconfirmed.Replay fault) (more, came, reading) (most, all, (entries, list_is, first, counted)) = (
         (most, all, record { entries = entries; list_is = list_is; first = first }),
         record { more = more; entries = searches.entries; came = came; list_is = reading; none = none_confirmed none },
       )

@@ -518,7 +518,7 @@ module _ (known : Checkpoint) (goal : Goal) (list : List ℕ) (old new : Option 
         begins = all.reading.begins;
         prefix = finds (list ++ more.more) entries [] all.reading.begins all.replays few;
         count = sym all.replays.count;
-        wrong = (more.more, entries, more.came, all.reading, all.genuine, all.replays.count);
+        wrong = (more.more, more.came, (entries, all.reading, all.genuine, all.replays.count));
         whole = (more.more, more.came, all.reading, checkpoint, refl);
       }
 
@@ -548,7 +548,7 @@ module _ (known : Checkpoint) (goal : Goal) (list : List ℕ) (old new : Option 
     begins = forged.reading.begins;
     prefix = finds (list ++ came) forged.entries [] forged.reading.begins forged.replays (few_bytes came [] whole.came);
     count = sym forged.replays.count;
-    wrong = (came, forged.entries, whole, forged.reading, forged.first, forged.replays.count);
+    wrong = (came, whole, (forged.entries, forged.reading, forged.first, forged.replays.count));
     whole = (came, whole, forged.reading);
   }
 

@@ -1,5 +1,5 @@
 -- The confirmed prefix of a list: the shortest with which all is as is sought.
-use Rattle.std.specs.Prelude.{◌≡◌, ℕ, ◌<◌, ◌≤◌, true, false, List, ◌++◌, length, take, Option, Some, None, Ok}
+use Rattle.std.specs.Prelude.{◌≡◌, ℕ, ◌<◌, ◌≤◌, true, false, List, ◌++◌, length, take, Option, Some, None, Ok, Err}
 use Rattle.pcr_banks.specs.declared.sets.AlgSet.{AlgSet}
 use Rattle.boot_log.specs.declared.header.Row.{Row as TableRow}
 use Rattle.boot_log.specs.Spelling.{LogEvent, IsLog, algs_in}
@@ -32,17 +32,19 @@ abbrev pub AreUnconfirmed : AlgSet → List LogEvent → Aim → ℕ → List Li
 AreUnconfirmed algs events aim least entries =
     (n : ℕ) → least ≤ n → n ≤ length entries → AreGenuine (take n entries) → is_confirmed aim algs events (take n entries) ≡ false
 
--- The list that goes on after these bytes with what a source had left has so many entries, and this is wrong with it, if anything: the
--- fault of its bytes, which has so many entries before it; or else that of its entries.
-abbrev pub IsWrongWith : List ℕ → Option (List ℕ) → Option (List ℕ) → ℕ → ℕ → Option Unconfirmed → Type 0
-IsWrongWith list old new limit count None =
-    (more : List ℕ) × (entries : List ListEntry) × CameWhole old new limit more × IsReading (list ++ more) (Ok entries)
-    × AreGenuine entries × (count ≡ length entries)
-IsWrongWith list old new limit count (Some (unconfirmed.Replay fault)) =
-    (more : List ℕ) × (entries : List ListEntry) × CameWhole old new limit more × IsReading (list ++ more) (Ok entries)
-    × IsReplayFault entries fault × (count ≡ length entries)
-IsWrongWith list old new limit count (Some (unconfirmed.List fault)) =
+-- The list has so many entries, and this is wrong with it, if anything: the fault of its bytes, which has so many entries before it; or
+-- else that of its entries.
+abbrev pub IsWrongWith : List ℕ → ℕ → Option Unconfirmed → Type 0
+IsWrongWith list count None = (entries : List ListEntry) × IsReading list (Ok entries) × AreGenuine entries × (count ≡ length entries)
+IsWrongWith list count (Some (unconfirmed.Replay fault)) =
+    (entries : List ListEntry) × IsReading list (Ok entries) × IsReplayFault entries fault × (count ≡ length entries)
+IsWrongWith list count (Some (unconfirmed.List fault)) = IsReading list (Err fault) × (list_fault_entry fault ≡ Some count)
+
+-- This holds of the list that goes on after these bytes with what a source had left, which gave it up to such a fault of its bytes.
+abbrev pub CameWrong : List ℕ → Option (List ℕ) → Option (List ℕ) → ℕ → ℕ → Option Unconfirmed → Type 0
+CameWrong list old new limit count (Some (unconfirmed.List fault)) =
     IsListFaultAfter list old new limit (faults.List fault) × (list_fault_entry fault ≡ Some count)
+CameWrong list old new limit count wrong = (more : List ℕ) × CameWhole old new limit more × IsWrongWith (list ++ more) count wrong
 
 -- The session has taken the confirmed prefix, with at least `least` entries, of a list that goes on after these bytes; and this comes
 -- with it.
@@ -59,7 +61,7 @@ pub record IsPrefixTaken (log list : List ℕ) (old new : Option (List ℕ)) (li
   pub begins : BeginsWith (list ++ came) prefix rest
   pub shortest : IsConfirmed (algs_in table) events aim least prefix
   pub taken : HasTaken log (list_spelling prefix) session
-  pub wrong : IsWrongWith list old new limit confirmed.entries confirmed.unconfirmed
+  pub wrong : CameWrong list old new limit confirmed.entries confirmed.unconfirmed
 
 -- The same, where `watch` has tracked entries that begin with those of the prefix.
 pub record WatchesPrefix {W : Type 0} (IsAfter : After W) (start : W) (log list : List ℕ) (old new : Option (List ℕ)) (limit : ℕ) (aim : Aim) (least : ℕ)

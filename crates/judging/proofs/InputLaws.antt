@@ -26,7 +26,7 @@ use Rattle.boot_verdict.specs.declared.prefix_report.Unconfirmed.TheVariants as 
 use Rattle.growing_lists.specs.declared.session.Session.{Session}
 use Rattle.growing_lists.specs.CheckpointData.{IsPossible}
 use Rattle.growing_lists.specs.declared.confirmation.Confirmed.{Confirmed}
-use Rattle.growing_lists.specs.Prefixes.{IsPrefixTaken, IsUnconfirmedFault, IsWrongWith, TakesUnconfirmed}
+use Rattle.growing_lists.specs.Prefixes.{CameWrong, IsPrefixTaken, IsUnconfirmedFault, IsWrongWith, TakesUnconfirmed}
 use Rattle.growing_lists.specs.Sessions.{HasTaken, TakesMore}
 use Rattle.agent_plans.specs.declared.plan.Scope.{Scope}
 use Rattle.agent_inputs.specs.declared.fault.RunFault.{RunFault}
@@ -35,7 +35,7 @@ use Rattle.agent_inputs.specs.Faults.{HasLogFault}
 use Rattle.agent_inputs.specs.Loading.{HasFailed, Inputs}
 use Rattle.judging.specs.declared.request.Judged.{Judged}
 use Rattle.judging.specs.declared.request.Judged.TheVariants as judged
-use Rattle.judging.specs.Answering.{CanBeReadBack, Evidence, GivesInput, IsNext, IsNotFound, IsRefusedAfter, IsRefusedList, IsStarted, IsUnconfirmedIn, IsVerdictOn, IsWrongIn, aim_in, seeks_prefix}
+use Rattle.judging.specs.Answering.{CanBeReadBack, Evidence, GivesInput, IsNext, IsNotFound, IsRefusedAfter, IsRefusedList, IsStarted, IsUnconfirmedIn, IsVerdictOn, aim_in, seeks_prefix}
 use Rattle.judging.specs.Requests.{VerdictOf}
 use Rattle.judging.specs.Inputs.{Holds, IsFaultAt, OfInput, Where, held_in, limit_of}
 
@@ -169,10 +169,10 @@ module _ {inputs : Inputs} {list : Where} {old new : SourceState} (gives : Gives
     list_fault (lists.NameTooLong entry) is = lasting (lists.NameTooLong entry) is
     list_fault lists.Memory is = lasting lists.Memory is
 
-    wrong_with : (count : ℕ) (fault : Option Unconfirmed) → IsWrongWith taken old.remaining new.remaining limit count fault
-        → OfInput inputs list (λ more. IsWrongIn (taken ++ more) count fault)
-    wrong_with count None is = (is.0, held is.2, (is.1, is.3, is.4, is.5))
-    wrong_with count (Some (unconfirmed.Replay fault)) is = (is.0, held is.2, (is.1, is.3, is.4, is.5))
+    wrong_with : (count : ℕ) (fault : Option Unconfirmed) → CameWrong taken old.remaining new.remaining limit count fault
+        → OfInput inputs list (λ more. IsWrongWith (taken ++ more) count fault)
+    wrong_with count None is = (is.0, held is.1, is.2)
+    wrong_with count (Some (unconfirmed.Replay fault)) is = (is.0, held is.1, is.2)
     wrong_with count (Some (unconfirmed.List fault)) is = let list = list_fault fault is.0 in (list.0, list.1, (list.2, is.1))
 
   -- ---- why the list is refused

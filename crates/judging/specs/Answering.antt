@@ -13,7 +13,7 @@ use Rattle.boot_log.specs.declared.header.Row.{Row as TableRow, Row}
 use Rattle.boot_log.specs.Spelling.{IsLog, LogEvent, algs_in}
 use Rattle.ima_list.specs.ListEntry.{ListEntry}
 use Rattle.ima_list.specs.ListFaults.{list_fault_entry}
-use Rattle.ima_list.specs.Replaying.{AreGenuine, IsReplayFault, IsReplayed}
+use Rattle.ima_list.specs.Replaying.{AreGenuine, IsReplayed}
 use Rattle.ima_list.specs.Spelling.{BeginsWith, IsReading, list_spelling}
 use Rattle.boot_verdict.specs.declared.checkpoint.Checkpoint.{Checkpoint}
 use Rattle.boot_verdict.specs.declared.verifier.VerifyFault.{VerifyFault}
@@ -26,8 +26,6 @@ use Rattle.boot_verdict.specs.Positions.{AreLocated, all_found}
 use Rattle.boot_verdict.specs.Requirements.{is_complete, IsRequirementText, required_found, required_matches}
 use Rattle.boot_verdict.specs.Verdicts.{IsForged, IsSomeLog, IsVerdict, verdict_of, verdict_on, Verdict, matches}
 use Rattle.boot_verdict.specs.declared.prefix_report.PrefixReport.{PrefixReport}
-use Rattle.boot_verdict.specs.declared.prefix_report.Unconfirmed.{Unconfirmed}
-use Rattle.boot_verdict.specs.declared.prefix_report.Unconfirmed.TheVariants as unconfirmed
 use Rattle.known_files.specs.declared.fault.KnownFault.{KnownFault}
 use Rattle.known_files.specs.declared.known.KnownFiles.{KnownFiles}
 use Rattle.known_files.specs.declared.listed.ListedFiles.{ListedFiles}
@@ -59,7 +57,7 @@ use Rattle.growing_lists.specs.declared.saved_state.Boot.{Boot}
 use Rattle.growing_lists.specs.declared.saved_state.SavedState.{SavedState}
 use Rattle.growing_lists.specs.CheckpointData.{IsPossible, IsPossibleState, boot_of}
 use Rattle.growing_lists.specs.Goals.{Aim, OfExpected, OfQuote}
-use Rattle.growing_lists.specs.Prefixes.{AreUnconfirmed, IsConfirmed}
+use Rattle.growing_lists.specs.Prefixes.{AreUnconfirmed, IsConfirmed, IsWrongWith}
 use Rattle.growing_lists.specs.Sessions.{HasTaken, IsOfBoot}
 use Rattle.agent_plans.specs.declared.plan.Scope.{Scope}
 use Rattle.agent_plans.specs.declared.plan.Scope.TheVariants.{Whole, Prefix}
@@ -169,14 +167,6 @@ AreUnconfirmedAfter evidence entries =
 abbrev pub HasNoPrefix : Evidence → List ℕ → Type 0
 HasNoPrefix evidence list = (entries : List ListEntry) × IsReading list (Ok entries) × AreUnconfirmedAfter evidence entries
 
--- The list has so many entries, and this is wrong with it, if anything: the fault of its bytes, which has so many entries before it; or
--- else that of its entries.
-abbrev pub IsWrongIn : List ℕ → ℕ → Option Unconfirmed → Type 0
-IsWrongIn list count None = (entries : List ListEntry) × IsReading list (Ok entries) × AreGenuine entries × (count ≡ length entries)
-IsWrongIn list count (Some (unconfirmed.Replay fault)) =
-    (entries : List ListEntry) × IsReading list (Ok entries) × IsReplayFault entries fault × (count ≡ length entries)
-IsWrongIn list count (Some (unconfirmed.List fault)) = IsReading list (Err fault) × (list_fault_entry fault ≡ Some count)
-
 -- The report is on the confirmed prefix of the list, no shorter than what was taken before; this is the checkpoint of the prefix; and its
 -- entries have this property.
 pub record IsPrefixOf (evidence : Evidence) (Tells : List ListEntry → Type 0) (list : List ℕ) (report : PrefixReport) (next : Checkpoint) : Type 0 where
@@ -213,7 +203,7 @@ IsVerdictOn inputs scope list evidence Tells (judged.Prefix report) next =
     IfSome evidence.known (IsOfBoot evidence.log)
     × (seeks_prefix scope evidence ≡ true)
     × OfList inputs list evidence.known (λ all. IsPrefixOf evidence Tells all report next)
-    × OfList inputs list evidence.known (λ all. IsWrongIn all report.entries report.unconfirmed)
+    × OfList inputs list evidence.known (λ all. IsWrongWith all report.entries report.unconfirmed)
 
 -- What a report by a quote says of what was judged, a whole list or its confirmed prefix, after which this is known: by the registers after it.
 abbrev pub told_by : TpmQuote → Bool → ExpectedValues → Checkpoint → Judged → AttestVerdict

@@ -17,7 +17,7 @@ use Rattle.boot_verdict.specs.declared.verifier.VerifyFault.{VerifyFault}
 use Rattle.boot_verdict.specs.declared.verifier.VerifyFault.TheVariants as faults
 use Rattle.boot_verdict.specs.Checkpoints.{IsCheckpoint}
 use Rattle.growing_lists.specs.Goals.{Aim}
-use Rattle.growing_lists.specs.Prefixes.{AreUnconfirmed, IsConfirmed, IsUnconfirmedFault, IsWrongWith}
+use Rattle.growing_lists.specs.Prefixes.{AreUnconfirmed, CameWrong, IsConfirmed, IsUnconfirmedFault}
 use Rattle.boot_verdict.specs.ListReplays.{IsReplayedOrForged}
 use Rattle.boot_verdict.specs.ListSources.{CameFrom, CameWhole}
 use Rattle.boot_verdict.specs.Tracking.{After}
@@ -62,7 +62,7 @@ pub record Searches (known : Checkpoint) (list : List ℕ) (old new : Option (Li
   pub prefix : (algs : AlgSet) (events : List LogEvent) → IsFirmware algs events known.before
       → FindsPrefix algs events aim known (list ++ came) entries search.prefix
   pub count : length entries ≡ search.entries
-  pub wrong : IsWrongWith list old new limit search.entries (wrong_with search.whole)
+  pub wrong : CameWrong list old new limit search.entries (wrong_with search.whole)
   pub whole : IsWhole known list old new limit entries search.whole
 
 -- The same, where `watch` has tracked the entries before the first that is not genuine.
