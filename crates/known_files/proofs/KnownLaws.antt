@@ -6,7 +6,8 @@ use Rattle.std.proofs.lemmas.Slice.Eq.{bytes_eq-Decides}
 use Rattle.ima_list.specs.ListEntry.{ListEntry}
 use Rattle.ima_list.specs.Aggregates.{boot_aggregate_path}
 use Rattle.ima_list.specs.Digesting.{is_violation}
-use Rattle.known_files.specs.EntryFiles.{FileTold, IsKnown, file_of, is_known, is_known_file, list_register}
+use Rattle.boot_verdict.specs.Isolation.{list_register}
+use Rattle.known_files.specs.EntryFiles.{FileTold, IsKnown, file_of, is_known, is_known_file}
 use Rattle.known_files.specs.Listing.{IsListed, is_listed}
 use Rattle.known_files.proofs.ListingLaws.{listed_iff}
 

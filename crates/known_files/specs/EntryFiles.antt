@@ -14,6 +14,7 @@ use Rattle.ima_list.specs.Digesting.{is_violation}
 use Rattle.ima_list.specs.FieldKinds.{FileFields, digest_in_field, path_in_field}
 use Rattle.ima_list.specs.Fields.{fields_of}
 use Rattle.ima_list.specs.KernelFields.{FieldData, kernel_fields_of, typed_digest_in}
+use Rattle.boot_verdict.specs.Isolation.{list_register}
 use Rattle.known_files.specs.Listing.{IsListed, is_listed}
 
 -- What an entry says of a file: the digest of its content, and its path. By the template `ima-buf` these are the digest of the bytes that
@@ -56,10 +57,6 @@ abbrev pub file_of : ListEntry → Option FileTold
 file_of entry = told_by_either (fields_of entry) (kernel_fields_of entry)
 
 -- ---- known entries
-
--- The register that IMA extends (Linux kernel, CONFIG_IMA_MEASURE_PCR_IDX, whose default is 10).
-abbrev pub list_register : ℕ
-list_register = 10
 
 -- The entry is known: it is of a file whose digest one of the texts lists, and it is no violation, of the list's register, and not of the
 -- boot aggregate's path, since a kernel makes one entry of that, its first. That the entry is genuine is not said.

@@ -9,12 +9,10 @@ ghost use Rattle.known_files.specs.Known.{HoldsAll, Knows, has};
 use crate::entry_file::file_of;
 use crate::listed::ListedFiles;
 use crate::sorted::SortedDigests;
+use boot_verdict::LIST_REGISTER;
 use ima_list::{BOOT_AGGREGATE_PATH, EntryRef};
 use pcr_banks::Digest;
 use std::alloc::Global;
-
-/// The register that IMA extends.
-const LIST_REGISTER: u32 = 10;
 
 /// The digests that texts list, by which files are known.
 #[derive(Drop)]
