@@ -9,7 +9,7 @@ ghost use Rattle.ima_list.specs.ListEntry.{ListEntry};
 ghost use Rattle.ima_list.specs.Replaying.{AreGenuine};
 ghost use Rattle.ima_list.specs.Spelling.{IsReading};
 ghost use Rattle.boot_verdict.specs.Checkpoints.{IsCheckpoint};
-ghost use Rattle.boot_verdict.specs.Verdicts.{fault_of_log, is_good};
+ghost use Rattle.boot_verdict.specs.Verdicts.{fault_of_log};
 ghost use Rattle.tpm_quotes.specs.Spelling.{IsQuote, TpmQuote, quote_of};
 ghost use Rattle.attestations.specs.declared.attested.AttestFault.TheVariants.{Boot, Quote as NotTaken};
 ghost use Rattle.attestations.specs.Policies.{policy_fault, terms_of};
@@ -20,7 +20,7 @@ use crate::cause::Cause;
 use crate::policy::{Policy, PolicyFault};
 use crate::refusal::{QuoteRefusal, quote_for};
 use boot_log::{LogFault, LogView};
-use boot_verdict::{Aggregate, Checkpoint, VerifyFault, aggregate_of, first_extending};
+use boot_verdict::{Checkpoint, VerifyFault, aggregate_of, first_extending};
 use thiserror::Error;
 use tpm_quotes::Quote;
 
@@ -159,18 +159,11 @@ fn cause_in_registers(known: &Checkpoint, quote: &Quote<'_>) -> Option<Cause>
         → (is : IsCheckpoint list known.now)
         → result ≡ cause_in_registers (algs_in table) events is.entries (quote_of quote.now) }
 {
-    if !is_good(aggregate_of(&known.before, known.recorded)) {
+    if !aggregate_of(&known.before, known.recorded).is_good() {
         return Some(Cause::BadAggregate);
     }
     if !quote.is_of(&known.after) {
         return Some(Cause::Differs);
     }
     None
-}
-
-// Whether the boot aggregate is good.
-fn is_good(aggregate: Aggregate) -> bool
-    ensures { result ≡ is_good aggregate }
-{
-    matches!(aggregate, Aggregate::Good)
 }

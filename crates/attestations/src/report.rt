@@ -5,7 +5,7 @@ ghost use Rattle.attestations.specs.Reports.{attest_verdict_of, is_attested};
 
 use crate::expected::ExpectedValues;
 use crate::quoted::Quoted;
-use boot_verdict::{Aggregate, Report, Unconfirmed};
+use boot_verdict::{Report, Unconfirmed};
 
 /// A list of which a report is on a prefix.
 #[derive(Clone, Copy)]
@@ -42,8 +42,6 @@ impl AttestReport {
     pub fn is_attested(&self) -> bool
         ensures { result ≡ is_attested (attest_verdict_of self.now) }
     {
-        matches!(self.report.aggregate, Aggregate::Good)
-            && self.report.strays.are_none()
-            && self.is_quoted
+        self.report.aggregate.is_good() && self.report.strays.are_none() && self.is_quoted
     }
 }

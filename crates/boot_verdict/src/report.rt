@@ -3,7 +3,7 @@
 ghost use Rattle.std.specs.Prelude.{◌≡◌};
 ghost use Rattle.std.specs.List.{list_all};
 ghost use Rattle.boot_verdict.specs.Requirements.{required_matches};
-ghost use Rattle.boot_verdict.specs.Verdicts.{is_match, matches, verdict_of};
+ghost use Rattle.boot_verdict.specs.Verdicts.{is_good, is_match, matches, verdict_of};
 ghost use Rattle.boot_verdict.specs.Words.{aggregate_word};
 
 use crate::isolation::Strays;
@@ -45,6 +45,15 @@ pub enum Aggregate {
     Missing,
 }
 
+impl Aggregate {
+    /// Whether the list records the boot aggregate of the log.
+    pub fn is_good(self) -> bool
+        ensures { result ≡ is_good self }
+    {
+        matches!(self, Aggregate::Good)
+    }
+}
+
 /// The state of a boot aggregate in one word.
 pub fn aggregate_word(aggregate: Aggregate) -> &'static str
     ensures { result.now ≡ aggregate_word aggregate }
@@ -79,7 +88,7 @@ impl Report {
     pub fn matches(&self) -> bool
         ensures { result ≡ matches (verdict_of self.now) }
     {
-        matches!(self.aggregate, Aggregate::Good) && all_match(&self.rows)
+        self.aggregate.is_good() && all_match(&self.rows)
     }
 
     /// Whether the report matches, nothing of log or list extends a register that is the other's, and there is a row for each required

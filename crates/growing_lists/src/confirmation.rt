@@ -19,8 +19,8 @@ ghost use Rattle.boot_verdict.specs.Tracking.{step_of};
 
 use crate::session::Session;
 use boot_verdict::{
-    Aggregate, Checkpoint, ListReplay, Position, Step, Stray, Tracker, Unconfirmed, VerifyFault,
-    aggregate_of, is_reached,
+    Checkpoint, ListReplay, Position, Step, Stray, Tracker, Unconfirmed, VerifyFault, aggregate_of,
+    is_reached,
 };
 use byte_streams::Source;
 use pcr_banks::Banks;
@@ -209,7 +209,7 @@ fn prefix_in(known: &Checkpoint, replay: &ListReplay<Confirming<'_>>) -> Option<
 {
     let _entries = replay.entries;
     let prefix = replay.tracker.prefix?;
-    if !is_good(aggregate_of(&known.before, replay.recorded)) {
+    if !aggregate_of(&known.before, replay.recorded).is_good() {
         return None;
     }
     Some(Checkpoint {
@@ -230,13 +230,6 @@ fn stray_within(stray: Option<Stray>, last: usize) -> Option<Stray>
         Some(first) if first.entry <= last => stray,
         _ => None,
     }
-}
-
-// Whether the boot aggregate is good.
-fn is_good(aggregate: Aggregate) -> bool
-    ensures { result ≡ is_good aggregate }
-{
-    matches!(aggregate, Aggregate::Good)
 }
 
 // What is wrong with a list that has this fault; any other fault is returned as it is.
