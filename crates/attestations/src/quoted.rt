@@ -4,7 +4,7 @@ ghost use Rattle.std.specs.Prelude.{◌≡◌, IfOk, map};
 ghost use Rattle.tpm_quotes.specs.Spelling.{is_selected, quote_of, selection_of, selects_one};
 ghost use Rattle.attestations.specs.Quoted.{bank_selection_of, stated_by, stated_of};
 
-use pcr_banks::{Alg, REGISTERS};
+use pcr_banks::Alg;
 use std::alloc::{AllocError, Global};
 use tpm_quotes::{Clock, Quote, Selection};
 
@@ -18,22 +18,28 @@ pub struct Selected {
 }
 
 impl Selected {
+    // The selection as a quote has it, with these bits.
+    fn selection(&self) -> Selection<'_>
+        ensures { result.bits.now ≡ self.now.bits.items }
+    {
+        Selection {
+            alg: self.alg,
+            bits: &self.bits,
+        }
+    }
+
     /// Whether the register is selected.
     pub fn selects(&self, register: u32) -> bool
         ensures { result ≡ is_selected self.now.bits.items register }
     {
-        let selection = Selection {
-            alg: self.alg,
-            bits: &self.bits,
-        };
-        selection.selects(register)
+        self.selection().selects(register)
     }
 
     /// Whether any register is selected.
     pub fn selects_one(&self) -> bool
         ensures { result ≡ selects_one (bank_selection_of self.now) }
     {
-        (0..REGISTERS).any(|register| self.selects(register))
+        self.selection().selects_one()
     }
 }
 

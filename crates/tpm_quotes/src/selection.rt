@@ -49,8 +49,8 @@ impl Selection<'_> {
         }
     }
 
-    // Whether any register is selected.
-    fn selects_one(&self) -> bool
+    /// Whether any register is selected.
+    pub fn selects_one(&self) -> bool
         ensures { result ≡ selects_one (selection_of self.now) }
     {
         (0..REGISTERS).any(|register| self.selects(register))
