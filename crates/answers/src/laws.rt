@@ -80,7 +80,7 @@ pub fn no_answer_has_a_fault()
         → get (codes "fault") (object_of (positions_cell required located).json) ≡ None }
 {}
 
-/// The texts that are sent without memory, as by `answers::write_report`, are those of the cells.
+/// The texts that are sent without memory, as by `answers::write_report`, are those of the cells, and so are the lines of a key.
 pub fn sent_texts_are_of_cells()
     ensures report { (verdict : Verdict) → report_text verdict ≡ rendered Text (report_cell None None (matches verdict) verdict) }
     ensures positions { (located : List Located) → positions_text located ≡ rendered Text (positions_cell None located) }

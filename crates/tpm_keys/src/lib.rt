@@ -10,7 +10,6 @@ mod lacks;
 pub mod laws;
 mod material;
 mod report;
-mod texts;
 
 pub use area::{Cipher, PublicArea, Scheme, read_area};
 pub use fault::KeyFault;
@@ -18,4 +17,3 @@ pub use kinds::{Curve, KeyPart, Purpose, SchemeKind};
 pub use lacks::read_key;
 pub use material::Material;
 pub use report::{KeyKind, KeyReport, MOST_NAME_BYTES, name_bytes};
-pub use texts::write_key;
