@@ -11,7 +11,9 @@ use agent_plans::Form;
 use byte_streams::{Failed, VecSink};
 use judging::Request;
 use line_chunks::{End, Piece, Position};
-use rendering::{Rendered, json_fault_line, json_memory_line, output_on, status_of, write_fault};
+use rendering::{
+    Rendered, json_fault_line, json_memory_line, memory_line, output_on, status_of, write_fault,
+};
 use std::alloc::{AllocError, Global};
 
 /// What a call returns if all is well.
@@ -34,9 +36,6 @@ const MORE: u8 = 5;
 
 /// What a call returns if a position is none.
 const MISUSED: i32 = 6;
-
-/// The line of a fault, if even that cannot be kept in memory.
-const MEMORY_LINE: &[u8] = b"failed: memory\n";
 
 /// Gives the answer to what is asked of bytes in memory, or the line of a fault, in this form.
 pub(crate) fn give(
@@ -145,7 +144,7 @@ fn give_fault(alloc: Global, form: Form, fault: &RunFault, out: &mut [u8], told:
         Ok(line) => put(&line, answer_after(fault), Some(fault), out, told),
         Err(AllocError) => {
             let fault = RunFault::Memory;
-            put(memory_line(form), OUT_OF_MEMORY, Some(&fault), out, told)
+            put(memory_line_in(form), OUT_OF_MEMORY, Some(&fault), out, told)
         }
     }
 }
@@ -175,11 +174,11 @@ fn line_in(alloc: Global, form: Form, fault: &RunFault) -> Result<Vec<u8>, Alloc
 }
 
 // That of `Memory`, which takes no memory.
-fn memory_line(form: Form) -> &'static [u8]
+fn memory_line_in(form: Form) -> &'static [u8]
     ensures { IsLineOf form Memory result.now 3 }
 {
     match form {
-        Form::Text => MEMORY_LINE,
+        Form::Text => memory_line(),
         Form::Json => json_memory_line(),
     }
 }
