@@ -19,7 +19,6 @@ use byte_streams::{Failed, Sink, SliceSource, Source, send};
 use entry_lines::{EntriesFault, send_entries};
 use event_lines::{EventsFault, send_events};
 use ima_list::ListFault;
-use ima_list::laws::entries_to_the_end_are_the_reading;
 use measured_data::Pcr;
 use rendering::Output;
 use std::alloc::Global;
@@ -93,7 +92,6 @@ pub(crate) fn send_list<F: AgentFiles, S: Sink>(
     ensures streams { Streams Json (ShowsEntriesOf Json (F.known files.old) list.now) (S.state sink.old) (S.state sink.new) result }
     ensures saved { F.saved files.new ≡ F.saved files.old }
 {
-    entries_to_the_end_are_the_reading();
     let Ok(mut source) = files.source(Some(list)) else {
         return Err(StreamFault::Run(not_read(alloc, list)));
     };

@@ -19,7 +19,6 @@ use boot_verdict::{Checkpoint, CheckpointFault, PrefixReport, Report, ResumeFaul
 use byte_streams::Source;
 use growing_lists::laws::counted_checkpoint_is_possible;
 use growing_lists::{Goal, SavedState, Session, leaves_room, read_checkpoint};
-use ima_list::laws::{entries_to_the_end_are_the_reading, no_bytes_have_two_readings};
 use known_files::UnknownEntries;
 use pcr_values::Expected;
 use std::alloc::{AllocError, Global};
@@ -152,8 +151,6 @@ fn session_of(log: &[u8], known: Option<Checkpoint>) -> Result<Session<'_>, RunF
     ensures started { IfOk result (IsStarted log.now known) }
     ensures fault { IfErr result (IsLogRefused log.now known) }
 {
-    entries_to_the_end_are_the_reading();
-    no_bytes_have_two_readings();
     match known {
         None => match Session::new(log) {
             Ok(session) => Ok(session),

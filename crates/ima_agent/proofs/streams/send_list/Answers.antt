@@ -1,12 +1,13 @@
 use Rattle.std.proofs.Common.{[], refl}
 use Rattle.cells.specs.declared.writer.Form.TheVariants.{Json}
+use Rattle.ima_list.proofs.PieceLaws.{reading_to_the_end}
 use Rattle.ima_agent.proofs.StreamingLaws.{not_opened}
 use Rattle.ima_agent.proofs.streams.send_list.Goals as goal
 
 pub returns-in_default-clause-streams : goal.returns-in_default-clause-streams
 returns-in_default-clause-streams g c =
     not_opened Json (g.F.Files.known c.args.files.now) c.args.list.now (g.S.Sink.state c.args.sink.now) c.not_read.result
-    (c.entries_to_the_end_are_the_reading.ensures [] [] (record { are = tt; parts = refl })) c.not_read.ensures
+    (reading_to_the_end [] [] (record { are = tt; parts = refl })) c.not_read.ensures
     (c.in_default.ensures.refused refl)
 
 pub returns-clause-streams : goal.returns-clause-streams

@@ -5,7 +5,7 @@ use Rattle.judging.proofs.sessions.session_of.Goals as goal
 pub returns-in-Ok-clause-started : goal.returns-in-Ok-clause-started
 returns-in-Ok-clause-started c =
     let t = c.in-Ok.ensures.taken in
-    let none = no_entries c.args.log.now c.in-Ok.session t c.entries_to_the_end_are_the_reading.ensures c.no_bytes_have_two_readings.ensures in
+    let none = no_entries c.args.log.now c.in-Ok.session t in
     rw c.in-None.is (record {
       valid = record { table = t.table; events = t.events; log_is = t.log_is };
       boot = tt;
