@@ -1,18 +1,19 @@
 //! The events of a log, as the program shows them.
 
-ghost use Rattle.std.specs.Prelude.{◌≡◌};
+ghost use Rattle.std.specs.Prelude.{◌≡◌, option_map};
 ghost use Rattle.cells.specs.declared.writer.Form.{Form};
 ghost use Rattle.agent_plans.specs.declared.plan.Task.TheVariants as tasks;
 ghost use Rattle.ima_agent.specs.Program.{IsOutcome, Streams};
-ghost use Rattle.ima_agent.specs.ShowingEvents.{ShowsPlainEventsIn, ShowsToldOf, plain_lines};
+ghost use Rattle.ima_agent.specs.ShowingEvents.{ShowsEventsIn, ShowsPlainEventsIn, ShowsToldOf, plain_lines};
 
 use crate::matches::matched_in;
-use crate::streams::{DONE, Sent, StreamFault, send_log};
-use agent_inputs::{AgentFiles, load_input};
+use crate::streams::{DONE, Sent, StreamFault};
+use agent_inputs::{AgentFiles, RunFault, load_input};
 use agent_plans::{ConfirmedBy, DataShown, Form};
 use boot_log::LogView;
-use byte_streams::Sink;
-use event_lines::write_events;
+use byte_streams::{Failed, Sink};
+use event_lines::{EventsFault, send_events, write_events};
+use measured_data::Pcr;
 use std::alloc::Global;
 
 /// Sends the header and the events of the log in the file of this name, in this form. Where what data says is told, this tells which of it is
@@ -87,5 +88,26 @@ fn tell_log<F: AgentFiles, S: Sink>(
             sink,
         ),
         Err(fault) => Err(StreamFault::Run(fault)),
+    }
+}
+
+// Sends in this form the algorithms that the log in these bytes declares, and its events while they are read, with what the registers that
+// match confirm of them, if registers were compared, and returns this status; of a damaged log those before its fault.
+fn send_log<S: Sink>(
+    alloc: Global,
+    log: &[u8],
+    form: Form,
+    matched: Option<&[Pcr]>,
+    status: u8,
+    sink: &mut S,
+) -> Sent
+    ensures { Streams form (ShowsEventsIn form (option_map (λ places. places.now) matched.entry) status log.now)
+        (S.state sink.old) (S.state sink.new) result }
+{
+    match send_events(alloc, log, form, matched, sink) {
+        Ok(()) => Ok(status),
+        Err(EventsFault::Sink) => Err(StreamFault::Sink(Failed)),
+        Err(EventsFault::Log(fault)) => Err(StreamFault::Run(fault.into())),
+        Err(EventsFault::Memory) => Err(StreamFault::Run(RunFault::Memory)),
     }
 }

@@ -9,12 +9,12 @@ ghost use Rattle.cells.specs.declared.writer.Form.TheVariants.{Text};
 ghost use Rattle.agent_plans.specs.declared.plan.Plan.TheVariants as plans;
 ghost use Rattle.agent_plans.specs.declared.plan.Task.TheVariants as tasks;
 ghost use Rattle.rendering.specs.FaultTexts.{fault_status, IsFailure};
-ghost use Rattle.ima_agent.specs.Program.{Answers, IsFaultOf, IsOutcome, IsOutput, IsOutputFor, IsOutputOf, Streams, status_after};
+ghost use Rattle.ima_agent.specs.Program.{Answers, IsFaultOf, IsOutcome, IsOutput, IsOutputFor, IsOutputOf, SendsOutput, SendsText, Streams, status_after};
 
 use crate::boot::boot_for;
 use crate::events::events_for;
 use crate::shown::{entries_for, shown_registers};
-use crate::streams::{DONE, Prepared, Sent, StreamFault, send_output, send_text};
+use crate::streams::{DONE, Prepared, Sent, StreamFault};
 use crate::version::version_text;
 use agent_inputs::{AgentFiles, RunFault};
 use agent_plans::{Form, Measurement, Plan, Question, Task};
@@ -232,6 +232,26 @@ fn perform<R: Threads + Wait + Sync, F: AgentFiles, S: Sink, P: Progress>(
         Task::Entries { list } => entries_for(alloc, files, list, form, sink),
         Task::Help(text) => send_text(text.as_bytes(), DONE, sink),
         Task::Version => send_text(version_text(), DONE, sink),
+    }
+}
+
+// Sends an output that was prepared whole, and returns its status. If there is none, nothing is sent.
+fn send_output<S: Sink>(output: Prepared, sink: &mut S) -> Sent
+    ensures { SendsOutput output (S.state sink.old) (S.state sink.new) result }
+{
+    match output {
+        Ok(output) => send_text(&output.text, output.status, sink),
+        Err(fault) => Err(StreamFault::Run(fault)),
+    }
+}
+
+// Sends a text, and returns this status.
+fn send_text<S: Sink>(text: &[u8], status: u8, sink: &mut S) -> Sent
+    ensures { SendsText text.now status (S.state sink.old) (S.state sink.new) result }
+{
+    match send(text, sink) {
+        Ok(()) => Ok(status),
+        Err(fault) => Err(StreamFault::Sink(fault)),
     }
 }
 

@@ -1,15 +1,24 @@
 //! The registers of a log and the entries of a list, as the program shows them.
 
-ghost use Rattle.std.specs.Prelude.{◌≡◌, IfOk, IfErr, OnErr};
+ghost use Rattle.std.specs.Prelude.{◌≡◌, ◌⊎◌, Some, IfOk, IfErr, OnErr};
+ghost use Rattle.cells.specs.declared.writer.Form.TheVariants.{Json, Text};
 ghost use Rattle.agent_plans.specs.declared.plan.Task.TheVariants as tasks;
-ghost use Rattle.ima_agent.specs.Program.{IsFaultOf, IsOutcome, IsOutputFor, Streams};
-ghost use Rattle.ima_agent.specs.Showing.{IsRefusedFor, ShowsHexadecimal};
+ghost use Rattle.agent_inputs.specs.Faults.{fault_of_list};
+ghost use Rattle.agent_inputs.specs.Loading.{Inputs, IsInputFault};
+ghost use Rattle.judging.specs.Answering.{GivesInput};
+ghost use Rattle.judging.specs.Inputs.Where.{FileOf};
+ghost use Rattle.ima_agent.specs.Program.{IsFaultOf, IsOutcome, IsOutputFor, IsStoppedBy, Streams};
+ghost use Rattle.ima_agent.specs.Showing.{IsRefusedFor, ShowsEntriesOf, ShowsHexadecimal, ShowsSoundList};
 
 use crate::hexadecimal::decode_hexadecimal;
-use crate::streams::{Prepared, Sent, send_list, send_sound_list};
-use agent_inputs::{AgentFiles, RunFault, load_input};
+use crate::streams::{DONE, Prepared, Sent, StreamFault};
+use agent_inputs::{
+    AgentFiles, INPUT_LIMIT, LoadFault, RunFault, load_input, not_read, read_through, too_long,
+};
 use agent_plans::Form;
-use byte_streams::Sink;
+use byte_streams::{Failed, Sink, SliceSource, Source};
+use entry_lines::{EntriesFault, send_entries};
+use ima_list::ListFault;
 use judging::{Input, Request};
 use rendering::output_on;
 use std::alloc::Global;
@@ -52,5 +61,132 @@ pub(crate) fn entries_for<F: AgentFiles, S: Sink>(
     match form {
         Form::Text => send_sound_list(alloc, files, list, sink),
         Form::Json => send_list(alloc, files, list, sink),
+    }
+}
+
+// Sends as JSON the entries of the list in the file of this name while it is read; of a damaged one those before its fault.
+fn send_list<F: AgentFiles, S: Sink>(alloc: Global, files: &mut F, list: &str, sink: &mut S) -> Sent
+    ensures streams { Streams Json (ShowsEntriesOf Json (F.known files.old) list.now) (S.state sink.old) (S.state sink.new) result }
+    ensures saved { F.saved files.new ≡ F.saved files.old }
+{
+    let Ok(mut source) = files.source(Some(list)) else {
+        return Err(StreamFault::Run(not_read(alloc, list)));
+    };
+    send_lines(alloc, Form::Json, list, &mut source, sink)
+}
+
+// Sends as text the entries of the list in the file of this name, which is read through before: a fault of it comes alone. What is no regular file
+// is loaded, since it may give its bytes only once.
+fn send_sound_list<F: AgentFiles, S: Sink>(
+    alloc: Global,
+    files: &mut F,
+    list: &str,
+    sink: &mut S,
+) -> Sent
+    ensures streams { Streams Text (ShowsSoundList (F.known files.old) list.now) (S.state sink.old) (S.state sink.new) result }
+    ensures saved { F.saved files.new ≡ F.saved files.old }
+{
+    if files.is_regular(list) {
+        send_file(alloc, files, list, sink)
+    } else {
+        send_loaded(alloc, files, list, sink)
+    }
+}
+
+// Sends as text the entries of the list in the file of this name, which is opened twice.
+fn send_file<F: AgentFiles, S: Sink>(alloc: Global, files: &mut F, list: &str, sink: &mut S) -> Sent
+    ensures streams { Streams Text (ShowsSoundList (F.known files.old) list.now) (S.state sink.old) (S.state sink.new) result }
+    ensures saved { F.saved files.new ≡ F.saved files.old }
+{
+    let Ok(mut first) = files.source(Some(list)) else {
+        return Err(StreamFault::Run(not_read(alloc, list)));
+    };
+    let Ok(mut second) = files.source(Some(list)) else {
+        return Err(StreamFault::Run(not_read(alloc, list)));
+    };
+    send_read_through(alloc, list, &mut first, &mut second, sink)
+}
+
+// Sends as text the entries of the list in the file of this name, which is loaded.
+fn send_loaded<F: AgentFiles, S: Sink>(
+    alloc: Global,
+    files: &mut F,
+    list: &str,
+    sink: &mut S,
+) -> Sent
+    ensures streams { Streams Text (ShowsSoundList (F.known files.old) list.now) (S.state sink.old) (S.state sink.new) result }
+    ensures saved { F.saved files.new ≡ F.saved files.old }
+{
+    match load_input(alloc, files, Some(list)) {
+        Ok(bytes) => {
+            let mut first = SliceSource::new(&bytes);
+            let mut second = first;
+            send_read_through(alloc, list, &mut first, &mut second, sink)
+        }
+        Err(fault) => Err(StreamFault::Run(fault)),
+    }
+}
+
+// Sends as text the entries of the list of this name, which both sources give, once the first is read through without a fault.
+fn send_read_through<R: Source, S: Sink>(
+    alloc: Global,
+    list: &str,
+    first: &mut R,
+    second: &mut R,
+    sink: &mut S,
+) -> Sent
+    ensures { (inputs : Inputs) → GivesInput inputs (FileOf list.now) (R.state first.old) (R.state first.new)
+        → GivesInput inputs (FileOf list.now) (R.state second.old) (R.state second.new)
+        → Streams Text (ShowsSoundList inputs list.now) (S.state sink.old) (S.state sink.new) result }
+{
+    match send_entries(alloc, None, first, INPUT_LIMIT, sink) {
+        Ok(()) => send_lines(alloc, Form::Text, list, second, sink),
+        Err(EntriesFault::List(fault)) => {
+            Err(StreamFault::Run(damaged(alloc, list, second, fault)))
+        }
+        Err(fault) => Err(stopped_by(alloc, list, fault)),
+    }
+}
+
+// Sends in this form the entries of the list of this name, which the source gives; of a damaged one those before its fault.
+fn send_lines<R: Source, S: Sink>(
+    alloc: Global,
+    form: Form,
+    list: &str,
+    source: &mut R,
+    sink: &mut S,
+) -> Sent
+    ensures { (inputs : Inputs) → GivesInput inputs (FileOf list.now) (R.state source.old) (R.state source.new)
+        → Streams form (ShowsEntriesOf form inputs list.now) (S.state sink.old) (S.state sink.new) result }
+{
+    match send_entries(alloc, Some(form), source, INPUT_LIMIT, sink) {
+        Ok(()) => Ok(DONE),
+        Err(fault) => Err(stopped_by(alloc, list, fault)),
+    }
+}
+
+// Why no more of the list of this name was sent.
+fn stopped_by(alloc: Global, list: &str, fault: EntriesFault) -> StreamFault
+    ensures { IsStoppedBy list.now fault result }
+{
+    match fault {
+        EntriesFault::Sink => StreamFault::Sink(Failed),
+        EntriesFault::List(fault) => StreamFault::Run(fault.into()),
+        EntriesFault::Source => StreamFault::Run(not_read(alloc, list)),
+        EntriesFault::TooLong => StreamFault::Run(too_long(alloc, list)),
+        EntriesFault::Memory => StreamFault::Run(RunFault::Memory),
+    }
+}
+
+// Why a list of this name, which has this fault, is not shown: it may be too long, too, or be unreadable after the fault.
+fn damaged<R: Source>(alloc: Global, list: &str, source: &mut R, fault: ListFault) -> RunFault
+    ensures { (inputs : Inputs) → GivesInput inputs (FileOf list.now) (R.state source.old) (R.state source.new)
+        → (result ≡ fault_of_list fault) ⊎ IsInputFault inputs (Some list.now) result }
+{
+    match read_through(alloc, source, INPUT_LIMIT) {
+        Ok(()) => fault.into(),
+        Err(LoadFault::TooLong) => too_long(alloc, list),
+        Err(LoadFault::Source) => not_read(alloc, list),
+        Err(LoadFault::Memory) => RunFault::Memory,
     }
 }

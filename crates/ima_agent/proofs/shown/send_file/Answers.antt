@@ -1,6 +1,6 @@
 use Rattle.std.proofs.Common.{refl}
 use Rattle.ima_agent.proofs.StreamingLaws.{not_opened_alone}
-use Rattle.ima_agent.proofs.streams.send_file.Goals as goal
+use Rattle.ima_agent.proofs.shown.send_file.Goals as goal
 
 pub returns-in_default-clause-streams : goal.returns-in_default-clause-streams
 returns-in_default-clause-streams g c =

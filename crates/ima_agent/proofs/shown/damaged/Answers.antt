@@ -1,6 +1,6 @@
 use Rattle.std.proofs.Common.{inl, inr}
 use Rattle.ima_agent.proofs.StreamingLaws.{too_long_for, unread_for}
-use Rattle.ima_agent.proofs.streams.damaged.Goals as goal
+use Rattle.ima_agent.proofs.shown.damaged.Goals as goal
 
 pub returns-in-Ok : goal.returns-in-Ok
 returns-in-Ok g c = λ inputs gives. inl c.into.ensures

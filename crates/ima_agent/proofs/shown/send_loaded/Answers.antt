@@ -2,7 +2,7 @@ use Rattle.std.proofs.Common.{Some, inl}
 use Rattle.byte_streams.specs.Memory.{slice_source_rest}
 use Rattle.agent_inputs.specs.Loading.{Holds}
 use Rattle.ima_agent.proofs.StreamingLaws.{alone, none_said, slice_gives}
-use Rattle.ima_agent.proofs.streams.send_loaded.Goals as goal
+use Rattle.ima_agent.proofs.shown.send_loaded.Goals as goal
 
 pub returns-in-Ok-clause-streams : goal.returns-in-Ok-clause-streams
 returns-in-Ok-clause-streams g c =

@@ -1,5 +1,5 @@
 use Rattle.ima_agent.proofs.StreamingLaws.{damaged_alone, not_sound, sound}
-use Rattle.ima_agent.proofs.streams.send_read_through.Goals as goal
+use Rattle.ima_agent.proofs.shown.send_read_through.Goals as goal
 
 pub returns-in-Ok : goal.returns-in-Ok
 returns-in-Ok g c = λ inputs first second.

@@ -2,7 +2,7 @@ use Rattle.std.proofs.Common.{[], refl}
 use Rattle.cells.specs.declared.writer.Form.TheVariants.{Json}
 use Rattle.ima_list.proofs.PieceLaws.{reading_to_the_end}
 use Rattle.ima_agent.proofs.StreamingLaws.{not_opened}
-use Rattle.ima_agent.proofs.streams.send_list.Goals as goal
+use Rattle.ima_agent.proofs.shown.send_list.Goals as goal
 
 pub returns-in_default-clause-streams : goal.returns-in_default-clause-streams
 returns-in_default-clause-streams g c =

@@ -1,5 +1,5 @@
 use Rattle.ima_agent.proofs.StreamingLaws.{entries_shown, entries_stopped}
-use Rattle.ima_agent.proofs.streams.send_lines.Goals as goal
+use Rattle.ima_agent.proofs.shown.send_lines.Goals as goal
 
 pub returns-in-Ok : goal.returns-in-Ok
 returns-in-Ok g c = λ inputs gives. entries_shown c.args.form inputs c.args.list.now _ _ _ _ gives.all c.in-Ok.ensures.sends
