@@ -17,10 +17,10 @@ mod rows;
 
 pub use attestation::show_attestation;
 pub use keys::show_key;
-pub use list_report::{list_meets, show_list_report};
+pub use list_report::show_list_report;
 pub use position_texts::write_positions;
 pub use positions::{finds, show_positions};
 pub use prefix::show_prefix;
 pub use registers::{show_expected, show_registers};
-pub use report::{meets, show_report};
+pub use report::show_report;
 pub use report_texts::write_report;

@@ -31,8 +31,8 @@ pub fn show_list_report(
     show_verdict(unknown, list_meets(report, requirement), out)
 }
 
-/// Whether the report on a list alone matches, and all that is required holds.
-pub fn list_meets(report: &ListReport, requirement: Option<&Requirement>) -> bool
+// Whether the report on a list alone matches, and all that is required holds.
+fn list_meets(report: &ListReport, requirement: Option<&Requirement>) -> bool
     ensures { result ≡ list_meets (option_copied requirement.entry) (list_verdict_of report.now) }
 {
     match requirement {

@@ -245,7 +245,7 @@ pub(crate) fn verdict_word(is_match: bool) -> &'static str
 }
 
 /// Whether the report matches, and all that is required holds.
-pub fn meets(report: &Report, requirement: Option<&Requirement>) -> bool
+pub(crate) fn meets(report: &Report, requirement: Option<&Requirement>) -> bool
     ensures { result ≡ meets (option_copied requirement.entry) (verdict_of report.now) }
 {
     match requirement {
