@@ -17,18 +17,13 @@ use Rattle.boot_answers.specs.FirmwareVersion.{version_type}
 use Rattle.boot_answers.specs.Images.{image_register}
 use Rattle.cells.specs.Cells.{Cell, each, hex, if_some, in_order, nothing, number, object_at, text, word, word_member}
 use Rattle.cells.specs.Values.{Member, line_of, object_of, shown_member}
-use Rattle.event_lines.specs.ContentJson.{command_word, content_json}
+use Rattle.event_lines.specs.ContentJson.{command_word, content_json, event_content_json}
 use Rattle.event_lines.specs.ContentTexts.{wide_member}
-use Rattle.event_lines.specs.EventJson.{event_content_json}
-use Rattle.event_lines.specs.SteeringTexts.{unsteered}
+use Rattle.event_lines.specs.SteeringTexts.{unsteered, value_cell}
 
 -- An answer in one word.
 abbrev pub word_cell : List ℕ → List ℕ → Cell Member
 word_cell name said = in_order (text name ∷ word (codes " ") name said ∷ text (codes "\n") ∷ [])
-
--- A value: the member of this name. In text, after these words, it ends the line as JSON, in which no character steers what shows it.
-abbrev pub value_cell : List ℕ → List ℕ → Json → Cell Member
-value_cell before key value = record { text = before ++ unsteered (line_of value); json = (key, value) ∷ [] }
 
 -- ---- Secure Boot, and the firmware's version
 

@@ -16,9 +16,9 @@ use Rattle.boot_answers.specs.Extending.{extended_events}
 use Rattle.cells.specs.declared.writer.Form.{Form}
 use Rattle.cells.specs.Cells.{Cell, hex, if_some, in_order, number, rendered, text, word}
 use Rattle.cells.specs.Values.{Member}
-use Rattle.event_lines.specs.EventJson.{event_content_json}
+use Rattle.event_lines.specs.ContentJson.{event_content_json}
+use Rattle.event_lines.specs.SteeringTexts.{value_cell}
 use Rattle.cells.specs.ItemLines.{numbered_lines}
-use Rattle.boot_texts.specs.AnswerCells.{value_cell}
 use Rattle.boot_texts.specs.Answering.{has_answer}
 use Rattle.boot_texts.specs.declared.difference_lines.Boot.{Boot}
 use Rattle.boot_texts.specs.declared.difference_lines.Boot.TheVariants as boots

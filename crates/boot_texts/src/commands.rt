@@ -4,14 +4,14 @@ ghost use Rattle.std.specs.Prelude.{◌≡◌, [], ◌∷◌, ◌++◌, codes, O
 ghost use Rattle.boot_answers.specs.Commands.{said_of};
 ghost use Rattle.cells.specs.Cells as cells;
 ghost use Rattle.cells.specs.Cells.{ShowsMembers, if_some, object_at, word_member};
-ghost use Rattle.cells.specs.Values.{line_of, object_of, AppendsLine};
+ghost use Rattle.cells.specs.Values.{line_of, object_of};
 ghost use Rattle.event_lines.specs.SteeringTexts.{unsteered};
 ghost use Rattle.cells.specs.Writing.{WritesMembers, WritesValue};
 ghost use Rattle.boot_texts.specs.AnswerCells.{command_cell, kind_cell, said_cell, text_member, untold_cell};
 
 use boot_answers::CommandText;
-use cells::{CellWriter, Shown, Written, begin_line, end_line, write_shown};
-use event_lines::{append_unsteered, command_word, write_wide};
+use cells::{CellWriter, Shown, Written, write_shown};
+use event_lines::{append_embedded, command_word, write_wide};
 use json::Writer;
 use std::alloc::Global;
 
@@ -66,17 +66,9 @@ fn show_text(alloc: Global, text: &CommandText<'_>, out: &mut CellWriter) -> Wri
 fn append_object(alloc: Global, text: &CommandText<'_>, lines: &mut Vec<u8>) -> Written
     ensures { OnOk result (lines.new.items ≡ lines.old.items ++ unsteered (line_of (object_of (text_member (said_of text.now) ∷ [])))) }
 {
-    let mut line = Vec::new(alloc);
-    append_object_line(alloc, text, &mut line)?;
-    append_unsteered(&line, lines)
-}
-
-fn append_object_line(alloc: Global, text: &CommandText<'_>, line: &mut Vec<u8>) -> Written
-    ensures { AppendsLine result line.old.items line.new.items (object_of (text_member (said_of text.now) ∷ [])) }
-{
-    let (mut writer, start) = begin_line(alloc, line);
-    let written = write_object(alloc, text, &mut writer);
-    end_line(written, writer, start, line)
+    let mut writer = Writer::new(Vec::new(alloc));
+    write_object(alloc, text, &mut writer)?;
+    append_embedded(writer, lines)
 }
 
 fn write_object(alloc: Global, text: &CommandText<'_>, writer: &mut Writer) -> Written

@@ -6,13 +6,13 @@ ghost use Rattle.boot_log.specs.declared.header.Row.{Row};
 ghost use Rattle.boot_log.specs.LogViews.{log_bytes};
 ghost use Rattle.boot_log.specs.Spelling.{IsLog, LogEvent, log_event_of};
 ghost use Rattle.cells.specs.Cells.{ShowsMembers, hex, if_some};
-ghost use Rattle.event_lines.specs.EventJson.{event_content_json};
-ghost use Rattle.boot_texts.specs.AnswerCells.{value_cell};
+ghost use Rattle.event_lines.specs.ContentJson.{event_content_json};
+ghost use Rattle.event_lines.specs.SteeringTexts.{value_cell};
 ghost use Rattle.boot_texts.specs.Differences.{alike_cell, apart_cell, boot_word, event_cell, event_line, lines_from, place_cell};
 
-use crate::contents::show_content;
 use boot_log::{Event, LogView};
 use cells::{CellWriter, Form, Shown, Written, append};
+use event_lines::show_content;
 use pcr_banks::{Alg, Digest};
 use std::alloc::Global;
 

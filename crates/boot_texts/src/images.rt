@@ -8,10 +8,10 @@ ghost use Rattle.boot_texts.specs.AnswerCells.{answered_cell, answered_digest, d
 ghost use Rattle.boot_texts.specs.Telling.{IsImageBy, MayBeImageIn, TellsImage};
 
 use crate::answering_banks::answers;
-use crate::contents::show_content;
 use boot_answers::may_be_image;
 use boot_log::Event;
 use cells::{CellWriter, Form, Shown, Written, append};
+use event_lines::show_content;
 use measured_data::Pcr;
 use pcr_banks::{Alg, Digest, PerBank};
 use std::alloc::Global;

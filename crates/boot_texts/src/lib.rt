@@ -9,7 +9,6 @@ mod asked;
 mod boot_lines;
 mod boot_question;
 mod commands;
-mod contents;
 mod difference_lines;
 mod differences;
 mod event_walk;

@@ -5,10 +5,10 @@ ghost use Rattle.event_data.specs.EventForms.{content_of};
 ghost use Rattle.cells.specs.Cells.{ShowsMembers};
 ghost use Rattle.boot_texts.specs.AnswerCells.{version_cell};
 
-use crate::contents::show_form;
 use crate::words::show_word;
 use cells::{CellWriter, Shown, Written};
 use event_data::EventContent;
+use event_lines::show_form;
 use std::alloc::Global;
 
 const EV_S_CRTM_VERSION: u32 = 0x0000_0008;

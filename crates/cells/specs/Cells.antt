@@ -74,6 +74,10 @@ item_number before n after = record { text = before ++ (decimal n ++ after); jso
 abbrev pub member : List ℕ → Json → Cell Member
 member key value = record { text = []; json = (key, value) ∷ [] }
 
+-- These members.
+abbrev pub members : List Member → Cell Member
+members ms = record { text = []; json = ms }
+
 abbrev pub number_member : List ℕ → ℕ → Cell Member
 number_member key n = member key (number_json n)
 

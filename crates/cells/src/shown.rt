@@ -43,6 +43,7 @@ fn show_object<T: Shown>(alloc: Global, shown: &T, out: &mut CellWriter) -> Writ
 /// Fails only if memory runs out; the vector then is as before.
 pub fn append<T: Shown>(alloc: Global, form: Form, shown: &T, lines: &mut Vec<u8>) -> Written
     ensures ok { OnOk result (lines.new.items ≡ lines.old.items ++ rendered form (T.cell_of shown.now)) }
+    ensures utf8 { form ≡ Json → OnOk result (IsUtf8 (rendered form (T.cell_of shown.now))) }
     ensures err { OnErr result (lines.new.items ≡ lines.old.items) }
 {
     let bytes = render(alloc, form, shown)?;

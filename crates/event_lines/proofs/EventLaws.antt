@@ -1,73 +1,112 @@
--- An event's line is one line, and has no member `fault`.
-use Rattle.std.proofs.Common.{◌≡◌, ℕ, arith, false, List, [], ◌∷◌, Option, Some, None, codes, refl}
-use Rattle.std.specs.Prelude.{IfSome, flat_map, option_map}
-use Rattle.std.specs.Str.{bytes_eq}
+-- An event's line is one line, and has no member `fault`; likewise the header's.
+use Rattle.std.proofs.Common.{◌≡◌, ℕ, arith, List, [], ◌∷◌, Option, Some, None, codes, refl}
+use Rattle.std.specs.Prelude.{IfSome, flat_map}
+use Rattle.std.specs.List.{AllByRecursion}
 use Rattle.hex.specs.Hex.{IsBytes}
 use Rattle.json.specs.Find.{get}
-use Rattle.json.specs.Json.{string}
 use Rattle.pcr_banks.specs.declared.alg.Alg.{Alg}
-use Rattle.pcr_banks.specs.Hashing.{all_algs, name_of}
+use Rattle.pcr_banks.specs.declared.sets.PerBank.{PerBank}
+use Rattle.pcr_banks.specs.Hashing.{algorithm_with, all_algs}
+use Rattle.pcr_banks.specs.Sets.{digest_in}
 use Rattle.boot_log.specs.EventTypes.{event_type_name}
 use Rattle.boot_log.specs.declared.header.Row.{Row}
-use Rattle.boot_log.specs.Spelling.{IsSpecification, LogEvent, SpecificationData}
+use Rattle.boot_log.specs.Spelling.{IsRow, IsSpecification, LogEvent, SpecificationData}
 use Rattle.event_data.specs.ContentReading.{content_in}
+use Rattle.measured_data.specs.declared.part.Part.{Part}
 use Rattle.measured_data.specs.declared.pcr.Pcr.{Pcr}
 use Rattle.measured_data.specs.Confirming.{confirmed_part}
 use Rattle.measured_data.specs.Measuring.{measured_part}
+use Rattle.cells.specs.Cells.{beside, each, if_some, list_at, object, object_at}
+use Rattle.cells.specs.Values.{IsCount, IsOneLine, items_of, members_of}
+use Rattle.cells.proofs.FaultMemberLaws.{AreOther, lacks, others_joined}
+use Rattle.cells.proofs.LineLaws.{ArePlain, IsPlain, ItemsArePlain, line_within, members_joined, one_line}
 use Rattle.event_lines.specs.ContentJson.{content_json}
-use Rattle.event_lines.specs.EventJson.{confirmed_members, confirmed_word, content_members, event_json, head_members, header_json, part_name, specification_json}
-use Rattle.cells.specs.Values.{IsCount, IsOneLine, members_of, optional}
+use Rattle.event_lines.specs.EventCells.{algorithm_cell, confirmed_cell, digest_cell, head_cell, mark_cell, name_cell, part_cell, specification_cell, type_cell}
+use Rattle.event_lines.specs.EventJson.{event_json, header_json}
 use Rattle.event_lines.proofs.ContentLaws.{content_plain}
 use Rattle.event_lines.proofs.CountLaws.{content_counted}
-use Rattle.cells.proofs.FaultMemberLaws.{AreOther, lacks, others_joined}
-use Rattle.cells.proofs.LineLaws.{ArePlain, IsPlain, line_within, members_joined}
-use Rattle.event_lines.proofs.ValueLaws.{digests_plain, text_plain}
 
--- ---- one line
+-- ---- an event is one line
 
-measured_plain : (event : LogEvent) (algs : List Alg)
-    → ArePlain (flat_map (λ alg. optional (name_of alg) (option_map (λ part. string (part_name part)) (measured_part alg event))) algs) 5
-measured_plain event [] = tt
-measured_plain event (alg ∷ algs) =
-    members_joined 5 (optional (name_of alg) (option_map (λ part. string (part_name part)) (measured_part alg event))) _
-    (text_plain 5 (name_of alg) part_name (measured_part alg event)) (measured_plain event algs)
+type_plain : (kind : ℕ) (name : Option (List ℕ)) → IsCount kind → ArePlain (type_cell kind name).json 6
+unfolding beside
+type_plain kind None fits = ((kind, fits, refl), tt)
+type_plain kind (Some name) fits = (tt, ((kind, fits, refl), tt))
 
 head_plain : (number : ℕ) (event : LogEvent) → IsCount number → IsCount event.register → IsCount event.kind
-    → ArePlain (head_members number event) 6
+    → ArePlain (head_cell number event).json 6
+unfolding beside
 head_plain number event count register kind =
-    let type = text_plain 6 (codes "type") (λ name. name) (event_type_name event.kind) in (
-      (number, count, refl),
-      (
-        (event.register, register, refl),
-        members_joined 6 (optional (codes "type") (option_map string (event_type_name event.kind))) _ type ((event.kind, kind, refl), tt),
-      ),
-    )
+    ((number, count, refl), ((event.register, register, refl), type_plain event.kind (event_type_name event.kind) kind))
+
+digest_plain : (alg : Alg) (digest : Option (List ℕ)) → ArePlain (digest_cell alg digest).json 5
+unfolding beside
+digest_plain alg None = tt
+digest_plain alg (Some bytes) = (tt, tt)
+
+digests_plain : (digests : PerBank) (algs : List Alg) → ArePlain (flat_map (λ alg. (digest_cell alg (digest_in digests alg)).json) algs) 5
+digests_plain digests [] = tt
+digests_plain digests (alg ∷ algs) =
+    members_joined 5 (digest_cell alg (digest_in digests alg)).json _ (digest_plain alg (digest_in digests alg)) (digests_plain digests algs)
+
+part_plain : (alg : Alg) (part : Option Part) → ArePlain (part_cell alg part).json 5
+unfolding beside
+part_plain alg None = tt
+part_plain alg (Some part) = (tt, tt)
+
+parts_plain : (event : LogEvent) (algs : List Alg) → ArePlain (flat_map (λ alg. (part_cell alg (measured_part alg event)).json) algs) 5
+parts_plain event [] = tt
+parts_plain event (alg ∷ algs) =
+    members_joined 5 (part_cell alg (measured_part alg event)).json _ (part_plain alg (measured_part alg event)) (parts_plain event algs)
+
+confirmed_plain : (part : Option Part) → ArePlain (confirmed_cell part).json 6
+unfolding beside
+confirmed_plain None = (tt, tt)
+confirmed_plain (Some part) = (tt, tt)
+
+mark_plain : (matched : Option (List Pcr)) (event : LogEvent) → ArePlain (mark_cell matched event).json 6
+unfolding beside each object_at
+mark_plain None event = (parts_plain event all_algs, tt)
+mark_plain (Some places) event = (parts_plain event all_algs, confirmed_plain (confirmed_part places event))
 
 content_is_plain : (kind : ℕ) (bytes : List ℕ) → IsBytes bytes → IsPlain (content_json kind (content_in kind bytes)) 6
-content_is_plain kind bytes fits =
-    content_plain kind (content_in kind bytes) (content_counted kind bytes fits)
-
-content_members_plain : (matched : Option (List Pcr)) (event : LogEvent) → IsBytes event.payload → ArePlain (content_members matched event) 6
-content_members_plain matched event fits = (
-  measured_plain event all_algs,
-  members_joined 6 (confirmed_members matched event) _
-      (text_plain 6 (codes "confirmed") (λ places. confirmed_word (confirmed_part places event)) matched)
-      (content_is_plain event.kind event.payload fits, tt),
-)
+content_is_plain kind bytes fits = content_plain kind (content_in kind bytes) (content_counted kind bytes fits)
 
 pub event_one_line : (matched : Option (List Pcr)) (number : ℕ) (event : LogEvent) → IsCount number → IsCount event.register → IsCount event.kind
     → IsBytes event.payload → IsOneLine (event_json matched number event)
+unfolding beside each
 event_one_line matched number event count register kind fits =
     line_within 7 (event_json matched number event) (omega arith)
-    (members_joined 6 (head_members number event) _ (head_plain number event count register kind)
-    (digests_plain event.digests all_algs, (tt, content_members_plain matched event fits)))
+    (members_joined 6 (head_cell number event).json _ (head_plain number event count register kind) (
+      digests_plain event.digests all_algs,
+      (
+        tt,
+        members_joined 6 (mark_cell matched event).json _ (mark_plain matched event) (content_is_plain event.kind event.payload fits, tt),
+      ),
+    ))
 
 pub content_one_line : (kind : ℕ) (bytes : List ℕ) → IsBytes bytes → IsOneLine (content_json kind (content_in kind bytes))
 content_one_line kind bytes fits =
     line_within 6 (content_json kind (content_in kind bytes)) (omega arith) (content_is_plain kind bytes fits)
 
-pub said_plain : (said : Option SpecificationData) → IfSome said IsSpecification
-    → ArePlain (optional (codes "specification") (option_map specification_json said)) 2
+-- ---- the header is one line
+
+name_plain : (id : ℕ) (alg : Option Alg) → ArePlain (name_cell id alg).json 0
+unfolding beside
+name_plain id None = tt
+name_plain id (Some alg) = (tt, tt)
+
+rows_plain : (rows : List Row) → AllByRecursion IsRow rows → ItemsArePlain (items_of (flat_map (λ row. (algorithm_cell row).json) rows)) 1
+unfolding beside object
+rows_plain [] are = tt
+rows_plain (row ∷ rows) are = (
+  members_joined 0 (name_cell row.id (algorithm_with row.id)).json _ (name_plain row.id (algorithm_with row.id))
+      ((row.id, omega (arith, are.0.id_fits), refl), ((row.size, omega (arith, are.0.size_fits), refl), tt)),
+  rows_plain rows are.1,
+)
+
+said_plain : (said : Option SpecificationData) → IfSome said IsSpecification → ArePlain (if_some said specification_cell).json 2
+unfolding beside object_at
 said_plain None fit = tt
 said_plain (Some said) fit = (
   (
@@ -83,21 +122,36 @@ said_plain (Some said) fit = (
   tt,
 )
 
+pub header_one_line : (said : Option SpecificationData) (rows : List Row) → IfSome said IsSpecification → AllByRecursion IsRow rows
+    → IsOneLine (header_json said rows)
+unfolding beside each list_at
+header_one_line said rows fit are = one_line (header_json said rows) (rows_plain rows are, said_plain said fit)
+
 -- ---- no fault
 
 pub header_lacks : (said : Option SpecificationData) (rows : List Row) → get (codes "fault") (header_json said rows) ≡ None
+unfolding beside each list_at object_at
 header_lacks None rows = lacks (header_json None rows) refl (refl, tt)
 header_lacks (Some said) rows = lacks (header_json (Some said) rows) refl (refl, (refl, tt))
 
-other : {A : Type 0} (name : List ℕ) (text : A → List ℕ) (value : Option A) → bytes_eq name (codes "fault") ≡ false
-    → AreOther (members_of (optional name (option_map (λ x. string (text x)) value)))
-other name text None is_other = tt
-other name text (Some x) is_other = (is_other, tt)
+type_other : (kind : ℕ) (name : Option (List ℕ)) → AreOther (members_of (type_cell kind name).json)
+unfolding beside
+type_other kind None = (refl, tt)
+type_other kind (Some name) = (refl, (refl, tt))
+
+confirmed_other : (part : Option Part) → AreOther (members_of (confirmed_cell part).json)
+unfolding beside
+confirmed_other None = (refl, tt)
+confirmed_other (Some part) = (refl, tt)
+
+mark_other : (matched : Option (List Pcr)) (event : LogEvent) → AreOther (members_of (mark_cell matched event).json)
+unfolding beside each object_at
+mark_other None event = (refl, tt)
+mark_other (Some places) event = (refl, confirmed_other (confirmed_part places event))
 
 pub event_lacks : (matched : Option (List Pcr)) (number : ℕ) (event : LogEvent) → get (codes "fault") (event_json matched number event) ≡ None
+unfolding beside
 event_lacks matched number event =
-    let type = others_joined (optional (codes "type") (option_map string (event_type_name event.kind))) _
-    (other (codes "type") (λ name. name) (event_type_name event.kind) refl) (refl, tt) in
-    let confirmed = others_joined (confirmed_members matched event) _
-    (other (codes "confirmed") (λ places. confirmed_word (confirmed_part places event)) matched refl) (refl, tt) in
-    lacks (event_json matched number event) refl (others_joined (head_members number event) _ (refl, (refl, type)) (refl, (refl, (refl, confirmed))))
+    let marks = others_joined (mark_cell matched event).json _ (mark_other matched event) (refl, tt) in
+    lacks (event_json matched number event) refl
+    (others_joined (head_cell number event).json _ (refl, (refl, type_other event.kind (event_type_name event.kind))) (refl, (refl, marks)))

@@ -1,4 +1,3 @@
-pub mod ValueLaws
 pub mod ContentLaws
 pub mod CountLaws
 pub mod EventLaws

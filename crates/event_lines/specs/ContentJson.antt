@@ -2,9 +2,11 @@
 -- project's choice.
 use Rattle.std.specs.Prelude.{⊤, ℕ, true, List, [], ◌∷◌, ◌++◌, codes, map, Option, Some, None}
 use Rattle.json.specs.Json.{Json, boolean, string}
+use Rattle.boot_log.specs.Spelling.{LogEvent}
 use Rattle.event_data.specs.declared.command.CommandKind.{CommandKind}
 use Rattle.event_data.specs.declared.command.CommandKind.TheVariants.{Grub, Kernel, Module}
 use Rattle.event_data.specs.Blobs.{BlobData, TaggedData}
+use Rattle.event_data.specs.ContentReading.{content_in}
 use Rattle.event_data.specs.EventForms as forms
 use Rattle.event_data.specs.EventForms.{Content}
 use Rattle.event_data.specs.Forms.{CommandData, ImageData}
@@ -88,6 +90,10 @@ content_members kind (forms.unknown bytes) = (codes "unknown", boolean true) ∷
 
 abbrev pub content_json : ℕ → Content → Json
 content_json kind content = object_of (content_members kind content)
+
+-- What an event's data says.
+abbrev pub event_content_json : LogEvent → Json
+event_content_json event = content_json event.kind (content_in event.kind event.payload)
 
 -- The numbers that the data tells as those of JSON fit.
 abbrev pub IsCountedContent : ℕ → Content → Type 0

@@ -3,9 +3,9 @@ pub mod ContentTexts
 pub mod ValueJson
 pub mod VariableJson
 pub mod ContentJson
+pub mod EventCells
 pub mod EventJson
 pub mod EventTexts
 pub mod Gathering
-pub mod ExplainedTexts
 pub mod LogLines
 pub mod SentEvents

@@ -1,6 +1,9 @@
 -- Texts for people, in which no character steers what shows them. JSON escapes what is below U+0020, and lets the others go out as they are.
 use Rattle.std.specs.Prelude.{ℕ, ◌/◌, ◌%◌, ◌==◌, ◌||◌, ◌&&◌, nat_le, not, Bool, if◌then◌else◌, List, [], ◌∷◌, ◌++◌, codes, chars, encode_utf8, flat_map}
 use Rattle.std.specs.Char.{digit_char}
+use Rattle.json.specs.Json.{Json}
+use Rattle.cells.specs.Cells.{Cell}
+use Rattle.cells.specs.Values.{Member, line_of}
 
 abbrev pub is_between : ℕ → ℕ → ℕ → Bool
 is_between first last character = nat_le first character && nat_le character last
@@ -38,3 +41,7 @@ told_character character = if is_steering character then unicode_escape characte
 -- A text in UTF-8, with each character that steers as its escape. Of JSON it is the same value: they stand only within strings.
 abbrev pub unsteered : List ℕ → List ℕ
 unsteered text = flat_map told_character (chars text)
+
+-- A value: the member of this name. In text, after these words, it ends the line as JSON, in which no character steers what shows it.
+abbrev pub value_cell : List ℕ → List ℕ → Json → Cell Member
+value_cell before key value = record { text = before ++ unsteered (line_of value); json = (key, value) ∷ [] }

@@ -1,6 +1,6 @@
 //! What an event's data says.
 
-ghost use Rattle.std.specs.Prelude.{◌≡◌, [], ◌∷◌, codes, option_map};
+ghost use Rattle.std.specs.Prelude.{◌≡◌, [], ◌∷◌, ◌++◌, codes, option_map, OnOk};
 ghost use Rattle.event_data.specs.Blobs.{blob_of, tagged_of};
 ghost use Rattle.event_data.specs.ContentReading.{content_in};
 ghost use Rattle.event_data.specs.EventForms.{content_of};
@@ -8,35 +8,73 @@ ghost use Rattle.event_data.specs.Forms.{command_of, image_of};
 ghost use Rattle.event_data.specs.Results.{text_in};
 ghost use Rattle.event_lines.specs.ContentTexts.{text_or_hex};
 ghost use Rattle.event_lines.specs.ContentJson.{blob_json, command_json, command_word, content_json, content_members, description_members, image_json, tagged_json};
+ghost use Rattle.event_lines.specs.SteeringTexts.{unsteered, value_cell};
+ghost use Rattle.cells.specs.Cells.{ShowsMembers};
+ghost use Rattle.cells.specs.Values.{line_of};
 ghost use Rattle.cells.specs.Writing.{WritesMembers, WritesValue};
 
 use crate::content_texts::{write_address, write_guid, write_path, write_wide};
 use crate::partitions::write_gpt;
+use crate::steering::append_embedded;
 use crate::variables::write_variable;
-use cells::{Written, write_flag, write_hex, write_number, write_shown, write_text};
+use cells::{CellWriter, Written, write_flag, write_hex, write_number, write_shown, write_text};
 use event_data::{
     Blob, Command, CommandKind, EventContent, Image, Tagged, event_content, read_text,
 };
 use json::Writer;
 use std::alloc::Global;
 
-/// Writes what the data of an event of this type says: an object with one member, which is named by the data's form, as
-/// [`crate::append_event`] has it under `content`. Fails only if memory runs out.
-pub fn write_content(alloc: Global, kind: u32, payload: &[u8], writer: &mut Writer) -> Written
-    ensures { WritesValue result writer.old writer.new (content_json kind (content_in kind payload.now)) }
+/// Shows what the data of an event of this type says: in JSON as the member of this name, an object with one member, which is named by the data's
+/// form, as [`crate::append_event`] has it under `content`; in text, after these words, as a line of JSON in which no character steers what
+/// shows it. Fails only if memory runs out.
+pub fn show_content(
+    alloc: Global,
+    before: &str,
+    key: &str,
+    kind: u32,
+    payload: &[u8],
+    out: &mut CellWriter,
+) -> Written
+    ensures { ShowsMembers result out.old out.new (value_cell before.now key.now (content_json kind (content_in kind payload.now))) }
 {
     let content = event_content(kind, payload);
-    write_form(alloc, kind, &content, writer)
+    show_form(alloc, before, key, kind, &content, out)
 }
 
-/// Writes what decoded data of an event of this type says: as [`write_content`] does, where the data is already decoded. Fails only if
+/// Shows what decoded data of an event of this type says: as [`show_content`] does, where the data is already decoded. Fails only if
 /// memory runs out.
-pub fn write_form(
+pub fn show_form(
     alloc: Global,
+    before: &str,
+    key: &str,
     kind: u32,
     content: &EventContent<'_>,
-    writer: &mut Writer,
+    out: &mut CellWriter,
 ) -> Written
+    ensures { ShowsMembers result out.old out.new (value_cell before.now key.now (content_json kind (content_of content.now))) }
+{
+    match out {
+        CellWriter::Text(shown) => {
+            shown.extend_from_slice(before.as_bytes())?;
+            append_form(alloc, kind, content, shown)
+        }
+        CellWriter::Json(writer) => {
+            writer.key(key)?;
+            write_form(alloc, kind, content, writer)
+        }
+    }
+}
+
+// Appends the line of what decoded data says, in which no character steers what shows it.
+fn append_form(alloc: Global, kind: u32, content: &EventContent<'_>, lines: &mut Vec<u8>) -> Written
+    ensures { OnOk result (lines.new.items ≡ lines.old.items ++ unsteered (line_of (content_json kind (content_of content.now)))) }
+{
+    let mut writer = Writer::new(Vec::new(alloc));
+    write_form(alloc, kind, content, &mut writer)?;
+    append_embedded(writer, lines)
+}
+
+fn write_form(alloc: Global, kind: u32, content: &EventContent<'_>, writer: &mut Writer) -> Written
     ensures { WritesValue result writer.old writer.new (content_json kind (content_of content.now)) }
 {
     writer.begin_object()?;

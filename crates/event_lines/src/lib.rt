@@ -7,13 +7,10 @@
 
 mod content_texts;
 mod contents;
-mod event_form;
 mod event_lines;
 mod events;
-mod explained;
 pub mod laws;
 mod marks;
-mod measured;
 mod partitions;
 mod plain_events;
 mod steering;
@@ -21,9 +18,8 @@ mod values;
 mod variables;
 
 pub use content_texts::write_wide;
-pub use contents::{command_word, write_content, write_form};
+pub use contents::{command_word, show_content, show_form};
 pub use event_lines::{EventsFault, send_events};
 pub use events::{append_event, append_header};
-pub use explained::append_content;
 pub use plain_events::{write_declared, write_event_head, write_events};
-pub use steering::append_unsteered;
+pub use steering::append_embedded;

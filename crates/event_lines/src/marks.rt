@@ -1,57 +1,68 @@
-//! What is confirmed or measured of an event's data, in a few words.
+//! What is measured and confirmed of an event's data.
 
-ghost use Rattle.std.specs.Prelude.{◌≡◌, ◌++◌, codes, option_map};
+ghost use Rattle.std.specs.Prelude.{◌≡◌, codes, option_map, Some};
 ghost use Rattle.boot_log.specs.Spelling.{log_event_of};
-ghost use Rattle.byte_streams.specs.Streams.{Sends};
-ghost use Rattle.event_lines.specs.ExplainedTexts.{confirmed_mark, event_mark, is_measured_somewhere, measured_field, measured_fields, measured_mark};
+ghost use Rattle.cells.specs.Cells.{ShowsMembers, members, object_at};
+ghost use Rattle.event_lines.specs.EventCells.{confirmed_cell, is_measured_somewhere, mark_cell, measured_cell, measured_word, part_cell, part_name, parts_cell, unconfirmed_cell};
 
-use crate::measured::part_name;
 use boot_log::Event;
-use byte_streams::{Failed, Sink, send, send_pieces};
+use cells::{CellWriter, Written};
 use measured_data::{Part, Pcr, confirmed_part, measured_part};
 use pcr_banks::Alg;
 
-/// Writes what the registers which match confirm; where none were compared, what is measured.
-pub(crate) fn write_mark<S: Sink>(
-    event: &Event<'_>,
-    matched: Option<&[Pcr]>,
-    sink: &mut S,
-) -> Result<(), Failed>
-    ensures { Sends (S.state sink.old) (S.state sink.new) result
-        (event_mark (option_map (λ places. places.now) matched.entry) (log_event_of event.now)) }
+/// Shows what is measured, and what the registers which match confirm, if any were compared: then text has this alone. Fails only if memory
+/// runs out.
+pub(crate) fn show_mark(event: &Event<'_>, matched: Option<&[Pcr]>, out: &mut CellWriter) -> Written
+    ensures { ShowsMembers result out.old out.new
+        (mark_cell (option_map (λ places. places.now) matched.entry) (log_event_of event.now)) }
 {
     match matched {
-        Some(places) => write_confirmed_mark(confirmed_part(event, places), sink),
-        None => write_measured_mark(event, sink),
+        Some(places) => show_compared(event, places, out),
+        None => show_measured(event, out),
     }
 }
 
-fn write_confirmed_mark<S: Sink>(part: Option<Part>, sink: &mut S) -> Result<(), Failed>
-    ensures { Sends (S.state sink.old) (S.state sink.new) result (confirmed_mark part) }
+fn show_compared(event: &Event<'_>, places: &[Pcr], out: &mut CellWriter) -> Written
+    ensures { ShowsMembers result out.old out.new (mark_cell (Some places.now) (log_event_of event.now)) }
 {
-    match part {
-        Some(part) => send_pieces(&[b"confirmed ", part_name(part).as_bytes()], sink),
-        None => send(b"claimed", sink),
+    show_measured_member(event, out)?;
+    show_confirmed(confirmed_part(event, places), out)
+}
+
+// Shows in JSON what is measured.
+fn show_measured_member(event: &Event<'_>, out: &mut CellWriter) -> Written
+    ensures { ShowsMembers result out.old out.new (members (measured_cell (log_event_of event.now)).json) }
+{
+    match out {
+        CellWriter::Text(_) => Ok(()),
+        CellWriter::Json(_) => show_measured(event, out),
     }
 }
 
-// Writes the banks in which a part of the data is measured, or that there is none.
-fn write_measured_mark<S: Sink>(event: &Event<'_>, sink: &mut S) -> Result<(), Failed>
-    ensures { Sends (S.state sink.old) (S.state sink.new) result (measured_mark (log_event_of event.now)) }
+// Shows the banks in which a part of the data is measured, and the part, or that there is none.
+fn show_measured(event: &Event<'_>, out: &mut CellWriter) -> Written
+    ensures { ShowsMembers result out.old out.new (measured_cell (log_event_of event.now)) }
+{
+    out.text(measured_word(event))?;
+    show_parts_object(event, out)
+}
+
+fn show_parts_object(event: &Event<'_>, out: &mut CellWriter) -> Written
+    ensures { ShowsMembers result out.old out.new (object_at (codes "measured") (parts_cell (log_event_of event.now))) }
+{
+    out.object("measured")?;
+    show_parts(event, out)?;
+    out.end()
+}
+
+fn measured_word(event: &Event<'_>) -> &'static str
+    ensures { result.now ≡ measured_word (log_event_of event.now) }
 {
     if is_measured_somewhere(event) {
-        write_measured(event, sink)
+        "measured"
     } else {
-        send(b"claimed", sink)
+        "claimed"
     }
-}
-
-// Writes the banks in which a part of the data is measured.
-fn write_measured<S: Sink>(event: &Event<'_>, sink: &mut S) -> Result<(), Failed>
-    ensures { Sends (S.state sink.old) (S.state sink.new) result (codes "measured" ++ measured_fields (log_event_of event.now)) }
-{
-    send(b"measured", sink)?;
-    write_fields(event, sink)
 }
 
 // Whether a part of the data is measured in some bank.
@@ -63,30 +74,56 @@ fn is_measured_somewhere(event: &Event<'_>) -> bool
         .any(|alg| measured_part(event, *alg).is_some())
 }
 
-// Writes each bank in which a part of the data is measured, and the part.
-fn write_fields<S: Sink>(event: &Event<'_>, sink: &mut S) -> Result<(), Failed>
-    ensures { Sends (S.state sink.old) (S.state sink.new) result (measured_fields (log_event_of event.now)) }
+fn show_parts(event: &Event<'_>, out: &mut CellWriter) -> Written
+    ensures { ShowsMembers result out.old out.new (parts_cell (log_event_of event.now)) }
 {
     for alg in &Alg::ALL {
-        write_field(*alg, measured_part(event, *alg), sink)?;
+        show_part(*alg, measured_part(event, *alg), out)?;
     }
     Ok(())
 }
 
-// Writes a space, the bank, a colon and the part, if there is one.
-fn write_field<S: Sink>(alg: Alg, part: Option<Part>, sink: &mut S) -> Result<(), Failed>
-    ensures { Sends (S.state sink.old) (S.state sink.new) result (measured_field alg part) }
+// Shows the bank and the part, if there is one.
+fn show_part(alg: Alg, part: Option<Part>, out: &mut CellWriter) -> Written
+    ensures { ShowsMembers result out.old out.new (part_cell alg part) }
 {
     match part {
-        Some(part) => send_pieces(
-            &[
-                b" ",
-                alg.name().as_bytes(),
-                b":",
-                part_name(part).as_bytes(),
-            ],
-            sink,
-        ),
+        Some(part) => show_named(alg, part, out),
         None => Ok(()),
     }
+}
+
+fn show_named(alg: Alg, part: Part, out: &mut CellWriter) -> Written
+    ensures { ShowsMembers result out.old out.new (part_cell alg (Some part)) }
+{
+    out.text(" ")?;
+    out.text(alg.name())?;
+    out.word(":", alg.name(), part_name(part))
+}
+
+fn part_name(part: Part) -> &'static str
+    ensures { result.now ≡ part_name part }
+{
+    match part {
+        Part::Whole => "data",
+        Part::Value => "value",
+        Part::Command => "command",
+    }
+}
+
+// Shows the part that is confirmed, or that there is none.
+fn show_confirmed(part: Option<Part>, out: &mut CellWriter) -> Written
+    ensures { ShowsMembers result out.old out.new (confirmed_cell part) }
+{
+    match part {
+        Some(part) => out.word("confirmed ", "confirmed", part_name(part)),
+        None => show_unconfirmed(out),
+    }
+}
+
+fn show_unconfirmed(out: &mut CellWriter) -> Written
+    ensures { ShowsMembers result out.old out.new unconfirmed_cell }
+{
+    out.text("claimed")?;
+    out.word_member("confirmed", "none")
 }

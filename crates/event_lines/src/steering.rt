@@ -1,16 +1,30 @@
 //! Texts for people, in which no character steers what shows them.
 
-ghost use Rattle.std.specs.Prelude.{◌≡◌, ℕ, ◌%◌, List, ◌++◌, OnOk, OnErr, chars, flat_map};
+ghost use Rattle.std.specs.Prelude.{◌≡◌, ℕ, ◌%◌, [], List, ◌++◌, OnOk, OnErr, chars, codes, flat_map};
 ghost use Rattle.std.specs.Char.{digit_char};
 ghost use Rattle.std.specs.Str.{IsUtf8};
+ghost use Rattle.json.specs.Print.{print};
 ghost use Rattle.event_lines.specs.SteeringTexts.{is_steering, told_character, unicode_escape, unsteered};
 
 use cells::Written;
+use json::Writer;
 use std::str;
 
-/// Appends a line of JSON, with each character that steers what shows it as its escape. Fails only if memory runs out; the vector then is as
-/// before.
-pub fn append_unsteered(line: &[u8], lines: &mut Vec<u8>) -> Written
+/// Appends the line of the JSON that the writer holds, with each character that steers what shows it as its escape. Fails only if memory runs
+/// out; the vector then is as before.
+#[tactic(auto, using(cells::proofs::WrittenLaws::with_line_feed))]
+pub fn append_embedded(writer: Writer, lines: &mut Vec<u8>) -> Written
+    requires { writer.before ≡ [] }
+    ensures ok { OnOk result (lines.new.items ≡ lines.old.items ++ unsteered (print writer.tokens ++ codes "\n")) }
+    ensures err { OnErr result (lines.new.items ≡ lines.old.items) }
+{
+    let mut line = writer.into_inner();
+    line.push(b'\n')?;
+    append_unsteered(&line, lines)
+}
+
+// Appends a line of JSON so.
+fn append_unsteered(line: &[u8], lines: &mut Vec<u8>) -> Written
     requires { IsUtf8 line.now }
     ensures ok { OnOk result (lines.new.items ≡ lines.old.items ++ unsteered line.now) }
     ensures err { OnErr result (lines.new.items ≡ lines.old.items) }

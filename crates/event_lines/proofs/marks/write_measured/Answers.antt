@@ -1,8 +1,0 @@
-use Rattle.byte_streams.proofs.SinkLaws.{Sends-then, Sends-stops}
-use Rattle.event_lines.proofs.marks.write_measured.Goals as goal
-
-pub returns-in_err-send : goal.returns-in_err-send
-returns-in_err-send g c = Sends-stops _ _ _ _ _ _ _ c.from_residual.ensures.1 c.in_err-send.ensures
-
-pub returns : goal.returns
-returns g c = Sends-then _ _ _ tt _ _ _ c.in_ok-send.ensures c.write_fields.ensures
