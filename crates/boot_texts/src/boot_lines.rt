@@ -1,11 +1,12 @@
 //! The lines of all answers.
 
-ghost use Rattle.std.specs.Prelude.{◌≡◌, ◌++◌, List, ℕ, OnErr, OnOk};
+ghost use Rattle.std.specs.Prelude.{◌≡◌, ◌++◌, List, ℕ, OnErr, OnOk, option_map};
 ghost use Rattle.boot_log.specs.declared.header.Row.{Row};
 ghost use Rattle.boot_log.specs.LogViews.{log_bytes};
 ghost use Rattle.boot_log.specs.Spelling.{IsLog, LogEvent};
-ghost use Rattle.cells.specs.Cells.{rendered};
-ghost use Rattle.boot_texts.specs.AnswerCells.{secure_boot_cell, state_word, word_cell};
+ghost use Rattle.cells.specs.Cells.{ShowsMembers, rendered};
+ghost use Rattle.event_data.specs.EventForms.{content_of};
+ghost use Rattle.boot_texts.specs.AnswerCells.{secure_boot_cell, state_word, version_cell, word_cell};
 ghost use Rattle.boot_texts.specs.BootLines.{AreBootLines, AreCommandLines, AreImageLines, AreVariableLines};
 
 use crate::answering_banks::is_answered;
@@ -14,13 +15,16 @@ use crate::commands::UntoldLine;
 use crate::event_walk::append_each;
 use crate::images::IMAGE_REGISTER;
 use crate::policies::{GRUB_REGISTER, STUB_REGISTER, append_policy};
-use crate::versions::VersionLine;
-use crate::words::WordLine;
 use boot_answers::{SETTINGS_REGISTER, SecureBoot, firmware_version, secure_boot};
 use boot_log::LogView;
-use cells::{Form, Written, append};
+use cells::{CellWriter, Form, Shown, Written, append};
+use event_data::EventContent;
+use event_lines::show_form;
 use measured_data::Pcr;
 use std::alloc::Global;
+
+/// The type of an event with the firmware's version.
+const EV_S_CRTM_VERSION: u32 = 0x0000_0008;
 
 /// Appends the lines of all answers on the boot that the log tells, by the registers in `matched`, those that match. A bank answers for a register
 /// that matches in it, if it is no bank of SHA-1 ([`boot_answers::is_answering`]). Each line is an object of JSON; or, for people
@@ -171,4 +175,60 @@ fn append_variables(
         append_word(alloc, form, "boot_variable", "unknown", lines)?;
     }
     Ok(())
+}
+
+// The line of an answer in one word.
+#[derive(Drop)]
+struct WordLine<'a> {
+    // What is answered.
+    name: &'a str,
+    // The answer.
+    word: &'a str,
+}
+
+impl Shown for WordLine<'_> {
+    ghost cell_of = { λ line. word_cell line.name.now line.word.now };
+
+    fn show(&self, _alloc: Global, out: &mut CellWriter) -> Written {
+        show_word(self.name, self.word, out)
+    }
+}
+
+fn show_word(name: &str, word: &str, out: &mut CellWriter) -> Written
+    ensures { ShowsMembers result out.old out.new (word_cell name.now word.now) }
+{
+    out.text(name)?;
+    out.word(" ", name, word)?;
+    out.text("\n")
+}
+
+// The line of the firmware's version.
+#[derive(Drop)]
+struct VersionLine<'a> {
+    // What is known of it.
+    version: Option<EventContent<'a>>,
+}
+
+impl Shown for VersionLine<'_> {
+    ghost cell_of = { λ line. version_cell (option_map content_of line.version) };
+
+    fn show(&self, alloc: Global, out: &mut CellWriter) -> Written {
+        show_version(alloc, &self.version, out)
+    }
+}
+
+fn show_version(alloc: Global, version: &Option<EventContent<'_>>, out: &mut CellWriter) -> Written
+    ensures { ShowsMembers result out.old out.new (version_cell (option_map content_of version.now)) }
+{
+    match version {
+        Some(content) => show_form(
+            alloc,
+            "firmware_version ",
+            "firmware_version",
+            EV_S_CRTM_VERSION,
+            content,
+            out,
+        ),
+        None => show_word("firmware_version", "unknown", out),
+    }
 }

@@ -17,8 +17,6 @@ pub mod laws;
 mod policies;
 mod policy_scan;
 mod variables;
-mod versions;
-mod words;
 
 pub use boot_lines::append_boot;
 pub use differences::append_differences;

@@ -16,7 +16,7 @@ ghost use Rattle.cells.specs.Writing.{WritesMembers, WritesValue};
 use crate::content_texts::{write_address, write_guid, write_path, write_wide};
 use crate::partitions::write_gpt;
 use crate::steering::append_embedded;
-use crate::variables::write_variable;
+use crate::values::write_variable;
 use cells::{CellWriter, Written, write_flag, write_hex, write_number, write_shown, write_text};
 use event_data::{
     Blob, Command, CommandKind, EventContent, Image, Tagged, event_content, read_text,

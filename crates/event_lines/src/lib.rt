@@ -15,7 +15,6 @@ mod partitions;
 mod plain_events;
 mod steering;
 mod values;
-mod variables;
 
 pub use content_texts::write_wide;
 pub use contents::{command_word, show_content, show_form};

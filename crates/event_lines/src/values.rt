@@ -1,23 +1,47 @@
-//! What the values of UEFI variables say.
+//! UEFI variables, and what their values say.
 
 ghost use Rattle.std.specs.Prelude.{[], ◌∷◌, codes, map};
+ghost use Rattle.event_data.specs.Forms.{variable_of};
 ghost use Rattle.event_data.specs.ValueContents.{says_of};
 ghost use Rattle.event_data.specs.ValueReading.{lists_in, numbers_in, signatures_of};
 ghost use Rattle.event_data.specs.ValueRests.{lists_left, numbers_left};
 ghost use Rattle.event_data.specs.ValueViews.{list_of, load_option_of, signature_of};
 ghost use Rattle.cells.specs.Values.{array_of};
 ghost use Rattle.event_lines.specs.ValueJson.{list_json, load_option_json, option_number_json, owner_values, owners_after, signature_json, value_members};
+ghost use Rattle.event_lines.specs.VariableJson.{variable_json};
 ghost use Rattle.cells.specs.Writing.{WritesItems, WritesMembers, WritesValue};
 
 use crate::content_texts::{write_guid, write_path, write_wide};
 use cells::{Written, write_hex, write_number};
-use event_data::{BootOrder, LoadOption, Signature, SignatureList, SignatureLists, ValueContent};
+use event_data::{
+    BootOrder, LoadOption, Signature, SignatureList, SignatureLists, ValueContent, Variable,
+    value_content,
+};
 use event_texts::guid_text;
 use json::Writer;
 use std::alloc::Global;
 
-/// Writes the member of what the value says; none where its form is not known.
-pub(crate) fn write_says(alloc: Global, content: &ValueContent<'_>, writer: &mut Writer) -> Written
+/// Writes the member of a variable that an event of this type has.
+pub(crate) fn write_variable(
+    alloc: Global,
+    kind: u32,
+    variable: &Variable<'_>,
+    writer: &mut Writer,
+) -> Written
+    ensures { WritesMembers result writer.old writer.new ((codes "variable", variable_json kind (variable_of variable.now)) ∷ []) }
+{
+    writer.key("variable")?;
+    writer.begin_object()?;
+    write_guid(alloc, "guid", variable.guid, writer)?;
+    write_wide(alloc, "name", "name_hex", variable.name, writer)?;
+    write_hex(alloc, "value", variable.value, writer)?;
+    write_says(alloc, &value_content(kind, variable), writer)?;
+    writer.end_object()?;
+    Ok(())
+}
+
+// Writes the member of what the value says; none where its form is not known.
+fn write_says(alloc: Global, content: &ValueContent<'_>, writer: &mut Writer) -> Written
     ensures { WritesMembers result writer.old writer.new (value_members (says_of content.now)) }
 {
     match content {

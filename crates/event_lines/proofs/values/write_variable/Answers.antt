@@ -1,5 +1,5 @@
 use Rattle.cells.proofs.WrittenLaws.{in_object, joined, named}
-use Rattle.event_lines.proofs.variables.write_variable.Goals as goal
+use Rattle.event_lines.proofs.values.write_variable.Goals as goal
 
 pub returns : goal.returns
 returns c =
