@@ -5,14 +5,14 @@ use Rattle.agent_inputs.specs.declared.fault.RunFault.{RunFault}
 use Rattle.agent_inputs.specs.declared.fault.RunFault.TheVariants.{Memory}
 use Rattle.cells.specs.declared.writer.Form.{Form}
 use Rattle.line_chunks.specs.declared.piece.Piece.{Piece}
-use Rattle.line_chunks.specs.declared.piece.Position.{Position}
+use Rattle.line_chunks.specs.declared.piece.LineOffset.{LineOffset}
 use Rattle.line_chunks.specs.Pieces.{is_within}
 use Rattle.ima_verify_c.specs.declared.told.Told.{Told}
 use Rattle.ima_verify_c.specs.Answers.{GivesFound, GivesLines}
 use Rattle.ima_verify_c.proofs.GivingLaws.{refused}
 
-module _ (AreBefore : Position → List ℕ → Type 0) (IsPiece : ℕ → List ℕ → Piece → Type 0) (FailsAfter : List ℕ → RunFault → Type 0) (form : Form)
-    (size : ℕ) (position after : Position) (answer : ℤ) (told : Told) (old new : List ℕ) where
+module _ (AreBefore : LineOffset → List ℕ → Type 0) (IsPiece : ℕ → List ℕ → Piece → Type 0) (FailsAfter : List ℕ → RunFault → Type 0) (form : Form)
+    (size : ℕ) (position after : LineOffset) (answer : ℤ) (told : Told) (old new : List ℕ) where
   -- What was found of the lines, once it is given.
   pub gives_lines : (found : Result (Option Piece) RunFault)
       → IfOk found (λ f. IfSome f (λ piece. (before : List ℕ) → AreBefore position before → IsPiece (length old) before piece))

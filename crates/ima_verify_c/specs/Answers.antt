@@ -13,10 +13,10 @@ use Rattle.agent_inputs.specs.declared.fault.RunFault.TheVariants.{Memory}
 use Rattle.agent_inputs.specs.Faults.{fault_head}
 use Rattle.agent_inputs.specs.Loading.{unknown}
 use Rattle.rendering.specs.Rendering.{GivesAnswer, IsRefusalOn}
-use Rattle.line_chunks.specs.declared.piece.End.{End}
-use Rattle.line_chunks.specs.declared.piece.End.TheVariants.{Last, Longer, More}
+use Rattle.line_chunks.specs.declared.piece.PieceEnd.{PieceEnd}
+use Rattle.line_chunks.specs.declared.piece.PieceEnd.TheVariants.{Last, Longer, More}
 use Rattle.line_chunks.specs.declared.piece.Piece.{Piece}
-use Rattle.line_chunks.specs.declared.piece.Position.{Position}
+use Rattle.line_chunks.specs.declared.piece.LineOffset.{LineOffset}
 use Rattle.line_chunks.specs.Pieces.{AreEntriesBefore, FailsAfterEntries, IsEntryPiece, AreEventsBefore, FailsAfterEvents, IsEventPiece, end_in, is_within}
 use Rattle.rendering.specs.FaultTexts.{fault_line, json_fault_line, said_of}
 use Rattle.tpm_keys.specs.declared.kinds.KeyPart.TheVariants.{All}
@@ -226,23 +226,23 @@ IsAnswerTo request form text status fault = (state : List ℕ) × IsAnswerAndNex
 
 -- A piece that ends so was given: its text is written, and the position is where the next lines begin, with 0 if these are the last lines and 5 if
 -- there are more; or its one line has no room, and the position is as it was.
-abbrev pub GivesText : End → List ℕ → Position → Position → Position → ℤ → Told → List ℕ → List ℕ → Type 0
+abbrev pub GivesText : PieceEnd → List ℕ → LineOffset → LineOffset → LineOffset → ℤ → Told → List ℕ → List ℕ → Type 0
 GivesText Last text next position after answer told old new = (after ≡ next) × IsWritten text 0 None answer told old new
 GivesText More text next position after answer told old new = (after ≡ next) × IsWritten text 5 None answer told old new
 GivesText (Longer size) text next position after answer told old new = (after ≡ position) × IsTooShort size answer told old new
 
-abbrev pub GivesPiece : Piece → Position → Position → ℤ → Told → List ℕ → List ℕ → Type 0
+abbrev pub GivesPiece : Piece → LineOffset → LineOffset → ℤ → Told → List ℕ → List ℕ → Type 0
 GivesPiece piece position after answer told old new = GivesText piece.end piece.text.items piece.next position after answer told old new
 
 -- The position is none: nothing was read or written.
-pub record IsMisused (position after : Position) (answer : ℤ) (told : Told) (old new : List ℕ) : Type 0 where
+pub record IsMisused (position after : LineOffset) (answer : ℤ) (told : Told) (old new : List ℕ) : Type 0 where
   pub answer_is : answer ≡ pos 6
   pub told_is : told ≡ told_of 0 None
   pub position_is : after ≡ position
   pub same : new ≡ old
 
 -- What was found was given: a piece; nothing, since the position is none; or the line of the fault.
-abbrev pub GivesFound : Form → Result (Option Piece) RunFault → Position → Position → ℤ → Told → List ℕ → List ℕ → Type 0
+abbrev pub GivesFound : Form → Result (Option Piece) RunFault → LineOffset → LineOffset → ℤ → Told → List ℕ → List ℕ → Type 0
 GivesFound form (Ok (Some piece)) position after answer told old new = GivesPiece piece position after answer told old new
 GivesFound form (Ok None) position after answer told old new = IsMisused position after answer told old new
 GivesFound form (Err fault) position after answer told old new =
@@ -250,18 +250,18 @@ GivesFound form (Err fault) position after answer told old new =
 
 -- What the call gives of so many bytes, from a position on. Where the lines before it have the text `before`: a piece of what comes then, or
 -- the line of the fault that comes, or that memory ran out.
-pub record GivesLines (AreBefore : Position → List ℕ → Type 0) (IsPiece : ℕ → List ℕ → Piece → Type 0) (FailsAfter : List ℕ → RunFault → Type 0)
-    (form : Form) (size : ℕ) (position after : Position) (answer : ℤ) (told : Told) (old new : List ℕ) : Type 0 where
+pub record GivesLines (AreBefore : LineOffset → List ℕ → Type 0) (IsPiece : ℕ → List ℕ → Piece → Type 0) (FailsAfter : List ℕ → RunFault → Type 0)
+    (form : Form) (size : ℕ) (position after : LineOffset) (answer : ℤ) (told : Told) (old new : List ℕ) : Type 0 where
   pub misused : is_within position size ≡ false → IsMisused position after answer told old new
   pub gives : (before : List ℕ) → AreBefore position before
       → ((piece : Piece) × IsPiece (length old) before piece × GivesPiece piece position after answer told old new)
       ⊎ ((after ≡ position) × Answers (IsRefusal (λ fault. FailsAfter before fault ⊎ (fault ≡ Memory)) form) answer told old new)
 
-abbrev pub GivesEntries : Form → List ℕ → Position → Position → ℤ → Told → List ℕ → List ℕ → Type 0
+abbrev pub GivesEntries : Form → List ℕ → LineOffset → LineOffset → ℤ → Told → List ℕ → List ℕ → Type 0
 GivesEntries form list position after answer told old new =
     GivesLines (AreEntriesBefore form list) (IsEntryPiece form list) (FailsAfterEntries form list) form (end_in form list) position after answer told
     old new
 
-abbrev pub GivesEvents : List ℕ → Position → Position → ℤ → Told → List ℕ → List ℕ → Type 0
+abbrev pub GivesEvents : List ℕ → LineOffset → LineOffset → ℤ → Told → List ℕ → List ℕ → Type 0
 GivesEvents log position after answer told old new =
     GivesLines (AreEventsBefore log) (IsEventPiece log) (FailsAfterEvents log) Json (length log) position after answer told old new

@@ -25,7 +25,7 @@ use crate::requests::{
 };
 use agent_plans::Form;
 use judging::{Attesting, Input, ReportKind, Request, Required};
-use line_chunks::{Position, entry_lines, event_lines};
+use line_chunks::{LineOffset, entry_lines, event_lines};
 use std::alloc::Global;
 pub use told::Told;
 
@@ -252,7 +252,7 @@ pub extern "C" fn ima_verify_raw_events(
     ensures { GivesEvents log.now (record { offset = offset.old; number = number.old }) (record { offset = offset.new; number = number.new })
         result told.new out.old out.new }
 {
-    let position = Position {
+    let position = LineOffset {
         offset: *offset,
         number: *number,
     };
@@ -274,7 +274,7 @@ pub extern "C" fn ima_verify_raw_entries(
     ensures { GivesEntries (form_of json) list.now (record { offset = offset.old; number = number.old })
         (record { offset = offset.new; number = number.new }) result told.new out.old out.new }
 {
-    let position = Position {
+    let position = LineOffset {
         offset: *offset,
         number: *number,
     };

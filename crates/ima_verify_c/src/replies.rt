@@ -10,7 +10,7 @@ use agent_inputs::{FaultKind, RunFault};
 use agent_plans::Form;
 use byte_streams::{Failed, VecSink};
 use judging::Request;
-use line_chunks::{End, Piece, Position};
+use line_chunks::{PieceEnd, Piece, LineOffset};
 use rendering::{
     Rendered, json_fault_line, json_memory_line, memory_line, output_on, status_of, write_fault,
 };
@@ -124,9 +124,9 @@ fn give_piece(
         result told.new out.old out.new }
 {
     let status = match piece.end {
-        End::Last => 0,
-        End::More => MORE,
-        End::Longer(size) => {
+        PieceEnd::Last => 0,
+        PieceEnd::More => MORE,
+        PieceEnd::Longer(size) => {
             *told = Told::of(size, None);
             return TOO_SHORT;
         }

@@ -15,7 +15,7 @@ use Rattle.ima_list.specs.Spelling.{BeginsWith, IsReading, list_spelling}
 use Rattle.entry_lines.specs.EntryJson.{entry_json}
 use Rattle.cells.specs.Values as json
 use Rattle.entry_lines.specs.ListLines.{AreAllEntries, entry_lines, last_line}
-use Rattle.line_chunks.specs.declared.piece.Position.{Position}
+use Rattle.line_chunks.specs.declared.piece.LineOffset.{LineOffset}
 use Rattle.line_chunks.specs.Pieces.{AreEntriesBefore, AreItemsBefore, FailsAfterEntries, HasEntryLine, end_in, is_within, line_in, lines_in, whole_in}
 use Rattle.line_chunks.proofs.LineLaws.{next_item, numbered_last, part_is}
 
@@ -49,11 +49,11 @@ no_entries_before Json list = inl (record {
   text_is = refl;
 })
 
-not_within : (position : Position) (size : ℕ) → is_within position size ≡ false → position.number ≤ position.offset → position.offset ≤ size → ⊥
+not_within : (position : LineOffset) (size : ℕ) → is_within position size ≡ false → position.number ≤ position.offset → position.offset ≤ size → ⊥
 not_within position size none few within = grind (arith, nat_tests)
 
 -- A position that is not within the lines has none before it.
-pub none_before : (form : Form) (list : List ℕ) (position : Position) (before : List ℕ) → is_within position (end_in form list) ≡ false
+pub none_before : (form : Form) (list : List ℕ) (position : LineOffset) (before : List ℕ) → is_within position (end_in form list) ≡ false
     → AreEntriesBefore form list position before → ⊥
 none_before Text list position before none (inl are) = not_within position (length list) none are.few (omega (arith, are.offset_is))
 none_before Text list position before none (inr all) = let no : Text ≡ Json = all.form_is in absurd cc
@@ -68,7 +68,7 @@ within_list Json list number offset few within = (few, omega (arith, within))
 
 -- ---- before the end of the list
 
-module _ (form : Form) (list : List ℕ) (position : Position) (before left : List ℕ)
+module _ (form : Form) (list : List ℕ) (position : LineOffset) (before left : List ℕ)
     (part : left ≡ take (length list - position.offset) (drop position.offset list)) (some : position.offset < length list) where
   -- The list begins with the entries before the position, and the part of it from there on follows them.
   begins_here : (are : AreItemsBefore (BeginsWith list) (lines_in form) list position before) → BeginsWith list are.items left
@@ -107,7 +107,7 @@ module _ (form : Form) (list : List ℕ) (position : Position) (before left : Li
 
 -- ---- at its end
 
-module _ (list : List ℕ) (position : Position) (end : length list ≤ position.offset) (before : List ℕ)
+module _ (list : List ℕ) (position : LineOffset) (end : length list ≤ position.offset) (before : List ℕ)
     (law : (bytes : List ℕ) (entries : List ListEntry) → BeginsWith bytes entries [] → IsReading bytes (Ok entries)) where
   reading_here : {show : List ListEntry → List ℕ} (are : AreItemsBefore (BeginsWith list) show list position before) → IsReading list (Ok are.items)
   reading_here are =
@@ -139,7 +139,7 @@ module _ (list : List ℕ) (position : Position) (end : length list ≤ position
   count_next within (inr all) = absurd (omega (arith, within, all.offset_is))
 
 -- Behind the number are no more lines.
-pub all_counted : (list : List ℕ) (position : Position) (before : List ℕ) → length list < position.offset
+pub all_counted : (list : List ℕ) (position : LineOffset) (before : List ℕ) → length list < position.offset
     → AreEntriesBefore Json list position before → AreAllEntries (whole_in Json) list before
 all_counted list position before past (inl are) = absurd (omega (arith, past, are.offset_is))
 all_counted list position before past (inr all) = record { entries = all.entries; reading = all.reading; text_is = all.text_is }

@@ -4,7 +4,7 @@ use Rattle.std.proofs.Math.Seq.{drop-append_seam}
 use Rattle.std.proofs.lemmas.List.{append-nil, length-append, length-drop, length-take-le, take_all}
 use Rattle.std.proofs.lemmas.Bool.{eqb-true}
 use Rattle.cells.specs.ItemLines.{numbered_lines}
-use Rattle.line_chunks.specs.declared.piece.Position.{Position}
+use Rattle.line_chunks.specs.declared.piece.LineOffset.{LineOffset}
 use Rattle.line_chunks.specs.Pieces.{AreItemsBefore, HasItemLine}
 
 pub numbered_last : {A : Type 0} (line : ℕ → A → List ℕ) (number : ℕ) (items : List A) (item : A)
@@ -20,7 +20,7 @@ numbered_last {A} line number (first ∷ items) item =
 
 -- One more item, after which so many bytes are left.
 pub next_item : {A : Type 0} (Begin : List A → List ℕ → Type 0) (show : List A → List ℕ) (line_of : ℕ → A → List ℕ) (bytes : List ℕ)
-    (position : Position) (before after : List ℕ) (left : ℕ) (item : A) (are : AreItemsBefore Begin show bytes position before)
+    (position : LineOffset) (before after : List ℕ) (left : ℕ) (item : A) (are : AreItemsBefore Begin show bytes position before)
     → Begin (are.items ++ item ∷ []) after → show (are.items ++ item ∷ []) ≡ show are.items ++ line_of (length are.items) item
     → left ≡ length after → position.offset < length bytes - left
     → HasItemLine Begin show line_of before (line_of position.number item)

@@ -7,24 +7,24 @@ use Rattle.std.proofs.lemmas.List.{append-nil, length-append}
 use Rattle.agent_inputs.specs.declared.fault.RunFault.{RunFault}
 use Rattle.agent_inputs.specs.declared.fault.RunFault.TheVariants.{Memory}
 use Rattle.cells.specs.ItemLines.{EndsWithFault}
-use Rattle.line_chunks.specs.declared.piece.End.{End}
-use Rattle.line_chunks.specs.declared.piece.End.TheVariants.{Last, Longer, More}
+use Rattle.line_chunks.specs.declared.piece.PieceEnd.{PieceEnd}
+use Rattle.line_chunks.specs.declared.piece.PieceEnd.TheVariants.{Last, Longer, More}
 use Rattle.line_chunks.specs.declared.piece.Piece.{Piece}
-use Rattle.line_chunks.specs.declared.piece.Position.{Position}
+use Rattle.line_chunks.specs.declared.piece.LineOffset.{LineOffset}
 use Rattle.line_chunks.specs.Pieces.{AreInTurn, EndsSo, IsGiven, IsLineOf, IsNextLine, IsPiece, IsWithin, Series}
 
 -- The text has lines from the start to where the next begin, and they fit into the room.
-pub record HasGathered (lines : Series) (size room : ℕ) (start next : Position) (text : List ℕ) : Type 0 where
+pub record HasGathered (lines : Series) (size room : ℕ) (start next : LineOffset) (text : List ℕ) : Type 0 where
   pub within : IsWithin next size
   pub fits : length text ≤ room
   pub are : (before : List ℕ) → lines.AreBefore start before → lines.AreBefore next (before ++ text)
 
-module _ (lines : Series) (size room : ℕ) (start : Position) where
+module _ (lines : Series) (size room : ℕ) (start : LineOffset) where
   pub gathered_none : IsWithin start size → HasGathered lines size room start start []
   gathered_none within =
       record { within = within; fits = omega arith; are = λ before is. subst (lines.AreBefore start) (sym (append-nil before)) is }
 
-  pub gathered_more : (next after : Position) (text more line : List ℕ) → HasGathered lines size room start next text → IsWithin after size
+  pub gathered_more : (next after : LineOffset) (text more line : List ℕ) → HasGathered lines size room start next text → IsWithin after size
       → more ≡ text ++ line → IsNextLine lines next after line → length more ≤ room
       → HasGathered lines size room start after more
   gathered_more next after text more line gathered within parts is fits = record {
@@ -35,14 +35,14 @@ module _ (lines : Series) (size room : ℕ) (start : Position) where
         (is (before ++ text) (gathered.are before starts)).1;
   }
 
-  piece_of : (before text : List ℕ) (next : Position) (end : End) (piece : Piece) → piece.text.items ≡ text → piece.next ≡ next
+  piece_of : (before text : List ℕ) (next : LineOffset) (end : PieceEnd) (piece : Piece) → piece.text.items ≡ text → piece.next ≡ next
       → piece.end ≡ end → lines.AreBefore next (before ++ text) → EndsSo lines room before text end
       → IsPiece lines room before piece
   piece_of before text next end piece same_text same_next same_end are ends =
       record { next = rw (same_text, same_next) are; ends = rw (same_text, same_end) ends }
 
   -- There are no more lines.
-  pub last_piece : (next : Position) (text : List ℕ) (piece : Piece) → HasGathered lines size room start next text
+  pub last_piece : (next : LineOffset) (text : List ℕ) (piece : Piece) → HasGathered lines size room start next text
       → ((before : List ℕ) → lines.AreBefore next before → lines.AreAll before) → piece.text.items ≡ text → piece.next ≡ next → piece.end ≡ Last
       → (before : List ℕ) → lines.AreBefore start before → IsPiece lines room before piece
   last_piece next text piece gathered all same_text same_next same_end before starts =
@@ -50,7 +50,7 @@ module _ (lines : Series) (size room : ℕ) (start : Position) where
       piece_of before text next Last piece same_text same_next same_end are (all (before ++ text) are)
 
   -- The next line has no room.
-  cut_ends : (next after : Position) (text line : List ℕ) (end : End) → HasGathered lines size room start next text
+  cut_ends : (next after : LineOffset) (text line : List ℕ) (end : PieceEnd) → HasGathered lines size room start next text
       → IsNextLine lines next after line → room < length (text ++ line)
       → end ≡ (if length text == 0 then Longer (length (text ++ line)) else More)
       → (before : List ℕ) → lines.AreBefore start before → EndsSo lines room before text end
@@ -61,7 +61,7 @@ module _ (lines : Series) (size room : ℕ) (start : Position) where
       let has = (is (before ++ (byte ∷ text)) (gathered.are before starts)).0 in
       rw (end_is, eqb-suc-zero (length text)) (omega arith, inl (line, has, omega (arith, long, length-append (byte ∷ text) line)))
 
-  pub cut_piece : (next after : Position) (text more line : List ℕ) (kept : ℕ) (piece : Piece)
+  pub cut_piece : (next after : LineOffset) (text more line : List ℕ) (kept : ℕ) (piece : Piece)
       → HasGathered lines size room start next text → kept ≡ length text → more ≡ text ++ line
       → IsNextLine lines next after line → room < length more → piece.text.items ≡ take kept more → piece.next ≡ next
       → piece.end ≡ (if kept == 0 then Longer (length more) else More)
@@ -73,7 +73,7 @@ module _ (lines : Series) (size room : ℕ) (start : Position) where
       piece_of before text next piece.end piece text_is same_next refl (gathered.are before starts) ends
 
   -- A fault comes next.
-  pub stopped_piece : (next : Position) (text : List ℕ) (fault : RunFault) (piece : Piece) → HasGathered lines size room start next text
+  pub stopped_piece : (next : LineOffset) (text : List ℕ) (fault : RunFault) (piece : Piece) → HasGathered lines size room start next text
       → (fault ≡ Memory → ⊥) → 0 < length text
       → (fault ≡ Memory) ⊎ ((before : List ℕ) → lines.AreBefore next before → lines.FailsAfter before fault)
       → piece.text.items ≡ text → piece.next ≡ next → piece.end ≡ More
@@ -83,7 +83,7 @@ module _ (lines : Series) (size room : ℕ) (start : Position) where
       let are = gathered.are before starts in
       piece_of before text next More piece same_text same_next same_end are (some, inr (fault, fails (before ++ text) are))
 
-  pub fails_first : (next : Position) (text : List ℕ) (fault reason : RunFault) → HasGathered lines size room start next text
+  pub fails_first : (next : LineOffset) (text : List ℕ) (fault reason : RunFault) → HasGathered lines size room start next text
       → reason ≡ fault → (text ≡ []) ⊎ (fault ≡ Memory)
       → (fault ≡ Memory) ⊎ ((before : List ℕ) → lines.AreBefore next before → lines.FailsAfter before fault)
       → (reason ≡ Memory) ⊎ ((before : List ℕ) → lines.AreBefore start before → lines.FailsAfter before reason)
@@ -94,7 +94,7 @@ module _ (lines : Series) (size room : ℕ) (start : Position) where
       rw same (subst (λ (t : List ℕ). lines.FailsAfter t fault) whole (fails (before ++ text) (gathered.are before starts))))
 
 -- Pieces one after another, each from where the one before it ended, have the lines up to where the last one ended.
-pub in_turn : (lines : Series) (position end : Position) (before : List ℕ) (pieces : List Piece) → AreInTurn lines position pieces end
+pub in_turn : (lines : Series) (position end : LineOffset) (before : List ℕ) (pieces : List Piece) → AreInTurn lines position pieces end
     → lines.AreBefore position before → lines.AreBefore end (before ++ flat_map (λ piece. piece.text.items) pieces)
 in_turn lines position end before [] ends are = rw ends (subst (lines.AreBefore position) (sym (append-nil before)) are)
 in_turn lines position end before (piece ∷ pieces) turn are =
@@ -102,7 +102,7 @@ in_turn lines position end before (piece ∷ pieces) turn are =
     (in_turn lines piece.next end (before ++ piece.text.items) pieces turn.1 (turn.0.1 before are).next)
 
 -- Up to where a fault comes next, with its line after them, they have what comes before it, and then the line.
-pub to_a_fault : (lines : Series) (first end : Position) (pieces : List Piece) (fault : RunFault) (line : List ℕ) (status : ℕ)
+pub to_a_fault : (lines : Series) (first end : LineOffset) (pieces : List Piece) (fault : RunFault) (line : List ℕ) (status : ℕ)
     → lines.AreBefore first [] → AreInTurn lines first pieces end
     → ((before : List ℕ) → lines.AreBefore end before → lines.FailsAfter before fault)
     → EndsWithFault lines.FailsAfter (IsLineOf fault line status) (flat_map (λ piece. piece.text.items) pieces ++ line) status
@@ -111,7 +111,7 @@ to_a_fault lines first end pieces fault line status none turn fails =
     (text, fault, line, fails text (in_turn lines first end [] pieces turn none), (refl, refl, refl), refl)
 
 -- Up to the last of them they have all lines.
-pub to_the_last : (lines : Series) (first position : Position) (pieces : List Piece) (piece : Piece) → lines.AreBefore first []
+pub to_the_last : (lines : Series) (first position : LineOffset) (pieces : List Piece) (piece : Piece) → lines.AreBefore first []
     → AreInTurn lines first pieces position → IsGiven lines position piece → piece.end ≡ Last
     → lines.AreAll (flat_map (λ piece. piece.text.items) pieces ++ piece.text.items)
 to_the_last lines first position pieces piece none turn given last =

@@ -2,10 +2,10 @@
 use Rattle.std.specs.Prelude.{◌≡◌, ℕ, ◌+◌, ◌<◌, ◌≤◌, ◌⊎◌, ◌&&◌, Bool, nat_le, List, [], ◌∷◌, ◌++◌, length, Option, Some, None, Result, Ok, Err, flat_map}
 use Rattle.agent_inputs.specs.declared.fault.RunFault.{RunFault}
 use Rattle.agent_inputs.specs.declared.fault.RunFault.TheVariants.{Memory}
-use Rattle.line_chunks.specs.declared.piece.End.{End}
-use Rattle.line_chunks.specs.declared.piece.End.TheVariants.{Last, Longer, More}
+use Rattle.line_chunks.specs.declared.piece.PieceEnd.{PieceEnd}
+use Rattle.line_chunks.specs.declared.piece.PieceEnd.TheVariants.{Last, Longer, More}
 use Rattle.line_chunks.specs.declared.piece.Piece.{Piece}
-use Rattle.line_chunks.specs.declared.piece.Position.{Position}
+use Rattle.line_chunks.specs.declared.piece.LineOffset.{LineOffset}
 use Rattle.agent_inputs.specs.Faults.{fault_of_list, fault_of_log}
 use Rattle.cells.specs.declared.writer.Form.{Form}
 use Rattle.cells.specs.declared.writer.Form.TheVariants.{Json, Text}
@@ -25,14 +25,14 @@ use Rattle.cells.specs.declared.writer.Form.TheVariants as events
 use Rattle.event_lines.specs.SentEvents as sent
 
 -- Where the first line begins.
-abbrev pub start : Position
+abbrev pub start : LineOffset
 start = record { offset = 0; number = 0 }
 
 -- So many entries or events may be before the position, in as many bytes, each of which takes one at least.
-abbrev pub is_within : Position → ℕ → Bool
+abbrev pub is_within : LineOffset → ℕ → Bool
 is_within position size = nat_le position.number position.offset && nat_le position.offset size
 
-abbrev pub IsWithin : Position → ℕ → Type 0
+abbrev pub IsWithin : LineOffset → ℕ → Type 0
 IsWithin position size = (position.number ≤ position.offset) × (position.offset ≤ size)
 
 -- ---- lines
@@ -40,7 +40,7 @@ IsWithin position size = (position.number ≤ position.offset) × (position.offs
 -- Lines one after another.
 pub record Series : Type 1 where
   -- the lines before this position have this text
-  pub AreBefore : Position → List ℕ → Type 0
+  pub AreBefore : LineOffset → List ℕ → Type 0
   -- after lines with this text comes this line
   pub HasLine : List ℕ → List ℕ → Type 0
   -- all lines have this text
@@ -50,7 +50,7 @@ pub record Series : Type 1 where
 
 -- The bytes begin with items whose lines are this text: as many as the number of the position, at whose offset they end. They are no more
 -- than the bytes that they take.
-pub record AreItemsBefore {A : Type 0} (Begin : List A → List ℕ → Type 0) (show : List A → List ℕ) (bytes : List ℕ) (position : Position)
+pub record AreItemsBefore {A : Type 0} (Begin : List A → List ℕ → Type 0) (show : List A → List ℕ) (bytes : List ℕ) (position : LineOffset)
     (text : List ℕ) : Type 0 where
   pub items : List A
   pub rest : List ℕ
@@ -71,12 +71,12 @@ pub record HasItemLine {A : Type 0} (Begin : List A → List ℕ → Type 0) (sh
   pub line_is : line ≡ line_of (length items) item
 
 -- Whatever comes before the position, the line is the next, and it ends at the position after it.
-abbrev pub IsNextLine : Series → Position → Position → List ℕ → Type 0
+abbrev pub IsNextLine : Series → LineOffset → LineOffset → List ℕ → Type 0
 IsNextLine lines position after line =
     (before : List ℕ) → lines.AreBefore position before → lines.HasLine before line × lines.AreBefore after (before ++ line)
 
 -- The line at the position was appended; or nothing was, since there is none, or it has a fault.
-abbrev pub Appends : Series → ℕ → Position → List ℕ → List ℕ → Result (Option Position) RunFault → Type 0
+abbrev pub Appends : Series → ℕ → LineOffset → List ℕ → List ℕ → Result (Option LineOffset) RunFault → Type 0
 Appends lines size position old new (Ok (Some after)) =
     (position.offset < after.offset) × IsWithin after size × ((line : List ℕ) × (new ≡ old ++ line) × IsNextLine lines position after line)
 Appends lines size position old new (Ok None) =
@@ -88,7 +88,7 @@ Appends lines size position old new (Err fault) =
 
 -- Why a piece with this text ends, after lines with the text `before`. `Last`: they are all lines. `More`: it has some, and the next line has
 -- no more room, or a fault comes next. `Longer`: it has none, and the next line, of this size, has no room.
-abbrev pub EndsSo : Series → ℕ → List ℕ → List ℕ → End → Type 0
+abbrev pub EndsSo : Series → ℕ → List ℕ → List ℕ → PieceEnd → Type 0
 EndsSo lines room before text Last = lines.AreAll (before ++ text)
 EndsSo lines room before text More =
     (0 < length text)
@@ -103,11 +103,11 @@ pub record IsPiece (lines : Series) (room : ℕ) (before : List ℕ) (piece : Pi
   pub ends : EndsSo lines room before piece.text.items piece.end
 
 -- The piece is given from this position, with some room.
-abbrev pub IsGiven : Series → Position → Piece → Type 0
+abbrev pub IsGiven : Series → LineOffset → Piece → Type 0
 IsGiven lines position piece = (room : ℕ) × ((before : List ℕ) → lines.AreBefore position before → IsPiece lines room before piece)
 
 -- Pieces one after another, each from the position that the one before it gives.
-abbrev pub AreInTurn : Series → Position → List Piece → Position → Type 0
+abbrev pub AreInTurn : Series → LineOffset → List Piece → LineOffset → Type 0
 AreInTurn lines position [] end = end ≡ position
 AreInTurn lines position (piece ∷ pieces) end = IsGiven lines position piece × AreInTurn lines piece.next pieces end
 
@@ -138,7 +138,7 @@ whole_in Text entries = flat_map line_of entries
 whole_in Json entries = shown.list_lines (Some Json) entries
 
 -- The text is all lines of the list as JSON, and the position is behind the last of them.
-pub record AreCounted (form : Form) (list : List ℕ) (position : Position) (text : List ℕ) : Type 0 where
+pub record AreCounted (form : Form) (list : List ℕ) (position : LineOffset) (text : List ℕ) : Type 0 where
   pub form_is : form ≡ Json
   pub entries : List ListEntry
   pub reading : IsReading list (Ok entries)
@@ -148,7 +148,7 @@ pub record AreCounted (form : Form) (list : List ℕ) (position : Position) (tex
   pub text_is : text ≡ shown.list_lines (Some Json) entries
 
 -- The list begins with entries whose lines are this text, up to the position; or the text is all of its lines as JSON.
-abbrev pub AreEntriesBefore : Form → List ℕ → Position → List ℕ → Type 0
+abbrev pub AreEntriesBefore : Form → List ℕ → LineOffset → List ℕ → Type 0
 AreEntriesBefore form list position text =
     AreItemsBefore (BeginsWith list) (lines_in form) list position text ⊎ AreCounted form list position text
 
@@ -189,7 +189,7 @@ abbrev pub log_lines : List ℕ → List Row → List LogEvent → List ℕ
 log_lines log table read = sent.log_lines events.Json None log table read
 
 -- The log begins with a header and events whose lines are this text, up to the position; or nothing comes before it.
-abbrev pub AreEventsBefore : List ℕ → Position → List ℕ → Type 0
+abbrev pub AreEventsBefore : List ℕ → LineOffset → List ℕ → Type 0
 AreEventsBefore log position text =
     ((position ≡ start) × (text ≡ []))
     ⊎ ((0 < position.offset) × ((table : List Row) × AreItemsBefore (logs.BeginsWith log table) (log_lines log table) log position text))

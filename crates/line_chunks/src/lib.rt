@@ -1,5 +1,5 @@
 //! The lines of a list's entries and of a log's events, by pieces: as many whole lines as there is room for, and where the next begin.
-//! Nothing is kept between two pieces but a [`Position`], and no more than a piece and one line is in memory.
+//! Nothing is kept between two pieces but a [`LineOffset`], and no more than a piece and one line is in memory.
 #![tactic(auto)]
 
 mod entry_pieces;
@@ -9,4 +9,4 @@ mod piece;
 
 pub use entry_pieces::entry_lines;
 pub use event_pieces::event_lines;
-pub use piece::{End, Piece, Position};
+pub use piece::{PieceEnd, Piece, LineOffset};

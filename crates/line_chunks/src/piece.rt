@@ -2,22 +2,22 @@
 
 ghost use Rattle.std.specs.Prelude.{◌≡◌, ℕ, ◌<◌, ◌≤◌, ◌⊎◌, ◌==◌, if◌then◌else◌, List, [], length, take, IfOk, IfErr};
 ghost use Rattle.agent_inputs.specs.declared.fault.RunFault.TheVariants.{Memory};
-ghost use Rattle.line_chunks.specs.declared.piece.End.TheVariants.{Longer, More};
+ghost use Rattle.line_chunks.specs.declared.piece.PieceEnd.TheVariants.{Longer, More};
 ghost use Rattle.line_chunks.specs.Pieces.{Appends, IsPiece, IsWithin, is_within};
 
 use agent_inputs::RunFault;
 use std::alloc::Global;
 
-/// Where lines go on: how many bytes come before, and how many entries or events. Lines begin at `Position::START`.
+/// Where lines go on: how many bytes come before, and how many entries or events. Lines begin at `LineOffset::START`.
 #[derive(Clone, Copy, Debug, PartialEq, Eq)]
-pub struct Position {
+pub struct LineOffset {
     /// How many bytes come before it; behind the line of how many entries a list has, one more than the list has.
     pub offset: usize,
     /// How many entries or events come before it.
     pub number: usize,
 }
 
-impl Position {
+impl LineOffset {
     /// Whether so many entries or events may be before it, in as many bytes.
     pub(crate) fn is_within(self, size: usize) -> bool
         ensures { result ≡ is_within self size }
@@ -28,7 +28,7 @@ impl Position {
 
 /// Why a piece ends.
 #[derive(Clone, Copy, Debug, PartialEq, Eq)]
-pub enum End {
+pub enum PieceEnd {
     /// There are no more lines.
     Last,
     /// There are more: the next line has no more room, or a fault comes next.
@@ -43,13 +43,13 @@ pub struct Piece {
     /// The lines.
     pub text: Vec<u8>,
     /// Where the next begin.
-    pub next: Position,
+    pub next: LineOffset,
     /// Why there are no more of them.
-    pub end: End,
+    pub end: PieceEnd,
 }
 
 /// The position after a line that was appended; or `None`, if there are no more lines.
-pub(crate) type Appended = Result<Option<Position>, RunFault>;
+pub(crate) type Appended = Result<Option<LineOffset>, RunFault>;
 
 /// Lines, each at a position.
 pub(crate) trait Lines {
@@ -62,7 +62,7 @@ pub(crate) trait Lines {
     ghost size: { Self → ℕ };
 
     /// Appends the line at this position.
-    fn append(&self, alloc: Global, position: Position, text: &mut Vec<u8>) -> Appended
+    fn append(&self, alloc: Global, position: LineOffset, text: &mut Vec<u8>) -> Appended
         requires { IsWithin position (size self.now) }
         ensures { Appends (series self.now) (size self.now) position text.old.items text.new.items result };
 }
@@ -71,7 +71,7 @@ pub(crate) trait Lines {
 pub(crate) fn fill<L: Lines>(
     alloc: Global,
     lines: &L,
-    start: Position,
+    start: LineOffset,
     room: usize,
 ) -> Result<Piece, RunFault>
     requires { IsWithin start (L.size lines.now) }
@@ -91,7 +91,7 @@ pub(crate) fn fill<L: Lines>(
                 return Ok(Piece {
                     text,
                     next,
-                    end: End::Last,
+                    end: PieceEnd::Last,
                 });
             }
             Err(fault) => return stop(fault, text, next),
@@ -104,7 +104,7 @@ pub(crate) fn fill<L: Lines>(
 }
 
 // The piece with the lines before this fault, if there are some. If memory ran out there is none.
-fn stop(fault: RunFault, text: Vec<u8>, next: Position) -> Result<Piece, RunFault>
+fn stop(fault: RunFault, text: Vec<u8>, next: LineOffset) -> Result<Piece, RunFault>
     ensures ok { IfOk result (λ piece. (piece ≡ record { text = text; next = next; end = More }) × (0 < length text.items)
         × (fault ≡ Memory → ⊥)) }
     ensures err { IfErr result (λ reason. (reason ≡ fault) × ((text.items ≡ []) ⊎ (fault ≡ Memory))) }
@@ -115,12 +115,12 @@ fn stop(fault: RunFault, text: Vec<u8>, next: Position) -> Result<Piece, RunFaul
     Ok(Piece {
         text,
         next,
-        end: End::More,
+        end: PieceEnd::More,
     })
 }
 
 // The piece with so many bytes of this text, of which the last line has no room.
-fn cut(text: Vec<u8>, kept: usize, next: Position) -> Piece
+fn cut(text: Vec<u8>, kept: usize, next: LineOffset) -> Piece
     requires { kept ≤ length text.items }
     ensures text { result.text.items ≡ take kept text.items }
     ensures next { result.next ≡ next }
@@ -130,9 +130,9 @@ fn cut(text: Vec<u8>, kept: usize, next: Position) -> Piece
     let size = text.len();
     text.truncate(kept);
     let end = if kept == 0 {
-        End::Longer(size)
+        PieceEnd::Longer(size)
     } else {
-        End::More
+        PieceEnd::More
     };
     Piece { text, next, end }
 }
