@@ -6,9 +6,9 @@ ghost use Rattle.attestations.specs.Quoted.{bank_selection_of, stated_by, stated
 
 use pcr_banks::Alg;
 use std::alloc::{AllocError, Global};
-use tpm_quotes::{Clock, Quote, Selection};
+use tpm_quotes::{Clock, Quote, QuotedSelection};
 
-/// The registers of a bank that a quote selects: as [`Selection`], but with bits of its own.
+/// The registers of a bank that a quote selects: as [`QuotedSelection`], but with bits of its own.
 #[derive(Drop)]
 pub struct Selected {
     /// The bank.
@@ -19,10 +19,10 @@ pub struct Selected {
 
 impl Selected {
     // The selection as a quote has it, with these bits.
-    fn selection(&self) -> Selection<'_>
+    fn selection(&self) -> QuotedSelection<'_>
         ensures { result.bits.now ≡ self.now.bits.items }
     {
-        Selection {
+        QuotedSelection {
             alg: self.alg,
             bits: &self.bits,
         }
@@ -72,7 +72,7 @@ impl Quoted {
 }
 
 // The selections, with bits of their own.
-fn selected_of(alloc: Global, selections: &[Selection<'_>]) -> Result<Vec<Selected>, AllocError>
+fn selected_of(alloc: Global, selections: &[QuotedSelection<'_>]) -> Result<Vec<Selected>, AllocError>
     ensures { IfOk result (λ selected. map bank_selection_of selected.items ≡ map selection_of selections.now) }
 {
     let mut selected = Vec::new(alloc);

@@ -14,7 +14,7 @@ use Rattle.pcr_banks.specs.Hashing.{hash_of}
 use Rattle.pcr_banks.specs.Digests.{bytes_of, digest_of}
 use Rattle.pcr_banks.proofs.BankLaws.{some_digest, no_digest}
 use Rattle.pcr_banks.proofs.SetLaws.{bytes_again}
-use Rattle.tpm_quotes.specs.declared.selection.Selection.{Selection}
+use Rattle.tpm_quotes.specs.declared.selection.QuotedSelection.{QuotedSelection}
 use Rattle.tpm_quotes.specs.Spelling.{BankSelection, is_selected, selected, selected_in, selection_of, all_registers}
 use Rattle.tpm_quotes.specs.Quoting.{Values, all_joined, joined}
 use Rattle.tpm_quotes.specs.parts.Hashing.{TakesMore}
@@ -198,19 +198,19 @@ also_takes old new values selection alg taken also has =
 
 -- ---- the selections that the code has
 
-pub one_further : (items : List Selection) (i : ℕ) (d : Selection) → i < length items
+pub one_further : (items : List QuotedSelection) (i : ℕ) (d : QuotedSelection) → i < length items
     → map selection_of (take (i + 1) items) ≡ map selection_of (take i items) ++ selection_of (get_or items i d) ∷ []
 one_further items i d lt =
     ap (map selection_of) (take_more items i d lt) ∙ map-append selection_of (take i items) (get_or items i d ∷ [])
 
-pub joins_at : (old new : Hasher) (alg : Alg) (values : Values) (items : List Selection) (i : ℕ) (d : Selection) → i < length items
+pub joins_at : (old new : Hasher) (alg : Alg) (values : Values) (items : List QuotedSelection) (i : ℕ) (d : QuotedSelection) → i < length items
     → (has : HasJoined old alg values (map selection_of (take i items)))
     → TakesMore new alg has.text (joined values (selected_in (selection_of (get_or items i d))))
     → HasJoined new alg values (map selection_of (take (i + 1) items))
 joins_at old new alg values items i d lt has more =
     rw (one_further items i d lt) (joins_next old new alg values (map selection_of (take i items)) (selection_of (get_or items i d)) has more)
 
-pub lacks_at : (hasher : Hasher) (alg : Alg) (values : Values) (items : List Selection) (i : ℕ) (d : Selection) → i < length items
+pub lacks_at : (hasher : Hasher) (alg : Alg) (values : Values) (items : List QuotedSelection) (i : ℕ) (d : QuotedSelection) → i < length items
     → HasJoined hasher alg values (map selection_of (take i items))
     → joined values (selected_in (selection_of (get_or items i d))) ≡ None
     → joined values (selected (map selection_of items)) ≡ None

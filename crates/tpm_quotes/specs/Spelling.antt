@@ -11,7 +11,7 @@ use Rattle.pcr_banks.specs.Digests.{bytes_of, digest_of}
 use Rattle.pcr_banks.specs.Registers.{register_count}
 use Rattle.tpm_quotes.specs.declared.quote.Clock.{Clock}
 use Rattle.tpm_quotes.specs.declared.quote.Quote.{Quote}
-use Rattle.tpm_quotes.specs.declared.selection.Selection.{Selection}
+use Rattle.tpm_quotes.specs.declared.selection.QuotedSelection.{QuotedSelection}
 
 -- Bytes that are prefixed by their number, in two bytes (part 2, the TPM2B types).
 abbrev pub sized16 : List ℕ → List ℕ
@@ -140,7 +140,7 @@ pub record IsQuote (bytes : List ℕ) (quote : TpmQuote) : Type 0 where
 
 -- ---- what contracts see of the code's values
 
-abbrev pub selection_of : Selection → BankSelection
+abbrev pub selection_of : QuotedSelection → BankSelection
 selection_of selection = record { alg = selection.alg; bits = selection.bits.now }
 
 abbrev pub quote_of : Quote → TpmQuote

@@ -11,4 +11,4 @@ mod selection;
 
 pub use fault::QuoteFault;
 pub use quote::{Clock, Quote, RegisterValues, read_quote};
-pub use selection::Selection;
+pub use selection::QuotedSelection;

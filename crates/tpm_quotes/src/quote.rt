@@ -13,7 +13,7 @@ ghost use Rattle.tpm_quotes.specs.Reading.{clock, digest, flag, origin, quote, q
 ghost use Rattle.pcr_banks.specs.Registers.{value_at};
 
 use crate::fault::QuoteFault;
-use crate::selection::{Selection, Selections, selections_at};
+use crate::selection::{QuotedSelection, Selections, selections_at};
 use byte_fields::{big_endian_u16_at, big_endian_u32_at, big_endian_u64_at, part_at, u8_at};
 use pcr_banks::{Alg, Banks, Digest, Hasher, REGISTERS};
 
@@ -204,7 +204,7 @@ impl Quote<'_> {
     ghost use Rattle.tpm_quotes.specs.Quoting.{confirms};
 
     /// The registers that it selects, bank by bank.
-    pub fn selections(&self) -> &[Selection<'_>]
+    pub fn selections(&self) -> &[QuotedSelection<'_>]
         ensures { map selection_of result.now ≡ (quote_of self.now).selections }
     {
         &self.selections
@@ -231,7 +231,7 @@ impl Quote<'_> {
 }
 
 // The hash of the values of the selected registers. `None` where one is missing.
-fn hash_of<V: RegisterValues>(alg: Alg, selections: &[Selection], registers: &V) -> Option<Digest>
+fn hash_of<V: RegisterValues>(alg: Alg, selections: &[QuotedSelection], registers: &V) -> Option<Digest>
     ensures { result ≡ option_map (λ bytes. digest_of alg (hash_of alg bytes))
         (joined (V.values registers.now) (selected (map selection_of selections.now))) }
 {
@@ -245,7 +245,7 @@ fn hash_of<V: RegisterValues>(alg: Alg, selections: &[Selection], registers: &V)
 // Hashes the values of the selected registers of a bank. `None` where one is missing.
 fn hash_selected<V: RegisterValues>(
     hasher: &mut Hasher,
-    selection: &Selection,
+    selection: &QuotedSelection,
     registers: &V,
 ) -> Option<()>
     ensures { (alg : Alg) (taken : List ℕ) → HasTaken hasher.old alg taken

@@ -14,18 +14,18 @@ use pcr_banks::{Alg, REGISTERS};
 
 /// The registers of a bank that a quote selects.
 #[derive(Clone, Copy)]
-pub struct Selection<'a> {
+pub struct QuotedSelection<'a> {
     /// The bank.
     pub alg: Alg,
     /// A bit for each register, from the lowest bit of the first byte on, borrowed from the quote's bytes.
     pub bits: &'a [u8],
 }
 
-impl Default for Selection<'_> {
+impl Default for QuotedSelection<'_> {
     ghost is_default = { λ selection. selection.bits.now ≡ [] };
 
     fn default() -> Self {
-        Selection {
+        QuotedSelection {
             alg: Alg::Sha256,
             bits: &[],
         }
@@ -36,9 +36,9 @@ impl Default for Selection<'_> {
 pub(crate) const MOST_BANKS: usize = 4;
 
 /// The selections of a quote.
-pub(crate) type Selections<'a> = ArrayVec<Selection<'a>, MOST_BANKS>;
+pub(crate) type Selections<'a> = ArrayVec<QuotedSelection<'a>, MOST_BANKS>;
 
-impl Selection<'_> {
+impl QuotedSelection<'_> {
     /// Whether the register is selected.
     pub fn selects(&self, register: u32) -> bool
         ensures { result ≡ is_selected self.now.bits.now register }
@@ -58,14 +58,14 @@ impl Selection<'_> {
 }
 
 // Whether any register is selected.
-fn select_some(selections: &[Selection]) -> bool
+fn select_some(selections: &[QuotedSelection]) -> bool
     ensures { result ≡ selects_some (map selection_of selections.now) }
 {
     selections.iter().any(|selection| selection.selects_one())
 }
 
 // Whether one of the selections is of the bank with this identifier.
-fn selects_bank(selections: &[Selection], alg: Alg) -> bool
+fn selects_bank(selections: &[QuotedSelection], alg: Alg) -> bool
     ensures { result ≡ selects_bank (tpm_id_of alg) (map selection_of selections.now) }
 {
     selections
@@ -95,9 +95,9 @@ fn bank_at(bytes: &[u8]) -> Result<(Alg, &[u8]), QuoteFault>
 // Reads a selection, given those before it. Returns it and the remaining bytes.
 #[tactic(auto, unfolding(crate::specs::Reading::selection))]
 fn selection_at<'a>(
-    before: &[Selection<'a>],
+    before: &[QuotedSelection<'a>],
     bytes: &'a [u8],
-) -> Result<(Selection<'a>, &'a [u8]), QuoteFault>
+) -> Result<(QuotedSelection<'a>, &'a [u8]), QuoteFault>
     ensures { Reads (λ x. (selection_of x.0, x.1.now)) result ((selection (map selection_of before.now)).at bytes.now) }
 {
     let (alg, rest) = bank_at(bytes)?;
@@ -109,7 +109,7 @@ fn selection_at<'a>(
     if !is_low(bits) {
         return Err(QuoteFault::BadRegister);
     }
-    Ok((Selection { alg, bits }, rest))
+    Ok((QuotedSelection { alg, bits }, rest))
 }
 
 // Reads so many selections. Returns them and the remaining bytes.

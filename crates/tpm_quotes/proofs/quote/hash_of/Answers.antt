@@ -3,11 +3,11 @@ use Rattle.std.specs.Prelude.{option_map}
 use Rattle.pcr_banks.specs.declared.alg.Alg.TheVariants.{Sha1}
 use Rattle.pcr_banks.specs.Digests.{digest_of}
 use Rattle.pcr_banks.specs.Hashing.{hash_of}
-use Rattle.tpm_quotes.specs.declared.selection.Selection.{Selection}
+use Rattle.tpm_quotes.specs.declared.selection.QuotedSelection.{QuotedSelection}
 use Rattle.tpm_quotes.proofs.JoiningLaws.{joins_at, lacks_at}
 use Rattle.tpm_quotes.proofs.quote.hash_of.Goals as goal
 
-absent : Selection
+absent : QuotedSelection
 absent = record { alg = Sha1; bits = record { ref_ptr = (0, 0); now = [] } }
 
 pub returns-in_err-hash_selected : goal.returns-in_err-hash_selected

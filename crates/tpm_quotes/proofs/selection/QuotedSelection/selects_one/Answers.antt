@@ -2,7 +2,7 @@ use Rattle.std.proofs.Common.{refl, rules, tests}
 use Rattle.std.proofs.lemmas.Iterator.{YieldsList-from_range}
 use Rattle.std.proofs.lemmas.Iterator.Search.{any_from_yields_List}
 use Rattle.tpm_quotes.specs.Spelling.{all_registers, is_selected}
-use Rattle.tpm_quotes.proofs.selection.Selection.selects_one.Goals as goal
+use Rattle.tpm_quotes.proofs.selection.QuotedSelection.selects_one.Goals as goal
 
 pub returns : goal.returns
 unfolding all_registers
