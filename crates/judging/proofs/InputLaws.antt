@@ -33,8 +33,8 @@ use Rattle.agent_inputs.specs.declared.fault.RunFault.{RunFault}
 use Rattle.agent_inputs.specs.declared.fault.RunFault.TheVariants as runs
 use Rattle.agent_inputs.specs.Faults.{HasLogFault}
 use Rattle.agent_inputs.specs.Loading.{HasFailed, Inputs}
-use Rattle.judging.specs.declared.request.Judged.{Judged}
-use Rattle.judging.specs.declared.request.Judged.TheVariants as judged
+use Rattle.judging.specs.declared.request.ScopedReport.{ScopedReport}
+use Rattle.judging.specs.declared.request.ScopedReport.TheVariants as judged
 use Rattle.judging.specs.Answering.{CanBeReadBack, Evidence, GivesInput, IsNext, IsNotFound, IsRefusedAfter, IsRefusedList, IsStarted, IsUnconfirmedIn, IsVerdictOn, aim_in, seeks_prefix}
 use Rattle.judging.specs.Requests.{VerdictOf}
 use Rattle.judging.specs.Inputs.{Holds, IsFaultAt, OfInput, Where, held_in, limit_of}
@@ -99,7 +99,7 @@ spelled_count {log} {list} {rest} {prefix} {next} begins is =
     is.checkpoint.count ∙ ap length (one_list is.checkpoint.list_is read)
 
 -- What a verdict tells of its entries, of which so many are known, follows from what it told before.
-pub tells_of : (inputs : Inputs) (scope : Scope) (list : Where) (evidence : Evidence) (Tells Also : List ListEntry → Type 0) (on : Judged)
+pub tells_of : (inputs : Inputs) (scope : Scope) (list : Where) (evidence : Evidence) (Tells Also : List ListEntry → Type 0) (on : ScopedReport)
     (next : Checkpoint) → ((entries : List ListEntry) → next.entries ≡ length entries → Tells entries → Also entries)
     → IsVerdictOn inputs scope list evidence Tells on next → IsVerdictOn inputs scope list evidence Also on next
 tells_of inputs scope list evidence Tells Also (judged.Whole report) next so is = (

@@ -8,15 +8,15 @@ use Rattle.ima_list.specs.ListEntry.{ListEntry}
 use Rattle.known_files.specs.declared.unknown.Unknown.{Unknown}
 use Rattle.judging.specs.declared.request.Answer.{Answer}
 use Rattle.judging.specs.declared.request.Answered.{Answered}
-use Rattle.judging.specs.declared.request.Judged.{Judged}
-use Rattle.judging.specs.declared.request.Judged.TheVariants as judged
+use Rattle.judging.specs.declared.request.ScopedReport.{ScopedReport}
+use Rattle.judging.specs.declared.request.ScopedReport.TheVariants as judged
 use Rattle.judging.specs.Answering.{Evidence, IsAttestation, IsJudged, IsVerdictOn, checkpoint_of, quoted_evidence}
 use Rattle.judging.specs.Inputs.{Where}
 use Rattle.judging.specs.Requests.{Attested, VerdictOf}
 
 module _ (inputs : Inputs) (list : Where) (evidence : Evidence) (first : evidence.known ≡ None) where
   -- A verdict that goes on from nothing is on a log.
-  log_on : (Tells : List ListEntry → Type 0) (on : Judged) (next : Checkpoint) → IsVerdictOn inputs Whole list evidence Tells on next
+  log_on : (Tells : List ListEntry → Type 0) (on : ScopedReport) (next : Checkpoint) → IsVerdictOn inputs Whole list evidence Tells on next
       → IsSomeLog evidence.log
   log_on Tells (judged.Whole report) next (boot, more, none) =
       let (content, held, (short, verdict, told)) = more [] (rw first refl) in

@@ -69,8 +69,8 @@ use Rattle.agent_inputs.specs.Loading.{GivesAll, HasFailed, Inputs}
 use Rattle.judging.specs.declared.request.Answer.{Answer}
 use Rattle.judging.specs.declared.request.Answer.TheVariants as answers
 use Rattle.judging.specs.declared.request.Found.{Found}
-use Rattle.judging.specs.declared.request.Judged.{Judged}
-use Rattle.judging.specs.declared.request.Judged.TheVariants as judged
+use Rattle.judging.specs.declared.request.ScopedReport.{ScopedReport}
+use Rattle.judging.specs.declared.request.ScopedReport.TheVariants as judged
 use Rattle.judging.specs.Requests.{Attested, Attests, Judgement, ListVerdictOf, PositionsOf, VerdictOf, Requested, Compared, Compares, ExpectedOf, KeyOf, ListRegistersOf, LogRegistersOf, Nothing, Requires, These, held_bytes, log_of, resume_of, takes_known}
 use Rattle.judging.specs.Inputs.{IsFaultAt, IsNotOpened, MayFail, OfInput, Where, held_in, limit_of, Holds, IsInputFault}
 use Rattle.pcr_banks.specs.declared.banks.Banks.{Banks}
@@ -192,7 +192,7 @@ IsUnconfirmedIn inputs place evidence first = Unit {0}
 -- This was judged on this evidence and the list of this input; and this is where to go on. A verdict is on a log that leaves the registers
 -- before what is gone on from, and on the whole list, of which no prefix is confirmed, if one is sought; or on its confirmed prefix. The entries
 -- that it is on have the property `Tells`.
-abbrev pub IsVerdictOn : Inputs → Scope → Where → Evidence → (List ListEntry → Type 0) → Judged → Checkpoint → Type 0
+abbrev pub IsVerdictOn : Inputs → Scope → Where → Evidence → (List ListEntry → Type 0) → ScopedReport → Checkpoint → Type 0
 IsVerdictOn inputs scope list evidence Tells (judged.Whole report) next =
     IfSome evidence.known (IsOfBoot evidence.log)
     × OfMore inputs list evidence.known (λ taken more. (length more ≤ most_more evidence.known list)
@@ -206,7 +206,7 @@ IsVerdictOn inputs scope list evidence Tells (judged.Prefix report) next =
     × OfList inputs list evidence.known (λ all. IsWrongWith all report.entries report.unconfirmed)
 
 -- What a report by a quote says of what was judged, a whole list or its confirmed prefix, after which this is known: by the registers after it.
-abbrev pub told_by : TpmQuote → Bool → ExpectedValues → Checkpoint → Judged → AttestVerdict
+abbrev pub told_by : TpmQuote → Bool → ExpectedValues → Checkpoint → ScopedReport → AttestVerdict
 told_by quote is_signed values next (judged.Whole report) = record {
   quoted = stated_by quote;
   verdict = verdict_of report;
@@ -225,7 +225,7 @@ told_by quote is_signed values next (judged.Prefix report) = record {
 }
 
 -- The answer is the report on what was judged: where there is a quote, a report by the quote.
-abbrev pub IsAnswerOn : Option TpmQuote → Bool → ExpectedValues → Judged → Checkpoint → Answer → Type 0
+abbrev pub IsAnswerOn : Option TpmQuote → Bool → ExpectedValues → ScopedReport → Checkpoint → Answer → Type 0
 IsAnswerOn None is_signed values (judged.Whole report) next answer = answer ≡ answers.Report report
 IsAnswerOn None is_signed values (judged.Prefix report) next answer = answer ≡ answers.Prefix report
 IsAnswerOn (Some quote) is_signed values on next answer =
@@ -235,7 +235,7 @@ IsAnswerOn (Some quote) is_signed values on next answer =
 -- answer is on, without those of the list that was taken before.
 abbrev pub IsJudged : Inputs → Judgement → Where → Evidence → Answer → Option Checkpoint → Option Unknown → Type 0
 IsJudged inputs (VerdictOf place scope resume) list evidence answer (Some next) unknown =
-    (on : Judged) × IsVerdictOn inputs scope list evidence (TellsUnknown evidence.files (entries_taken evidence.known) unknown) on next
+    (on : ScopedReport) × IsVerdictOn inputs scope list evidence (TellsUnknown evidence.files (entries_taken evidence.known) unknown) on next
     × IsAnswerOn evidence.quote evidence.is_signed evidence.values on next answer
 IsJudged inputs (PositionsOf place) list evidence (answers.Positions located) None unknown =
     OfInput inputs list (λ all. AreLocated evidence.log all evidence.expected located.items) × (unknown ≡ None)
@@ -328,7 +328,7 @@ BeginsAfter known start = (entries : List ListEntry) → length entries ≡ entr
 -- So it is where a session goes on from what is known, if its checkpoint can be read back; and the watch, which begins there, has looked at the
 -- entries that the verdict is on.
 abbrev pub JudgesFrom : Scope → Where → Evidence → UnknownEntries → SourceState → SourceState → Session → Session
-    → Result (Judged × UnknownEntries) RunFault → Type 0
+    → Result (ScopedReport × UnknownEntries) RunFault → Type 0
 JudgesFrom scope list evidence start old new before after result =
     (inputs : Inputs) (log : Where) (resume : Option Where) → GivesInput inputs list old new → IsStarted evidence.log evidence.known before
     → BeginsAfter evidence.known start

@@ -18,7 +18,7 @@ use crate::answers::{Evidence, checkpoint_of, state_in};
 use crate::inputs::{Input, load_at};
 use crate::known_texts::known_in;
 use crate::request::{
-    Answering, Attesting, Comparison, Judged, ReportKind, Required, answered_with,
+    Answering, Attesting, Comparison, ScopedReport, ReportKind, Required, answered_with,
 };
 use agent_inputs::{AgentFiles, NotResumed, RunFault};
 use attestations::{
@@ -190,7 +190,7 @@ fn comparison_of(request: Attesting<'_>) -> Comparison<'_>
 /// The report by this quote on what was judged, after which this is known. Fails only for want of memory.
 pub(crate) fn report_on(
     alloc: Global,
-    judged: Judged,
+    judged: ScopedReport,
     next: &Checkpoint,
     quote: &Quote<'_>,
     is_signed: bool,
@@ -201,8 +201,8 @@ pub(crate) fn report_on(
 {
     let quoted = Quoted::of(alloc, quote)?;
     let (report, prefix) = match judged {
-        Judged::Whole(report) => (report, None),
-        Judged::Prefix(prefix) => {
+        ScopedReport::Whole(report) => (report, None),
+        ScopedReport::Prefix(prefix) => {
             let whole = Whole {
                 entries: prefix.entries,
                 unconfirmed: prefix.unconfirmed,

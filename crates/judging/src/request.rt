@@ -164,7 +164,7 @@ pub struct Registers {
 
 /// What a verdict is on, before it is answered.
 #[derive(Drop)]
-pub(crate) enum Judged {
+pub(crate) enum ScopedReport {
     /// All of a list.
     Whole(Report),
     /// Its confirmed prefix.

@@ -12,7 +12,7 @@ ghost use Rattle.judging.specs.Inputs.{Where};
 use crate::answers::{Evidence, Finding};
 use crate::attesting::report_on;
 use crate::inputs::{Input, limit_of, refusal};
-use crate::request::{Answer, Found, Judged};
+use crate::request::{Answer, Found, ScopedReport};
 use agent_inputs::{NotResumed, RunFault};
 use agent_plans::Scope;
 use boot_verdict::{Checkpoint, CheckpointFault, PrefixReport, Report, ResumeFault};
@@ -65,15 +65,15 @@ impl Evidence<'_> {
     fn answer_on(
         &self,
         alloc: Global,
-        judged: Judged,
+        judged: ScopedReport,
         next: &Checkpoint,
     ) -> Result<Answer, RunFault>
         ensures answer { IfOk result (IsAnswerOn (evidence_of self.now).quote self.now.is_signed self.now.values judged next.now) }
         ensures fault { IfErr result (λ fault. fault ≡ runs.Memory) }
     {
         match (self.quote, judged) {
-            (None, Judged::Whole(report)) => Ok(Answer::Report(report)),
-            (None, Judged::Prefix(report)) => Ok(Answer::Prefix(report)),
+            (None, ScopedReport::Whole(report)) => Ok(Answer::Report(report)),
+            (None, ScopedReport::Prefix(report)) => Ok(Answer::Prefix(report)),
             (Some(quote), judged) => {
                 let report = report_on(alloc, judged, next, quote, self.is_signed, self.values)?;
                 Ok(Answer::Attestation(report))
@@ -90,7 +90,7 @@ impl Evidence<'_> {
         list: Input<'_>,
         scope: Scope,
         watch: UnknownEntries<'k>,
-    ) -> Result<(Judged, UnknownEntries<'k>), RunFault>
+    ) -> Result<(ScopedReport, UnknownEntries<'k>), RunFault>
         ensures { JudgesFrom scope (location_of list.entry) (evidence_of self.now) watch.entry (R.state source.old) (R.state source.new)
             session.old session.new result }
     {
@@ -102,11 +102,11 @@ impl Evidence<'_> {
                         entries: confirmed.entries,
                         unconfirmed: confirmed.unconfirmed,
                     };
-                    Ok((Judged::Prefix(prefix), watch))
+                    Ok((ScopedReport::Prefix(prefix), watch))
                 }
                 Ok((None, watch)) => {
                     let whole = report(alloc, session, &self.expected)?;
-                    Ok((Judged::Whole(whole), watch))
+                    Ok((ScopedReport::Whole(whole), watch))
                 }
                 Err(fault) => Err(refusal(alloc, list, fault)),
             }
@@ -114,7 +114,7 @@ impl Evidence<'_> {
             match session.more(alloc, source, limit_of(list), watch) {
                 Ok(watch) => {
                     let whole = report(alloc, session, &self.expected)?;
-                    Ok((Judged::Whole(whole), watch))
+                    Ok((ScopedReport::Whole(whole), watch))
                 }
                 Err(fault) => Err(refusal(alloc, list, fault)),
             }
