@@ -16,7 +16,7 @@ use Rattle.boot_verdict.specs.Checkpoints.{IsMoreFault}
 use Rattle.boot_verdict.specs.ListReplays.{AreTracked, IsReplayedOrForged}
 use Rattle.boot_verdict.specs.Tracking.{After}
 use Rattle.boot_verdict.proofs.ReplayLaws.{none_forged, one_list}
-use Rattle.growing_lists.specs.Goals.{Aim}
+use Rattle.growing_lists.specs.Goals.{GoalData}
 use Rattle.growing_lists.specs.Prefixes.{AreUnconfirmed, CameWrong, IsPrefixTaken, IsUnconfirmedFault, TakesUnconfirmed, WatchesPrefix}
 use Rattle.growing_lists.specs.Sessions.{HasTaken, WatchesMore}
 use Rattle.growing_lists.specs.parts.Searches.{FindsPrefix, IsConfirmedAt, IsWhole, Searches, WatchesSearch, fault_in, wrong_with}
@@ -24,14 +24,14 @@ use Rattle.growing_lists.proofs.PrefixLaws.{within_genuine}
 use Rattle.growing_lists.proofs.SessionLaws.{taken_as}
 
 -- Entries that are unconfirmed after a log are so after any reading of it.
-any_log : (log : List ℕ) (aim : Aim) (least : ℕ) (entries : List ListEntry) (table : List TableRow) (events : List LogEvent)
+any_log : (log : List ℕ) (aim : GoalData) (least : ℕ) (entries : List ListEntry) (table : List TableRow) (events : List LogEvent)
     → IsLog log table events → AreUnconfirmed (algs_in table) events aim least entries
     → (other : List TableRow) (others : List LogEvent) → IsLog log other others → AreUnconfirmed (algs_in other) others aim least entries
 any_log log aim least entries table events is none other others also =
     let same = one_reading log table other events others is also in
     subst (λ (p : List TableRow × List LogEvent). AreUnconfirmed (algs_in p.0) p.1 aim least entries) (λ i. (same.0 i, same.1 i)) none
 
-module _ (session : Session) (log list : List ℕ) (has : HasTaken log list session) (old new : Option (List ℕ)) (limit : ℕ) (aim : Aim)
+module _ (session : Session) (log list : List ℕ) (has : HasTaken log list session) (old new : Option (List ℕ)) (limit : ℕ) (aim : GoalData)
     (search : Search) (searches : Searches session.known list old new limit aim search) where
   none_confirmed : search.prefix ≡ None → (table : List TableRow) (events : List LogEvent) → IsLog log table events
       → AreUnconfirmed (algs_in table) events aim session.known.entries searches.entries
@@ -119,7 +119,7 @@ genuine_begin before after forged entries prefix parts is_forged are first =
     sym (take-append-le (length prefix) before (forged ∷ after) within) ∙ same
 
 module _ {W : Type 0} (IsAfter : After W) (start : W) (session : Session) (log list : List ℕ) (has : HasTaken log list session)
-    (old new : Option (List ℕ)) (limit : ℕ) (aim : Aim) (search : Search) (watch : W)
+    (old new : Option (List ℕ)) (limit : ℕ) (aim : GoalData) (search : Search) (watch : W)
     (watches : WatchesSearch IsAfter start session.known list old new limit aim search watch) where
   -- Entries that are all genuine are all tracked.
   all_tracked : (entries : List ListEntry) (forged : Option ℕ) → AreGenuine entries → IsReplayedOrForged IsAfter start entries watch forged

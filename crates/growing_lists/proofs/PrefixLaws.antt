@@ -39,7 +39,7 @@ use Rattle.boot_verdict.specs.Steps.{Step, OfEntry, entries_as_steps, least_pref
 use Rattle.boot_verdict.specs.Verdicts.{aggregate_of, is_good, is_match, pcr_after_log_and_list, row_on, recorded_aggregate}
 use Rattle.tpm_quotes.specs.Quoting.{Values}
 use Rattle.growing_lists.specs.declared.confirmation.Goal.{Goal}
-use Rattle.growing_lists.specs.Goals.{Aim, OfExpected, OfQuote, aim_of, is_confirmed, is_met}
+use Rattle.growing_lists.specs.Goals.{GoalData, OfExpected, OfQuote, goal_data, is_confirmed, is_met}
 use Rattle.growing_lists.specs.parts.Confirming.{PrefixIs, IsConfirmingAfter, IsPrefixAt, confirms, prefix_at, is_late, search_after, search_before, size_after, size_more, values_after}
 use Rattle.boot_verdict.specs.Tracking.{After, AreAfter}
 use Rattle.boot_verdict.specs.ListReplays.{AreTracked, IsReplayedOrForged, Replays, ReplaysAll, ReplaysMore, StopsAt, WatchesAll}
@@ -72,7 +72,7 @@ late first events n many =
 
 -- ---- one more step
 
-met_same : (start now : Banks) (aim : Aim) (steps : List Step) → AreAfter start steps now
+met_same : (start now : Banks) (aim : GoalData) (steps : List Step) → AreAfter start steps now
     → is_met aim (value_at now) ≡ is_met aim (values_after start steps)
 met_same start now aim steps after =
     let all : value_at now ≡ values_after start steps = λ i alg register. after.values alg register i in
@@ -90,11 +90,11 @@ prefix_here : (start now : Confirming) (events : ℕ) (steps : List Step) (last 
 prefix_here start now events steps last position banks bytes first goal =
     let from = sym first in
     let that = sym goal in
-    let passes : confirms start events steps ≡ (leb now.first last && is_met (aim_of now.goal) (value_at now.banks)) =
-    ap (λ (p : Position). is_late start.first p && is_met (aim_of start.goal) (values_after start.banks steps)) position
-    ∙ (λ i. leb (from i) last && is_met (aim_of (that i)) (values_after start.banks steps))
-    ∙ ap (λ (b : Bool). leb now.first last && b) (sym (met_same start.banks now.banks (aim_of now.goal) steps banks)) in
-    rw passes (prefix_by (leb now.first last && is_met (aim_of now.goal) (value_at now.banks)) (record { position = position; registers = banks; size = bytes }))
+    let passes : confirms start events steps ≡ (leb now.first last && is_met (goal_data now.goal) (value_at now.banks)) =
+    ap (λ (p : Position). is_late start.first p && is_met (goal_data start.goal) (values_after start.banks steps)) position
+    ∙ (λ i. leb (from i) last && is_met (goal_data (that i)) (values_after start.banks steps))
+    ∙ ap (λ (b : Bool). leb now.first last && b) (sym (met_same start.banks now.banks (goal_data now.goal) steps banks)) in
+    rw passes (prefix_by (leb now.first last && is_met (goal_data now.goal) (value_at now.banks)) (record { position = position; registers = banks; size = bytes }))
 
 module _ (start : Confirming) (events : ℕ) (before : List Step) (step : Step) where
   abbrev all : List Step
@@ -287,7 +287,7 @@ module _ (algs : AlgSet) (events : List LogEvent) (start : Banks) (firmware : Is
   values_reached entries = λ i alg register. value_reached entries alg register i
 
   -- Log and list are confirmed if the boot aggregate is good, and the values are as is sought.
-  confirmed_by : (aim : Aim) (entries : List ListEntry) → is_confirmed aim algs events entries
+  confirmed_by : (aim : GoalData) (entries : List ListEntry) → is_confirmed aim algs events entries
       ≡ (is_good (aggregate_of algs events (recorded_aggregate entries)) && is_met aim (values_after start (entries_as_steps entries)))
   confirmed_by (OfExpected expected) entries =
       ap (λ (b : Bool). is_good (aggregate_of algs events (recorded_aggregate entries)) && b)
@@ -408,20 +408,20 @@ module _ (known : Checkpoint) (goal : Goal) (bytes : List ℕ) (entries : List L
       (tells : good ≡ is_good (aggregate_of algs events (recorded_aggregate entries))) where
     -- Whether a prefix is confirmed.
     confirms_is : (n : ℕ) → known.entries ≤ n → n ≤ length found.genuine
-        → is_confirmed (aim_of goal) algs events (take n entries) ≡ (good && test (take n steps_found))
-    confirms_is zero enough le = confirmed_by algs events known.before firmware (aim_of goal) [] ∙ sym (and-false good)
+        → is_confirmed (goal_data goal) algs events (take n entries) ≡ (good && test (take n steps_found))
+    confirms_is zero enough le = confirmed_by algs events known.before firmware (goal_data goal) [] ∙ sym (and-false good)
     confirms_is (suc k) enough le =
         let steps = entries_as_steps (take (suc k) entries) in
-        let tested : test (take (suc k) steps_found) ≡ is_met (aim_of goal) (values_after known.before steps) =
+        let tested : test (take (suc k) steps_found) ≡ is_met (goal_data goal) (values_after known.before steps) =
         ap test (prefix_steps (suc k) le) ∙ rw (late (known.entries - 1) 0 (length steps) (omega (arith, step_count (suc k) le, enough))) refl in
-        confirmed_by algs events known.before firmware (aim_of goal) (take (suc k) entries)
-        ∙ ap (λ (recorded : Option (Alg × List ℕ)). is_good (aggregate_of algs events recorded) && is_met (aim_of goal) (values_after known.before steps))
+        confirmed_by algs events known.before firmware (goal_data goal) (take (suc k) entries)
+        ∙ ap (λ (recorded : Option (Alg × List ℕ)). is_good (aggregate_of algs events recorded) && is_met (goal_data goal) (values_after known.before steps))
         (recorded_take (suc k) entries (omega arith))
-        ∙ ap (λ (b : Bool). b && is_met (aim_of goal) (values_after known.before steps)) (sym tells) ∙ ap (λ (b : Bool). good && b) (sym tested)
+        ∙ ap (λ (b : Bool). b && is_met (goal_data goal) (values_after known.before steps)) (sym tells) ∙ ap (λ (b : Bool). good && b) (sym tested)
 
     prefix_confirmed : (steps : List Step) (prefix : Prefix) → TellsLeast test steps_found (Some steps)
         → IsPrefixAt (search_before known goal) 0 steps prefix → good ≡ true
-        → IsConfirmedAt algs events (aim_of goal) known bytes entries (checkpoint_at known replay prefix)
+        → IsConfirmedAt algs events (goal_data goal) known bytes entries (checkpoint_at known replay prefix)
     prefix_confirmed steps prefix least at yes_is =
         let n = length steps in
         let size = ap (λ (l : List Step). length l) least.0 in
@@ -442,7 +442,7 @@ module _ (known : Checkpoint) (goal : Goal) (bytes : List ℕ) (entries : List L
             enough = omega (arith, enough, listed);
             is_match = confirms_is n enough within ∙ ap (λ (l : List Step). good && test l) (sym least.0) ∙ (λ i. yes_is i && least.1 i);
             shortest = λ m more lt.
-                ap (λ (l : List ListEntry). is_confirmed (aim_of goal) algs events l) (take-take m n entries (omega (arith, lt, listed)))
+                ap (λ (l : List ListEntry). is_confirmed (goal_data goal) algs events l) (take-take m n entries (omega (arith, lt, listed)))
                 ∙ confirms_is m more (omega (arith, lt, listed, within)) ∙ ap (λ (b : Bool). good && b) (least.2 m (omega (arith, lt, listed))) ∙ and-false good;
           };
           checkpoint = prefix_checkpoint n prefix within (sym (steps_back 0 n) ∙ ap (steps_to 0) at.position)
@@ -451,17 +451,17 @@ module _ (known : Checkpoint) (goal : Goal) (bytes : List ℕ) (entries : List L
           before = refl;
         }
 
-    pub prefix_is : FindsPrefix algs events (aim_of goal) known bytes entries (prefix_after good known replay)
+    pub prefix_is : FindsPrefix algs events (goal_data goal) known bytes entries (prefix_after good known replay)
     prefix_is = by (least_prefix test steps_found) replay.tracker.prefix (least_tells test steps_found) found.after.prefix
       where
         by_good : (b : Bool) (steps : List Step) (prefix : Prefix) → TellsLeast test steps_found (Some steps) → IsPrefixAt (search_before known goal) 0 steps prefix
-            → good ≡ b → FindsPrefix algs events (aim_of goal) known bytes entries (cond b (Some (checkpoint_at known replay prefix)) None)
+            → good ≡ b → FindsPrefix algs events (goal_data goal) known bytes entries (cond b (Some (checkpoint_at known replay prefix)) None)
         by_good true steps prefix least at is = prefix_confirmed steps prefix least at is
         by_good false _ prefix least at is = λ n enough le are.
             confirms_is n enough (found.most n le are) ∙ ap (λ (b : Bool). b && test (take n steps_found)) is
 
         by : (least : Option (List Step)) (prefix : Option Prefix) → TellsLeast test steps_found least → PrefixIs (search_before known goal) 0 least prefix
-            → FindsPrefix algs events (aim_of goal) known bytes entries (prefix_with good known replay prefix)
+            → FindsPrefix algs events (goal_data goal) known bytes entries (prefix_with good known replay prefix)
         by (Some steps) (Some prefix) least at = by_good good steps prefix least at refl
         by (Some _) None least at = absurd at
         by None (Some prefix) none at = absurd at
@@ -484,14 +484,14 @@ module _ (known : Checkpoint) (goal : Goal) (list : List ℕ) (old new : Option 
   pub finds : (bytes : List ℕ) (entries : List ListEntry) (rest : List ℕ) → BeginsWith bytes entries rest
       → Replays IsConfirmingAfter (search_before known goal) entries replay → length bytes < 2 ^ 64
       → (algs : AlgSet) (events : List LogEvent) → IsFirmware algs events known.before
-      → FindsPrefix algs events (aim_of goal) known bytes entries prefix
+      → FindsPrefix algs events (goal_data goal) known bytes entries prefix
   finds bytes entries rest begins replays few algs events firmware =
       rw (good algs events firmware) (prefix_is known goal bytes entries rest replay begins replays few counted algs events firmware _
       (ap (λ (recorded : Option (Alg × List ℕ)). is_good (aggregate_of algs events recorded)) replays.recorded))
 
   -- All that came is a list of genuine entries.
   abbrev pub searches_whole : ReplaysMore IsConfirmingAfter (search_before known goal) list old new limit replay
-      → Searches known list old new limit (aim_of goal) (record { prefix = prefix; entries = replay.entries; whole = Ok (whole_after known replay) })
+      → Searches known list old new limit (goal_data goal) (record { prefix = prefix; entries = replay.entries; whole = Ok (whole_after known replay) })
   searches_whole more =
       let all = more.all in
       let entries = all.entries in
@@ -526,7 +526,7 @@ module _ (known : Checkpoint) (goal : Goal) (list : List ℕ) (old new : Option 
   abbrev pub searches_part : {W : Type 0} (IsAfter : After W) (before : List ListEntry) (watch now : W) (wrong : Unconfirmed)
       → IsMoreFault list old new limit (fault_in wrong)
       → StopsAt IsConfirmingAfter IsAfter (search_before known goal) list before watch old new limit replay now (fault_in wrong)
-      → Searches known list old new limit (aim_of goal) (record { prefix = prefix; entries = replay.entries; whole = Err wrong })
+      → Searches known list old new limit (goal_data goal) (record { prefix = prefix; entries = replay.entries; whole = Err wrong })
   searches_part IsAfter before watch now (unconfirmed.List fault) why (came, over, from, number, (rest, stops, watches)) = record {
     came = came;
     over = over;
@@ -556,14 +556,14 @@ module _ (known : Checkpoint) (goal : Goal) (list : List ℕ) (old new : Option 
   module _ {W : Type 0} (IsAfter : After W) (start watch now : W) (before : List ListEntry) (tracked : AreTracked IsAfter start before watch) where
     pub watches_whole : (more : ReplaysMore IsConfirmingAfter (search_before known goal) list old new limit replay)
         → WatchesAll IsAfter before watch more.all.entries now
-        → WatchesSearch IsAfter start known list old new limit (aim_of goal)
+        → WatchesSearch IsAfter start known list old new limit (goal_data goal)
         (record { prefix = prefix; entries = replay.entries; whole = Ok (whole_after known replay) }) now
     watches_whole more watches =
         record { searches = searches_whole more; forged = None; watched = (more.all.genuine, watches start tracked) }
 
     pub watches_part : (wrong : Unconfirmed) → IsMoreFault list old new limit (fault_in wrong)
         → StopsAt IsConfirmingAfter IsAfter (search_before known goal) list before watch old new limit replay now (fault_in wrong)
-        → WatchesSearch IsAfter start known list old new limit (aim_of goal)
+        → WatchesSearch IsAfter start known list old new limit (goal_data goal)
         (record { prefix = prefix; entries = replay.entries; whole = Err wrong }) now
     watches_part (unconfirmed.List fault) why (came, over, from, number, (rest, stops, watches)) = record {
       searches = searches_part IsAfter before watch now (unconfirmed.List fault) why (came, over, from, number, (rest, stops, watches));

@@ -10,7 +10,7 @@ ghost use Rattle.boot_verdict.specs.declared.prefix_report.Unconfirmed.{Unconfir
 ghost use Rattle.boot_verdict.specs.Checkpoints.{IsCheckpoint, IsMoreFault, most_after};
 ghost use Rattle.boot_verdict.specs.ListSources.{failures_after_list};
 ghost use Rattle.boot_verdict.specs.Verdicts.{aggregate_of, is_good};
-ghost use Rattle.growing_lists.specs.Goals.{aim_of, are_reached, is_met};
+ghost use Rattle.growing_lists.specs.Goals.{goal_data, are_reached, is_met};
 ghost use Rattle.growing_lists.specs.parts.Confirming.{IsConfirmingAfter, prefix_at, search_after, search_before, size_of_step};
 ghost use Rattle.boot_verdict.specs.ListReplays.{AreTracked, ReplaysAll};
 ghost use Rattle.growing_lists.specs.parts.Searches.{IsNoListFault, Searches, WatchesSearch, fault_in, prefix_after, stray_within, whole_after, wrong_with};
@@ -40,7 +40,7 @@ pub enum Goal<'a> {
 impl Goal<'_> {
     // Whether these registers are so.
     fn is_met(&self, banks: &Banks) -> bool
-        ensures { result ≡ is_met (aim_of self.now) (value_at banks.now) }
+        ensures { result ≡ is_met (goal_data self.now) (value_at banks.now) }
     {
         match self {
             Goal::Expected(expected) => are_reached(expected, banks),
@@ -88,24 +88,24 @@ impl Session<'_> {
     ) -> Result<(Option<Confirmed>, W), VerifyFault>
         // The session has taken the confirmed prefix.
         ensures prefix { IfOk result (λ found. IfSome found.0 (λ confirmed. (log list : List ℕ) → HasTaken log list self.old
-            → IsPrefixTaken log list (R.state source.old).remaining (R.state source.new).remaining (most_after self.old.known limit) (aim_of goal.entry)
+            → IsPrefixTaken log list (R.state source.old).remaining (R.state source.new).remaining (most_after self.old.known limit) (goal_data goal.entry)
             self.old.known.entries self.new confirmed)) }
         // Else no prefix is confirmed.
         ensures none { IfOk result (λ found. IfNone found.0 ((log list : List ℕ) → HasTaken log list self.old
-            → TakesUnconfirmed log list (R.state source.old).remaining (R.state source.new).remaining (most_after self.old.known limit) (aim_of goal.entry)
+            → TakesUnconfirmed log list (R.state source.old).remaining (R.state source.new).remaining (most_after self.old.known limit) (goal_data goal.entry)
             self.old.known.entries self.new)) }
         // What had tracked the entries taken so far has tracked those of the prefix, or of the whole list.
         ensures watched { IfOk result (λ found. (start : W) (log list : List ℕ) (taken : HasTaken log list self.old)
             → AreTracked W.is_after start taken.checkpoint.entries watch
             → WatchesFound W.is_after start log list (R.state source.old).remaining (R.state source.new).remaining (most_after self.old.known limit)
-            (aim_of goal.entry) self.old.known.entries self.new found.0 found.1) }
+            (goal_data goal.entry) self.old.known.entries self.new found.0 found.1) }
         ensures kept { OnErr result (self.new ≡ self.old) }
         // Any fault is the first reason, and the list is refused only if no prefix is confirmed.
         ensures fault { IfErr result (λ fault. (log list : List ℕ) → HasTaken log list self.old
             → IsMoreFault list (R.state source.old).remaining (R.state source.new).remaining (most_after self.old.known limit) fault) }
         ensures unconfirmed { IfErr result (λ fault. (log list : List ℕ) → HasTaken log list self.old
             → IsUnconfirmedFault log list (R.state source.old).remaining (R.state source.new).remaining (most_after self.old.known limit)
-            (aim_of goal.entry) self.old.known.entries fault) }
+            (goal_data goal.entry) self.old.known.entries fault) }
         // In any case the source loses bytes from its start, and nothing else.
         ensures source { LosesPrefix (R.state source.old).remaining (R.state source.new).remaining }
         ensures telling { is_some (R.state source.new).remaining ≡ is_some (R.state source.old).remaining }
@@ -147,11 +147,11 @@ fn search_list<R: Source, W: Tracker>(
     watch: &mut W,
 ) -> Result<Search, VerifyFault>
     ensures found { IfOk result (λ search. (list : List ℕ) → IsCheckpoint list known.now
-        → Searches known.now list (R.state source.old).remaining (R.state source.new).remaining (most_after known.now limit) (aim_of goal.entry) search) }
+        → Searches known.now list (R.state source.old).remaining (R.state source.new).remaining (most_after known.now limit) (goal_data goal.entry) search) }
     ensures watched { IfOk result (λ search. (start : W) (list : List ℕ) (is : IsCheckpoint list known.now)
         → AreTracked W.is_after start is.entries watch.old
         → WatchesSearch W.is_after start known.now list (R.state source.old).remaining (R.state source.new).remaining (most_after known.now limit)
-        (aim_of goal.entry) search watch.new) }
+        (goal_data goal.entry) search watch.new) }
     ensures fault { IfErr result (λ fault. (list : List ℕ) → IsCheckpoint list known.now
         → IsMoreFault list (R.state source.old).remaining (R.state source.new).remaining (most_after known.now limit) fault) }
     ensures other { IfErr result IsNoListFault }

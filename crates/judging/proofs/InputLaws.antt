@@ -35,7 +35,7 @@ use Rattle.agent_inputs.specs.Faults.{HasLogFault}
 use Rattle.agent_inputs.specs.Loading.{HasFailed, Inputs}
 use Rattle.judging.specs.declared.request.ScopedReport.{ScopedReport}
 use Rattle.judging.specs.declared.request.ScopedReport.TheVariants as judged
-use Rattle.judging.specs.Answering.{CanBeReadBack, Evidence, GivesInput, IsNext, IsNotFound, IsRefusedAfter, IsRefusedList, IsStarted, IsUnconfirmedIn, IsVerdictOn, aim_in, seeks_prefix}
+use Rattle.judging.specs.Answering.{CanBeReadBack, Evidence, GivesInput, IsNext, IsNotFound, IsRefusedAfter, IsRefusedList, IsStarted, IsUnconfirmedIn, IsVerdictOn, goal_in, seeks_prefix}
 use Rattle.judging.specs.Requests.{VerdictOf}
 use Rattle.judging.specs.Inputs.{Holds, IsFaultAt, OfInput, Where, held_in, limit_of}
 
@@ -212,7 +212,7 @@ module _ {inputs : Inputs} {list : Where} {old new : SourceState} (gives : Gives
         → (takes : TakesMore log taken old.remaining new.remaining (most_after before.known (limit_of list)) after)
         × Tells takes.taken.checkpoint.entries)
         → (seeks_prefix scope evidence ≡ true → (log taken : List ℕ) → HasTaken log taken before
-        → TakesUnconfirmed log taken old.remaining new.remaining (most_after before.known (limit_of list)) (aim_in evidence)
+        → TakesUnconfirmed log taken old.remaining new.remaining (most_after before.known (limit_of list)) (goal_in evidence)
         before.known.entries after)
         → ((log all : List ℕ) → HasTaken log all after → IsVerdict log all evidence.expected (verdict_of report))
         → IsVerdictOn inputs scope list evidence Tells (judged.Whole report) after.known
@@ -238,7 +238,7 @@ module _ {inputs : Inputs} {list : Where} {old new : SourceState} (gives : Gives
     pub prefix_found : (Tells : List ListEntry → Type 0) (after : Session) (report : Report) (confirmed : Confirmed) → CanBeReadBack after.known
         → seeks_prefix scope evidence ≡ true
         → ((log taken : List ℕ) → HasTaken log taken before → (prefix : IsPrefixTaken log taken old.remaining new.remaining
-        (most_after before.known (limit_of list)) (aim_in evidence) before.known.entries after confirmed) × Tells prefix.prefix)
+        (most_after before.known (limit_of list)) (goal_in evidence) before.known.entries after confirmed) × Tells prefix.prefix)
         → ((log all : List ℕ) → HasTaken log all after → IsVerdict log all evidence.expected (verdict_of report))
         → IsVerdictOn inputs scope list evidence Tells
         (judged.Prefix (record { report = report; entries = confirmed.entries; unconfirmed = confirmed.unconfirmed })) after.known
@@ -271,7 +271,7 @@ module _ {inputs : Inputs} {list : Where} {old new : SourceState} (gives : Gives
     )
 
     unconfirmed_in : (first : VerifyFault) → ((log taken : List ℕ) → HasTaken log taken before → IsUnconfirmedFault log taken old.remaining
-        new.remaining (most_after before.known (limit_of list)) (aim_in evidence) before.known.entries first)
+        new.remaining (most_after before.known (limit_of list)) (goal_in evidence) before.known.entries first)
         → IsUnconfirmedIn inputs list evidence first
     unconfirmed_in (verdicts.Log first) is = tt
     unconfirmed_in (verdicts.List first) is =
@@ -300,7 +300,7 @@ module _ {inputs : Inputs} {list : Where} {old new : SourceState} (gives : Gives
         → ((log taken : List ℕ) → HasTaken log taken before
         → IsMoreFault taken old.remaining new.remaining (most_after before.known (limit_of list)) first)
         → (seeks_prefix scope evidence ≡ true → (log taken : List ℕ) → HasTaken log taken before
-        → IsUnconfirmedFault log taken old.remaining new.remaining (most_after before.known (limit_of list)) (aim_in evidence)
+        → IsUnconfirmedFault log taken old.remaining new.remaining (most_after before.known (limit_of list)) (goal_in evidence)
         before.known.entries first) → IsFaultAt list first fault → IsNotFound inputs (VerdictOf place scope resume) list evidence fault
     not_found first fault failed is unconfirmed says =
         inr (inr (record {

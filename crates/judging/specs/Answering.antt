@@ -56,7 +56,7 @@ use Rattle.growing_lists.specs.declared.session.Session.{Session}
 use Rattle.growing_lists.specs.declared.saved_state.Boot.{Boot}
 use Rattle.growing_lists.specs.declared.saved_state.SavedState.{SavedState}
 use Rattle.growing_lists.specs.CheckpointData.{IsPossible, IsPossibleState, boot_of}
-use Rattle.growing_lists.specs.Goals.{Aim, OfExpected, OfQuote}
+use Rattle.growing_lists.specs.Goals.{GoalData, OfExpected, OfQuote}
 use Rattle.growing_lists.specs.Prefixes.{AreUnconfirmed, IsConfirmed, IsWrongWith}
 use Rattle.growing_lists.specs.Sessions.{HasTaken, IsOfBoot}
 use Rattle.agent_plans.specs.declared.plan.Scope.{Scope}
@@ -95,12 +95,12 @@ pub record Evidence : Type 0 where
   pub files : Option KnownFiles
 
 -- What a prefix is confirmed by: the quote, if there is one; else the expected registers.
-abbrev pub aim_by : Option TpmQuote → List Expected → Aim
-aim_by (Some quote) expected = OfQuote quote
-aim_by None expected = OfExpected expected
+abbrev pub goal_by : Option TpmQuote → List Expected → GoalData
+goal_by (Some quote) expected = OfQuote quote
+goal_by None expected = OfExpected expected
 
-abbrev pub aim_in : Evidence → Aim
-aim_in evidence = aim_by evidence.quote evidence.expected
+abbrev pub goal_in : Evidence → GoalData
+goal_in evidence = goal_by evidence.quote evidence.expected
 
 -- Whether one can be confirmed: there is a quote; or some register is expected, and all that is required.
 abbrev pub can_confirm : Option TpmQuote → Option (List BankRange) → List Expected → Bool
@@ -161,7 +161,7 @@ pub record IsNext (log list : List ℕ) (next : Checkpoint) : Type 0 where
 abbrev pub AreUnconfirmedAfter : Evidence → List ListEntry → Type 0
 AreUnconfirmedAfter evidence entries =
     (table : List TableRow) (events : List LogEvent) → IsLog evidence.log table events
-    → AreUnconfirmed (algs_in table) events (aim_in evidence) (entries_taken evidence.known) entries
+    → AreUnconfirmed (algs_in table) events (goal_in evidence) (entries_taken evidence.known) entries
 
 -- No prefix of the list is confirmed.
 abbrev pub HasNoPrefix : Evidence → List ℕ → Type 0
@@ -176,7 +176,7 @@ pub record IsPrefixOf (evidence : Evidence) (Tells : List ListEntry → Type 0) 
   pub rest : List ℕ
   pub log_is : IsLog evidence.log table events
   pub begins : BeginsWith list prefix rest
-  pub confirmed : IsConfirmed (algs_in table) events (aim_in evidence) (entries_taken evidence.known) prefix
+  pub confirmed : IsConfirmed (algs_in table) events (goal_in evidence) (entries_taken evidence.known) prefix
   pub verdict_is : verdict_of report.report ≡ verdict_on (algs_in table) events prefix evidence.expected
   pub next_is : IsNext evidence.log (list_spelling prefix) next
   pub tells : Tells prefix

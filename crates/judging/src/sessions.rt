@@ -2,10 +2,10 @@
 
 ghost use Rattle.std.specs.Prelude.{◌≡◌, ℕ, List, Option, option_map, IfOk, IfErr};
 ghost use Rattle.boot_verdict.specs.Verdicts.{IsVerdict, verdict_of};
-ghost use Rattle.growing_lists.specs.Goals.{aim_of};
+ghost use Rattle.growing_lists.specs.Goals.{goal_data};
 ghost use Rattle.growing_lists.specs.Sessions.{HasTaken};
 ghost use Rattle.agent_inputs.specs.declared.fault.RunFault.TheVariants as runs;
-ghost use Rattle.judging.specs.Answering.{IsCheckpointText, IsNoCheckpoint, aim_in, evidence_of, CanBeReadBack, IsAnswerOn, FindsFrom, IsLogRefused, IsStarted, JudgesFrom, seeks_prefix};
+ghost use Rattle.judging.specs.Answering.{IsCheckpointText, IsNoCheckpoint, goal_in, evidence_of, CanBeReadBack, IsAnswerOn, FindsFrom, IsLogRefused, IsStarted, JudgesFrom, seeks_prefix};
 ghost use Rattle.judging.specs.Requests.{VerdictOf, location_of};
 ghost use Rattle.judging.specs.Inputs.{Where};
 
@@ -137,7 +137,7 @@ impl Evidence<'_> {
 
     // What a prefix is confirmed by.
     fn goal(&self) -> Goal<'_>
-        ensures { aim_of result ≡ aim_in (evidence_of self.now) }
+        ensures { goal_data result ≡ goal_in (evidence_of self.now) }
     {
         match self.quote {
             Some(quote) => Goal::Quote(quote),

@@ -13,7 +13,7 @@ use Rattle.boot_verdict.specs.declared.positions.Position.TheVariants.{Reset, Ev
 use Rattle.boot_verdict.specs.Positions.{position_after}
 use Rattle.boot_verdict.specs.Steps.{Step, OfEvent, OfEntry, least_prefix, value_after}
 use Rattle.boot_verdict.specs.Tracking.{AreAfter}
-use Rattle.growing_lists.specs.Goals.{aim_of, is_met}
+use Rattle.growing_lists.specs.Goals.{goal_data, is_met}
 
 -- The values after these steps.
 abbrev pub values_after : Banks → List Step → Values
@@ -42,7 +42,7 @@ is_late first Absent = false
 -- The prefix that ends at this position, if it may, and the registers are as is sought now.
 abbrev pub prefix_at : Confirming → Position → Option Prefix
 prefix_at confirming (Entry last) =
-    if nat_le confirming.first last && is_met (aim_of confirming.goal) (value_at confirming.banks)
+    if nat_le confirming.first last && is_met (goal_data confirming.goal) (value_at confirming.banks)
     then Some (record { registers = confirming.banks; last = last; bytes = confirming.bytes }) else None
 prefix_at confirming Reset = None
 prefix_at confirming (Event number) = None
@@ -51,7 +51,7 @@ prefix_at confirming Absent = None
 
 -- Whether a prefix of the steps is one that is searched for.
 abbrev pub confirms : Confirming → ℕ → List Step → Bool
-confirms start events prefix = is_late start.first (position_after events (length prefix)) && is_met (aim_of start.goal) (values_after start.banks prefix)
+confirms start events prefix = is_late start.first (position_after events (length prefix)) && is_met (goal_data start.goal) (values_after start.banks prefix)
 
 -- The prefix is that of these steps.
 pub record IsPrefixAt (start : Confirming) (events : ℕ) (steps : List Step) (prefix : Prefix) : Type 0 where

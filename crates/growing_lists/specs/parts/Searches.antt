@@ -16,14 +16,14 @@ use Rattle.boot_verdict.specs.declared.list_replay.ListReplay.{ListReplay}
 use Rattle.boot_verdict.specs.declared.verifier.VerifyFault.{VerifyFault}
 use Rattle.boot_verdict.specs.declared.verifier.VerifyFault.TheVariants as faults
 use Rattle.boot_verdict.specs.Checkpoints.{IsCheckpoint}
-use Rattle.growing_lists.specs.Goals.{Aim}
+use Rattle.growing_lists.specs.Goals.{GoalData}
 use Rattle.growing_lists.specs.Prefixes.{AreUnconfirmed, CameWrong, IsConfirmed, IsUnconfirmedFault}
 use Rattle.boot_verdict.specs.ListReplays.{IsReplayedOrForged}
 use Rattle.boot_verdict.specs.ListSources.{CameFrom, CameWhole}
 use Rattle.boot_verdict.specs.Tracking.{After}
 
 -- The checkpoint of a confirmed prefix of these bytes and of these entries.
-pub record IsConfirmedAt (algs : AlgSet) (events : List LogEvent) (aim : Aim) (known : Checkpoint) (bytes : List ℕ) (entries : List ListEntry) (at : Checkpoint)
+pub record IsConfirmedAt (algs : AlgSet) (events : List LogEvent) (aim : GoalData) (known : Checkpoint) (bytes : List ℕ) (entries : List ListEntry) (at : Checkpoint)
     : Type 0 where
   pub prefix : List ListEntry
   pub rest : List ℕ
@@ -35,7 +35,7 @@ pub record IsConfirmedAt (algs : AlgSet) (events : List LogEvent) (aim : Aim) (k
   pub before : at.before ≡ known.before
 
 -- The confirmed prefix of these entries, with which the bytes begin, or none.
-abbrev pub FindsPrefix : AlgSet → List LogEvent → Aim → Checkpoint → List ℕ → List ListEntry → Option Checkpoint → Type 0
+abbrev pub FindsPrefix : AlgSet → List LogEvent → GoalData → Checkpoint → List ℕ → List ListEntry → Option Checkpoint → Type 0
 FindsPrefix algs events aim known bytes entries None = AreUnconfirmed algs events aim known.entries entries
 FindsPrefix algs events aim known bytes entries (Some at) = IsConfirmedAt algs events aim known bytes entries at
 
@@ -52,7 +52,7 @@ IsWhole known list old new limit entries (Err (unconfirmed.Replay fault)) = (mor
 IsWhole known list old new limit entries (Err (unconfirmed.List fault)) = Unit {0}
 
 -- What came of a list that goes on after these bytes was searched.
-pub record Searches (known : Checkpoint) (list : List ℕ) (old new : Option (List ℕ)) (limit : ℕ) (aim : Aim) (search : Search) : Type 0 where
+pub record Searches (known : Checkpoint) (list : List ℕ) (old new : Option (List ℕ)) (limit : ℕ) (aim : GoalData) (search : Search) : Type 0 where
   pub came : List ℕ
   pub over : List ℕ
   pub entries : List ListEntry
@@ -66,7 +66,7 @@ pub record Searches (known : Checkpoint) (list : List ℕ) (old new : Option (Li
   pub whole : IsWhole known list old new limit entries search.whole
 
 -- The same, where `watch` has tracked the entries before the first that is not genuine.
-pub record WatchesSearch {W : Type 0} (IsAfter : After W) (start : W) (known : Checkpoint) (list : List ℕ) (old new : Option (List ℕ)) (limit : ℕ) (aim : Aim)
+pub record WatchesSearch {W : Type 0} (IsAfter : After W) (start : W) (known : Checkpoint) (list : List ℕ) (old new : Option (List ℕ)) (limit : ℕ) (aim : GoalData)
     (search : Search) (watch : W) : Type 0 where
   pub searches : Searches known list old new limit aim search
   pub forged : Option ℕ
@@ -114,5 +114,5 @@ fault_in (unconfirmed.Replay fault) = faults.Replay fault
 
 -- It is no fault of a list, so it does not tell of a prefix.
 abbrev pub IsNoListFault : VerifyFault → Type 0
-IsNoListFault fault = (log list : List ℕ) (old new : Option (List ℕ)) (limit : ℕ) (aim : Aim) (least : ℕ)
+IsNoListFault fault = (log list : List ℕ) (old new : Option (List ℕ)) (limit : ℕ) (aim : GoalData) (least : ℕ)
     → IsUnconfirmedFault log list old new limit aim least fault
