@@ -5,7 +5,7 @@ use Rattle.std.specs.Int.{w32, from_le_bytes}
 use Rattle.event_data.specs.Forms.{NodeData}
 use Rattle.event_texts.specs.declared.node_row.Field.{Field}
 use Rattle.event_texts.specs.declared.node_row.Field.TheVariants.{Kind, Subtype, U8, U16, U32, U64, Decimal, Guid, Bytes, Rest, Eui, Pnp, Gpt, Mbr}
-use Rattle.event_texts.specs.declared.node_row.Row.{Row}
+use Rattle.event_texts.specs.declared.node_row.NodeRow.{NodeRow}
 use Rattle.event_texts.specs.NodeFields.{fields_text}
 
 pub record RowData : Type 0 where
@@ -13,7 +13,7 @@ pub record RowData : Type 0 where
   pub fields : List Field
 
 -- What contracts see of a row.
-abbrev pub row_data : Row → RowData
+abbrev pub row_data : NodeRow → RowData
 row_data row = record { name = row.name.now; fields = row.fields.now }
 
 abbrev pub row : List ℕ → List Field → RowData

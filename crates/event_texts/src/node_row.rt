@@ -172,21 +172,21 @@ const PNP_VENDOR: u32 = 0x41D0;
 
 /// A row: the name of a node, and the fields that are shown in parentheses.
 #[derive(Clone, Copy)]
-pub(crate) struct Row {
+pub(crate) struct NodeRow {
     pub(crate) name: &'static str,
     pub(crate) fields: &'static [Field],
 }
 
-impl Row {
+impl NodeRow {
     fn new(name: &'static str, fields: &'static [Field]) -> Self
         ensures { row_data result ≡ row name.now fields.now }
     {
-        Row { name, fields }
+        NodeRow { name, fields }
     }
 }
 
 // The row of a vendor's node: a GUID, and bytes after it if there are some.
-fn vendor_row(name: &'static str, size: usize) -> Option<Row>
+fn vendor_row(name: &'static str, size: usize) -> Option<NodeRow>
     ensures { option_map row_data result ≡ vendor_row name.now size }
 {
     let fields: &'static [Field] = match size {
@@ -194,27 +194,27 @@ fn vendor_row(name: &'static str, size: usize) -> Option<Row>
         16 => &[Field::Guid(0)],
         _ => &[Field::Guid(0), Field::Rest(16)],
     };
-    Some(Row::new(name, fields))
+    Some(NodeRow::new(name, fields))
 }
 
 // The row of a hardware node.
-fn hardware_row(subtype: u8, size: usize) -> Option<Row>
+fn hardware_row(subtype: u8, size: usize) -> Option<NodeRow>
     ensures { option_map row_data result ≡ hardware_row subtype size }
 {
     match subtype {
-        1 if size == 2 => Some(Row::new("Pci", &[Field::U8(1), Field::U8(0)])),
-        3 if size == 20 => Some(Row::new(
+        1 if size == 2 => Some(NodeRow::new("Pci", &[Field::U8(1), Field::U8(0)])),
+        3 if size == 20 => Some(NodeRow::new(
             "MemoryMapped",
             &[Field::U32(0), Field::U64(4), Field::U64(12)],
         )),
         4 => vendor_row("VenHw", size),
-        5 if size == 4 => Some(Row::new("Ctrl", &[Field::U32(0)])),
+        5 if size == 4 => Some(NodeRow::new("Ctrl", &[Field::U32(0)])),
         _ => None,
     }
 }
 
 // The row of an ACPI node, by its hardware identifier.
-fn acpi_row(hid: u32) -> Row
+fn acpi_row(hid: u32) -> NodeRow
     ensures { row_data result ≡ acpi_row hid }
 {
     let name = match hid {
@@ -226,11 +226,11 @@ fn acpi_row(hid: u32) -> Row
         0x0401_41D0 => "ParallelPort",
         _ => return other_acpi_row(hid),
     };
-    Row::new(name, &[Field::U32(4)])
+    NodeRow::new(name, &[Field::U32(4)])
 }
 
 // The row of an ACPI node that has no name of its own.
-fn other_acpi_row(hid: u32) -> Row
+fn other_acpi_row(hid: u32) -> NodeRow
     ensures { row_data result ≡ other_acpi_row hid }
 {
     let fields: &'static [Field] = if hid % 0x1_0000 == PNP_VENDOR {
@@ -238,11 +238,11 @@ fn other_acpi_row(hid: u32) -> Row
     } else {
         &[Field::U32(0), Field::U32(4)]
     };
-    Row::new("Acpi", fields)
+    NodeRow::new("Acpi", fields)
 }
 
 // The row of a network interface's address.
-fn mac_row(interface: u8) -> Row
+fn mac_row(interface: u8) -> NodeRow
     ensures { row_data result ≡ mac_row interface }
 {
     let fields: &'static [Field] = if interface < 2 {
@@ -250,31 +250,31 @@ fn mac_row(interface: u8) -> Row
     } else {
         &[Field::Bytes(0, 32), Field::U8(32)]
     };
-    Row::new("MAC", fields)
+    NodeRow::new("MAC", fields)
 }
 
 // The row of a messaging node.
-fn messaging_row(subtype: u8, payload: &[u8]) -> Option<Row>
+fn messaging_row(subtype: u8, payload: &[u8]) -> Option<NodeRow>
     ensures { option_map row_data result ≡ messaging_row subtype payload.now }
 {
     let size = payload.len();
     match subtype {
-        2 if size == 4 => Some(Row::new("Scsi", &[Field::U16(0), Field::U16(2)])),
-        5 if size == 2 => Some(Row::new("USB", &[Field::U8(0), Field::U8(1)])),
+        2 if size == 4 => Some(NodeRow::new("Scsi", &[Field::U16(0), Field::U16(2)])),
+        5 if size == 2 => Some(NodeRow::new("USB", &[Field::U8(0), Field::U8(1)])),
         10 => vendor_row("VenMsg", size),
         11 if size == 33 => Some(mac_row(byte_at(payload, 32))),
-        17 if size == 1 => Some(Row::new("Unit", &[Field::U8(0)])),
-        18 if size == 6 => Some(Row::new("Sata", &[Field::U16(0), Field::U16(2), Field::U16(4)])),
-        23 if size == 12 => Some(Row::new("NVMe", &[Field::U32(0), Field::Eui(4)])),
-        25 if size == 2 => Some(Row::new("UFS", &[Field::U8(0), Field::U8(1)])),
-        26 if size == 1 => Some(Row::new("SD", &[Field::U8(0)])),
-        29 if size == 1 => Some(Row::new("eMMC", &[Field::U8(0)])),
+        17 if size == 1 => Some(NodeRow::new("Unit", &[Field::U8(0)])),
+        18 if size == 6 => Some(NodeRow::new("Sata", &[Field::U16(0), Field::U16(2), Field::U16(4)])),
+        23 if size == 12 => Some(NodeRow::new("NVMe", &[Field::U32(0), Field::Eui(4)])),
+        25 if size == 2 => Some(NodeRow::new("UFS", &[Field::U8(0), Field::U8(1)])),
+        26 if size == 1 => Some(NodeRow::new("SD", &[Field::U8(0)])),
+        29 if size == 1 => Some(NodeRow::new("eMMC", &[Field::U8(0)])),
         _ => None,
     }
 }
 
 // The row of a hard drive, by the type of its signature.
-fn drive_row(signature_type: u8) -> Option<Row>
+fn drive_row(signature_type: u8) -> Option<NodeRow>
     ensures { option_map row_data result ≡ drive_row signature_type }
 {
     let fields: &'static [Field] = match signature_type {
@@ -294,27 +294,27 @@ fn drive_row(signature_type: u8) -> Option<Row>
         ],
         _ => return None,
     };
-    Some(Row::new("HD", fields))
+    Some(NodeRow::new("HD", fields))
 }
 
 // The row of a media node.
-fn media_row(subtype: u8, payload: &[u8]) -> Option<Row>
+fn media_row(subtype: u8, payload: &[u8]) -> Option<NodeRow>
     ensures { option_map row_data result ≡ media_row subtype payload.now }
 {
     let size = payload.len();
     match subtype {
         1 if size == 38 => drive_row(byte_at(payload, 37)),
-        2 if size == 20 => Some(Row::new("CDROM", &[Field::U32(0), Field::U64(4), Field::U64(12)])),
+        2 if size == 20 => Some(NodeRow::new("CDROM", &[Field::U32(0), Field::U64(4), Field::U64(12)])),
         3 => vendor_row("VenMedia", size),
-        6 if size == 16 => Some(Row::new("FvFile", &[Field::Guid(0)])),
-        7 if size == 16 => Some(Row::new("Fv", &[Field::Guid(0)])),
-        8 if size == 20 => Some(Row::new("Offset", &[Field::U64(4), Field::U64(12)])),
+        6 if size == 16 => Some(NodeRow::new("FvFile", &[Field::Guid(0)])),
+        7 if size == 16 => Some(NodeRow::new("Fv", &[Field::Guid(0)])),
+        8 if size == 20 => Some(NodeRow::new("Offset", &[Field::U64(4), Field::U64(12)])),
         _ => None,
     }
 }
 
 // The row of a node, where its type, its sub-type and its size have one.
-fn known_row(node: &PathNode<'_>) -> Option<Row>
+fn known_row(node: &PathNode<'_>) -> Option<NodeRow>
     ensures { option_map row_data result ≡ known_row (node_of node.now) }
 {
     let payload = node.payload;
@@ -328,7 +328,7 @@ fn known_row(node: &PathNode<'_>) -> Option<Row>
 }
 
 // The row of the generic form of any node.
-fn generic_row(node: &PathNode<'_>) -> Row
+fn generic_row(node: &PathNode<'_>) -> NodeRow
     ensures { row_data result ≡ generic_row (node_of node.now) }
 {
     let fields: &'static [Field] = if node.payload.is_empty() {
@@ -336,11 +336,11 @@ fn generic_row(node: &PathNode<'_>) -> Row
     } else {
         &[Field::Kind, Field::Subtype, Field::Rest(0)]
     };
-    Row::new("Path", fields)
+    NodeRow::new("Path", fields)
 }
 
 /// The row of a node.
-pub(crate) fn row_of(node: &PathNode<'_>) -> Row
+pub(crate) fn row_of(node: &PathNode<'_>) -> NodeRow
     ensures { row_data result ≡ row_of (node_of node.now) }
 {
     match known_row(node) {

@@ -5,11 +5,11 @@ use Rattle.sha2.specs.Hashers.{Holds256, Holds384, Holds512}
 use Rattle.pcr_banks.specs.declared.alg.Alg.{Alg}
 use Rattle.pcr_banks.specs.declared.alg.Alg.TheVariants as algs
 use Rattle.pcr_banks.specs.declared.hasher.Hasher.{Hasher}
-use Rattle.pcr_banks.specs.declared.hasher.State.{State}
-use Rattle.pcr_banks.specs.declared.hasher.State.TheVariants as states
+use Rattle.pcr_banks.specs.declared.hasher.HashState.{HashState}
+use Rattle.pcr_banks.specs.declared.hasher.HashState.TheVariants as states
 
 -- The state of this algorithm's hasher after these bytes.
-abbrev pub StateAfter : State → Alg → List ℕ → Type 0
+abbrev pub StateAfter : HashState → Alg → List ℕ → Type 0
 StateAfter (states.Sha1 hasher) algs.Sha1 taken = Holds hasher taken
 StateAfter (states.Sha256 hasher) algs.Sha256 taken = Holds256 hasher taken
 StateAfter (states.Sha384 hasher) algs.Sha384 taken = Holds384 hasher taken

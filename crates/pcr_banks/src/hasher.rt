@@ -20,11 +20,11 @@ pub fn hash(alg: Alg, bytes: &[u8]) -> Digest
 /// Hashes bytes given in pieces: the result is the hash of all pieces joined (FIPS 180-4).
 #[derive(Drop)]
 pub struct Hasher {
-    state: State,
+    state: HashState,
 }
 
 #[derive(Drop)]
-enum State {
+enum HashState {
     Sha1(Sha1),
     Sha256(Sha256),
     Sha384(Sha384),
@@ -37,10 +37,10 @@ impl Hasher {
         ensures { HasTaken result alg [] }
     {
         let state = match alg {
-            Alg::Sha1 => State::Sha1(Sha1::new()),
-            Alg::Sha256 => State::Sha256(Sha256::new()),
-            Alg::Sha384 => State::Sha384(Sha384::new()),
-            Alg::Sha512 => State::Sha512(Sha512::new()),
+            Alg::Sha1 => HashState::Sha1(Sha1::new()),
+            Alg::Sha256 => HashState::Sha256(Sha256::new()),
+            Alg::Sha384 => HashState::Sha384(Sha384::new()),
+            Alg::Sha512 => HashState::Sha512(Sha512::new()),
         };
         Hasher { state }
     }
@@ -50,10 +50,10 @@ impl Hasher {
         ensures { (alg : Alg) (taken : List ℕ) → HasTaken self.old alg taken → HasTaken self.new alg (taken ++ bytes.now) }
     {
         match &mut self.state {
-            State::Sha1(hasher) => hasher.update(bytes),
-            State::Sha256(hasher) => hasher.update(bytes),
-            State::Sha384(hasher) => hasher.update(bytes),
-            State::Sha512(hasher) => hasher.update(bytes),
+            HashState::Sha1(hasher) => hasher.update(bytes),
+            HashState::Sha256(hasher) => hasher.update(bytes),
+            HashState::Sha384(hasher) => hasher.update(bytes),
+            HashState::Sha512(hasher) => hasher.update(bytes),
         }
     }
 
@@ -62,10 +62,10 @@ impl Hasher {
         ensures { (alg : Alg) (taken : List ℕ) → HasTaken self alg taken → result ≡ digest_of alg (hash_of alg taken) }
     {
         match self.state {
-            State::Sha1(hasher) => Digest::Sha1(hasher.finalize()),
-            State::Sha256(hasher) => Digest::Sha256(hasher.finalize()),
-            State::Sha384(hasher) => Digest::Sha384(hasher.finalize()),
-            State::Sha512(hasher) => Digest::Sha512(hasher.finalize()),
+            HashState::Sha1(hasher) => Digest::Sha1(hasher.finalize()),
+            HashState::Sha256(hasher) => Digest::Sha256(hasher.finalize()),
+            HashState::Sha384(hasher) => Digest::Sha384(hasher.finalize()),
+            HashState::Sha512(hasher) => Digest::Sha512(hasher.finalize()),
         }
     }
 }

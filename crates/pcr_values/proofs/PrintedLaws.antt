@@ -4,8 +4,8 @@ use Rattle.std.specs.Prelude.{◌⊎◌, length, IfErr, Result, Ok, Err}
 use Rattle.pcr_values.specs.declared.expected.Expected.{Expected}
 use Rattle.pcr_values.specs.declared.expected.ExpectFault.{ExpectFault}
 use Rattle.pcr_values.specs.declared.expected.ExpectFault.TheVariants.{Memory, NoRegister, NotSigned}
-use Rattle.pcr_values.specs.declared.printed.Part.{Part}
-use Rattle.pcr_values.specs.declared.printed.Part.TheVariants.{Printed, Quoted, Signed}
+use Rattle.pcr_values.specs.declared.printed.PrintedPart.{PrintedPart}
+use Rattle.pcr_values.specs.declared.printed.PrintedPart.TheVariants.{Printed, Quoted, Signed}
 use Rattle.pcr_values.specs.PcrReadTexts.{Begins, GivesValue, IsSkipped, Position, Says}
 use Rattle.pcr_values.specs.PrintedTexts.{ArePrinted, IsPrintedText, MayEnd, PrintedPosition, Prints, PrintsIn, Turns}
 use Rattle.pcr_values.specs.StatedRegisters.{lines_of}
@@ -42,7 +42,7 @@ says_first position after line (Some e) says = inr (value_first position line e 
 
 -- ---- a line that begins another part
 
-turn_first : (part next : Part) (position : Position) (line : List ℕ) → Turns part position line next
+turn_first : (part next : PrintedPart) (position : Position) (line : List ℕ) → Turns part position line next
     → (slice_index line 0 ≡ 112) ⊎ (slice_index line 0 ≡ 115)
 turn_first Printed Printed None line turns = absurd turns
 turn_first Printed Quoted None line turns = inl (ap (λ (l : List ℕ). slice_index l 0) turns)
@@ -53,7 +53,7 @@ turn_first Quoted Quoted position line turns = absurd turns
 turn_first Quoted Signed position line turns = inr (ap (λ (l : List ℕ). slice_index l 0) turns.spelled)
 turn_first Signed next position line turns = absurd turns
 
-one_turn : (part next other : Part) (position : Position) (line : List ℕ) → Turns part position line next → Turns part position line other → next ≡ other
+one_turn : (part next other : PrintedPart) (position : Position) (line : List ℕ) → Turns part position line next → Turns part position line other → next ≡ other
 one_turn Printed Printed other None line p q = absurd p
 one_turn Printed Signed other None line p q = absurd p
 one_turn Printed Quoted Printed None line p q = absurd q
@@ -67,7 +67,7 @@ one_turn Quoted Signed Quoted position line p q = absurd q
 one_turn Quoted Signed Signed position line p q = refl
 one_turn Signed next other position line p q = absurd p
 
-turn_says_nothing : (part next : Part) (position after : Position) (line : List ℕ) (stated : Option Expected) → Turns part position line next
+turn_says_nothing : (part next : PrintedPart) (position after : Position) (line : List ℕ) (stated : Option Expected) → Turns part position line next
     → Says position line after stated → ⊥
 turn_says_nothing part next position after line stated turns says =
     elim (says_first position after line stated says) [
@@ -85,15 +85,15 @@ turn_says_nothing part next position after line stated turns says =
 
 same_position : (position other : PrintedPosition) → position.0 ≡ other.0 → position.1 ≡ other.1 → position ≡ other
 same_position position other parts banks =
-    ap (λ (part : Part). let x : PrintedPosition = (part, position.1) in x) parts
+    ap (λ (part : PrintedPart). let x : PrintedPosition = (part, position.1) in x) parts
     ∙ ap (λ (bank : Position). let x : PrintedPosition = (other.0, bank) in x) banks
 
 -- What a line says before the signature.
-abbrev SaysOpen : Part → Position → List ℕ → PrintedPosition → Option Expected → Type 0
+abbrev SaysOpen : PrintedPart → Position → List ℕ → PrintedPosition → Option Expected → Type 0
 SaysOpen part bank line after stated =
     (Turns part bank line after.0 × (after.1 ≡ None) × (stated ≡ None)) ⊎ ((after.0 ≡ part) × Says bank line after.1 stated)
 
-open_once : (part : Part) (bank : Position) (next other : PrintedPosition) (line : List ℕ) (first second : Option Expected)
+open_once : (part : PrintedPart) (bank : Position) (next other : PrintedPosition) (line : List ℕ) (first second : Option Expected)
     → SaysOpen part bank line next first → SaysOpen part bank line other second → (next ≡ other) × (first ≡ second)
 open_once part bank next other line first second p q =
     elim p [
@@ -112,7 +112,7 @@ open_once part bank next other line first second p q =
       ]
     ]
 
-print_once : (part : Part) (bank : Position) (next other : PrintedPosition) (line : List ℕ) (first second : Option Expected)
+print_once : (part : PrintedPart) (bank : Position) (next other : PrintedPosition) (line : List ℕ) (first second : Option Expected)
     → PrintsIn part bank line next first → PrintsIn part bank line other second → (next ≡ other) × (first ≡ second)
 print_once Printed bank next other line first second p q = open_once Printed bank next other line first second p q
 print_once Quoted bank next other line first second p q = open_once Quoted bank next other line first second p q
@@ -123,8 +123,8 @@ pub prints_once : SaysOnce Prints
 prints_once = record { once = λ position next other line first second p q. print_once position.0 position.1 next other line first second p q }
 
 -- A line before the signature that neither begins another part nor says anything in its bank says nothing.
-pub says_nothing : (part : Part) (bank : Position) (line : List ℕ) → (part ≡ Signed → ⊥)
-    → ((next : Part) → Turns part bank line next → ⊥) → ((next : Position) (stated : Option Expected) → Says bank line next stated → ⊥)
+pub says_nothing : (part : PrintedPart) (bank : Position) (line : List ℕ) → (part ≡ Signed → ⊥)
+    → ((next : PrintedPart) → Turns part bank line next → ⊥) → ((next : Position) (stated : Option Expected) → Says bank line next stated → ⊥)
     → (next : PrintedPosition) (stated : Option Expected) → PrintsIn part bank line next stated → ⊥
 says_nothing Signed bank line before no-turn no-line next stated prints = before refl
 says_nothing Printed bank line before no-turn no-line next stated (inl turns) = no-turn next.0 turns.0
@@ -135,7 +135,7 @@ says_nothing Quoted bank line before no-turn no-line next stated (inr says) = no
 -- ---- a text has one reading
 
 -- Its lines lead to the end of one part.
-one_end : (text : List ℕ) (part other : Part) (first second : List Expected) → ArePrinted text part first → ArePrinted text other second
+one_end : (text : List ℕ) (part other : PrintedPart) (first second : List Expected) → ArePrinted text part first → ArePrinted text other second
     → (part ≡ other) × (first ≡ second)
 one_end text part other first second p q =
     let once = ends_once Prints prints_once (Printed, None) (part, p.0) (other, q.0) (lines_of text) first second p.1 q.1 in
@@ -145,7 +145,7 @@ pub printed_once : (text : List ℕ) (first second : List Expected) → IsPrinte
 printed_once text first second p q = (one_end text p.part q.part first second p.printed q.printed).1
 
 -- A text that states registers lacks neither these nor a signature.
-pub lacks_nothing : (text : List ℕ) (expected registers : List Expected) (part : Part) (fault : ExpectFault)
+pub lacks_nothing : (text : List ℕ) (expected registers : List Expected) (part : PrintedPart) (fault : ExpectFault)
     → IsPrintedText text expected → ArePrinted text part registers
     → ((fault ≡ NotSigned) × (part ≡ Quoted)) ⊎ ((fault ≡ NoRegister) × MayEnd part × (registers ≡ [])) → ⊥
 lacks_nothing text expected registers part fault is printed lacks =

@@ -16,8 +16,8 @@ use Rattle.pcr_banks.specs.Registers.{register_count}
 use Rattle.pcr_values.specs.declared.expected.Expected.{Expected}
 use Rattle.pcr_values.specs.StatedRegisters.{SayAll, lines_of, same_register, without_return}
 use Rattle.pcr_values.specs.ExpectedTexts.{IsExpectedText, IsRegisterLine, Spells}
-use Rattle.pcr_values.specs.declared.printed.Part.{Part}
-use Rattle.pcr_values.specs.declared.printed.Part.TheVariants.{Printed, Quoted, Signed}
+use Rattle.pcr_values.specs.declared.printed.PrintedPart.{PrintedPart}
+use Rattle.pcr_values.specs.declared.printed.PrintedPart.TheVariants.{Printed, Quoted, Signed}
 use Rattle.pcr_values.specs.PcrReadTexts.{GivesValue, Position}
 use Rattle.pcr_values.specs.PrintedTexts.{IsPrintedText, PrintedPosition, Prints, PrintsIn}
 use Rattle.pcr_values.specs.WrittenTexts.{expected_line, expected_text}
@@ -65,7 +65,7 @@ value_proper (Some bank) line e gives = record {
   fits = (decode_of-ok gives.digits (bytes_of e.value) gives.value_is).3;
 }
 
-value_in : (part : Part) (bank : Position) (line : List ℕ) (next : PrintedPosition) (e : Expected) → PrintsIn part bank line next (Some e)
+value_in : (part : PrintedPart) (bank : Position) (line : List ℕ) (next : PrintedPosition) (e : Expected) → PrintsIn part bank line next (Some e)
     → GivesValue bank line e
 value_in Signed bank line next e says = absurd cc
 value_in Printed bank line next e (inl turns) = absurd cc

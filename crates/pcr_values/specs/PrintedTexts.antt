@@ -6,8 +6,8 @@ use Rattle.std.specs.List.{list_all}
 use Rattle.pcr_values.specs.declared.expected.Expected.{Expected}
 use Rattle.pcr_values.specs.declared.expected.ExpectFault.{ExpectFault}
 use Rattle.pcr_values.specs.declared.expected.ExpectFault.TheVariants.{BadLine, NoRegister, NotChecked, NotSigned}
-use Rattle.pcr_values.specs.declared.printed.Part.{Part}
-use Rattle.pcr_values.specs.declared.printed.Part.TheVariants.{Printed, Quoted, Signed}
+use Rattle.pcr_values.specs.declared.printed.PrintedPart.{PrintedPart}
+use Rattle.pcr_values.specs.declared.printed.PrintedPart.TheVariants.{Printed, Quoted, Signed}
 use Rattle.pcr_values.specs.StatedRegisters.{AreStated, BeginsWithStated, HasFaultOfFirst, lines_of}
 use Rattle.pcr_values.specs.PcrReadTexts.{Position, Says}
 
@@ -22,18 +22,18 @@ pub record IsSignatureLine (line : List ℕ) : Type 0 where
 
 -- The line leads from this position of one part of a text to the next part: before any bank `pcrs:` begins what was quoted, and the line
 -- of the signature ends it.
-abbrev pub Turns : Part → Position → List ℕ → Part → Type 0
+abbrev pub Turns : PrintedPart → Position → List ℕ → PrintedPart → Type 0
 Turns Printed None line Quoted = line ≡ codes "pcrs:"
 Turns Quoted bank line Signed = IsSignatureLine line
 Turns part bank line next = ⊥
 
 -- A position between lines: the part of the text, and the bank that it is in.
 abbrev pub PrintedPosition : Type 0
-PrintedPosition = Part × Position
+PrintedPosition = PrintedPart × Position
 
 -- A line at this position of this part leads to the position `after` and states at most one register. After the signature it is empty. Before,
 -- it leads to the next part, or says what a line of tpm2_pcrread says.
-abbrev pub PrintsIn : Part → Position → List ℕ → PrintedPosition → Option Expected → Type 0
+abbrev pub PrintsIn : PrintedPart → Position → List ℕ → PrintedPosition → Option Expected → Type 0
 PrintsIn Signed bank line after stated = (line ≡ []) × (after.0 ≡ Signed) × (after.1 ≡ bank) × (stated ≡ None)
 PrintsIn part bank line after stated =
     (Turns part bank line after.0 × (after.1 ≡ None) × (stated ≡ None)) ⊎ ((after.0 ≡ part) × Says bank line after.1 stated)
@@ -44,17 +44,17 @@ Prints before line after stated = PrintsIn before.0 before.1 line after stated
 -- ---- a whole text
 
 -- The lines lead to the end of this part, and state these registers, no register of a bank twice.
-abbrev pub ArePrinted : List ℕ → Part → List Expected → Type 0
+abbrev pub ArePrinted : List ℕ → PrintedPart → List Expected → Type 0
 ArePrinted text part expected = (bank : Position) × AreStated Prints (Printed, None) (lines_of text) (part, bank) expected
 
 -- The text may end in this part: not before the signature of what was quoted.
-abbrev pub MayEnd : Part → Type 0
+abbrev pub MayEnd : PrintedPart → Type 0
 MayEnd Quoted = ⊥
 MayEnd part = Unit {0}
 
 -- The text states these registers, at least one.
 pub record IsPrintedText (text : List ℕ) (expected : List Expected) : Type 0 where
-  pub part : Part
+  pub part : PrintedPart
   pub ends : MayEnd part
   pub printed : ArePrinted text part expected
   pub some : 0 < length expected
@@ -78,6 +78,6 @@ HasWrongLine text fault = HasFaultOfFirst Prints (Printed, None) text fault
 abbrev pub HasPrintedFault : List ℕ → ExpectFault → Type 0
 HasPrintedFault text NotChecked = HasWrongLine text (BadLine 1) × IsQuoteOutput text
 HasPrintedFault text NotSigned = (expected : List Expected) × ArePrinted text Quoted expected
-HasPrintedFault text NoRegister = (part : Part) × MayEnd part × ArePrinted text part []
+HasPrintedFault text NoRegister = (part : PrintedPart) × MayEnd part × ArePrinted text part []
 HasPrintedFault text (BadLine line) = HasWrongLine text (BadLine line) × (line ≡ 1 → IsQuoteOutput text → ⊥)
 HasPrintedFault text fault = HasWrongLine text fault

@@ -5,8 +5,8 @@ ghost use Rattle.std.specs.Char.{is_ascii_hexdigit};
 ghost use Rattle.std.specs.List.{list_all};
 ghost use Rattle.pcr_values.specs.declared.expected.Expected.{Expected};
 ghost use Rattle.pcr_values.specs.declared.expected.ExpectFault.TheVariants.{BadLine, NoRegister, NotChecked, NotSigned};
-ghost use Rattle.pcr_values.specs.declared.printed.Part.{Part};
-ghost use Rattle.pcr_values.specs.declared.printed.Part.TheVariants.{Quoted};
+ghost use Rattle.pcr_values.specs.declared.printed.PrintedPart.{PrintedPart};
+ghost use Rattle.pcr_values.specs.declared.printed.PrintedPart.TheVariants.{Quoted};
 ghost use Rattle.pcr_values.specs.PrintedTexts.{HasPrintedFault, IsPrintedText, IsQuoteOutput, IsSignatureLine, MayEnd, PrintedPosition, Prints, PrintsRegister, Turns};
 
 use crate::expected::{ExpectFault, Expected};
@@ -44,7 +44,7 @@ pub fn read_printed(alloc: Global, text: &[u8]) -> Result<Vec<Expected>, ExpectF
     ensures memory { IsErrOf result ExpectFault.Memory → PrintsRegister text.now }
 {
     let beginning = PartPosition {
-        part: Part::Printed,
+        part: PrintedPart::Printed,
         bank: InBank { name: None },
     };
     match read_lines(alloc, beginning, text) {
@@ -68,7 +68,7 @@ fn named_fault(text: &[u8], fault: ExpectFault) -> ExpectFault
 
 // A part of a text.
 #[derive(Clone, Copy, PartialEq, Eq)]
-enum Part {
+enum PrintedPart {
     /// What tpm2_pcrread prints.
     Printed,
     /// What was quoted, after the line `pcrs:`.
@@ -80,7 +80,7 @@ enum Part {
 // A position between lines: the part, and the bank that it is in.
 #[derive(Clone, Copy)]
 struct PartPosition<'a> {
-    part: Part,
+    part: PrintedPart,
     bank: InBank<'a>,
 }
 
@@ -92,7 +92,7 @@ impl<'a> LinePosition<'a> for PartPosition<'a> {
     ghost says = { Prints };
 
     fn after(self, line: &'a [u8]) -> Option<(PartPosition<'a>, Option<Expected>)> {
-        if self.part == Part::Signed {
+        if self.part == PrintedPart::Signed {
             return line.is_empty().then_some((self, None));
         }
         if let Some(part) = part_begun(self.part, self.bank, line) {
@@ -105,13 +105,13 @@ impl<'a> LinePosition<'a> for PartPosition<'a> {
 }
 
 // The part that the line at this position begins, if it begins one.
-fn part_begun(part: Part, bank: InBank<'_>, line: &[u8]) -> Option<Part>
+fn part_begun(part: PrintedPart, bank: InBank<'_>, line: &[u8]) -> Option<PrintedPart>
     ensures found { IfSome result (Turns part (option_map (λ name. name.now) bank.entry.name) line.now) }
-    ensures none { IfNone result ((next : Part) → Turns part (option_map (λ name. name.now) bank.entry.name) line.now next → ⊥) }
+    ensures none { IfNone result ((next : PrintedPart) → Turns part (option_map (λ name. name.now) bank.entry.name) line.now next → ⊥) }
 {
     match part {
-        Part::Printed if bank.name.is_none() && line == b"pcrs:".as_slice() => Some(Part::Quoted),
-        Part::Quoted if is_signature(line) => Some(Part::Signed),
+        PrintedPart::Printed if bank.name.is_none() && line == b"pcrs:".as_slice() => Some(PrintedPart::Quoted),
+        PrintedPart::Quoted if is_signature(line) => Some(PrintedPart::Signed),
         _ => None,
     }
 }
@@ -135,12 +135,12 @@ fn is_hexadecimal(text: &[u8]) -> bool
 }
 
 // The registers of a text that ends in this part.
-fn whole(registers: Vec<Expected>, part: Part) -> Result<Vec<Expected>, ExpectFault>
+fn whole(registers: Vec<Expected>, part: PrintedPart) -> Result<Vec<Expected>, ExpectFault>
     ensures found { IfOk result (λ all. MayEnd part × (0 < length all.items) × (all.items ≡ registers.items)) }
     ensures fault { IfErr result (λ fault. ((fault ≡ NotSigned) × (part ≡ Quoted))
         ⊎ ((fault ≡ NoRegister) × MayEnd part × (registers.items ≡ []))) }
 {
-    if part == Part::Quoted {
+    if part == PrintedPart::Quoted {
         return Err(ExpectFault::NotSigned);
     }
     if registers.is_empty() {
