@@ -19,7 +19,7 @@ use Rattle.event_lines.specs.ContentJson.{content_json}
 use Rattle.event_lines.specs.ContentTexts.{text_or_hex}
 use Rattle.event_lines.proofs.ContentLaws.{content_plain}
 use Rattle.event_lines.proofs.CountLaws.{content_counted}
-use Rattle.boot_texts.specs.declared.difference_lines.Boot.{Boot}
+use Rattle.boot_texts.specs.declared.difference_lines.ComparedBoot.{ComparedBoot}
 use Rattle.boot_texts.specs.declared.policies.ImaPolicy.TheVariants.{Asked, Possible}
 use Rattle.boot_texts.specs.AnswerCells.{answered_digest, boot_variable_type, command_cell, digest_cell, image_cell, kind_cell, text_member, untold_cell, variable_cell, version_cell, word_cell}
 use Rattle.boot_texts.specs.Differences.{alike_cell, apart_cell, event_cell}
@@ -123,7 +123,7 @@ own_plain : (digest : Option (List ℕ)) → ArePlain (if_some digest (hex (code
 own_plain None = tt
 own_plain (Some bytes) = (tt, tt)
 
-pub event_is_one : (boot : Boot) (register : ℕ) (alg : Alg) (number : ℕ) (event : LogEvent) → IsCount register → IsCount number
+pub event_is_one : (boot : ComparedBoot) (register : ℕ) (alg : Alg) (number : ℕ) (event : LogEvent) → IsCount register → IsCount number
     → IsBytes event.payload → IsOneLine (object_of (event_cell boot register alg number event).json)
 unfolding beside
 event_is_one boot register alg number event place count fits =

@@ -14,7 +14,7 @@ use Rattle.boot_answers.specs.Differences.{IsFirstDifference}
 use Rattle.cells.specs.declared.writer.Form.{Form}
 use Rattle.cells.specs.ItemLines.{numbered_lines}
 use Rattle.cells.proofs.ItemLineLaws.{numbered_joined}
-use Rattle.boot_texts.specs.declared.difference_lines.Boot.{Boot}
+use Rattle.boot_texts.specs.declared.difference_lines.ComparedBoot.{ComparedBoot}
 use Rattle.boot_texts.specs.declared.difference_lines.EventLine.{EventLine}
 use Rattle.boot_texts.specs.declared.differences.Difference.{Difference}
 use Rattle.boot_texts.specs.Differences.{AreOfRegisters, IsComparedIn, IsDifference, difference_lines, event_line, lines_from, numbered_events, register_lines}
@@ -67,7 +67,7 @@ unmarked_more (false ∷ marks) [] x = ap (λ (l : List Numbered). x ∷ l) (non
 unmarked_more (true ∷ marks) (y ∷ xs) x = unmarked_more marks xs x
 unmarked_more (false ∷ marks) (y ∷ xs) x = ap (λ (l : List Numbered). y ∷ l) (unmarked_more marks xs x)
 
-module _ (boot : Boot) (line : EventLine) (place : ℕ) (marks : List Bool) (read : List LogEvent) (event : LogEvent) where
+module _ (boot : ComparedBoot) (line : EventLine) (place : ℕ) (marks : List Bool) (read : List LogEvent) (event : LogEvent) where
   abbrev all : List Numbered
   all = numbered_events line.register 1 read
 
@@ -130,7 +130,7 @@ module _ (boot : Boot) (line : EventLine) (place : ℕ) (marks : List Bool) (rea
       ∙ ap (λ (n : ℕ). cond (get_or marks n false) [] (event_line boot line number event)) (length-drop place all))
 
 -- Without events there are no lines.
-pub no_lines : (boot : Boot) (line : EventLine) (place : ℕ) (marks : List Bool) → lines_from boot line place marks [] ≡ []
+pub no_lines : (boot : ComparedBoot) (line : EventLine) (place : ℕ) (marks : List Bool) → lines_from boot line place marks [] ≡ []
 no_lines boot line place marks =
     let none : List Numbered = [] in
     let few : length none ≤ place = omega arith in

@@ -20,8 +20,8 @@ use Rattle.event_lines.specs.ContentJson.{event_content_json}
 use Rattle.event_lines.specs.SteeringTexts.{value_cell}
 use Rattle.cells.specs.ItemLines.{numbered_lines}
 use Rattle.boot_texts.specs.Answering.{has_answer}
-use Rattle.boot_texts.specs.declared.difference_lines.Boot.{Boot}
-use Rattle.boot_texts.specs.declared.difference_lines.Boot.TheVariants as boots
+use Rattle.boot_texts.specs.declared.difference_lines.ComparedBoot.{ComparedBoot}
+use Rattle.boot_texts.specs.declared.difference_lines.ComparedBoot.TheVariants as boots
 use Rattle.boot_texts.specs.declared.difference_lines.EventLine.{EventLine}
 use Rattle.boot_texts.specs.declared.differences.Difference.{Difference}
 use Rattle.boot_texts.specs.declared.differences.Difference.TheVariants.{Unanswered, Alike, Apart}
@@ -81,7 +81,7 @@ apart_cell register alg place = in_order (
 -- ---- a line on an event
 
 -- This boot, or the earlier one.
-abbrev pub boot_word : Boot → List ℕ
+abbrev pub boot_word : ComparedBoot → List ℕ
 boot_word boots.Now = codes "now"
 boot_word boots.Before = codes "before"
 
@@ -91,14 +91,14 @@ place_cell register boot n = in_order (
     number (codes "register ") (codes "register") register ∷ text (codes " ") ∷ text boot ∷ number (codes " ") boot n ∷ [])
 
 -- The register, the event's number in the log of its boot, its digest in the bank where it has one, and what its data claims.
-abbrev pub event_cell : Boot → ℕ → Alg → ℕ → LogEvent → Cell Member
+abbrev pub event_cell : ComparedBoot → ℕ → Alg → ℕ → LogEvent → Cell Member
 event_cell boot register alg n event = in_order (
     place_cell register (boot_word boot) n
     ∷ if_some (digest_in event.digests alg) (hex (codes " ") (codes "digest"))
     ∷ value_cell (codes " claimed ") (codes "claimed") (event_content_json event)
     ∷ [])
 
-abbrev pub event_line : Boot → EventLine → ℕ → LogEvent → List ℕ
+abbrev pub event_line : ComparedBoot → EventLine → ℕ → LogEvent → List ℕ
 event_line boot line n event = rendered line.form (event_cell boot line.register line.alg n event)
 
 -- ---- the lines on a register
@@ -110,7 +110,7 @@ numbered_events register number (event ∷ events) =
     if is_extended_into register event then (number, event) ∷ numbered_events register (number + 1) events else numbered_events register (number + 1) events
 
 -- The lines of the register's events from this place on that have no mark.
-abbrev pub lines_from : Boot → EventLine → ℕ → List Bool → List LogEvent → List ℕ
+abbrev pub lines_from : ComparedBoot → EventLine → ℕ → List Bool → List LogEvent → List ℕ
 lines_from boot line place marks events =
     flat_map (λ numbered. event_line boot line numbered.0 numbered.1) (unmarked marks (drop place (numbered_events line.register 1 events)))
 

@@ -18,7 +18,7 @@ use std::alloc::Global;
 
 /// One of the boots that are compared.
 #[derive(Clone, Copy)]
-pub(crate) enum Boot {
+pub(crate) enum ComparedBoot {
     /// The one that is asked about.
     Now,
     /// The earlier one.
@@ -94,7 +94,7 @@ fn show_apart(register: u32, alg: Alg, place: usize, out: &mut CellWriter) -> Wr
 pub(crate) fn append_events(
     alloc: Global,
     log: &LogView<'_>,
-    boot: Boot,
+    boot: ComparedBoot,
     line: EventLine,
     place: usize,
     marks: &[bool],
@@ -136,7 +136,7 @@ fn first_mark(marks: &[bool]) -> (bool, &[bool])
 // Appends the event's line, unless the boots have it in common.
 fn append_unless(
     alloc: Global,
-    boot: Boot,
+    boot: ComparedBoot,
     line: EventLine,
     is_common: bool,
     number: usize,
@@ -154,7 +154,7 @@ fn append_unless(
 
 fn append_event(
     alloc: Global,
-    boot: Boot,
+    boot: ComparedBoot,
     line: EventLine,
     number: usize,
     event: &Event<'_>,
@@ -175,7 +175,7 @@ fn append_event(
 // An event of one of the boots.
 #[derive(Drop)]
 struct BootEvent<'a> {
-    boot: Boot,
+    boot: ComparedBoot,
     register: u32,
     alg: Alg,
     number: usize,
@@ -202,12 +202,12 @@ fn show_place(register: u32, boot: &str, number: usize, out: &mut CellWriter) ->
     out.number(" ", boot, number as u64)
 }
 
-fn boot_word(boot: Boot) -> &'static str
+fn boot_word(boot: ComparedBoot) -> &'static str
     ensures { result.now ≡ boot_word boot }
 {
     match boot {
-        Boot::Now => "now",
-        Boot::Before => "before",
+        ComparedBoot::Now => "now",
+        ComparedBoot::Before => "before",
     }
 }
 

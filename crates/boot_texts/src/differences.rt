@@ -8,7 +8,7 @@ ghost use Rattle.cells.specs.Cells.{rendered};
 ghost use Rattle.boot_texts.specs.Differences.{AreDifferenceLines, IsComparedIn, IsDifference, alike_cell, either_extended, has_events, lines_of_both, register_lines, where_extended};
 
 use crate::answering_banks::{answers, has_answer};
-use crate::difference_lines::{AlikeLine, ApartLine, Boot, EventLine, append_events};
+use crate::difference_lines::{AlikeLine, ApartLine, ComparedBoot, EventLine, append_events};
 use boot_answers::{Common, RegisterEvents, common_events, first_difference};
 use boot_log::LogView;
 use cells::{Form, Written, append};
@@ -134,8 +134,8 @@ fn append_from(
         place,
     };
     append(alloc, line.form, &apart, lines)?;
-    append_events(alloc, log, Boot::Now, line, place, marks, lines)?;
-    append_events(alloc, before, Boot::Before, line, place, other_marks, lines)
+    append_events(alloc, log, ComparedBoot::Now, line, place, marks, lines)?;
+    append_events(alloc, before, ComparedBoot::Before, line, place, other_marks, lines)
 }
 
 // Appends the lines of the register.

@@ -13,7 +13,7 @@ ghost use Rattle.boot_answers.specs.Commands.{CommandSaid, told_text};
 ghost use Rattle.boot_answers.specs.FirmwareVersion.{version_type};
 ghost use Rattle.cells.specs.Values.{IsCount, IsOneLine, object_of};
 ghost use Rattle.boot_texts.specs.AnswerCells.{command_cell, image_cell, text_member, untold_cell, variable_cell, version_cell, word_cell};
-ghost use Rattle.boot_texts.specs.declared.difference_lines.Boot.{Boot};
+ghost use Rattle.boot_texts.specs.declared.difference_lines.ComparedBoot.{ComparedBoot};
 ghost use Rattle.boot_texts.specs.declared.policies.ImaPolicy.TheVariants.{Asked, Possible};
 ghost use Rattle.boot_texts.specs.Differences.{alike_cell, apart_cell, event_cell};
 ghost use Rattle.boot_texts.specs.EachBank.{TellText, TellVariable};
@@ -56,6 +56,6 @@ pub fn each_line_is_one_value()
     ensures alike { (register : ℕ) (word : List ℕ) → IsCount register → IsOneLine (object_of (alike_cell register word).json) }
     ensures apart { (register : ℕ) (alg : Alg) (place : ℕ) → IsCount register → IsCount place
         → IsOneLine (object_of (apart_cell register alg place).json) }
-    ensures event { (boot : Boot) (register : ℕ) (alg : Alg) (number : ℕ) (event : LogEvent) → IsCount register → IsCount number
+    ensures event { (boot : ComparedBoot) (register : ℕ) (alg : Alg) (number : ℕ) (event : LogEvent) → IsCount register → IsCount number
         → AreBytes event.payload → IsOneLine (object_of (event_cell boot register alg number event).json) }
 {}

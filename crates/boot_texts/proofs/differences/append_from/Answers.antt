@@ -1,6 +1,6 @@
 use Rattle.std.proofs.Common.{◌++◌}
 use Rattle.cells.specs.Cells.{rendered}
-use Rattle.boot_texts.specs.declared.difference_lines.Boot.TheVariants.{Before, Now}
+use Rattle.boot_texts.specs.declared.difference_lines.ComparedBoot.TheVariants.{Before, Now}
 use Rattle.boot_texts.specs.Differences.{apart_cell, lines_from}
 use Rattle.boot_texts.proofs.DifferenceLaws.{after_ok}
 use Rattle.boot_texts.proofs.differences.append_from.Goals as goal
