@@ -1,8 +1,8 @@
 -- What the program's sources read and its sinks write to.
 use Rattle.std.specs.Prelude.{ℕ, Bool, true, false, List, Option, None}
 use Rattle.byte_streams.specs.Streams.{SinkState, SourceState}
-use Rattle.agent_inputs.specs.declared.system.Input.{Input}
-use Rattle.agent_inputs.specs.declared.system.Input.TheVariants.{File, StandardInput}
+use Rattle.agent_inputs.specs.declared.system.OpenInput.{OpenInput}
+use Rattle.agent_inputs.specs.declared.system.OpenInput.TheVariants.{File, StandardInput}
 use Rattle.agent_inputs.specs.declared.system.ReadSource.{ReadSource}
 use Rattle.agent_inputs.specs.declared.system.SystemFiles.{SystemFiles}
 use Rattle.agent_inputs.specs.declared.system.WriteSink.{WriteSink}
@@ -28,11 +28,11 @@ abbrev pub runtime_of : {R : Type 0} → SystemFiles R → R
 runtime_of files = files.runtime.now
 
 -- Whether the bytes come from a file rather than standard input.
-abbrev pub is_file : {F I : Type 0} → Input F I → Bool
+abbrev pub is_file : {F I : Type 0} → OpenInput F I → Bool
 is_file (File file) = true
 is_file (StandardInput input) = false
 
 -- The remaining bytes, if those of the file or of the standard input are known.
-abbrev pub remaining_bytes : {F I : Type 0} → (F → Option (List ℕ)) → (I → Option (List ℕ)) → Input F I → Option (List ℕ)
+abbrev pub remaining_bytes : {F I : Type 0} → (F → Option (List ℕ)) → (I → Option (List ℕ)) → OpenInput F I → Option (List ℕ)
 remaining_bytes of_file of_input (File file) = of_file file
 remaining_bytes of_file of_input (StandardInput input) = of_input input

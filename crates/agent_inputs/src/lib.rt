@@ -14,4 +14,4 @@ pub use loader::{
     too_long,
 };
 pub use source_hash::hash_from;
-pub use system::{Input, ReadSource, SystemFiles, WriteSink, is_regular};
+pub use system::{OpenInput, ReadSource, SystemFiles, WriteSink, is_regular};

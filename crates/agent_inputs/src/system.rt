@@ -115,20 +115,20 @@ impl<W: Write> Sink for WriteSink<W> {
 
 /// Where the bytes of an input come from.
 #[derive(Drop)]
-pub enum Input<F, I> {
+pub enum OpenInput<F, I> {
     /// A file.
     File(F),
     /// Standard input.
     StandardInput(I),
 }
 
-impl<F: Read, I: Read> Read for Input<F, I> {
+impl<F: Read, I: Read> Read for OpenInput<F, I> {
     ghost remaining = { λ input. remaining_bytes F.remaining I.remaining input };
 
     fn read(&mut self, buffer: &mut [u8]) -> io::Result<usize> {
         match self {
-            Input::File(file) => file.read(buffer),
-            Input::StandardInput(stream) => stream.read(buffer),
+            OpenInput::File(file) => file.read(buffer),
+            OpenInput::StandardInput(stream) => stream.read(buffer),
         }
     }
 }
@@ -151,7 +151,7 @@ impl<'a, R: FileSystem + io::Input> SystemFiles<'a, R> {
 }
 
 impl<R: FileSystem + io::Input + Sync> Files for SystemFiles<'_, R> {
-    type Src = ReadSource<Input<R::File, R::Reader>>;
+    type Src = ReadSource<OpenInput<R::File, R::Reader>>;
 
     // Nothing is known of the system's files.
     ghost known = { λ _. unknown };
@@ -163,12 +163,12 @@ impl<R: FileSystem + io::Input + Sync> Files for SystemFiles<'_, R> {
         ensures failures { IfOk result (λ source. (read_source_state source).failures ≡ 0) }
         ensures gives { IfOk result (λ source. GivesAll None (read_source_state source)) }
         ensures refused { IsErr result → IsTrue (unknown.may_fail (option_map (λ name. name.now) name.entry)) }
-        ensures failing { IfOk result (λ source. (later : ReadSource (Input R.File R.Reader)) → HasFailed (read_source_state source) (read_source_state later)
+        ensures failing { IfOk result (λ source. (later : ReadSource (OpenInput R.File R.Reader)) → HasFailed (read_source_state source) (read_source_state later)
             → IsTrue (unknown.may_fail (option_map (λ name. name.now) name.entry))) }
     {
         let input = match name {
-            None => Input::StandardInput(self.runtime.reader()),
-            Some(name) => Input::File(File::open(self.runtime, name).map_err(|_| Failed)?),
+            None => OpenInput::StandardInput(self.runtime.reader()),
+            Some(name) => OpenInput::File(File::open(self.runtime, name).map_err(|_| Failed)?),
         };
         Ok(ReadSource::new(input))
     }

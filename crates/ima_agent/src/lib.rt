@@ -15,7 +15,7 @@ mod streams;
 mod version;
 
 pub use agent_inputs::{
-    AgentFiles, Files, Input, LoadFault, NotResumed, ReadSource, RunFault, SharedFiles,
+    AgentFiles, Files, OpenInput, LoadFault, NotResumed, ReadSource, RunFault, SharedFiles,
     SystemFiles, WriteSink, hash_from, load,
 };
 pub use agent_plans::{
