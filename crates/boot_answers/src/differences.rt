@@ -19,7 +19,7 @@ fn are_same(first: Option<Digest>, other: Option<Digest>) -> bool
 }
 
 // Whether the event has a digest in the algorithm's bank.
-fn is_known(event: &Event<'_>, alg: Alg) -> bool
+fn has_digest(event: &Event<'_>, alg: Alg) -> bool
     ensures { IsTrue result ↔ IsKnown (digest_in event.now.digests alg) }
 {
     event.digests.get(alg).is_some()
@@ -36,7 +36,7 @@ fn extend_alike(event: &Event<'_>, other: &Event<'_>, alg: Alg) -> bool
 fn extend_as_one(event: &Event<'_>, other: &Event<'_>, alg: Alg) -> bool
     ensures { IsTrue result ↔ AreOne (digest_in event.now.digests alg) (digest_in other.now.digests alg) }
 {
-    is_known(event, alg) && extend_alike(event, other, alg)
+    has_digest(event, alg) && extend_alike(event, other, alg)
 }
 
 /// How often the two logs extend the register by the same digests of the algorithm before they differ; `None` where they extend it alike. An
