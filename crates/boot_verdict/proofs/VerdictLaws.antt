@@ -23,7 +23,7 @@ use Rattle.boot_verdict.specs.declared.report.Row.{Row}
 use Rattle.boot_verdict.specs.declared.verifier.VerifyFault.{VerifyFault}
 use Rattle.boot_verdict.specs.declared.verifier.VerifyFault.TheVariants as faults
 use Rattle.boot_verdict.specs.Checkpoints.{IsCheckpoint, IsMoreFault}
-use Rattle.boot_verdict.specs.Verdicts.{IsSomeLog, IsVerdict, IsVerifyFault, IsVerifyFaultFrom, Verdict, aggregate_of, aggregate_state, booted_aggregate, pcr_after_log, fault_of_log, pcr_after_log_and_list, row_on, row_state, verdict_on}
+use Rattle.boot_verdict.specs.Verdicts.{ReadsAsLog, IsVerdict, IsVerifyFault, IsVerifyFaultFrom, Verdict, aggregate_of, aggregate_state, booted_aggregate, pcr_after_log, fault_of_log, pcr_after_log_and_list, row_on, row_state, verdict_on}
 use Rattle.boot_verdict.specs.parts.Rows.{row_of}
 use Rattle.boot_verdict.proofs.StepLaws.{fun_same}
 
@@ -156,7 +156,7 @@ verdict_by {table = table} {events = events} log is same = record {
 }
 
 -- Why there is none, where the log is one.
-pub refused_from : {log : List ℕ} (old new : Option (List ℕ)) (limit : ℕ) (fault : VerifyFault) → IsSomeLog log → IsMoreFault [] old new limit fault
+pub refused_from : {log : List ℕ} (old new : Option (List ℕ)) (limit : ℕ) (fault : VerifyFault) → ReadsAsLog log → IsMoreFault [] old new limit fault
     → IsVerifyFaultFrom log old new limit fault
 refused_from old new limit (faults.Log fault) is why = absurd why
 refused_from old new limit (faults.List fault) is why = (is, why)

@@ -144,7 +144,7 @@ pub record IsVerdict (log list : List ℕ) (expected : List Expected) (verdict :
 -- ---- why there is no verdict
 
 -- The bytes are a firmware event log.
-pub record IsSomeLog (log : List ℕ) : Type 0 where
+pub record ReadsAsLog (log : List ℕ) : Type 0 where
   pub table : List TableRow
   pub events : List LogEvent
   pub log_is : IsLog log table events
@@ -163,14 +163,14 @@ pub record IsGenuineList (list : List ℕ) : Type 0 where
 
 -- Something must be kept in memory: rows, after a log and a list of genuine entries.
 abbrev pub HasSomethingToKeep : List ℕ → List ℕ → Type 0
-HasSomethingToKeep log list = IsSomeLog log × IsGenuineList list
+HasSomethingToKeep log list = ReadsAsLog log × IsGenuineList list
 
 -- Why there is no verdict: the first of these that holds, the log before the list, and the list before its entries; or memory ran
 -- out.
 abbrev pub IsVerifyFault : List ℕ → List ℕ → VerifyFault → Type 0
 IsVerifyFault log list (faults.Log fault) = log_fault log ≡ Some fault
-IsVerifyFault log list (faults.List fault) = IsSomeLog log × IsReading list (Err fault)
-IsVerifyFault log list (faults.Replay fault) = IsSomeLog log × IsForged list fault
+IsVerifyFault log list (faults.List fault) = ReadsAsLog log × IsReading list (Err fault)
+IsVerifyFault log list (faults.Replay fault) = ReadsAsLog log × IsForged list fault
 IsVerifyFault log list faults.Source = ⊥
 IsVerifyFault log list faults.TooLong = ⊥
 IsVerifyFault log list faults.Memory = Unit {0}
@@ -202,9 +202,9 @@ pub record IsVerdictFrom (log : List ℕ) (old new : Option (List ℕ)) (limit :
 abbrev pub IsVerifyFaultFrom : List ℕ → Option (List ℕ) → Option (List ℕ) → ℕ → VerifyFault → Type 0
 IsVerifyFaultFrom log old new limit (faults.Log fault) = (log_fault log ≡ Some fault) × (new ≡ old)
 IsVerifyFaultFrom log old new limit (faults.Replay fault) =
-    IsSomeLog log × ((list : List ℕ) × CameWhole old new limit list × IsForged list fault)
+    ReadsAsLog log × ((list : List ℕ) × CameWhole old new limit list × IsForged list fault)
 IsVerifyFaultFrom log old new limit faults.Memory = Unit {0}
-IsVerifyFaultFrom log old new limit fault = IsSomeLog log × IsListFault old new limit fault
+IsVerifyFaultFrom log old new limit fault = ReadsAsLog log × IsListFault old new limit fault
 
 -- ---- what contracts see of a report
 

@@ -8,7 +8,7 @@ ghost use Rattle.ima_list.specs.Replaying.{AreGenuine};
 ghost use Rattle.boot_verdict.specs.ListSources.{failures_after_list};
 ghost use Rattle.boot_verdict.specs.Tracking.{BanksAfter};
 ghost use Rattle.boot_verdict.specs.ListReplays.{AreTracked, ReplaysAll};
-ghost use Rattle.boot_verdict.specs.Verdicts.{IsSomeLog, IsVerifyFault};
+ghost use Rattle.boot_verdict.specs.Verdicts.{ReadsAsLog, IsVerifyFault};
 ghost use Rattle.boot_verdict.specs.Checkpoints.{GoesOn, IsCheckpoint, IsMoreFault, WatchesOn, most_after};
 
 use crate::isolation::Stray;
@@ -56,7 +56,7 @@ impl Checkpoint {
         ensures known { IfOk result (IsCheckpoint list.now) }
         ensures before { IfOk result (λ known. known.before ≡ registers) }
         ensures only { (entries : List ListEntry) → IsReading list.now (Ok entries) → AreGenuine entries → IsOk result }
-        ensures fault { IfErr result (λ fault. (log : List ℕ) → IsSomeLog log → IsVerifyFault log list.now fault) }
+        ensures fault { IfErr result (λ fault. (log : List ℕ) → ReadsAsLog log → IsVerifyFault log list.now fault) }
         ensures memory { IsErrOf result VerifyFault.Memory → ⊥ }
     {
         let replay = ListReplay::of_list(registers, list)?;

@@ -16,7 +16,7 @@ ghost use Rattle.ima_list.specs.Replaying.{AreGenuine};
 ghost use Rattle.boot_verdict.specs.ListSources.{HoldsGenuineList, failures_after_list};
 ghost use Rattle.boot_verdict.specs.Steps.{events_as_steps};
 ghost use Rattle.boot_verdict.specs.Positions.{AreLocated, AreLocatedFrom, located_on};
-ghost use Rattle.boot_verdict.specs.Verdicts.{IsSomeLog, IsVerifyFault, IsVerifyFaultFrom};
+ghost use Rattle.boot_verdict.specs.Verdicts.{ReadsAsLog, IsVerifyFault, IsVerifyFaultFrom};
 ghost use Rattle.boot_verdict.specs.parts.LogPositions.{IsTracked, position_at_reset, row_at_reset};
 
 use crate::list_replay::ListReplay;
@@ -48,7 +48,7 @@ pub fn locate(
         → ReadsInMemory VerifyFault.Memory (λ located. located.items) result (Ok (located_on (algs_in table) events entries expected.now)) }
     // Any other fault is the first reason.
     ensures fault { IfErr result (IsVerifyFault log.now list.now) }
-    ensures memory { IsErrOf result VerifyFault.Memory → IsSomeLog log.now }
+    ensures memory { IsErrOf result VerifyFault.Memory → ReadsAsLog log.now }
 {
     let firmware = LogView::new(log)?;
     let start = track_log(alloc, &firmware, expected)?;
@@ -75,7 +75,7 @@ pub fn locate_from<R: Source>(
         ⊎ ReadsInMemory VerifyFault.Memory (λ located. located.items) result (Ok (located_on (algs_in table) events entries expected.now)) }
     // Any fault is the first reason.
     ensures fault { IfErr result (IsVerifyFaultFrom log.now (R.state list.old).remaining (R.state list.new).remaining limit) }
-    ensures memory { IsErrOf result VerifyFault.Memory → IsSomeLog log.now }
+    ensures memory { IsErrOf result VerifyFault.Memory → ReadsAsLog log.now }
     // In any case the source loses bytes from its start, and nothing else.
     ensures prefix { LosesPrefix (R.state list.old).remaining (R.state list.new).remaining }
     ensures telling { is_some (R.state list.new).remaining ≡ is_some (R.state list.old).remaining }

@@ -9,7 +9,7 @@ ghost use Rattle.boot_log.specs.Spelling.{LogEvent, IsLog};
 ghost use Rattle.boot_verdict.specs.Checkpoints.{IsCheckpoint, IsMoreFault, most_after};
 ghost use Rattle.boot_verdict.specs.ListReplays.{AreTracked};
 ghost use Rattle.boot_verdict.specs.ListSources.{failures_after_list};
-ghost use Rattle.boot_verdict.specs.Verdicts.{IsSomeLog, IsVerdict, verdict_of};
+ghost use Rattle.boot_verdict.specs.Verdicts.{ReadsAsLog, IsVerdict, verdict_of};
 ghost use Rattle.growing_lists.specs.CheckpointData.{LeavesRoom};
 
 use crate::same_banks::are_same_banks;
@@ -55,7 +55,7 @@ impl<'a> Session<'a> {
         ensures only { IsOfBoot log.now known → IsOk result }
         // The log's fault comes first.
         ensures fault { (fault : LogFault) → IsErrOf result (ResumeFault.Log fault) → log_fault log.now ≡ Some fault }
-        ensures other { IsErrOf result ResumeFault.OtherBoot → IsSomeLog log.now }
+        ensures other { IsErrOf result ResumeFault.OtherBoot → ReadsAsLog log.now }
     {
         let log = match LogView::new(log) {
             Ok(log) => log,

@@ -18,7 +18,7 @@ use Rattle.pcr_values.specs.declared.expected.Expected.{Expected}
 use Rattle.boot_log.specs.Replaying.{IsFirmware}
 use Rattle.boot_log.specs.Spelling.{LogEvent}
 use Rattle.pcr_banks.specs.Registers.{value_at}
-use Rattle.boot_verdict.specs.Verdicts.{IsSomeLog, is_value, pcr_after_log}
+use Rattle.boot_verdict.specs.Verdicts.{ReadsAsLog, is_value, pcr_after_log}
 use Rattle.cells.specs.declared.writer.Form.{Form}
 use Rattle.cells.specs.declared.writer.Form.TheVariants.{Json, Text}
 use Rattle.measured_data.specs.declared.pcr.Pcr.{Pcr}
@@ -205,6 +205,6 @@ matched_are algs events expected place =
 -- ---- before a line is told
 
 -- Of a log lines can be told.
-pub known_for : (events : Form) (log : List ℕ) → IsSomeLog log → IsKnownFor events log
+pub known_for : (events : Form) (log : List ℕ) → ReadsAsLog log → IsKnownFor events log
 known_for Json log is = tt
 known_for Text log is = is

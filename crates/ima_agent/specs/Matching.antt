@@ -15,7 +15,7 @@ use Rattle.attestations.specs.Quoted.{stated_of}
 use Rattle.boot_log.specs.declared.header.Row.{Row}
 use Rattle.boot_log.specs.Spelling.{IsLog, LogEvent, algs_in}
 use Rattle.boot_verdict.specs.Isolation.{list_register}
-use Rattle.boot_verdict.specs.Verdicts.{is_value, IsSomeLog, pcr_after_log}
+use Rattle.boot_verdict.specs.Verdicts.{is_value, ReadsAsLog, pcr_after_log}
 use Rattle.cells.specs.declared.writer.Form.{Form}
 use Rattle.cells.specs.declared.writer.Form.TheVariants as told
 use Rattle.measured_data.specs.declared.pcr.Pcr.{Pcr}
@@ -32,7 +32,7 @@ use Rattle.agent_inputs.specs.declared.fault.RunFault.{RunFault}
 use Rattle.agent_inputs.specs.Faults.{HasLogFault}
 use Rattle.agent_inputs.specs.Loading.{Inputs, IsInputFault, OfInput}
 use Rattle.questions.specs.Questions.{attested_with}
-use Rattle.ima_agent.specs.Showing.{IsNoLogFor}
+use Rattle.ima_agent.specs.Showing.{IsLogFaultOf}
 
 -- The register that is expected to have a value.
 abbrev pub place_of : Expected → Pcr
@@ -134,7 +134,7 @@ abbrev pub AreNotExpected : Inputs → Option (List ℕ) → List ℕ → RunFau
 AreNotExpected inputs name log fault =
     IsInputFault inputs name fault
     ⊎ OfInput inputs name (λ text. IsNotExpected text fault)
-    ⊎ (((expected : List Expected) × OfInput inputs name (λ text. IsExpectedText text expected)) × IsNoLogFor log fault)
+    ⊎ (((expected : List Expected) × OfInput inputs name (λ text. IsExpectedText text expected)) × IsLogFaultOf log fault)
 
 -- Why they are not known.
 abbrev pub AreNotMatched : Inputs → ConfirmedBy → List ℕ → RunFault → Type 0
@@ -147,7 +147,7 @@ AreNotMatched inputs (confirmed.Quote quoting) log fault = IsRefusalOn inputs (A
 -- To people no line of a log is told that is no log.
 abbrev pub IsKnownFor : Form → List ℕ → Type 0
 IsKnownFor told.Json log = Unit {0}
-IsKnownFor told.Text log = IsSomeLog log
+IsKnownFor told.Text log = ReadsAsLog log
 
 -- Why no line is told: the bytes are no log, and no registers are compared; or the registers that match are not known.
 abbrev pub IsNotTold : Inputs → Form → ConfirmedBy → List ℕ → RunFault → Type 0

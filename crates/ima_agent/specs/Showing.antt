@@ -4,7 +4,7 @@ use Rattle.hex.specs.Hex.{decode_of}
 use Rattle.ima_list.specs.declared.fault.ListFault.{ListFault}
 use Rattle.ima_list.specs.ListEntry.{ListEntry}
 use Rattle.ima_list.specs.Spelling.{BeginsWith, IsReading}
-use Rattle.boot_verdict.specs.Verdicts.{IsSomeLog}
+use Rattle.boot_verdict.specs.Verdicts.{ReadsAsLog}
 pub use Rattle.cells.specs.ItemLines.{numbered_lines, EndsWithFault}
 pub use Rattle.entry_lines.specs.ListLines.{entry_lines, list_lines, AreAllEntries, FailsAfterEntries}
 use Rattle.entry_lines.specs.SentEntries.{AreAllIn}
@@ -51,8 +51,8 @@ IsRefusedFor text fault =
 -- ---- events and entries as text
 
 -- Why nothing of a log is shown: the bytes are no log; or they are one, and memory ran out.
-abbrev pub IsNoLogFor : List ℕ → RunFault → Type 0
-IsNoLogFor log fault = HasLogFault log fault ⊎ ((fault ≡ runs.Memory) × IsSomeLog log)
+abbrev pub IsLogFaultOf : List ℕ → RunFault → Type 0
+IsLogFaultOf log fault = HasLogFault log fault ⊎ ((fault ≡ runs.Memory) × ReadsAsLog log)
 
 -- The bytes are no list, and the fault is that of their reading.
 abbrev pub IsNoListFor : List ℕ → RunFault → Type 0

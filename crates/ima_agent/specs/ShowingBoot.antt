@@ -11,7 +11,7 @@ use Rattle.agent_inputs.specs.declared.fault.RunFault.{RunFault}
 use Rattle.agent_inputs.specs.Faults.{HasLogFault}
 use Rattle.agent_inputs.specs.Loading.{Inputs, IsInputFault, OfInput}
 use Rattle.ima_agent.specs.Matching.{AreMatched, AreNotMatched}
-use Rattle.ima_agent.specs.Showing.{IsNoLogFor}
+use Rattle.ima_agent.specs.Showing.{IsLogFaultOf}
 
 -- The registers that match; none where none were compared.
 abbrev pub places_of : Option (List Pcr) → List Pcr
@@ -51,4 +51,4 @@ IsNoEarlierLog inputs (Some name) fault =
 -- earlier boot.
 abbrev pub IsNoBootFor : Inputs → ConfirmedBy → Option (List ℕ) → List ℕ → RunFault → Type 0
 IsNoBootFor inputs confirmed_by before log fault =
-    AreNotMatched inputs confirmed_by log fault ⊎ (IsNoLogFor log fault ⊎ IsNoEarlierLog inputs before fault)
+    AreNotMatched inputs confirmed_by log fault ⊎ (IsLogFaultOf log fault ⊎ IsNoEarlierLog inputs before fault)

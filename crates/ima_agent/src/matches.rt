@@ -3,13 +3,13 @@
 ghost use Rattle.std.specs.Prelude.{◌≡◌, ◌↔◌, List, IfOk, IfErr, Some, option_map, string_bytes};
 ghost use Rattle.std.specs.List.{Contains};
 ghost use Rattle.agent_plans.specs.declared.plan.ConfirmedBy.TheVariants as confirmed;
-ghost use Rattle.boot_verdict.specs.Verdicts.{IsSomeLog};
+ghost use Rattle.boot_verdict.specs.Verdicts.{ReadsAsLog};
 ghost use Rattle.boot_log.specs.declared.header.Row.{Row};
 ghost use Rattle.boot_log.specs.LogViews.{log_bytes};
 ghost use Rattle.boot_log.specs.Spelling.{LogEvent, IsLog, algs_in};
 ghost use Rattle.pcr_banks.specs.Registers.{value_at};
 ghost use Rattle.measured_data.specs.declared.pcr.Pcr.{Pcr};
-ghost use Rattle.ima_agent.specs.Showing.{IsNoLogFor};
+ghost use Rattle.ima_agent.specs.Showing.{IsLogFaultOf};
 ghost use Rattle.ima_agent.specs.Matching.{AreMatched, AreNotExpected, IsKnownFor, IsMatched, IsNotTold, counts, has_value, is_refuted, matched_among, matched_places, place_of, refutes};
 
 use crate::quoted::quoted_in;
@@ -76,7 +76,7 @@ fn expected_in<F: AgentFiles>(
 ) -> Result<Matched, RunFault>
     ensures matched { IfOk result (λ matched. AreMatched (F.known files.old) (confirmed.Expected name.now) log.now
         (option_map (λ places. places.items) matched.places) matched.status) }
-    ensures known { IfOk result (λ _. IsSomeLog log.now) }
+    ensures known { IfOk result (λ _. ReadsAsLog log.now) }
     ensures fault { IfErr result (AreNotExpected (F.known files.old) (Some (string_bytes name.now)) log.now) }
     ensures inputs { F.known files.new ≡ F.known files.old }
     ensures saved { F.saved files.new ≡ F.saved files.old }
@@ -93,7 +93,7 @@ fn expected_in<F: AgentFiles>(
 fn places_in(alloc: Global, log: &[u8], expected: &[Expected]) -> Result<Vec<Pcr>, RunFault>
     ensures matched { IfOk result (λ places. (table : List Row) × (events : List LogEvent) × IsLog log.now table events
         × (places.items ≡ matched_places (algs_in table) events expected.now)) }
-    ensures fault { IfErr result (IsNoLogFor log.now) }
+    ensures fault { IfErr result (IsLogFaultOf log.now) }
 {
     let view = LogView::new(log)?;
     Ok(matched_places(alloc, &view, expected)?)

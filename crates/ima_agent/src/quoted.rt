@@ -3,7 +3,7 @@
 ghost use Rattle.std.specs.Prelude.{◌≡◌, ◌++◌, map, option_map, IfErr, IfOk, OnOk};
 ghost use Rattle.agent_plans.specs.declared.plan.ConfirmedBy.TheVariants as confirmed;
 ghost use Rattle.attestations.specs.Quoted.{bank_selection_of};
-ghost use Rattle.boot_verdict.specs.Verdicts.{IsSomeLog};
+ghost use Rattle.boot_verdict.specs.Verdicts.{ReadsAsLog};
 ghost use Rattle.judging.specs.Inputs.{BytesOf};
 ghost use Rattle.judging.specs.Requests.{Attests};
 ghost use Rattle.rendering.specs.Rendering.{IsRefusalOn};
@@ -32,7 +32,7 @@ pub(crate) fn quoted_in<F: AgentFiles>(
 ) -> Result<Matched, RunFault>
     ensures matched { IfOk result (λ matched. AreMatched (F.known files.old) (confirmed.Quote quoting.now) log.now
         (option_map (λ places. places.items) matched.places) matched.status) }
-    ensures known { IfOk result (λ _. IsSomeLog log.now) }
+    ensures known { IfOk result (λ _. ReadsAsLog log.now) }
     ensures fault { IfErr result (IsRefusalOn (F.known files.old) (Attests (attested_with (BytesOf log.now) quoting.now))) }
     ensures inputs { F.known files.new ≡ F.known files.old }
     ensures saved { F.saved files.new ≡ F.saved files.old }

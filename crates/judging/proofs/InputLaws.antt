@@ -19,7 +19,7 @@ use Rattle.boot_verdict.specs.declared.verifier.VerifyFault.TheVariants as verdi
 use Rattle.boot_verdict.specs.declared.checkpoint.Checkpoint.{Checkpoint}
 use Rattle.boot_verdict.specs.Checkpoints.{IsMoreFault, most_after}
 use Rattle.boot_verdict.specs.ListSources.{CameFrom, CameWhole, FailsFor, IsListFaultAfter}
-use Rattle.boot_verdict.specs.Verdicts.{IsSomeLog, IsVerdict, IsVerifyFaultFrom, Verdict, verdict_of, verdict_on}
+use Rattle.boot_verdict.specs.Verdicts.{ReadsAsLog, IsVerdict, IsVerifyFaultFrom, Verdict, verdict_of, verdict_on}
 use Rattle.boot_verdict.proofs.ReplayLaws.{one_list}
 use Rattle.boot_verdict.specs.declared.prefix_report.Unconfirmed.{Unconfirmed}
 use Rattle.boot_verdict.specs.declared.prefix_report.Unconfirmed.TheVariants as unconfirmed
@@ -192,9 +192,9 @@ module _ {inputs : Inputs} {list : Where} {old new : SourceState} (gives : Gives
   list_refused first fault failed is says = (first, refused_after [] (limit_of list) first failed is, says)
 
   pub positions_refused : (evidence : Evidence) (first : VerifyFault) (fault : RunFault) → (first ≡ verdicts.Source → HasFailed old new)
-      → IsVerifyFaultFrom evidence.log old.remaining new.remaining (limit_of list) first → (first ≡ verdicts.Memory → IsSomeLog evidence.log)
+      → IsVerifyFaultFrom evidence.log old.remaining new.remaining (limit_of list) first → (first ≡ verdicts.Memory → ReadsAsLog evidence.log)
       → IsFaultAt list first fault
-      → HasLogFault evidence.log fault ⊎ (IsSomeLog evidence.log × IsRefusedList inputs list fault)
+      → HasLogFault evidence.log fault ⊎ (ReadsAsLog evidence.log × IsRefusedList inputs list fault)
   positions_refused evidence (verdicts.Log first) fault failed is memory says = inl (record { first = first; first_is = is.0; says = says })
   positions_refused evidence (verdicts.List first) fault failed is memory says = inr (is.0, list_refused (verdicts.List first) fault failed is.1 says)
   positions_refused evidence (verdicts.Replay first) fault failed is memory says = inr (is.0, list_refused (verdicts.Replay first) fault failed is.1 says)

@@ -3,7 +3,7 @@ use Rattle.std.proofs.Common.{◌≡◌, List, [], Option, None, Some, ap, refl}
 use Rattle.agent_inputs.specs.Loading.{Inputs}
 use Rattle.agent_plans.specs.declared.plan.Scope.TheVariants.{Whole}
 use Rattle.boot_verdict.specs.declared.checkpoint.Checkpoint.{Checkpoint}
-use Rattle.boot_verdict.specs.Verdicts.{IsSomeLog}
+use Rattle.boot_verdict.specs.Verdicts.{ReadsAsLog}
 use Rattle.ima_list.specs.ListEntry.{ListEntry}
 use Rattle.known_files.specs.declared.unknown.Unknown.{Unknown}
 use Rattle.judging.specs.declared.request.Answer.{Answer}
@@ -17,20 +17,20 @@ use Rattle.judging.specs.Requests.{Attested, VerdictOf}
 module _ (inputs : Inputs) (list : Where) (evidence : Evidence) (first : evidence.known ≡ None) where
   -- A verdict that goes on from nothing is on a log.
   log_on : (Tells : List ListEntry → Type 0) (on : ScopedReport) (next : Checkpoint) → IsVerdictOn inputs Whole list evidence Tells on next
-      → IsSomeLog evidence.log
+      → ReadsAsLog evidence.log
   log_on Tells (judged.Whole report) next (boot, more, none) =
       let (content, held, (short, verdict, told)) = more [] (rw first refl) in
       record { table = verdict.table; events = verdict.events; log_is = verdict.log_is }
   log_on Tells (judged.Prefix report) next (boot, seeks, more, wrong) = cc
 
   log_judged : (place : Where) (answer : Answer) (next : Option Checkpoint) (unknown : Option Unknown)
-      → IsJudged inputs (VerdictOf place Whole None) list evidence answer next unknown → IsSomeLog evidence.log
+      → IsJudged inputs (VerdictOf place Whole None) list evidence answer next unknown → ReadsAsLog evidence.log
   log_judged place answer None unknown is = absurd is
   log_judged place answer (Some next) unknown (on, is, answered) = log_on _ on next is
 
 -- So it is where a whole list is judged, from its beginning.
 pub log_attested : (inputs : Inputs) (asked : Attested) (given : Answered) (is : IsAttestation inputs asked given) → asked.scope ≡ Whole
-    → asked.resume ≡ None → IsSomeLog is.log
+    → asked.resume ≡ None → ReadsAsLog is.log
 log_attested inputs asked given is whole none =
     let evidence = quoted_evidence is.log is.quote asked.is_signed is.values is.counted (checkpoint_of is.state) is.files in
     log_judged inputs asked.list evidence (ap checkpoint_of (rw none at is.state_is)) asked.log given.answer is.next given.unknown

@@ -24,7 +24,7 @@ use Rattle.boot_verdict.specs.ListSources.{IsSound}
 use Rattle.boot_verdict.specs.ListVerdicts.{IsListVerdict, list_verdict_of, list_matches, required_list_matches}
 use Rattle.boot_verdict.specs.Positions.{AreLocated, all_found}
 use Rattle.boot_verdict.specs.Requirements.{is_complete, IsRequirementText, required_found, required_matches}
-use Rattle.boot_verdict.specs.Verdicts.{IsForged, IsSomeLog, IsVerdict, verdict_of, verdict_on, Verdict, matches}
+use Rattle.boot_verdict.specs.Verdicts.{IsForged, ReadsAsLog, IsVerdict, verdict_of, verdict_on, Verdict, matches}
 use Rattle.boot_verdict.specs.declared.prefix_report.PrefixReport.{PrefixReport}
 use Rattle.known_files.specs.declared.fault.KnownFault.{KnownFault}
 use Rattle.known_files.specs.declared.known.KnownFiles.{KnownFiles}
@@ -248,7 +248,7 @@ IsJudged inputs judgement list evidence answer next unknown = ⊥
 -- The log is refused; or it is valid, and leaves other registers than those before the checkpoint.
 abbrev pub IsLogRefused : List ℕ → Option Checkpoint → RunFault → Type 0
 IsLogRefused log known fault =
-    HasLogFault log fault ⊎ ((fault ≡ runs.Checkpoint OtherBoot) × IsSomeAnd known (λ known. IsSomeLog log × (IsOfBoot log known → ⊥)))
+    HasLogFault log fault ⊎ ((fault ≡ runs.Checkpoint OtherBoot) × IsSomeAnd known (λ known. ReadsAsLog log × (IsOfBoot log known → ⊥)))
 
 -- Why the input is not taken as what goes on after this list, of which no more than `most` bytes may follow.
 abbrev pub IsRefusedAfter : Inputs → Where → ℕ → List ℕ → VerifyFault → Type 0
@@ -269,7 +269,7 @@ IsRefusedList inputs list fault =
 -- confirmed before what is refused.
 pub record IsNotTaken (inputs : Inputs) (scope : Scope) (list : Where) (evidence : Evidence) (fault : RunFault) : Type 0 where
   pub first : VerifyFault
-  pub log_is : IsSomeLog evidence.log
+  pub log_is : ReadsAsLog evidence.log
   pub boot : IfSome evidence.known (IsOfBoot evidence.log)
   pub first_is : (taken : List ℕ) → IsTaken evidence.known taken → IsRefusedAfter inputs list (most_more evidence.known list) taken first
   pub unconfirmed : seeks_prefix scope evidence ≡ true → IsUnconfirmedIn inputs list evidence first
@@ -281,7 +281,7 @@ abbrev pub IsNotJudged : Inputs → Judgement → Where → Evidence → RunFaul
 IsNotJudged inputs (VerdictOf place scope resume) list evidence fault =
     IsLogRefused evidence.log evidence.known fault ⊎ IsNotTaken inputs scope list evidence fault
 IsNotJudged inputs (PositionsOf place) list evidence fault =
-    HasLogFault evidence.log fault ⊎ (IsSomeLog evidence.log × IsRefusedList inputs list fault)
+    HasLogFault evidence.log fault ⊎ (ReadsAsLog evidence.log × IsRefusedList inputs list fault)
 IsNotJudged inputs ListVerdictOf list evidence fault = IsRefusedList inputs list fault
 
 -- Why nothing is found in the list of this input: it could not be opened; or there is no answer.
@@ -297,7 +297,7 @@ pub record GivesInput (inputs : Inputs) (place : Where) (old new : SourceState) 
 
 -- The session is of this log, and has taken the list that was taken before.
 pub record IsStarted (log : List ℕ) (known : Option Checkpoint) (session : Session) : Type 0 where
-  pub valid : IsSomeLog log
+  pub valid : ReadsAsLog log
   pub boot : IfSome known (IsOfBoot log)
   pub takes : (taken : List ℕ) → IsTaken known taken → HasTaken log taken session
   pub count : session.known.entries ≡ entries_taken known

@@ -4,7 +4,7 @@ use Rattle.pcr_values.specs.declared.expected.ExpectFault.TheVariants as expecta
 use Rattle.pcr_values.specs.ExpectedTexts.{HasFirstFault}
 use Rattle.boot_log.specs.declared.fault.LogFault.TheVariants as logs
 use Rattle.boot_log.specs.Spelling.{HasLogFault}
-use Rattle.boot_verdict.specs.Verdicts.{IsSomeLog, IsVerifyFault}
+use Rattle.boot_verdict.specs.Verdicts.{ReadsAsLog, IsVerifyFault}
 use Rattle.uses.specs.declared.fault.UseFault.{UseFault}
 use Rattle.uses.specs.declared.fault.UseFault.TheVariants as faults
 
@@ -21,4 +21,4 @@ abbrev pub IsNotRecorded : List ℕ → UseFault → Type 0
 IsNotRecorded log (faults.Log fault) = (fault ≡ logs.Memory) ⊎ HasLogFault log fault
 IsNotRecorded log (faults.Expected fault) = ⊥
 IsNotRecorded log (faults.Verdict fault) = ⊥
-IsNotRecorded log fault = IsSomeLog log
+IsNotRecorded log fault = ReadsAsLog log

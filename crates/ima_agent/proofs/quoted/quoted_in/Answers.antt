@@ -1,6 +1,6 @@
 use Rattle.std.proofs.Common.{inl, inr, refl, subst}
 use Rattle.std.proofs.lemmas.Result.{err_from_is_err_and}
-use Rattle.boot_verdict.specs.Verdicts.{IsSomeLog}
+use Rattle.boot_verdict.specs.Verdicts.{ReadsAsLog}
 use Rattle.judging.proofs.LogLaws.{log_attested}
 use Rattle.judging.specs.Answering.{IsAttestation, IsNoAttestation}
 use Rattle.judging.specs.Inputs.{BytesOf}
@@ -27,4 +27,4 @@ returns-clause-known g c =
     let inputs = g.F.Files.known c.args.files.now in
     let asked = attested_with (BytesOf c.args.log.now) c.args.quoting.now in
     let is = subst (λ (asked : Attested). IsAttestation inputs asked c.in_ok-given.given) c.attesting_by-asked.ensures c.in_ok-given.ensures.answer in
-    subst IsSomeLog is.log_is (log_attested inputs asked c.in_ok-given.given is refl refl)
+    subst ReadsAsLog is.log_is (log_attested inputs asked c.in_ok-given.given is refl refl)
