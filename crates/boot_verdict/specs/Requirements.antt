@@ -28,8 +28,8 @@ IsWrong text at =
     IsFirstWrong text at ⊎ ((at ≡ 0) × ((ranges : List BankRange) × SpellsRanges text ranges × (are_of_banks ranges ≡ false)))
 
 -- The text selects registers of banks that it names, and not the list's register.
-abbrev pub IsUnbound : List ℕ → Type 0
-IsUnbound text =
+abbrev pub IsWithoutPcr10 : List ℕ → Type 0
+IsWithoutPcr10 text =
     (ranges : List BankRange) × SpellsRanges text ranges × (are_of_banks ranges ≡ true) × (bind_list ranges ≡ false)
 
 -- Whether this is the expected value of the register.

@@ -3,9 +3,9 @@
 ghost use Rattle.std.specs.Prelude.{◌≡◌, ◌⊎◌, ℕ, List, map, IfOk, IfErr};
 ghost use Rattle.pcr_values.specs.declared.expected.Expected.{Expected};
 ghost use Rattle.pcr_values.specs.declared.selection.BankRange.{BankRange};
-ghost use Rattle.pcr_values.specs.declared.selection.SelectionFault.TheVariants.{Malformed, Memory, Unbound};
+ghost use Rattle.pcr_values.specs.declared.selection.SelectionFault.TheVariants.{Malformed, Memory, LacksPcr10};
 ghost use Rattle.pcr_values.specs.Selections.{BeginsWithBankRange, names};
-ghost use Rattle.boot_verdict.specs.Requirements.{IsRequirementText, IsUnbound, IsWrong, bind_list, is_complete, is_complete_in, is_missing, is_of, states};
+ghost use Rattle.boot_verdict.specs.Requirements.{IsRequirementText, IsWithoutPcr10, IsWrong, bind_list, is_complete, is_complete_in, is_missing, is_of, states};
 
 use crate::isolation::LIST_REGISTER;
 use crate::positions::Located;
@@ -35,7 +35,7 @@ impl Requirement {
     /// `sha256:0-7+sha1:10`. Register 10 must be selected of some bank.
     ///
     /// Fails with [`SelectionFault::Malformed`] if the text is not of this form, and says which part is the first that is wrong; else with
-    /// [`SelectionFault::Unbound`] if register 10 is selected of no bank; or with [`SelectionFault::Memory`], which is possible only if the
+    /// [`SelectionFault::LacksPcr10`] if register 10 is selected of no bank; or with [`SelectionFault::Memory`], which is possible only if the
     /// first part selects registers.
     pub fn from_text(alloc: Global, text: &[u8]) -> Result<Self, SelectionFault>
         // The result is what the text spells.
@@ -43,7 +43,7 @@ impl Requirement {
         // A text that spells a requirement is read, unless memory runs out.
         ensures only { (ranges : List BankRange) → IsRequirementText text.now ranges → IfErr result (λ fault. fault ≡ Memory) }
         ensures fault { IfErr result (λ fault. ((fault ≡ Memory) × BeginsWithBankRange text.now)
-            ⊎ ((at : ℕ) × (fault ≡ Malformed at) × IsWrong text.now at) ⊎ ((fault ≡ Unbound) × IsUnbound text.now)) }
+            ⊎ ((at : ℕ) × (fault ≡ Malformed at) × IsWrong text.now at) ⊎ ((fault ≡ LacksPcr10) × IsWithoutPcr10 text.now)) }
     {
         let selection = Selection::from_text(alloc, text)?;
         if !selection.is_of_banks() {
@@ -51,7 +51,7 @@ impl Requirement {
         }
         let requirement = Requirement { selection };
         if !requirement.binds_list() {
-            return Err(SelectionFault::Unbound);
+            return Err(SelectionFault::LacksPcr10);
         }
         Ok(requirement)
     }

@@ -65,7 +65,7 @@ fn required_by(alloc: Global, text: &[u8]) -> Result<Requirement, RunFault>
 {
     match Requirement::from_text(alloc, text) {
         Ok(requirement) => Ok(requirement),
-        Err(SelectionFault::Malformed { .. } | SelectionFault::Unbound) => Err(RunFault::Usage),
+        Err(SelectionFault::Malformed { .. } | SelectionFault::LacksPcr10) => Err(RunFault::Usage),
         Err(SelectionFault::Memory) => Err(RunFault::Memory),
     }
 }

@@ -41,7 +41,7 @@ fn selection_of(alloc: Global, text: Option<&[u8]>) -> Result<Option<Selection>,
     };
     match Selection::from_text(alloc, text) {
         Ok(selection) => Ok(Some(selection)),
-        Err(SelectionFault::Malformed { .. } | SelectionFault::Unbound) => Err(RunFault::Usage),
+        Err(SelectionFault::Malformed { .. } | SelectionFault::LacksPcr10) => Err(RunFault::Usage),
         Err(SelectionFault::Memory) => Err(RunFault::Memory),
     }
 }

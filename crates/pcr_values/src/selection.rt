@@ -61,7 +61,7 @@ pub enum SelectionFault {
     },
     /// The text names register 10 of no bank, so nothing that is required would tell of the list.
     #[error("register 10 is named of no bank, so nothing of the list would be required")]
-    Unbound,
+    LacksPcr10,
     /// Out of memory.
     #[error("out of memory")]
     Memory,
