@@ -13,7 +13,7 @@ use Rattle.attestations.specs.declared.report.Whole.{Whole}
 use Rattle.attestations.specs.Quoted.{Stated}
 use Rattle.attestations.specs.Reports.{AttestVerdict, is_attested}
 use Rattle.known_files.specs.declared.unknown.Unknown.{Unknown}
-use Rattle.known_files.specs.Unknown.{none_unknown}
+use Rattle.known_files.specs.Unknown.{has_no_unknown}
 use Rattle.cells.specs.Values.{IsCount, IsOneLine, items_of, members_of, object_of}
 use Rattle.cells.specs.Cells.{beside, each, if_some, item_number, list_at, object, object_at, when}
 use Rattle.cells.proofs.FaultMemberLaws.{AreOther, lacks, others_joined}
@@ -109,8 +109,8 @@ attestation_line unknown report clock firmware events locality entries prefix st
     (tt, members_joined 3 (values_cell report.expected report.verdict.rows).json _ (values_plain report.expected report.verdict.rows rows) extends) in
     let numbers = members_deeper (members_of (if_some unknown unknown_cell).json) 2 (unknown_plain unknown counted) in
     let last = members_joined 3 (if_some unknown unknown_cell).json
-    ((quote_cell report.is_quoted).json ++ (conclusion_cell report.is_signed (none_unknown unknown && is_attested report)).json) numbers
-    (tt, conclusion_plain report.is_signed (none_unknown unknown && is_attested report)) in
+    ((quote_cell report.is_quoted).json ++ (conclusion_cell report.is_signed (has_no_unknown unknown && is_attested report)).json) numbers
+    (tt, conclusion_plain report.is_signed (has_no_unknown unknown && is_attested report)) in
     line_within 4 _ few
     (members_joined 3 (stated_cell report.quoted).json _ (stated_plain report.quoted clock firmware)
     (members_joined 3 (attestation_counts report.verdict report.prefix).json _
@@ -142,8 +142,8 @@ attestation_lacks unknown report =
     let given = others_joined (values_cell report.expected report.verdict.rows).json _ (values_other report.expected report.verdict.rows)
     (strays_other report.verdict.strays) in
     let last = others_joined (if_some unknown unknown_cell).json
-    ((quote_cell report.is_quoted).json ++ (conclusion_cell report.is_signed (none_unknown unknown && is_attested report)).json)
-    (unknown_other unknown) (refl, conclusion_other report.is_signed (none_unknown unknown && is_attested report)) in
+    ((quote_cell report.is_quoted).json ++ (conclusion_cell report.is_signed (has_no_unknown unknown && is_attested report)).json)
+    (unknown_other unknown) (refl, conclusion_other report.is_signed (has_no_unknown unknown && is_attested report)) in
     let ended = others_joined (comparison_cell report).json _ (refl, given) last in
     let counted = others_joined (attestation_counts report.verdict report.prefix).json _ (counts_other report.verdict report.prefix) ended in
     lacks (object_of (attestation_cell unknown report).json) refl (refl, (refl, (refl, (refl, counted))))

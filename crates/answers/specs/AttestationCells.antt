@@ -13,7 +13,7 @@ use Rattle.attestations.specs.declared.report.Whole.{Whole}
 use Rattle.attestations.specs.Quoted.{Stated}
 use Rattle.attestations.specs.Reports.{AttestVerdict, is_attested}
 use Rattle.known_files.specs.declared.unknown.Unknown.{Unknown}
-use Rattle.known_files.specs.Unknown.{none_unknown}
+use Rattle.known_files.specs.Unknown.{has_no_unknown}
 use Rattle.cells.specs.Values.{Member}
 use Rattle.cells.specs.Cells.{Cell, beside, each, flag_member, hex, if_some, in_order, item_number, list_at, nothing, number, object, object_at, text, when, word, word_member}
 use Rattle.answers.specs.ReportCells.{aggregate_cell, counts_cell, prefix_counts_cell, report_rows, strays_cell, unknown_cell, verdict_word}
@@ -124,5 +124,5 @@ attestation_cell unknown report = in_order (
     ∷ comparison_cell report
     ∷ if_some unknown unknown_cell
     ∷ quote_cell report.is_quoted
-    ∷ conclusion_cell report.is_signed (none_unknown unknown && is_attested report)
+    ∷ conclusion_cell report.is_signed (has_no_unknown unknown && is_attested report)
     ∷ [])

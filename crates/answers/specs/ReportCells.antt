@@ -16,7 +16,7 @@ use Rattle.boot_verdict.specs.Requirements.{required_matches}
 use Rattle.boot_verdict.specs.Verdicts.{Verdict, matches}
 use Rattle.boot_verdict.specs.Words.{aggregate_word, unconfirmed_entry, unconfirmed_kind, unconfirmed_message, unconfirmed_number}
 use Rattle.known_files.specs.declared.unknown.Unknown.{Unknown}
-use Rattle.known_files.specs.Unknown.{none_unknown}
+use Rattle.known_files.specs.Unknown.{has_no_unknown}
 use Rattle.cells.specs.Values.{Member}
 use Rattle.cells.specs.Cells.{Cell, beside, count, each, hex, if_some, in_order, item_number, list_at, nothing, number, number_member, object, object_at, text, word, word_member}
 use Rattle.answers.specs.RowCells.{rows_cell}
@@ -81,7 +81,7 @@ verdict_word false = codes "differ"
 -- The verdict: no match where an entry is unknown.
 abbrev pub verdict_cell : Option Unknown → Bool → Cell Member
 verdict_cell unknown is_match =
-    beside (word (codes "verdict ") (codes "verdict") (verdict_word (none_unknown unknown && is_match))) (text (codes "\n"))
+    beside (word (codes "verdict ") (codes "verdict") (verdict_word (has_no_unknown unknown && is_match))) (text (codes "\n"))
 
 -- ---- the report
 

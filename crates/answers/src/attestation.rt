@@ -2,7 +2,7 @@
 
 ghost use Rattle.std.specs.Prelude.{◌≡◌, ◌&&◌, option_copied};
 ghost use Rattle.boot_verdict.specs.Verdicts.{verdict_of};
-ghost use Rattle.known_files.specs.Unknown.{none_unknown};
+ghost use Rattle.known_files.specs.Unknown.{has_no_unknown};
 ghost use Rattle.attestations.specs.declared.expected.ExpectedValues.TheVariants.{Confirmed};
 ghost use Rattle.attestations.specs.Reports.{attest_verdict_of, is_attested};
 ghost use Rattle.cells.specs.Cells.{ShowsMembers};
@@ -16,7 +16,7 @@ use crate::report::{
 use attestations::{AttestReport, ExpectedValues, Whole};
 use boot_verdict::{Report, Row};
 use cells::{CellWriter, Written};
-use known_files::{Unknown, none_unknown};
+use known_files::{Unknown, has_no_unknown};
 use std::alloc::Global;
 
 /// Shows the report on a log and a list by a quote.
@@ -38,9 +38,9 @@ pub fn show_attestation(
 
 // Whether log and list are what the quote is of, and no entry is unknown.
 fn is_attested(report: &AttestReport, unknown: Option<&Unknown>) -> bool
-    ensures { result ≡ none_unknown (option_copied unknown.entry) && is_attested (attest_verdict_of report.now) }
+    ensures { result ≡ has_no_unknown (option_copied unknown.entry) && is_attested (attest_verdict_of report.now) }
 {
-    none_unknown(unknown) && report.is_attested()
+    has_no_unknown(unknown) && report.is_attested()
 }
 
 // Shows the counts of the list, and if the report is on a prefix how much of it is confirmed.

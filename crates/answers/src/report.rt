@@ -3,7 +3,7 @@
 ghost use Rattle.std.specs.Prelude.{◌≡◌, ◌&&◌, codes, option_copied};
 ghost use Rattle.boot_verdict.specs.declared.report.State.TheVariants.{Differ};
 ghost use Rattle.boot_verdict.specs.Verdicts.{verdict_of};
-ghost use Rattle.known_files.specs.Unknown.{none_unknown};
+ghost use Rattle.known_files.specs.Unknown.{has_no_unknown};
 ghost use Rattle.cells.specs.Cells.{ShowsItems, ShowsMembers, each, if_some, item_number};
 ghost use Rattle.answers.specs.ReportCells.{aggregate_cell, compared_cell, counts_cell, meets, outcome_cell, report_cell, report_rows, state_cell, stray_cell, stray_entry, stray_event, strays_cell, unknown_cell, verdict_cell, verdict_word};
 
@@ -12,7 +12,7 @@ use boot_verdict::{
     Aggregate, LIST_REGISTER, Report, Requirement, Row, State, Stray, Strays, aggregate_word,
 };
 use cells::{CellWriter, Written};
-use known_files::{Unknown, none_unknown};
+use known_files::{Unknown, has_no_unknown};
 use pcr_banks::Digest;
 use std::alloc::Global;
 
@@ -233,9 +233,9 @@ pub(crate) fn show_verdict(
 
 // Whether no entry is unknown, and the rest is a match.
 fn is_all_known(unknown: Option<&Unknown>, is_match: bool) -> bool
-    ensures { result ≡ none_unknown (option_copied unknown.entry) && is_match }
+    ensures { result ≡ has_no_unknown (option_copied unknown.entry) && is_match }
 {
-    none_unknown(unknown) && is_match
+    has_no_unknown(unknown) && is_match
 }
 
 pub(crate) fn verdict_word(is_match: bool) -> &'static str

@@ -33,7 +33,7 @@ use Rattle.known_files.specs.declared.unknown.Unknown.{Unknown}
 use Rattle.known_files.specs.declared.unknown.UnknownEntries.{UnknownEntries}
 use Rattle.known_files.specs.Known.{HoldsAll, Knows}
 use Rattle.known_files.specs.Listing.{BeginsWithGood, HasFaultOfFirst, IsGoodText}
-use Rattle.known_files.specs.Unknown.{AreUnknown, IsLookedAfter, none_unknown}
+use Rattle.known_files.specs.Unknown.{AreUnknown, IsLookedAfter, has_no_unknown}
 use Rattle.tpm_quotes.specs.Quoting.{confirms}
 use Rattle.tpm_quotes.specs.Spelling.{IsQuote, TpmQuote, quote_of}
 use Rattle.attestations.specs.declared.expected.ExpectedValues.{ExpectedValues}
@@ -482,7 +482,7 @@ is_good requires ranges answer = true
 
 -- Whether all is well: no entry is told unknown, and the answer is good.
 abbrev pub is_success : Requires → Option (List BankRange) → Option Unknown → Answer → Bool
-is_success requires ranges unknown answer = none_unknown unknown && is_good requires ranges answer
+is_success requires ranges unknown answer = has_no_unknown unknown && is_good requires ranges answer
 
 -- This is what comes of what is compared, and what it is worth. Nobody goes on from it, unless all is well; and no quote tells the boot.
 pub record IsComparison (inputs : Inputs) (request : Compared) (given : Answered) : Type 0 where

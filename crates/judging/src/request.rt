@@ -13,7 +13,7 @@ use boot_verdict::{
     Checkpoint, ListReport, Located, PrefixReport, Report, Requirement, all_found, required_found,
 };
 use growing_lists::{Boot, SavedState};
-use known_files::{Unknown, none_unknown};
+use known_files::{Unknown, has_no_unknown};
 use pcr_banks::Banks;
 use pcr_values::Expected;
 use tpm_keys::{KeyPart, KeyReport, Purpose};
@@ -234,7 +234,7 @@ pub(crate) fn answered_with(
         next,
         unknown,
     } = found;
-    let is_success = none_unknown(unknown.as_ref())
+    let is_success = has_no_unknown(unknown.as_ref())
         && is_good(required, requirement.as_ref(), &answer);
     Answered {
         answer,

@@ -19,7 +19,7 @@ use Rattle.boot_verdict.specs.declared.report.Report.{Report}
 use Rattle.boot_verdict.specs.Isolation.{are_none, first_extending, first_stray}
 use Rattle.boot_verdict.specs.Verdicts.{IsVerdict, Verdict, aggregate_of, is_good, pcr_after_log_and_list, recorded_aggregate, verdict_of, verdict_on}
 use Rattle.boot_verdict.proofs.ReplayLaws.{one_list}
-use Rattle.known_files.specs.Unknown.{none_unknown}
+use Rattle.known_files.specs.Unknown.{has_no_unknown}
 use Rattle.tpm_quotes.specs.Quoting.{confirms}
 use Rattle.tpm_quotes.specs.Spelling.{IsQuote, TpmQuote}
 use Rattle.attestations.specs.declared.expected.ExpectedValues.{ExpectedValues}
@@ -167,7 +167,7 @@ module _ (inputs : Inputs) (asked : Attested) (given : Answered) (is : IsAttesta
       let told = told_by is.quote asked.is_signed is.values next on in
       let report = answer.0 in
       let good_is : is_good_answer Nothing None given.answer ≡ true =
-      (both_true (none_unknown given.unknown) (is_good_answer Nothing None given.answer) (sym is.well_is ∙ well)).1 in
+      (both_true (has_no_unknown given.unknown) (is_good_answer Nothing None given.answer) (sym is.well_is ∙ well)).1 in
       let here : (report.is_signed && is_attested (attest_verdict_of report)) ≡ true = ap (is_good_answer Nothing None) (sym answer.1) ∙ good_is in
       let there : (told.is_signed && is_attested told) ≡ true =
       subst (λ (v : AttestVerdict). (v.is_signed && is_attested v) ≡ true) answer.2 here in

@@ -17,7 +17,7 @@ use Rattle.known_files.specs.declared.known.KnownFiles.{KnownFiles}
 use Rattle.known_files.specs.declared.unknown.Unknown.{Unknown}
 use Rattle.known_files.specs.EntryFiles.{IsKnown, is_aggregate}
 use Rattle.known_files.specs.Known.{Knows}
-use Rattle.known_files.specs.Unknown.{AreUnknown, none_unknown, unknown_in}
+use Rattle.known_files.specs.Unknown.{AreUnknown, has_no_unknown, unknown_in}
 use Rattle.tpm_quotes.specs.Spelling.{TpmQuote}
 use Rattle.attestations.specs.declared.expected.ExpectedValues.{ExpectedValues}
 use Rattle.attestations.specs.Reports.{AttestVerdict}
@@ -73,7 +73,7 @@ known_first law texts (entry ∷ entries) none = law.first texts entry entries (
 -- So they are where none is told unknown.
 has_known : KnownLaw → (given : Answered) (texts : List (List ℕ)) (files : KnownFiles) (first : ℕ) (list rest : List ℕ) (entries : List ListEntry)
     → Knows texts files → BeginsWith list entries rest → entries_of given.answer ≡ Some (length entries)
-    → (unknown : Option Unknown) → given.unknown ≡ unknown → none_unknown unknown ≡ true → TellsUnknown (Some files) first unknown entries
+    → (unknown : Option Unknown) → given.unknown ≡ unknown → has_no_unknown unknown ≡ true → TellsUnknown (Some files) first unknown entries
     → HasKnownEntries given texts first list
 has_known law given texts files first list rest entries knows begins count None same none tells = absurd tells
 has_known law given texts files first list rest entries knows begins count (Some told) same none tells =
@@ -96,7 +96,7 @@ has_known law given texts files first list rest entries knows begins count (Some
 -- ---- what was judged
 
 module _ (law : KnownLaw) (inputs : Inputs) (places : List Where) (list : Where) (evidence : Evidence) (given : Answered)
-    (has : HasTexts inputs places evidence.files) (none : none_unknown given.unknown ≡ true) where
+    (has : HasTexts inputs places evidence.files) (none : has_no_unknown given.unknown ≡ true) where
   abbrev Tells : List ListEntry → Type 0
   Tells = TellsUnknown evidence.files (entries_taken evidence.known) given.unknown
 
@@ -145,8 +145,8 @@ attested_known law inputs asked given is well some = record { texts = has.texts;
     has : HasTexts inputs asked.known is.files
     has = texts_in inputs asked.known is.files some is.files_are
 
-    none : none_unknown given.unknown ≡ true
-    none = (both_true (none_unknown given.unknown) (is_good Nothing None given.answer) (sym is.well_is ∙ well)).0
+    none : has_no_unknown given.unknown ≡ true
+    none = (both_true (has_no_unknown given.unknown) (is_good Nothing None given.answer) (sym is.well_is ∙ well)).0
 
     evidence : Evidence
     evidence = quoted_evidence is.log is.quote asked.is_signed is.values is.counted (checkpoint_of is.state) is.files
@@ -186,7 +186,7 @@ no_state : (inputs : Inputs) (state : Option SavedState) → IsState inputs None
 no_state inputs state is = ap checkpoint_of is
 
 module _ (law : KnownLaw) (inputs : Inputs) (places : List Where) (list : Where) (evidence : Evidence) (given : Answered)
-    (has : HasTexts inputs places evidence.files) (none : none_unknown given.unknown ≡ true) (alone : evidence.known ≡ None) where
+    (has : HasTexts inputs places evidence.files) (none : has_no_unknown given.unknown ≡ true) (alone : evidence.known ≡ None) where
   list_known : (answer : Answer) (next : Option Checkpoint) → given.answer ≡ answer
       → IsJudged inputs ListVerdictOf list evidence answer next given.unknown → Known law inputs places list evidence given has none
   list_known (answers.ListReport report) None same judged =
@@ -222,8 +222,8 @@ comparison_known law inputs request given is well some = record {
     has : HasTexts inputs request.known is.evidence.files
     has = texts_in inputs request.known is.evidence.files some is.evidence_is.files_are
 
-    none : none_unknown given.unknown ≡ true
-    none = (both_true (none_unknown given.unknown) (is_good request.required given.requirement given.answer) (sym is.well_is ∙ well)).0
+    none : has_no_unknown given.unknown ≡ true
+    none = (both_true (has_no_unknown given.unknown) (is_good request.required given.requirement given.answer) (sym is.well_is ∙ well)).0
 
     by : (judgement : Judgement) (next : Option Checkpoint) → takes_known judgement request.required request.known ≡ true
         → IsState inputs (resume_of judgement) is.evidence_is.state

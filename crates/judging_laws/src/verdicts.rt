@@ -6,7 +6,7 @@ ghost use Rattle.boot_verdict.specs.declared.prefix_report.PrefixReport.{PrefixR
 ghost use Rattle.boot_verdict.specs.declared.report.Report.{Report as ReportData};
 ghost use Rattle.boot_verdict.specs.Requirements.{required_matches};
 ghost use Rattle.boot_verdict.specs.Verdicts.{matches, verdict_of};
-ghost use Rattle.known_files.specs.Unknown.{none_unknown};
+ghost use Rattle.known_files.specs.Unknown.{has_no_unknown};
 ghost use Rattle.agent_inputs.specs.Loading.{Inputs};
 ghost use Rattle.judging.specs.declared.request.Answer.TheVariants.{Prefix, Report};
 ghost use Rattle.judging.specs.declared.request.Answered.{Answered};
@@ -19,11 +19,11 @@ ghost use Rattle.judging.specs.Requests.{Compared, Nothing};
 pub fn report_is_well_by_its_verdict()
     ensures required { (inputs : Inputs) (request : Compared) (given : Answered) (ranges : List BankRange) (report : ReportData)
         → IsComparison inputs request given → given.requirement ≡ Some ranges → given.answer ≡ Report report
-        → given.is_success ≡ (none_unknown given.unknown && required_matches ranges (verdict_of report)) }
+        → given.is_success ≡ (has_no_unknown given.unknown && required_matches ranges (verdict_of report)) }
     ensures plain { (inputs : Inputs) (request : Compared) (given : Answered) (report : ReportData)
         → IsComparison inputs request given → request.required ≡ Nothing → given.requirement ≡ None → given.answer ≡ Report report
-        → given.is_success ≡ (none_unknown given.unknown && matches (verdict_of report)) }
+        → given.is_success ≡ (has_no_unknown given.unknown && matches (verdict_of report)) }
     ensures prefix { (inputs : Inputs) (request : Compared) (given : Answered) (ranges : List BankRange) (prefix : PrefixReport)
         → IsComparison inputs request given → given.requirement ≡ Some ranges → given.answer ≡ Prefix prefix
-        → given.is_success ≡ (none_unknown given.unknown && required_matches ranges (verdict_of prefix.report)) }
+        → given.is_success ≡ (has_no_unknown given.unknown && required_matches ranges (verdict_of prefix.report)) }
 {}

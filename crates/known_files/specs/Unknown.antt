@@ -37,9 +37,9 @@ abbrev pub IsSomeUnknown : List (List ℕ) → ℕ → List ListEntry → Type 0
 IsSomeUnknown texts first entries = 0 < length (unknown_in texts first (drop first entries))
 
 -- No entry is told unknown; so it is where no files are known.
-abbrev pub none_unknown : Option Unknown → Bool
-none_unknown None = true
-none_unknown (Some unknown) = length unknown.numbers.items == 0
+abbrev pub has_no_unknown : Option Unknown → Bool
+has_no_unknown None = true
+has_no_unknown (Some unknown) = length unknown.numbers.items == 0
 
 -- ---- as a list is read
 

@@ -8,7 +8,7 @@ ghost use Rattle.boot_verdict.specs.ListReplays.{AreTracked};
 ghost use Rattle.known_files.specs.declared.known.KnownFiles.{KnownFiles};
 ghost use Rattle.known_files.specs.declared.unknown.UnknownEntries.{UnknownEntries};
 ghost use Rattle.known_files.specs.Known.{Knows};
-ghost use Rattle.known_files.specs.Unknown.{AreUnknown, HasAdded, IsFresh, IsLookedAfter, IsSomeUnknown, files_of, is_passed, is_told, none_unknown};
+ghost use Rattle.known_files.specs.Unknown.{AreUnknown, HasAdded, IsFresh, IsLookedAfter, IsSomeUnknown, files_of, is_passed, is_told, has_no_unknown};
 
 use crate::known::{KnownFiles, is_aggregate};
 use boot_verdict::{Position, Step, Tracker};
@@ -26,8 +26,8 @@ pub struct Unknown {
 }
 
 /// Whether no entry is told unknown; so it is where no files are known.
-pub fn none_unknown(unknown: Option<&Unknown>) -> bool
-    ensures { result ≡ none_unknown (option_copied unknown.entry) }
+pub fn has_no_unknown(unknown: Option<&Unknown>) -> bool
+    ensures { result ≡ has_no_unknown (option_copied unknown.entry) }
 {
     match unknown {
         Some(unknown) => unknown.numbers.is_empty(),
