@@ -7,7 +7,7 @@ use Rattle.measured_data.specs.declared.pcr.Pcr.{Pcr}
 use Rattle.boot_answers.specs.Commands.{CommandSaid, told_text}
 use Rattle.boot_answers.specs.Extending.{extended_events}
 use Rattle.boot_answers.proofs.EventLaws.{no_end, one_end, own_and_later}
-use Rattle.boot_texts.specs.declared.asked.Asked.{Asked}
+use Rattle.boot_texts.specs.declared.policy_question.PolicyQuestion.{PolicyQuestion}
 use Rattle.boot_texts.specs.Policies.{Asks, IsAskingEvent, IsAskingIn, IsFirstAsking, NoneAsks, Passes, read_text}
 
 some_is : {A : Type 0} (x y : A) → Some x ≡ Some y → x ≡ y
@@ -17,16 +17,16 @@ some_or_none : {A : Type 0} (x : A) (found : Option A) → found ≡ Some x → 
 some_or_none x found some none = absurd cc
 
 -- An event that asks, or that tells no text, does not pass.
-asks_not_passes : (asked : Asked) (matched : List Pcr) (event : LogEvent) (text : CommandSaid) → told_text matched event ≡ Some text
+asks_not_passes : (asked : PolicyQuestion) (matched : List Pcr) (event : LogEvent) (text : CommandSaid) → told_text matched event ≡ Some text
     → Asks asked (read_text text) → Passes asked matched event → ⊥
 asks_not_passes asked matched event text told asks passes =
     let same : text ≡ passes.text = some_is text passes.text (sym told ∙ passes.told) in
     passes.other (subst (λ (t : CommandSaid). Asks asked (read_text t)) same asks)
 
-untold_not_passes : (asked : Asked) (matched : List Pcr) (event : LogEvent) → told_text matched event ≡ None → Passes asked matched event → ⊥
+untold_not_passes : (asked : PolicyQuestion) (matched : List Pcr) (event : LogEvent) → told_text matched event ≡ None → Passes asked matched event → ⊥
 untold_not_passes asked matched event none passes = some_or_none passes.text (told_text matched event) passes.told none
 
-module _ {asked : Asked} {matched : List Pcr} {register : ℕ} {events : List LogEvent} where
+module _ {asked : PolicyQuestion} {matched : List Pcr} {register : ℕ} {events : List LogEvent} where
   module _ {number : ℕ} (is : IsFirstAsking asked matched register events number) where
     own_parts : extended_events register events ≡ extended_events register is.before ++ is.event ∷ extended_events register is.after
     own_parts = own_and_later register is.before (extended_events register is.before) is.after events is.event is.extended refl is.parts
@@ -52,7 +52,7 @@ module _ {asked : Asked} {matched : List Pcr} {register : ℕ} {events : List Lo
 -- ---- both registers
 
 -- Where no text of register 8 asks, the first of register 12 is the first.
-pub after_none : (asked : Asked) (matched : List Pcr) (events : List LogEvent) (found : Option ℕ) → NoneAsks asked matched 8 events
+pub after_none : (asked : PolicyQuestion) (matched : List Pcr) (events : List LogEvent) (found : Option ℕ) → NoneAsks asked matched 8 events
     → IsAskingIn asked matched 12 events found → IsAskingEvent asked matched events found
 after_none asked matched events None none is = (none, is)
 after_none asked matched events (Some number) none is = inr (none, is)

@@ -15,8 +15,8 @@ use Rattle.boot_answers.specs.ImaMeasuring.{AsksToMeasure}
 use Rattle.boot_answers.specs.ImaPolicy.{MaySetImaPolicy}
 use Rattle.cells.specs.Cells.{Cell, if_some, in_order, number, text, word}
 use Rattle.cells.specs.Values.{Member}
-use Rattle.boot_texts.specs.declared.asked.Asked.{Asked}
-use Rattle.boot_texts.specs.declared.asked.Asked.TheVariants.{Measuring, Policy}
+use Rattle.boot_texts.specs.declared.policy_question.PolicyQuestion.{PolicyQuestion}
+use Rattle.boot_texts.specs.declared.policy_question.PolicyQuestion.TheVariants.{Measuring, Policy}
 use Rattle.boot_texts.specs.declared.policies.ImaPolicy.{ImaPolicy}
 use Rattle.boot_texts.specs.declared.policies.ImaPolicy.TheVariants as policies
 
@@ -33,7 +33,7 @@ read_text (grub command) = if is_utf8 command.text then Some command.text else N
 read_text (wide text) = option_and_then ascii_only (wide_text text)
 
 -- The text asks to measure files; or it may ask for a policy, as may one that is not known.
-abbrev pub Asks : Asked → Option (List ℕ) → Type 0
+abbrev pub Asks : PolicyQuestion → Option (List ℕ) → Type 0
 Asks Measuring None = ⊥
 Asks Measuring (Some text) = AsksToMeasure text
 Asks Policy None = Unit {0}
@@ -42,14 +42,14 @@ Asks Policy (Some text) = MaySetImaPolicy text
 -- ---- the events of a register
 
 -- The event tells a text that does not ask this.
-pub record Passes (asked : Asked) (matched : List Pcr) (event : LogEvent) : Type 0 where
+pub record Passes (asked : PolicyQuestion) (matched : List Pcr) (event : LogEvent) : Type 0 where
   pub text : CommandSaid
   pub told : told_text matched event ≡ Some text
   pub other : Asks asked (read_text text) → ⊥
 
 -- The log's event with this number, which counts from 1, is the first of the register that tells a text that asks this. Each event of the
 -- register before it tells a text.
-pub record IsFirstAsking (asked : Asked) (matched : List Pcr) (register : ℕ) (events : List LogEvent) (number : ℕ) : Type 0 where
+pub record IsFirstAsking (asked : PolicyQuestion) (matched : List Pcr) (register : ℕ) (events : List LogEvent) (number : ℕ) : Type 0 where
   pub before : List LogEvent
   pub event : LogEvent
   pub after : List LogEvent
@@ -62,32 +62,32 @@ pub record IsFirstAsking (asked : Asked) (matched : List Pcr) (register : ℕ) (
   pub asks : Asks asked (read_text text)
 
 -- No text of the register that is told asks this.
-abbrev pub NoneAsks : Asked → List Pcr → ℕ → List LogEvent → Type 0
+abbrev pub NoneAsks : PolicyQuestion → List Pcr → ℕ → List LogEvent → Type 0
 NoneAsks asked matched register events = (number : ℕ) → IsFirstAsking asked matched register events number → ⊥
 
 -- The number is that of the register's first event that asks this, or there is none.
-abbrev pub IsAskingIn : Asked → List Pcr → ℕ → List LogEvent → Option ℕ → Type 0
+abbrev pub IsAskingIn : PolicyQuestion → List Pcr → ℕ → List LogEvent → Option ℕ → Type 0
 IsAskingIn asked matched register events None = NoneAsks asked matched register events
 IsAskingIn asked matched register events (Some number) = IsFirstAsking asked matched register events number
 
 -- ---- both registers
 
 -- The number is that of the first event that asks this, of register 8 or else of register 12.
-abbrev pub IsAsking : Asked → List Pcr → List LogEvent → ℕ → Type 0
+abbrev pub IsAsking : PolicyQuestion → List Pcr → List LogEvent → ℕ → Type 0
 IsAsking asked matched events number =
     IsFirstAsking asked matched 8 events number ⊎ (NoneAsks asked matched 8 events × IsFirstAsking asked matched 12 events number)
 
 -- No told text of either register asks this.
-abbrev pub NeitherAsks : Asked → List Pcr → List LogEvent → Type 0
+abbrev pub NeitherAsks : PolicyQuestion → List Pcr → List LogEvent → Type 0
 NeitherAsks asked matched events = NoneAsks asked matched 8 events × NoneAsks asked matched 12 events
 
-abbrev pub IsAskingEvent : Asked → List Pcr → List LogEvent → Option ℕ → Type 0
+abbrev pub IsAskingEvent : PolicyQuestion → List Pcr → List LogEvent → Option ℕ → Type 0
 IsAskingEvent asked matched events None = NeitherAsks asked matched events
 IsAskingEvent asked matched events (Some number) = IsAsking asked matched events number
 
 -- The answer: a text asks to measure files; else a text may ask for a policy; else it is unknown.
 abbrev pub IsImaPolicy : List Pcr → List LogEvent → ImaPolicy → Type 0
-IsImaPolicy matched events (policies.Asked number) = IsAsking Measuring matched events number
+IsImaPolicy matched events (policies.PolicyQuestion number) = IsAsking Measuring matched events number
 IsImaPolicy matched events (policies.Possible number) = NeitherAsks Measuring matched events × IsAsking Policy matched events number
 IsImaPolicy matched events policies.Unknown = NeitherAsks Measuring matched events × NeitherAsks Policy matched events
 
@@ -95,13 +95,13 @@ IsImaPolicy matched events policies.Unknown = NeitherAsks Measuring matched even
 
 -- What is asked, in one word.
 abbrev pub policy_word : ImaPolicy → List ℕ
-policy_word (policies.Asked event) = codes "asked"
+policy_word (policies.PolicyQuestion event) = codes "asked"
 policy_word (policies.Possible event) = codes "possible"
 policy_word policies.Unknown = codes "unknown"
 
 -- The number of the event that asks.
 abbrev pub policy_event : ImaPolicy → Option ℕ
-policy_event (policies.Asked event) = Some event
+policy_event (policies.PolicyQuestion event) = Some event
 policy_event (policies.Possible event) = Some event
 policy_event policies.Unknown = None
 

@@ -11,7 +11,7 @@ ghost use Rattle.boot_texts.specs.BootLines.{AreBootLines, AreCommandLines, AreI
 
 use crate::answering_banks::is_answered;
 use crate::boot_question::BootQuestion;
-use crate::commands::UntoldLine;
+use crate::commands::UnknownCommandLine;
 use crate::event_walk::append_each;
 use crate::images::IMAGE_REGISTER;
 use crate::policies::{GRUB_REGISTER, STUB_REGISTER, append_policy};
@@ -149,7 +149,7 @@ fn append_commands(
             lines,
         )?;
     } else {
-        let line = UntoldLine {
+        let line = UnknownCommandLine {
             register,
             event: None,
         };

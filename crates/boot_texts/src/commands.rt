@@ -112,14 +112,14 @@ fn show_claimed(kind: &str, out: &mut CellWriter) -> Written
 
 /// The line of a register after whose texts none is told.
 #[derive(Drop)]
-pub(crate) struct UntoldLine {
+pub(crate) struct UnknownCommandLine {
     /// The register.
     pub register: u32,
     /// The number of the event that tells no text; `None` where no bank answers for the register.
     pub event: Option<usize>,
 }
 
-impl Shown for UntoldLine {
+impl Shown for UnknownCommandLine {
     ghost cell_of = { λ line. untold_cell line.register line.event };
 
     fn show(&self, _alloc: Global, out: &mut CellWriter) -> Written {

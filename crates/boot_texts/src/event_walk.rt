@@ -7,7 +7,7 @@ ghost use Rattle.boot_log.specs.Spelling.{IsLog, LogEvent, log_event_of};
 ghost use Rattle.boot_texts.specs.Telling.{Tells, TellsCommand, ToldOf};
 
 use crate::boot_question::BootQuestion;
-use crate::commands::{CommandLine, UntoldLine};
+use crate::commands::{CommandLine, UnknownCommandLine};
 use crate::images::append_if_image;
 use crate::variables::append_if_variable;
 use boot_answers::told_text;
@@ -91,7 +91,7 @@ fn append_if_command(
             Ok(true)
         }
         None => {
-            let line = UntoldLine {
+            let line = UnknownCommandLine {
                 register,
                 event: Some(number),
             };

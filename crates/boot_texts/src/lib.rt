@@ -5,7 +5,7 @@
 #![tactic(auto)]
 
 mod answering_banks;
-mod asked;
+mod policy_question;
 mod boot_lines;
 mod boot_question;
 mod commands;

@@ -8,7 +8,7 @@ ghost use Rattle.cells.specs.Cells.{ShowsMembers, rendered};
 ghost use Rattle.boot_texts.specs.declared.policies.ImaPolicy.{ImaPolicy as PolicyData};
 ghost use Rattle.boot_texts.specs.Policies.{IsAskingEvent, IsAskingIn, IsImaPolicy, policy_cell, policy_event, policy_word};
 
-use crate::asked::Asked;
+use crate::policy_question::PolicyQuestion;
 use crate::commands::show_event;
 use crate::policy_scan::asks;
 use boot_answers::told_text;
@@ -26,12 +26,12 @@ pub(crate) const STUB_REGISTER: u32 = 12;
 /// What the told texts ask of Linux's integrity measurement architecture (IMA), with the number of the first event that asks: of register 8, or
 /// else of register 12.
 ///
-/// Root can append texts to both registers, and can extend one that the boot loader left empty. So `Asked` proves neither that Linux has a
+/// Root can append texts to both registers, and can extend one that the boot loader left empty. So `PolicyQuestion` proves neither that Linux has a
 /// policy nor that it measures files. That no text asks proves nothing either: it is `Unknown`.
 #[derive(Clone, Copy, Debug, PartialEq, Eq)]
 pub enum ImaPolicy {
     /// To measure files.
-    Asked(usize),
+    PolicyQuestion(usize),
     /// A text may ask for a policy.
     Possible(usize),
     /// No told text asks.
@@ -41,7 +41,7 @@ pub enum ImaPolicy {
 // The number of the register's first event that asks this, if each before it tells a text.
 fn first_asking(
     alloc: Global,
-    asked: Asked,
+    asked: PolicyQuestion,
     log: &LogView<'_>,
     matched: &[Pcr],
     register: u32,
@@ -67,7 +67,7 @@ fn first_asking(
 // The number of the first event that asks this.
 fn asking_event(
     alloc: Global,
-    asked: Asked,
+    asked: PolicyQuestion,
     log: &LogView<'_>,
     matched: &[Pcr],
 ) -> Result<Option<usize>, AllocError>
@@ -87,11 +87,11 @@ fn ima_policy(alloc: Global, log: &LogView<'_>, matched: &[Pcr]) -> Result<ImaPo
     ensures { IfOk result (λ policy. (table : List Row) (events : List LogEvent) → IsLog (log_bytes log.now) table events
         → IsImaPolicy matched.now events policy) }
 {
-    let measuring = asking_event(alloc, Asked::Measuring, log, matched)?;
+    let measuring = asking_event(alloc, PolicyQuestion::Measuring, log, matched)?;
     if let Some(number) = measuring {
-        return Ok(ImaPolicy::Asked(number));
+        return Ok(ImaPolicy::PolicyQuestion(number));
     }
-    let policy = asking_event(alloc, Asked::Policy, log, matched)?;
+    let policy = asking_event(alloc, PolicyQuestion::Policy, log, matched)?;
     match policy {
         Some(number) => Ok(ImaPolicy::Possible(number)),
         None => Ok(ImaPolicy::Unknown),
@@ -136,7 +136,7 @@ fn policy_word(policy: ImaPolicy) -> &'static str
     ensures { result.now ≡ policy_word policy }
 {
     match policy {
-        ImaPolicy::Asked(_) => "asked",
+        ImaPolicy::PolicyQuestion(_) => "asked",
         ImaPolicy::Possible(_) => "possible",
         ImaPolicy::Unknown => "unknown",
     }
@@ -147,7 +147,7 @@ fn policy_event(policy: ImaPolicy) -> Option<usize>
     ensures { result ≡ policy_event policy }
 {
     match policy {
-        ImaPolicy::Asked(event) | ImaPolicy::Possible(event) => Some(event),
+        ImaPolicy::PolicyQuestion(event) | ImaPolicy::Possible(event) => Some(event),
         ImaPolicy::Unknown => None,
     }
 }

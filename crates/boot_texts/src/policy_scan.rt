@@ -7,14 +7,14 @@ ghost use Rattle.boot_answers.specs.Commands.{said_of};
 ghost use Rattle.event_texts.specs.WideTexts.{wide_text};
 ghost use Rattle.boot_texts.specs.Policies.{Asks, ascii_only, read_text};
 
-use crate::asked::Asked;
+use crate::policy_question::PolicyQuestion;
 use boot_answers::{CommandText, asks_to_measure, may_set_ima_policy};
 use event_texts::wide_text;
 use std::alloc::{AllocError, Global};
 use std::str;
 
 /// Whether the text asks this.
-pub(crate) fn asks(alloc: Global, asked: Asked, text: &CommandText<'_>) -> Result<bool, AllocError>
+pub(crate) fn asks(alloc: Global, asked: PolicyQuestion, text: &CommandText<'_>) -> Result<bool, AllocError>
     ensures { IfOk result (λ asks. IsTrue asks ↔ Asks asked (read_text (said_of text.now))) }
 {
     match text {
@@ -24,7 +24,7 @@ pub(crate) fn asks(alloc: Global, asked: Asked, text: &CommandText<'_>) -> Resul
 }
 
 // Whether the bytes, as a text, ask this.
-fn asks_narrow(asked: Asked, bytes: &[u8]) -> bool
+fn asks_narrow(asked: PolicyQuestion, bytes: &[u8]) -> bool
     ensures { IsTrue result ↔ Asks asked (if is_utf8 bytes.now then Some bytes.now else None) }
 {
     match str::from_utf8(bytes) {
@@ -34,7 +34,7 @@ fn asks_narrow(asked: Asked, bytes: &[u8]) -> bool
 }
 
 // Whether the text in units of two bytes asks this.
-fn asks_wide(alloc: Global, asked: Asked, text: &[u8]) -> Result<bool, AllocError>
+fn asks_wide(alloc: Global, asked: PolicyQuestion, text: &[u8]) -> Result<bool, AllocError>
     ensures { IfOk result (λ asks. IsTrue asks ↔ Asks asked (option_and_then ascii_only (wide_text text.now))) }
 {
     match wide_text(alloc, text)? {
@@ -62,13 +62,13 @@ fn is_ascii(bytes: &[u8]) -> bool
 }
 
 // Whether the text asks this; `None` where it is not known.
-fn asks_as(asked: Asked, text: Option<&str>) -> bool
+fn asks_as(asked: PolicyQuestion, text: Option<&str>) -> bool
     ensures { IsTrue result ↔ Asks asked (option_map (λ text. text.now) text.entry) }
 {
     match (asked, text) {
-        (Asked::Measuring, Some(text)) => asks_to_measure(text),
-        (Asked::Measuring, None) => false,
-        (Asked::Policy, Some(text)) => may_set_ima_policy(text),
-        (Asked::Policy, None) => true,
+        (PolicyQuestion::Measuring, Some(text)) => asks_to_measure(text),
+        (PolicyQuestion::Measuring, None) => false,
+        (PolicyQuestion::Policy, Some(text)) => may_set_ima_policy(text),
+        (PolicyQuestion::Policy, None) => true,
     }
 }

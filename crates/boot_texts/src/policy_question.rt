@@ -1,6 +1,6 @@
 /// What a text may ask of Linux.
 #[derive(Clone, Copy)]
-pub(crate) enum Asked {
+pub(crate) enum PolicyQuestion {
     /// To measure files.
     Measuring,
     /// A policy of its integrity measurement architecture (IMA), which may measure none.
