@@ -15,7 +15,7 @@ use Rattle.pcr_banks.proofs.AlgLaws.{every_alg}
 use Rattle.pcr_banks.specs.Registers.{extended_by_all, register_count, value_at}
 use Rattle.pcr_values.specs.declared.selection.BankRange.{BankRange}
 use Rattle.pcr_values.specs.Selections.{names}
-use Rattle.boot_log.specs.declared.header.Row.{Row as TableRow}
+use Rattle.boot_log.specs.declared.header.DeclaredAlgorithm.{DeclaredAlgorithm}
 use Rattle.boot_log.specs.Spelling.{LogEvent, IsLog, algs_in}
 use Rattle.boot_log.specs.Replaying.{IsFirmware}
 use Rattle.ima_list.specs.ListEntry.{ListEntry}
@@ -144,7 +144,7 @@ good Missing e = absurd cc
 
 -- ---- the judgement
 
-pub attested_by : (log list message : List ℕ) (terms : Terms) (table : List TableRow) (events : List LogEvent) (entries : List ListEntry)
+pub attested_by : (log list message : List ℕ) (terms : Terms) (table : List DeclaredAlgorithm) (events : List LogEvent) (entries : List ListEntry)
     (quote : TpmQuote) (known : Attestation) → policy_fault terms ≡ None → IsQuote message quote → quote_refusal quote terms ≡ None
     → IsLog log table events → IsReading list (Ok entries) → AreGenuine entries → cause_against (algs_in table) events entries quote ≡ None
     → known ≡ attestation_on events entries quote → IsAttested log list message terms known

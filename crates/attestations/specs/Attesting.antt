@@ -4,7 +4,7 @@ use Rattle.std.specs.Prelude.{◌≡◌, ℕ, ◌<◌, true, List, Some, None, O
 use Rattle.pcr_banks.specs.declared.alg.Alg.{Alg}
 use Rattle.pcr_banks.specs.Registers.{register_count}
 use Rattle.pcr_values.specs.Selections.{names}
-use Rattle.boot_log.specs.declared.header.Row.{Row as TableRow}
+use Rattle.boot_log.specs.declared.header.DeclaredAlgorithm.{DeclaredAlgorithm}
 use Rattle.boot_log.specs.Spelling.{LogEvent, IsLog, algs_in}
 use Rattle.ima_list.specs.ListEntry.{ListEntry}
 use Rattle.ima_list.specs.Spelling.{IsReading}
@@ -29,7 +29,7 @@ use Rattle.attestations.specs.Policies.{AreSound, Terms, policy_fault}
 -- list's register, and it extends no other; its first entry records the boot aggregate of the log; and the quote is of the values to which
 -- log and list replay.
 pub record IsAttested (log list message : List ℕ) (terms : Terms) (attestation : Attestation) : Type 0 where
-  pub table : List TableRow
+  pub table : List DeclaredAlgorithm
   pub events : List LogEvent
   pub entries : List ListEntry
   pub quote : TpmQuote
@@ -73,7 +73,7 @@ IsBootFault log list fault = IsVerifyFault log list fault
 
 -- The bytes are a log, a list of genuine entries and the quote that is asked for, and this is against them.
 pub record IsAgainst (log list message : List ℕ) (terms : Terms) (cause : Cause) : Type 0 where
-  pub table : List TableRow
+  pub table : List DeclaredAlgorithm
   pub events : List LogEvent
   pub entries : List ListEntry
   pub asked : IsAskedFor message terms

@@ -1,7 +1,7 @@
 //! The judgement.
 
 ghost use Rattle.std.specs.Prelude.{◌≡◌, List, ℕ, None, Ok, IsOk, IfOk, IfErr};
-ghost use Rattle.boot_log.specs.declared.header.Row.{Row as TableRow};
+ghost use Rattle.boot_log.specs.declared.header.DeclaredAlgorithm.{DeclaredAlgorithm};
 ghost use Rattle.boot_log.specs.LogViews.{log_bytes};
 ghost use Rattle.boot_log.specs.Replaying.{IsFirmware};
 ghost use Rattle.boot_log.specs.Spelling.{LogEvent, IsLog, algs_in};
@@ -94,7 +94,7 @@ pub fn attest<'a>(
     // `Ok` only if all of this holds.
     ensures attested { IfOk result (λ attested. IsAttested log.now list.now message.now (terms_of policy.now) (attestation_of attested)) }
     // Where nothing is refused and no cause is against it, there is an attestation.
-    ensures only { (table : List TableRow) (events : List LogEvent) (entries : List ListEntry) (quote : TpmQuote)
+    ensures only { (table : List DeclaredAlgorithm) (events : List LogEvent) (entries : List ListEntry) (quote : TpmQuote)
         → policy_fault (terms_of policy.now) ≡ None → IsQuote message.now quote → quote_refusal quote (terms_of policy.now) ≡ None
         → IsLog log.now table events → IsReading list.now (Ok entries) → AreGenuine entries
         → cause_against (algs_in table) events entries quote ≡ None → IsOk result }
@@ -115,7 +115,7 @@ pub fn attest<'a>(
 
 // What the quote confirms.
 fn confirmed<'a>(log: &LogView<'_>, known: &Checkpoint, quote: Quote<'a>) -> Attested<'a>
-    ensures { (list : List ℕ) (table : List TableRow) (events : List LogEvent) → IsLog (log_bytes log.now) table events
+    ensures { (list : List ℕ) (table : List DeclaredAlgorithm) (events : List LogEvent) → IsLog (log_bytes log.now) table events
         → (is : IsCheckpoint list known.now) → attestation_of result ≡ attestation_on events is.entries (quote_of quote.entry) }
 {
     Attested {
@@ -128,7 +128,7 @@ fn confirmed<'a>(log: &LogView<'_>, known: &Checkpoint, quote: Quote<'a>) -> Att
 
 // The first cause against log and list, if there is one.
 fn cause_against(log: &LogView<'_>, known: &Checkpoint, quote: &Quote<'_>) -> Option<Cause>
-    ensures { (list : List ℕ) (table : List TableRow) (events : List LogEvent) → IsLog (log_bytes log.now) table events
+    ensures { (list : List ℕ) (table : List DeclaredAlgorithm) (events : List LogEvent) → IsLog (log_bytes log.now) table events
         → IsFirmware (algs_in table) events known.now.before → (is : IsCheckpoint list known.now)
         → result ≡ cause_against (algs_in table) events is.entries (quote_of quote.now) }
 {
@@ -140,7 +140,7 @@ fn cause_against(log: &LogView<'_>, known: &Checkpoint, quote: &Quote<'_>) -> Op
 
 // The first cause in which registers log and list extend, if there is one.
 fn cause_in_extends(log: &LogView<'_>, known: &Checkpoint) -> Option<Cause>
-    ensures { (list : List ℕ) (table : List TableRow) (events : List LogEvent) → IsLog (log_bytes log.now) table events
+    ensures { (list : List ℕ) (table : List DeclaredAlgorithm) (events : List LogEvent) → IsLog (log_bytes log.now) table events
         → (is : IsCheckpoint list known.now) → result ≡ cause_in_extends events is.entries }
 {
     if let Some(event) = first_extending(log) {
@@ -155,7 +155,7 @@ fn cause_in_extends(log: &LogView<'_>, known: &Checkpoint) -> Option<Cause>
 
 // The first cause in the values to which log and list replay, if there is one.
 fn cause_in_registers(known: &Checkpoint, quote: &Quote<'_>) -> Option<Cause>
-    ensures { (list : List ℕ) (table : List TableRow) (events : List LogEvent) → IsFirmware (algs_in table) events known.now.before
+    ensures { (list : List ℕ) (table : List DeclaredAlgorithm) (events : List LogEvent) → IsFirmware (algs_in table) events known.now.before
         → (is : IsCheckpoint list known.now)
         → result ≡ cause_in_registers (algs_in table) events is.entries (quote_of quote.now) }
 {

@@ -1,7 +1,7 @@
 //! The events that two boots have in common after the first in which they differ.
 
 ghost use Rattle.std.specs.Prelude.{◌≡◌, ◌≤◌, ◌<◌, ◌*◌, ◌+◌, ◌↔◌, ℕ, List, length, IfOk, IsTrue, None, slice_index_or};
-ghost use Rattle.boot_log.specs.declared.header.Row.{Row};
+ghost use Rattle.boot_log.specs.declared.header.DeclaredAlgorithm.{DeclaredAlgorithm};
 ghost use Rattle.boot_log.specs.LogViews.{log_bytes};
 ghost use Rattle.boot_log.specs.Spelling.{IsLog, LogEvent};
 ghost use Rattle.boot_answers.specs.CommonEvents.{IsLongestCommon, compared};
@@ -42,7 +42,7 @@ pub fn common_events(
     register: u32,
     place: usize,
 ) -> Result<Common, AllocError>
-    ensures { IfOk result (λ common. (table rows : List Row) (events others : List LogEvent) → IsLog (log_bytes log.now) table events
+    ensures { IfOk result (λ common. (table rows : List DeclaredAlgorithm) (events others : List LogEvent) → IsLog (log_bytes log.now) table events
         → IsLog (log_bytes other.now) rows others
         → IsLongestCommon (compared alg register place events) (compared alg register place others) common.now.items common.before.items) }
 {
@@ -61,7 +61,7 @@ fn digests_from(
     place: usize,
 ) -> Result<Vec<Option<Digest>>, AllocError>
     ensures few { IfOk result (λ digests. length digests.items ≤ 256) }
-    ensures are { IfOk result (λ digests. (table : List Row) (events : List LogEvent) → IsLog (log_bytes log.now) table events
+    ensures are { IfOk result (λ digests. (table : List DeclaredAlgorithm) (events : List LogEvent) → IsLog (log_bytes log.now) table events
         → digests.items ≡ compared alg register place events) }
 {
     let mut digests = Vec::new(alloc);

@@ -1,7 +1,7 @@
 //! Where two boots differ.
 
 ghost use Rattle.std.specs.Prelude.{◌≡◌, ◌↔◌, List, IsTrue};
-ghost use Rattle.boot_log.specs.declared.header.Row.{Row};
+ghost use Rattle.boot_log.specs.declared.header.DeclaredAlgorithm.{DeclaredAlgorithm};
 ghost use Rattle.boot_log.specs.LogViews.{log_bytes};
 ghost use Rattle.boot_log.specs.Spelling.{IsLog, LogEvent, log_event_of};
 ghost use Rattle.pcr_banks.specs.Sets.{digest_in};
@@ -48,7 +48,7 @@ pub fn first_difference(
     alg: Alg,
     register: u32,
 ) -> Option<usize>
-    ensures { (table rows : List Row) (events others : List LogEvent) → IsLog (log_bytes log.now) table events
+    ensures { (table rows : List DeclaredAlgorithm) (events others : List LogEvent) → IsLog (log_bytes log.now) table events
         → IsLog (log_bytes other.now) rows others → IsFirstDifference alg register events others result }
 {
     let mut place: usize = 0;

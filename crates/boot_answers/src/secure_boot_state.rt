@@ -1,7 +1,7 @@
 //! Whether Secure Boot was on.
 
 ghost use Rattle.std.specs.Prelude.{◌≡◌, ◌↔◌, ℕ, List, [], ◌∷◌, Some, IsTrue, IfSome, IfNone, option_map};
-ghost use Rattle.boot_log.specs.declared.header.Row.{Row};
+ghost use Rattle.boot_log.specs.declared.header.DeclaredAlgorithm.{DeclaredAlgorithm};
 ghost use Rattle.boot_log.specs.LogViews.{log_bytes};
 ghost use Rattle.boot_log.specs.Spelling.{IsLog, LogEvent, log_event_of};
 ghost use Rattle.boot_answers.specs.SecureBoot.{IsBefore, IsSecureBoot, IsSecureBootVariable};
@@ -67,7 +67,7 @@ fn told_by(event: &Event<'_>, alg: Alg) -> Option<SecureBoot>
 
 // What the bank tells.
 fn told_in(log: &LogView<'_>, alg: Alg) -> SecureBoot
-    ensures { (table : List Row) (events : List LogEvent) → IsLog (log_bytes log.now) table events → IsToldIn alg events result }
+    ensures { (table : List DeclaredAlgorithm) (events : List LogEvent) → IsLog (log_bytes log.now) table events → IsToldIn alg events result }
 {
     let mut events = RegisterEvents::new(log, POLICY_REGISTER);
     while let Some(event) = events.next_event() {
@@ -87,7 +87,7 @@ fn is_same(answer: SecureBoot, other: SecureBoot) -> bool
 
 // Whether the bank gives this answer, if it answers.
 fn agrees(log: &LogView<'_>, matched: &[Pcr], alg: Alg, answer: SecureBoot) -> bool
-    ensures { (table : List Row) (events : List LogEvent) → IsLog (log_bytes log.now) table events
+    ensures { (table : List DeclaredAlgorithm) (events : List LogEvent) → IsLog (log_bytes log.now) table events
         → (IsTrue result ↔ Agrees matched.now events answer alg) }
 {
     if is_answering(matched, alg, POLICY_REGISTER) {
@@ -99,7 +99,7 @@ fn agrees(log: &LogView<'_>, matched: &[Pcr], alg: Alg, answer: SecureBoot) -> b
 
 // Whether each bank that answers gives this answer.
 fn all_agree(log: &LogView<'_>, matched: &[Pcr], answer: SecureBoot) -> bool
-    ensures { (table : List Row) (events : List LogEvent) → IsLog (log_bytes log.now) table events
+    ensures { (table : List DeclaredAlgorithm) (events : List LogEvent) → IsLog (log_bytes log.now) table events
         → (IsTrue result ↔ AllAgree matched.now events answer) }
 {
     for alg in Alg::ALL {
@@ -114,7 +114,7 @@ fn all_agree(log: &LogView<'_>, matched: &[Pcr], answer: SecureBoot) -> bool
 /// matches, the first event of register 7 that is SecureBoot tells it, if all data before it was measured whole and is no separator; and
 /// where its value is one byte, 1 or 0. No event's type counts, and nothing after it. Each such bank must tell it, and there must be one.
 pub fn secure_boot(log: &LogView<'_>, matched: &[Pcr]) -> SecureBoot
-    ensures { (table : List Row) (events : List LogEvent) → IsLog (log_bytes log.now) table events → IsSecureBoot matched.now events result }
+    ensures { (table : List DeclaredAlgorithm) (events : List LogEvent) → IsLog (log_bytes log.now) table events → IsSecureBoot matched.now events result }
 {
     let Some(alg) = answering_bank(matched, POLICY_REGISTER) else {
         return SecureBoot::Unknown;

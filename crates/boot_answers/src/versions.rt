@@ -1,7 +1,7 @@
 //! The firmware's version.
 
 ghost use Rattle.std.specs.Prelude.{◌≡◌, ◌↔◌, ◌⊎◌, List, IsTrue, option_map};
-ghost use Rattle.boot_log.specs.declared.header.Row.{Row};
+ghost use Rattle.boot_log.specs.declared.header.DeclaredAlgorithm.{DeclaredAlgorithm};
 ghost use Rattle.boot_log.specs.LogViews.{log_bytes};
 ghost use Rattle.boot_log.specs.Spelling.{IsLog, LogEvent, log_event_of};
 ghost use Rattle.event_data.specs.EventForms.{content_of};
@@ -53,7 +53,7 @@ fn version_by<'a>(event: &Event<'a>, alg: Alg) -> Option<EventContent<'a>>
 
 // What the bank tells.
 fn version_in<'a>(log: &LogView<'a>, alg: Alg) -> Option<EventContent<'a>>
-    ensures { (table : List Row) (events : List LogEvent) → IsLog (log_bytes log.now) table events
+    ensures { (table : List DeclaredAlgorithm) (events : List LogEvent) → IsLog (log_bytes log.now) table events
         → IsOfVersion (TellsVersion alg events) (option_map content_of result) }
 {
     match RegisterEvents::new(log, FIRMWARE_REGISTER).next_event() {
@@ -64,7 +64,7 @@ fn version_in<'a>(log: &LogView<'a>, alg: Alg) -> Option<EventContent<'a>>
 
 // Whether the bank tells a version.
 fn tells_any(log: &LogView<'_>, alg: Alg) -> bool
-    ensures { (table : List Row) (events : List LogEvent) → IsLog (log_bytes log.now) table events → (IsTrue result ↔ TellsAny alg events) }
+    ensures { (table : List DeclaredAlgorithm) (events : List LogEvent) → IsLog (log_bytes log.now) table events → (IsTrue result ↔ TellsAny alg events) }
 {
     match version_in(log, alg) {
         Some(_) => true,
@@ -74,7 +74,7 @@ fn tells_any(log: &LogView<'_>, alg: Alg) -> bool
 
 // Whether the bank tells a version, if it answers.
 fn agrees(log: &LogView<'_>, matched: &[Pcr], alg: Alg) -> bool
-    ensures { (table : List Row) (events : List LogEvent) → IsLog (log_bytes log.now) table events
+    ensures { (table : List DeclaredAlgorithm) (events : List LogEvent) → IsLog (log_bytes log.now) table events
         → (IsTrue result ↔ Agrees matched.now events alg) }
 {
     if is_answering(matched, alg, FIRMWARE_REGISTER) {
@@ -86,7 +86,7 @@ fn agrees(log: &LogView<'_>, matched: &[Pcr], alg: Alg) -> bool
 
 // Whether each bank that answers tells a version.
 fn all_agree(log: &LogView<'_>, matched: &[Pcr]) -> bool
-    ensures { (table : List Row) (events : List LogEvent) → IsLog (log_bytes log.now) table events
+    ensures { (table : List DeclaredAlgorithm) (events : List LogEvent) → IsLog (log_bytes log.now) table events
         → (IsTrue result ↔ AllAgree matched.now events) }
 {
     for alg in Alg::ALL {
@@ -101,7 +101,7 @@ fn all_agree(log: &LogView<'_>, matched: &[Pcr]) -> bool
 /// text in units of two bytes or a GUID; `None` where it is not known. The event's data must be measured whole in each bank other than SHA-1
 /// whose register 0 matches, and there must be one. The event's type does not count.
 pub fn firmware_version<'a>(log: &LogView<'a>, matched: &[Pcr]) -> Option<EventContent<'a>>
-    ensures { (table : List Row) (events : List LogEvent) → IsLog (log_bytes log.now) table events
+    ensures { (table : List DeclaredAlgorithm) (events : List LogEvent) → IsLog (log_bytes log.now) table events
         → IsOfVersion (IsFirmwareVersion matched.now events) (option_map content_of result) }
 {
     let Some(alg) = answering_bank(matched, FIRMWARE_REGISTER) else {

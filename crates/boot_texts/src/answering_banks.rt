@@ -1,7 +1,7 @@
 //! The banks that answer for a register.
 
 ghost use Rattle.std.specs.Prelude.{◌≡◌, List};
-ghost use Rattle.boot_log.specs.declared.header.Row.{Row};
+ghost use Rattle.boot_log.specs.declared.header.DeclaredAlgorithm.{DeclaredAlgorithm};
 ghost use Rattle.boot_log.specs.LogViews.{log_bytes};
 ghost use Rattle.boot_log.specs.Spelling.{IsLog, LogEvent};
 ghost use Rattle.measured_data.specs.Confirming.{counts};
@@ -29,7 +29,7 @@ pub(crate) fn has_answer(matched: &[Pcr], register: u32) -> bool
 
 // Whether the log extends the register.
 fn has_event(log: &LogView<'_>, register: u32) -> bool
-    ensures { (table : List Row) (events : List LogEvent) → IsLog (log_bytes log.now) table events
+    ensures { (table : List DeclaredAlgorithm) (events : List LogEvent) → IsLog (log_bytes log.now) table events
         → result ≡ has_any (extended_events register events) }
 {
     match RegisterEvents::new(log, register).next_event() {
@@ -40,7 +40,7 @@ fn has_event(log: &LogView<'_>, register: u32) -> bool
 
 /// Whether some bank answers for the register, and the log extends it.
 pub(crate) fn is_answered(log: &LogView<'_>, matched: &[Pcr], register: u32) -> bool
-    ensures { (table : List Row) (events : List LogEvent) → IsLog (log_bytes log.now) table events
+    ensures { (table : List DeclaredAlgorithm) (events : List LogEvent) → IsLog (log_bytes log.now) table events
         → result ≡ is_answered matched.now register events }
 {
     has_answer(matched, register) && has_event(log, register)

@@ -1,7 +1,7 @@
 //! The lines of all answers.
 
 ghost use Rattle.std.specs.Prelude.{◌≡◌, ◌++◌, List, ℕ, OnErr, OnOk, option_map};
-ghost use Rattle.boot_log.specs.declared.header.Row.{Row};
+ghost use Rattle.boot_log.specs.declared.header.DeclaredAlgorithm.{DeclaredAlgorithm};
 ghost use Rattle.boot_log.specs.LogViews.{log_bytes};
 ghost use Rattle.boot_log.specs.Spelling.{IsLog, LogEvent};
 ghost use Rattle.cells.specs.Cells.{ShowsMembers, rendered};
@@ -52,7 +52,7 @@ pub fn append_boot(
     form: Form,
     lines: &mut Vec<u8>,
 ) -> Written
-    ensures ok { OnOk result ((table : List Row) (events : List LogEvent) → IsLog (log_bytes log.now) table events
+    ensures ok { OnOk result ((table : List DeclaredAlgorithm) (events : List LogEvent) → IsLog (log_bytes log.now) table events
         → (text : List ℕ) × AreBootLines form matched.now events text × (lines.new.items ≡ lines.old.items ++ text)) }
     ensures err { OnErr result (lines.new.items ≡ lines.old.items) }
 {
@@ -70,7 +70,7 @@ fn append_answers(
     form: Form,
     lines: &mut Vec<u8>,
 ) -> Written
-    ensures { OnOk result ((table : List Row) (events : List LogEvent) → IsLog (log_bytes log.now) table events
+    ensures { OnOk result ((table : List DeclaredAlgorithm) (events : List LogEvent) → IsLog (log_bytes log.now) table events
         → (text : List ℕ) × AreBootLines form matched.now events text × (lines.new.items ≡ lines.old.items ++ text)) }
 {
     append_state(alloc, form, secure_boot(log, matched), lines)?;
@@ -116,7 +116,7 @@ fn append_images(
     matched: &[Pcr],
     lines: &mut Vec<u8>,
 ) -> Written
-    ensures { OnOk result ((table : List Row) (events : List LogEvent) → IsLog (log_bytes log.now) table events
+    ensures { OnOk result ((table : List DeclaredAlgorithm) (events : List LogEvent) → IsLog (log_bytes log.now) table events
         → (text : List ℕ) × AreImageLines form matched.now events text × (lines.new.items ≡ lines.old.items ++ text)) }
 {
     if is_answered(log, matched, IMAGE_REGISTER) {
@@ -136,7 +136,7 @@ fn append_commands(
     register: u32,
     lines: &mut Vec<u8>,
 ) -> Written
-    ensures { OnOk result ((table : List Row) (events : List LogEvent) → IsLog (log_bytes log.now) table events
+    ensures { OnOk result ((table : List DeclaredAlgorithm) (events : List LogEvent) → IsLog (log_bytes log.now) table events
         → (text : List ℕ) × AreCommandLines register form matched.now events text × (lines.new.items ≡ lines.old.items ++ text)) }
 {
     if is_answered(log, matched, register) {
@@ -166,7 +166,7 @@ fn append_variables(
     matched: &[Pcr],
     lines: &mut Vec<u8>,
 ) -> Written
-    ensures { OnOk result ((table : List Row) (events : List LogEvent) → IsLog (log_bytes log.now) table events
+    ensures { OnOk result ((table : List DeclaredAlgorithm) (events : List LogEvent) → IsLog (log_bytes log.now) table events
         → (text : List ℕ) × AreVariableLines form matched.now events text × (lines.new.items ≡ lines.old.items ++ text)) }
 {
     if is_answered(log, matched, SETTINGS_REGISTER) {

@@ -2,7 +2,7 @@
 
 ghost use Rattle.std.specs.Prelude.{◌≡◌, ◌++◌, [], drop, false, get_or, if◌then◌else◌, List, OnOk, codes, option_map};
 ghost use Rattle.pcr_banks.specs.Digests.{bytes_of};
-ghost use Rattle.boot_log.specs.declared.header.Row.{Row};
+ghost use Rattle.boot_log.specs.declared.header.DeclaredAlgorithm.{DeclaredAlgorithm};
 ghost use Rattle.boot_log.specs.LogViews.{log_bytes};
 ghost use Rattle.boot_log.specs.Spelling.{IsLog, LogEvent, log_event_of};
 ghost use Rattle.cells.specs.Cells.{ShowsMembers, hex, if_some};
@@ -100,7 +100,7 @@ pub(crate) fn append_events(
     marks: &[bool],
     lines: &mut Vec<u8>,
 ) -> Written
-    ensures { (table : List Row) (events : List LogEvent) → IsLog (log_bytes log.now) table events
+    ensures { (table : List DeclaredAlgorithm) (events : List LogEvent) → IsLog (log_bytes log.now) table events
         → OnOk result (lines.new.items ≡ lines.old.items ++ lines_from boot line place marks.now events) }
 {
     let mut left = place;

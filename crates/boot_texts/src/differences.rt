@@ -1,7 +1,7 @@
 //! Where a boot and an earlier one of the machine extended registers by other digests.
 
 ghost use Rattle.std.specs.Prelude.{◌≡◌, ℕ, List, ◌++◌, IfOk, OnErr, OnOk};
-ghost use Rattle.boot_log.specs.declared.header.Row.{Row};
+ghost use Rattle.boot_log.specs.declared.header.DeclaredAlgorithm.{DeclaredAlgorithm};
 ghost use Rattle.boot_log.specs.LogViews.{log_bytes};
 ghost use Rattle.boot_log.specs.Spelling.{IsLog, LogEvent};
 ghost use Rattle.cells.specs.Cells.{rendered};
@@ -40,7 +40,7 @@ fn place_in(
     alg: Alg,
     register: u32,
 ) -> Option<usize>
-    ensures { (table rows : List Row) (events others : List LogEvent) → IsLog (log_bytes log.now) table events
+    ensures { (table rows : List DeclaredAlgorithm) (events others : List LogEvent) → IsLog (log_bytes log.now) table events
         → IsLog (log_bytes before.now) rows others → IsComparedIn matched.now register events others alg result }
 {
     if answers(matched, alg, register) {
@@ -58,7 +58,7 @@ fn difference_of(
     matched: &[Pcr],
     register: u32,
 ) -> Result<Difference, AllocError>
-    ensures { IfOk result (λ difference. (table rows : List Row) (events others : List LogEvent) → IsLog (log_bytes log.now) table events
+    ensures { IfOk result (λ difference. (table rows : List DeclaredAlgorithm) (events others : List LogEvent) → IsLog (log_bytes log.now) table events
         → IsLog (log_bytes before.now) rows others → IsDifference matched.now register events others difference) }
 {
     for alg in Alg::ALL {
@@ -76,7 +76,7 @@ fn difference_of(
 
 // Whether an event of the log is extended into the register.
 fn has_events(log: &LogView<'_>, register: u32) -> bool
-    ensures { (table : List Row) (events : List LogEvent) → IsLog (log_bytes log.now) table events → result ≡ has_events register events }
+    ensures { (table : List DeclaredAlgorithm) (events : List LogEvent) → IsLog (log_bytes log.now) table events → result ≡ has_events register events }
 {
     match RegisterEvents::new(log, register).next_event() {
         Some(_) => true,
@@ -86,7 +86,7 @@ fn has_events(log: &LogView<'_>, register: u32) -> bool
 
 // Whether one of the boots extended the register.
 fn either_extended(log: &LogView<'_>, before: &LogView<'_>, register: u32) -> bool
-    ensures { (table rows : List Row) (events others : List LogEvent) → IsLog (log_bytes log.now) table events
+    ensures { (table rows : List DeclaredAlgorithm) (events others : List LogEvent) → IsLog (log_bytes log.now) table events
         → IsLog (log_bytes before.now) rows others → result ≡ either_extended register events others }
 {
     has_events(log, register) || has_events(before, register)
@@ -102,7 +102,7 @@ fn append_if_extended(
     form: Form,
     lines: &mut Vec<u8>,
 ) -> Written
-    ensures { (table rows : List Row) (events others : List LogEvent) → IsLog (log_bytes log.now) table events
+    ensures { (table rows : List DeclaredAlgorithm) (events others : List LogEvent) → IsLog (log_bytes log.now) table events
         → IsLog (log_bytes before.now) rows others
         → OnOk result (lines.new.items ≡ lines.old.items ++ where_extended register events others (rendered form (alike_cell register word.now))) }
 {
@@ -124,7 +124,7 @@ fn append_from(
     other_marks: &[bool],
     lines: &mut Vec<u8>,
 ) -> Written
-    ensures { (table rows : List Row) (events others : List LogEvent) → IsLog (log_bytes log.now) table events
+    ensures { (table rows : List DeclaredAlgorithm) (events others : List LogEvent) → IsLog (log_bytes log.now) table events
         → IsLog (log_bytes before.now) rows others
         → OnOk result (lines.new.items ≡ lines.old.items ++ lines_of_both line place marks.now other_marks.now events others) }
 {
@@ -148,7 +148,7 @@ fn append_register(
     form: Form,
     lines: &mut Vec<u8>,
 ) -> Written
-    ensures { (table rows : List Row) (events others : List LogEvent) → IsLog (log_bytes log.now) table events
+    ensures { (table rows : List DeclaredAlgorithm) (events others : List LogEvent) → IsLog (log_bytes log.now) table events
         → IsLog (log_bytes before.now) rows others
         → OnOk result (lines.new.items ≡ lines.old.items ++ register_lines form register difference events others) }
 {
@@ -186,7 +186,7 @@ fn append_registers(
     form: Form,
     lines: &mut Vec<u8>,
 ) -> Written
-    ensures { OnOk result ((table rows : List Row) (events others : List LogEvent) → IsLog (log_bytes log.now) table events
+    ensures { OnOk result ((table rows : List DeclaredAlgorithm) (events others : List LogEvent) → IsLog (log_bytes log.now) table events
         → IsLog (log_bytes before.now) rows others
         → (text : List ℕ) × AreDifferenceLines form matched.now events others text × (lines.new.items ≡ lines.old.items ++ text)) }
 {
@@ -223,7 +223,7 @@ pub fn append_differences(
     form: Form,
     lines: &mut Vec<u8>,
 ) -> Written
-    ensures lines { OnOk result ((table rows : List Row) (events others : List LogEvent) → IsLog (log_bytes log.now) table events
+    ensures lines { OnOk result ((table rows : List DeclaredAlgorithm) (events others : List LogEvent) → IsLog (log_bytes log.now) table events
         → IsLog (log_bytes before.now) rows others
         → (text : List ℕ) × AreDifferenceLines form matched.now events others text × (lines.new.items ≡ lines.old.items ++ text)) }
     ensures err { OnErr result (lines.new.items ≡ lines.old.items) }

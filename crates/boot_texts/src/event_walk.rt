@@ -1,7 +1,7 @@
 //! What each event of a log tells, one after another.
 
 ghost use Rattle.std.specs.Prelude.{◌≡◌, List, ℕ, ◌++◌, IfOk, OnOk, Ok, true, false};
-ghost use Rattle.boot_log.specs.declared.header.Row.{Row};
+ghost use Rattle.boot_log.specs.declared.header.DeclaredAlgorithm.{DeclaredAlgorithm};
 ghost use Rattle.boot_log.specs.LogViews.{log_bytes};
 ghost use Rattle.boot_log.specs.Spelling.{IsLog, LogEvent, log_event_of};
 ghost use Rattle.boot_texts.specs.Telling.{Tells, TellsCommand, ToldOf};
@@ -25,7 +25,7 @@ pub(crate) fn append_each(
     subject: BootQuestion,
     lines: &mut Vec<u8>,
 ) -> Written
-    ensures { OnOk result ((table : List Row) (events : List LogEvent) → IsLog (log_bytes log.now) table events
+    ensures { OnOk result ((table : List DeclaredAlgorithm) (events : List LogEvent) → IsLog (log_bytes log.now) table events
         → (text : List ℕ) × Tells (ToldOf subject form matched.now) 1 events text × (lines.new.items ≡ lines.old.items ++ text)) }
 {
     let mut events = log.events();

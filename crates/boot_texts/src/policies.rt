@@ -1,7 +1,7 @@
 //! What the told texts of both registers ask of Linux.
 
 ghost use Rattle.std.specs.Prelude.{◌≡◌, ◌++◌, List, IfOk, OnOk};
-ghost use Rattle.boot_log.specs.declared.header.Row.{Row};
+ghost use Rattle.boot_log.specs.declared.header.DeclaredAlgorithm.{DeclaredAlgorithm};
 ghost use Rattle.boot_log.specs.LogViews.{log_bytes};
 ghost use Rattle.boot_log.specs.Spelling.{IsLog, LogEvent};
 ghost use Rattle.cells.specs.Cells.{ShowsMembers, rendered};
@@ -46,7 +46,7 @@ fn first_asking(
     matched: &[Pcr],
     register: u32,
 ) -> Result<Option<usize>, AllocError>
-    ensures { IfOk result (λ found. (table : List Row) (events : List LogEvent) → IsLog (log_bytes log.now) table events
+    ensures { IfOk result (λ found. (table : List DeclaredAlgorithm) (events : List LogEvent) → IsLog (log_bytes log.now) table events
         → IsAskingIn asked matched.now register events found) }
 {
     let mut events = log.events();
@@ -71,7 +71,7 @@ fn asking_event(
     log: &LogView<'_>,
     matched: &[Pcr],
 ) -> Result<Option<usize>, AllocError>
-    ensures { IfOk result (λ found. (table : List Row) (events : List LogEvent) → IsLog (log_bytes log.now) table events
+    ensures { IfOk result (λ found. (table : List DeclaredAlgorithm) (events : List LogEvent) → IsLog (log_bytes log.now) table events
         → IsAskingEvent asked matched.now events found) }
 {
     let by_grub = first_asking(alloc, asked, log, matched, GRUB_REGISTER)?;
@@ -84,7 +84,7 @@ fn asking_event(
 
 // What the told texts ask.
 fn ima_policy(alloc: Global, log: &LogView<'_>, matched: &[Pcr]) -> Result<ImaPolicy, AllocError>
-    ensures { IfOk result (λ policy. (table : List Row) (events : List LogEvent) → IsLog (log_bytes log.now) table events
+    ensures { IfOk result (λ policy. (table : List DeclaredAlgorithm) (events : List LogEvent) → IsLog (log_bytes log.now) table events
         → IsImaPolicy matched.now events policy) }
 {
     let measuring = asking_event(alloc, PolicyQuestion::Measuring, log, matched)?;
@@ -106,7 +106,7 @@ pub(crate) fn append_policy(
     matched: &[Pcr],
     lines: &mut Vec<u8>,
 ) -> Written
-    ensures { OnOk result ((table : List Row) (events : List LogEvent) → IsLog (log_bytes log.now) table events
+    ensures { OnOk result ((table : List DeclaredAlgorithm) (events : List LogEvent) → IsLog (log_bytes log.now) table events
         → (policy : PolicyData) × IsImaPolicy matched.now events policy
         × (lines.new.items ≡ lines.old.items ++ rendered form (policy_cell policy))) }
 {

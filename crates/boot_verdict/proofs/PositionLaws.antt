@@ -12,7 +12,7 @@ use Rattle.pcr_banks.specs.declared.banks.Banks.{Banks}
 use Rattle.pcr_banks.specs.declared.sets.AlgSet.{AlgSet}
 use Rattle.pcr_banks.specs.Registers.{reset_value, value_at}
 use Rattle.pcr_values.specs.declared.expected.Expected.{Expected}
-use Rattle.boot_log.specs.declared.header.Row.{Row as TableRow}
+use Rattle.boot_log.specs.declared.header.DeclaredAlgorithm.{DeclaredAlgorithm}
 use Rattle.boot_log.specs.Spelling.{LogEvent, IsLog, algs_in}
 use Rattle.boot_log.specs.Replaying.{startup_locality}
 use Rattle.ima_list.specs.ListEntry.{ListEntry}
@@ -245,7 +245,7 @@ located_all {events = events} {expected = expected} entries log list =
     ∙ ap (λ (f : Expected → Located). map f expected)
     (fun_same _ _ (λ e. ap (λ (v : Option (List ℕ)). located e (first_position count e v steps)) (log.reset.values e.alg e.register)))
 
-pub located_in : {log list : List ℕ} {table : List TableRow} {events : List LogEvent} {expected : List Expected} {start : RowTracker} {replay : ListReplay RowTracker}
+pub located_in : {log list : List ℕ} {table : List DeclaredAlgorithm} {events : List LogEvent} {expected : List Expected} {start : RowTracker} {replay : ListReplay RowTracker}
     → IsLog log table events → IsTracked (algs_in table) events expected start → ReplaysAll IsRowTrackerAfter start list replay
     → AreLocated log list expected replay.tracker.rows.items
 located_in {table = table} {events = events} is tracked all = record {

@@ -11,7 +11,7 @@ use Rattle.pcr_banks.proofs.SetLaws.{same_bytes}
 use Rattle.pcr_values.specs.declared.expected.Expected.{Expected}
 use Rattle.boot_log.specs.declared.fault.LogFault.{LogFault}
 use Rattle.boot_log.specs.declared.fault.LogFault.TheVariants as logs
-use Rattle.boot_log.specs.declared.header.Row.{Row as TableRow}
+use Rattle.boot_log.specs.declared.header.DeclaredAlgorithm.{DeclaredAlgorithm}
 use Rattle.boot_log.specs.Spelling.{LogEvent, HasLogFault, IsLog, algs_in}
 use Rattle.boot_log.specs.Reading.{log_fault}
 use Rattle.boot_log.specs.Replaying.{IsFirmware}
@@ -138,11 +138,11 @@ log_not_memory log fault has memory =
 -- ---- reports
 
 -- The bytes of a view are the log's.
-pub log_viewed : {viewed log : List ℕ} {table : List TableRow} {events : List LogEvent} → viewed ≡ log → IsLog log table events → IsLog viewed table events
+pub log_viewed : {viewed log : List ℕ} {table : List DeclaredAlgorithm} {events : List LogEvent} → viewed ≡ log → IsLog log table events → IsLog viewed table events
 log_viewed {table = table} {events = events} same is = subst (λ (bytes : List ℕ). IsLog bytes table events) (sym same) is
 
 -- The report on what is known of a list is the verdict.
-pub verdict_by : {log list : List ℕ} {expected : List Expected} {verdict : Verdict} {table : List TableRow} {events : List LogEvent} {known : Checkpoint}
+pub verdict_by : {log list : List ℕ} {expected : List Expected} {verdict : Verdict} {table : List DeclaredAlgorithm} {events : List LogEvent} {known : Checkpoint}
     → IsLog log table events → (is : IsCheckpoint list known) → verdict ≡ verdict_on (algs_in table) events is.entries expected
     → IsVerdict log list expected verdict
 verdict_by {table = table} {events = events} log is same = record {

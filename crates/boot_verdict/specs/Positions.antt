@@ -5,7 +5,7 @@ use Rattle.std.specs.List.{list_all}
 use Rattle.pcr_banks.specs.declared.alg.Alg.{Alg}
 use Rattle.pcr_banks.specs.declared.sets.AlgSet.{AlgSet}
 use Rattle.pcr_values.specs.declared.expected.Expected.{Expected}
-use Rattle.boot_log.specs.declared.header.Row.{Row as TableRow}
+use Rattle.boot_log.specs.declared.header.DeclaredAlgorithm.{DeclaredAlgorithm}
 use Rattle.boot_log.specs.Spelling.{LogEvent, IsLog, algs_in}
 use Rattle.ima_list.specs.ListEntry.{ListEntry}
 use Rattle.ima_list.specs.Spelling.{IsReading}
@@ -74,7 +74,7 @@ all_found located = not (length located == 0) && list_all (λ row. is_found row.
 
 -- The bytes are a log and a list, each entry is genuine, and these are the positions of the expected registers.
 pub record AreLocated (log list : List ℕ) (expected : List Expected) (located : List Located) : Type 0 where
-  pub table : List TableRow
+  pub table : List DeclaredAlgorithm
   pub events : List LogEvent
   pub entries : List ListEntry
   pub log_is : IsLog log table events

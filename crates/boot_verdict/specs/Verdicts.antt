@@ -13,7 +13,7 @@ use Rattle.byte_streams.specs.declared.piece_reader.ReadFault.TheVariants as rea
 use Rattle.pcr_values.specs.declared.expected.Expected.{Expected}
 use Rattle.boot_log.specs.declared.fault.LogFault.{LogFault}
 use Rattle.boot_log.specs.declared.fault.LogFault.TheVariants as logs
-use Rattle.boot_log.specs.declared.header.Row.{Row as TableRow}
+use Rattle.boot_log.specs.declared.header.DeclaredAlgorithm.{DeclaredAlgorithm}
 use Rattle.boot_log.specs.Spelling.{LogEvent, IsLog, algs_in}
 use Rattle.boot_log.specs.Reading.{log_fault}
 use Rattle.boot_log.specs.Replaying.{firmware_value, startup_locality}
@@ -133,7 +133,7 @@ matches verdict = is_good verdict.aggregate && list_all is_match verdict.rows
 
 -- The bytes are a log and a list, each entry is genuine, and this is the verdict on them.
 pub record IsVerdict (log list : List ℕ) (expected : List Expected) (verdict : Verdict) : Type 0 where
-  pub table : List TableRow
+  pub table : List DeclaredAlgorithm
   pub events : List LogEvent
   pub entries : List ListEntry
   pub log_is : IsLog log table events
@@ -145,7 +145,7 @@ pub record IsVerdict (log list : List ℕ) (expected : List Expected) (verdict :
 
 -- The bytes are a firmware event log.
 pub record ReadsAsLog (log : List ℕ) : Type 0 where
-  pub table : List TableRow
+  pub table : List DeclaredAlgorithm
   pub events : List LogEvent
   pub log_is : IsLog log table events
 

@@ -1,7 +1,7 @@
 //! That a log and a list extend different registers.
 
 ghost use Rattle.std.specs.Prelude.{◌≡◌, List, [], ◌∷◌, ◌++◌, length};
-ghost use Rattle.boot_log.specs.declared.header.Row.{Row as TableRow};
+ghost use Rattle.boot_log.specs.declared.header.DeclaredAlgorithm.{DeclaredAlgorithm};
 ghost use Rattle.boot_log.specs.LogViews.{log_bytes};
 ghost use Rattle.boot_log.specs.Spelling.{LogEvent, IsLog};
 ghost use Rattle.ima_list.specs.ListEntry.{ListEntry};
@@ -42,7 +42,7 @@ impl Strays {
 
 /// The number of the first event of the log that extends the list's register, if one does. Events count from 1.
 pub fn first_extending(log: &LogView<'_>) -> Option<usize>
-    ensures { (table : List TableRow) (events : List LogEvent) → IsLog (log_bytes log.now) table events → result ≡ first_extending events }
+    ensures { (table : List DeclaredAlgorithm) (events : List LogEvent) → IsLog (log_bytes log.now) table events → result ≡ first_extending events }
 {
     let mut events = log.events();
     while let Some(event) = events.next_event() {

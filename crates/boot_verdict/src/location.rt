@@ -7,7 +7,7 @@ ghost use Rattle.pcr_banks.specs.Digests.{digest_of};
 ghost use Rattle.byte_fields.specs.Reading.{ReadsInMemory};
 ghost use Rattle.byte_streams.specs.Streams.{LosesPrefix};
 ghost use Rattle.pcr_values.specs.declared.expected.Expected.{Expected};
-ghost use Rattle.boot_log.specs.declared.header.Row.{Row as TableRow};
+ghost use Rattle.boot_log.specs.declared.header.DeclaredAlgorithm.{DeclaredAlgorithm};
 ghost use Rattle.boot_log.specs.LogViews.{HasBorrowed, log_bytes};
 ghost use Rattle.boot_log.specs.Spelling.{LogEvent, IsLog, algs_in};
 ghost use Rattle.ima_list.specs.ListEntry.{ListEntry};
@@ -43,7 +43,7 @@ pub fn locate(
     // The rows are the positions in the log and the list.
     ensures located { IfOk result (λ located. AreLocated log.now list.now expected.now located.items) }
     // If the log and the list are valid and all entries genuine, there are rows, unless memory runs out.
-    ensures only { (table : List TableRow) (events : List LogEvent) (entries : List ListEntry)
+    ensures only { (table : List DeclaredAlgorithm) (events : List LogEvent) (entries : List ListEntry)
         → IsLog log.now table events → IsReading list.now (Ok entries) → AreGenuine entries
         → ReadsInMemory VerifyFault.Memory (λ located. located.items) result (Ok (located_on (algs_in table) events entries expected.now)) }
     // Any other fault is the first reason.
@@ -69,7 +69,7 @@ pub fn locate_from<R: Source>(
     ensures located { IfOk result (λ located. AreLocatedFrom log.now (R.state list.old).remaining (R.state list.new).remaining limit expected.now located.items) }
     // If the log is valid and the source has left a list of genuine entries within the limit, there are rows, unless the source
     // fails or memory runs out.
-    ensures only { (table : List TableRow) (events : List LogEvent) (entries : List ListEntry)
+    ensures only { (table : List DeclaredAlgorithm) (events : List LogEvent) (entries : List ListEntry)
         → IsLog log.now table events → HoldsGenuineList (R.state list.old).remaining limit entries
         → IsErrOf result VerifyFault.Source
         ⊎ ReadsInMemory VerifyFault.Memory (λ located. located.items) result (Ok (located_on (algs_in table) events entries expected.now)) }
@@ -93,7 +93,7 @@ fn track_log(
     log: &LogView<'_>,
     expected: &[Expected],
 ) -> Result<RowTracker, AllocError>
-    ensures { (table : List TableRow) (events : List LogEvent) → IsLog (log_bytes log.now) table events
+    ensures { (table : List DeclaredAlgorithm) (events : List LogEvent) → IsLog (log_bytes log.now) table events
         → IfOk result (IsTracked (algs_in table) events expected.now) }
 {
     let banks = log.reset_registers();
@@ -105,7 +105,7 @@ fn track_log(
 
 // Takes the events, in order.
 fn track_events<F: Tracker>(tracker: &mut F, mut events: LogEvents<'_>)
-    ensures { (start : F) (bytes : List ℕ) (table : List TableRow) (all : List LogEvent) → HasBorrowed bytes [] events.entry → IsLog bytes table all
+    ensures { (start : F) (bytes : List ℕ) (table : List DeclaredAlgorithm) (all : List LogEvent) → HasBorrowed bytes [] events.entry → IsLog bytes table all
         → F.is_after start (length all) [] tracker.old → F.is_after start (length all) (events_as_steps all) tracker.new }
 {
     while let Some(event) = events.next_event() {

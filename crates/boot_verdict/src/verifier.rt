@@ -5,7 +5,7 @@ ghost use Rattle.pcr_banks.specs.declared.sets.AlgSet.{AlgSet};
 ghost use Rattle.pcr_banks.specs.Digests.{alg_of, bytes_of, digest_of};
 ghost use Rattle.byte_fields.specs.Reading.{ReadsInMemory};
 ghost use Rattle.byte_streams.specs.Streams.{LosesPrefix};
-ghost use Rattle.boot_log.specs.declared.header.Row.{Row as TableRow};
+ghost use Rattle.boot_log.specs.declared.header.DeclaredAlgorithm.{DeclaredAlgorithm};
 ghost use Rattle.boot_log.specs.LogViews.{log_bytes};
 ghost use Rattle.boot_log.specs.Spelling.{LogEvent, IsLog, algs_in};
 ghost use Rattle.boot_log.specs.Replaying.{IsFirmware};
@@ -116,7 +116,7 @@ pub fn verify(
     // The report is the verdict on the log, the list and the expected registers.
     ensures report { IfOk result (λ report. IsVerdict log.now list.now expected.now (verdict_of report)) }
     // If the log and the list are valid and all entries genuine, there is a report, unless memory runs out.
-    ensures only { (table : List TableRow) (events : List LogEvent) (entries : List ListEntry)
+    ensures only { (table : List DeclaredAlgorithm) (events : List LogEvent) (entries : List ListEntry)
         → IsLog log.now table events → IsReading list.now (Ok entries) → AreGenuine entries
         → ReadsInMemory VerifyFault.Memory verdict_of result (Ok (verdict_on (algs_in table) events entries expected.now)) }
     // Any other fault is the first reason.
@@ -146,7 +146,7 @@ pub fn verify_from<R: Source>(
     ensures report { IfOk result (λ report. IsVerdictFrom log.now (R.state list.old).remaining (R.state list.new).remaining limit expected.now (verdict_of report)) }
     // If the log is valid and the source has left a list of genuine entries within the limit, there is a report, unless the
     // source fails or memory runs out.
-    ensures only { (table : List TableRow) (events : List LogEvent) (entries : List ListEntry)
+    ensures only { (table : List DeclaredAlgorithm) (events : List LogEvent) (entries : List ListEntry)
         → IsLog log.now table events → HoldsGenuineList (R.state list.old).remaining limit entries
         → IsErrOf result VerifyFault.Source
         ⊎ ReadsInMemory VerifyFault.Memory verdict_of result (Ok (verdict_on (algs_in table) events entries expected.now)) }
@@ -175,7 +175,7 @@ pub fn report_on(
     known: &Checkpoint,
     expected: &[Expected],
 ) -> Result<Report, AllocError>
-    ensures { IfOk result (λ report. (table : List TableRow) (events : List LogEvent) (list : List ℕ) → IsLog (log_bytes log.now) table events
+    ensures { IfOk result (λ report. (table : List DeclaredAlgorithm) (events : List LogEvent) (list : List ℕ) → IsLog (log_bytes log.now) table events
         → IsFirmware (algs_in table) events known.now.before → (is : IsCheckpoint list known.now)
         → verdict_of report ≡ verdict_on (algs_in table) events is.entries expected.now) }
 {

@@ -9,7 +9,7 @@ use Rattle.pcr_banks.specs.declared.sets.PerBank.{PerBank}
 use Rattle.pcr_banks.specs.Hashing.{algorithm_with, all_algs}
 use Rattle.pcr_banks.specs.Sets.{digest_in}
 use Rattle.boot_log.specs.EventTypes.{event_type_name}
-use Rattle.boot_log.specs.declared.header.Row.{Row}
+use Rattle.boot_log.specs.declared.header.DeclaredAlgorithm.{DeclaredAlgorithm}
 use Rattle.boot_log.specs.Spelling.{IsRow, IsSpecification, LogEvent, SpecificationData}
 use Rattle.event_data.specs.ContentReading.{content_in}
 use Rattle.measured_data.specs.declared.part.Part.{Part}
@@ -96,7 +96,7 @@ unfolding beside
 name_plain id None = tt
 name_plain id (Some alg) = (tt, tt)
 
-rows_plain : (rows : List Row) → AllByRecursion IsRow rows → ItemsArePlain (items_of (flat_map (λ row. (algorithm_cell row).json) rows)) 1
+rows_plain : (rows : List DeclaredAlgorithm) → AllByRecursion IsRow rows → ItemsArePlain (items_of (flat_map (λ row. (algorithm_cell row).json) rows)) 1
 unfolding beside object
 rows_plain [] are = tt
 rows_plain (row ∷ rows) are = (
@@ -122,14 +122,14 @@ said_plain (Some said) fit = (
   tt,
 )
 
-pub header_one_line : (said : Option SpecificationData) (rows : List Row) → IfSome said IsSpecification → AllByRecursion IsRow rows
+pub header_one_line : (said : Option SpecificationData) (rows : List DeclaredAlgorithm) → IfSome said IsSpecification → AllByRecursion IsRow rows
     → IsOneLine (header_json said rows)
 unfolding beside each list_at
 header_one_line said rows fit are = one_line (header_json said rows) (rows_plain rows are, said_plain said fit)
 
 -- ---- no fault
 
-pub header_lacks : (said : Option SpecificationData) (rows : List Row) → get (codes "fault") (header_json said rows) ≡ None
+pub header_lacks : (said : Option SpecificationData) (rows : List DeclaredAlgorithm) → get (codes "fault") (header_json said rows) ≡ None
 unfolding beside each list_at object_at
 header_lacks None rows = lacks (header_json None rows) refl (refl, tt)
 header_lacks (Some said) rows = lacks (header_json (Some said) rows) refl (refl, (refl, tt))

@@ -4,7 +4,7 @@ ghost use Rattle.std.specs.Prelude.{◌≡◌, ℕ, true, List, chars, codes, Op
 ghost use Rattle.std.specs.List.{AllByRecursion, list_all};
 ghost use Rattle.std.specs.Str.{IsUtf8};
 ghost use Rattle.hex.specs.Hex.{IsBytes};
-ghost use Rattle.boot_log.specs.declared.header.Row.{Row as TableRow};
+ghost use Rattle.boot_log.specs.declared.header.DeclaredAlgorithm.{DeclaredAlgorithm};
 ghost use Rattle.boot_log.specs.Spelling.{IsRow, IsSpecification, LogEvent, SpecificationData};
 ghost use Rattle.event_data.specs.ContentReading.{content_in};
 ghost use Rattle.measured_data.specs.declared.pcr.Pcr.{Pcr};
@@ -21,7 +21,7 @@ pub fn each_value_is_one_line()
         → IsCount number → IsCount event.register → IsCount event.kind → IsBytes event.payload
         → IsOneLine (event_json matched number event) }
     ensures content { (kind : ℕ) (bytes : List ℕ) → IsBytes bytes → IsOneLine (content_json kind (content_in kind bytes)) }
-    ensures header { (said : Option SpecificationData) (rows : List TableRow)
+    ensures header { (said : Option SpecificationData) (rows : List DeclaredAlgorithm)
         → IfSome said IsSpecification → AllByRecursion IsRow rows → IsOneLine (header_json said rows) }
 {}
 
@@ -29,7 +29,7 @@ pub fn each_value_is_one_line()
 pub fn no_line_has_a_fault()
     ensures event { (matched : Option (List Pcr)) (number : ℕ) (event : LogEvent)
         → get (codes "fault") (event_json matched number event) ≡ None }
-    ensures header { (said : Option SpecificationData) (rows : List TableRow) → get (codes "fault") (header_json said rows) ≡ None }
+    ensures header { (said : Option SpecificationData) (rows : List DeclaredAlgorithm) → get (codes "fault") (header_json said rows) ≡ None }
 {}
 
 /// In what the data of an explained event says no character steers what shows it. A text in which none does stays as it is.

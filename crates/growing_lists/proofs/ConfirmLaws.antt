@@ -1,7 +1,7 @@
 -- What a session makes of a search for the confirmed prefix.
 use Rattle.std.proofs.Common.{◌≡◌, ℕ, List, ◌∷◌, ◌++◌, length, take, Option, Some, None, Result, Ok, Err, sym, ap, subst, ◌∙◌}
 use Rattle.std.proofs.lemmas.List.{take-append-le}
-use Rattle.boot_log.specs.declared.header.Row.{Row as TableRow}
+use Rattle.boot_log.specs.declared.header.DeclaredAlgorithm.{DeclaredAlgorithm}
 use Rattle.boot_log.specs.Spelling.{LogEvent, IsLog, algs_in}
 use Rattle.boot_log.proofs.LogLaws.{one_reading}
 use Rattle.ima_list.specs.ListEntry.{ListEntry}
@@ -24,16 +24,16 @@ use Rattle.growing_lists.proofs.PrefixLaws.{within_genuine}
 use Rattle.growing_lists.proofs.SessionLaws.{taken_as}
 
 -- Entries that are unconfirmed after a log are so after any reading of it.
-any_log : (log : List ℕ) (aim : GoalData) (least : ℕ) (entries : List ListEntry) (table : List TableRow) (events : List LogEvent)
+any_log : (log : List ℕ) (aim : GoalData) (least : ℕ) (entries : List ListEntry) (table : List DeclaredAlgorithm) (events : List LogEvent)
     → IsLog log table events → AreUnconfirmed (algs_in table) events aim least entries
-    → (other : List TableRow) (others : List LogEvent) → IsLog log other others → AreUnconfirmed (algs_in other) others aim least entries
+    → (other : List DeclaredAlgorithm) (others : List LogEvent) → IsLog log other others → AreUnconfirmed (algs_in other) others aim least entries
 any_log log aim least entries table events is none other others also =
     let same = one_reading log table other events others is also in
-    subst (λ (p : List TableRow × List LogEvent). AreUnconfirmed (algs_in p.0) p.1 aim least entries) (λ i. (same.0 i, same.1 i)) none
+    subst (λ (p : List DeclaredAlgorithm × List LogEvent). AreUnconfirmed (algs_in p.0) p.1 aim least entries) (λ i. (same.0 i, same.1 i)) none
 
 module _ (session : Session) (log list : List ℕ) (has : HasTaken log list session) (old new : Option (List ℕ)) (limit : ℕ) (aim : GoalData)
     (search : Search) (searches : Searches session.known list old new limit aim search) where
-  none_confirmed : search.prefix ≡ None → (table : List TableRow) (events : List LogEvent) → IsLog log table events
+  none_confirmed : search.prefix ≡ None → (table : List DeclaredAlgorithm) (events : List LogEvent) → IsLog log table events
       → AreUnconfirmed (algs_in table) events aim session.known.entries searches.entries
   none_confirmed none =
       any_log log aim session.known.entries searches.entries has.table has.events has.log_is

@@ -2,7 +2,7 @@
 use Rattle.std.proofs.Common.{◌≡◌, ℕ, List, sym, ◌∙◌}
 use Rattle.pcr_banks.specs.declared.banks.Banks.{Banks}
 use Rattle.boot_verdict.specs.declared.checkpoint.Checkpoint.{Checkpoint}
-use Rattle.boot_log.specs.declared.header.Row.{Row as TableRow}
+use Rattle.boot_log.specs.declared.header.DeclaredAlgorithm.{DeclaredAlgorithm}
 use Rattle.boot_log.specs.Replaying.{IsFirmware}
 use Rattle.boot_log.specs.Spelling.{LogEvent, IsLog, algs_in}
 use Rattle.growing_lists.specs.declared.session.Session.{Session}
@@ -27,7 +27,7 @@ taken_as has is same = record {
 -- ---- another boot
 
 -- The log's registers are those of these banks.
-pub of_boot : (log : List ℕ) (known : Checkpoint) (registers : Banks) (table : List TableRow) (events : List LogEvent) → IsLog log table events
+pub of_boot : (log : List ℕ) (known : Checkpoint) (registers : Banks) (table : List DeclaredAlgorithm) (events : List LogEvent) → IsLog log table events
     → IsFirmware (algs_in table) events registers → AreSameBanks registers known.before → IsOfBoot log known
 of_boot log known registers table events is firmware same = record {
   table = table;

@@ -1,7 +1,7 @@
 -- The confirmed prefix of a list: the shortest with which all is as is sought.
 use Rattle.std.specs.Prelude.{◌≡◌, ℕ, ◌<◌, ◌≤◌, true, false, List, ◌++◌, length, take, Option, Some, None, Ok, Err}
 use Rattle.pcr_banks.specs.declared.sets.AlgSet.{AlgSet}
-use Rattle.boot_log.specs.declared.header.Row.{Row as TableRow}
+use Rattle.boot_log.specs.declared.header.DeclaredAlgorithm.{DeclaredAlgorithm}
 use Rattle.boot_log.specs.Spelling.{LogEvent, IsLog, algs_in}
 use Rattle.ima_list.specs.ListEntry.{ListEntry}
 use Rattle.ima_list.specs.ListFaults.{list_fault_entry}
@@ -52,7 +52,7 @@ pub record IsPrefixTaken (log list : List ℕ) (old new : Option (List ℕ)) (li
     (confirmed : Confirmed) : Type 0 where
   pub came : List ℕ
   pub over : List ℕ
-  pub table : List TableRow
+  pub table : List DeclaredAlgorithm
   pub events : List LogEvent
   pub prefix : List ListEntry
   pub rest : List ℕ
@@ -83,7 +83,7 @@ pub record TakesUnconfirmed (log list : List ℕ) (old new : Option (List ℕ)) 
   pub takes : TakesMore log list old new limit session
   pub entries : List ListEntry
   pub list_is : IsReading (list ++ takes.more) (Ok entries)
-  pub none : (table : List TableRow) (events : List LogEvent) → IsLog log table events → AreUnconfirmed (algs_in table) events aim least entries
+  pub none : (table : List DeclaredAlgorithm) (events : List LogEvent) → IsLog log table events → AreUnconfirmed (algs_in table) events aim least entries
 
 -- So many entries are at the start of what came, and no prefix of them is confirmed.
 pub record CameUnconfirmed (log list : List ℕ) (old new : Option (List ℕ)) (limit : ℕ) (aim : GoalData) (least count : ℕ) : Type 0 where
@@ -94,7 +94,7 @@ pub record CameUnconfirmed (log list : List ℕ) (old new : Option (List ℕ)) (
   pub came_is : CameFrom old new limit came over
   pub begins : BeginsWith (list ++ came) entries rest
   pub count_is : length entries ≡ count
-  pub none : (table : List TableRow) (events : List LogEvent) → IsLog log table events → AreUnconfirmed (algs_in table) events aim least entries
+  pub none : (table : List DeclaredAlgorithm) (events : List LogEvent) → IsLog log table events → AreUnconfirmed (algs_in table) events aim least entries
 
 -- All that came is a list, and no prefix of it is confirmed.
 pub record IsUnconfirmedList (log list : List ℕ) (old new : Option (List ℕ)) (limit : ℕ) (aim : GoalData) (least : ℕ) : Type 0 where
@@ -102,7 +102,7 @@ pub record IsUnconfirmedList (log list : List ℕ) (old new : Option (List ℕ))
   pub entries : List ListEntry
   pub came : CameWhole old new limit more
   pub list_is : IsReading (list ++ more) (Ok entries)
-  pub none : (table : List TableRow) (events : List LogEvent) → IsLog log table events → AreUnconfirmed (algs_in table) events aim least entries
+  pub none : (table : List DeclaredAlgorithm) (events : List LogEvent) → IsLog log table events → AreUnconfirmed (algs_in table) events aim least entries
 
 -- The list is refused only if no prefix of it is confirmed: of the entries before the one that the fault names, or of all.
 abbrev pub IsUnconfirmedFault : List ℕ → List ℕ → Option (List ℕ) → Option (List ℕ) → ℕ → GoalData → ℕ → VerifyFault → Type 0

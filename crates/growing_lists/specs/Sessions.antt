@@ -1,6 +1,6 @@
 -- The verification of a list that grows.
 use Rattle.std.specs.Prelude.{◌≡◌, ℕ, List, ◌++◌, Option}
-use Rattle.boot_log.specs.declared.header.Row.{Row as TableRow}
+use Rattle.boot_log.specs.declared.header.DeclaredAlgorithm.{DeclaredAlgorithm}
 use Rattle.boot_log.specs.LogViews.{log_bytes}
 use Rattle.boot_log.specs.Replaying.{IsFirmware}
 use Rattle.boot_log.specs.Spelling.{LogEvent, IsLog, algs_in}
@@ -13,7 +13,7 @@ use Rattle.boot_verdict.specs.Tracking.{After}
 
 -- The session is of this log, and has taken this list.
 pub record HasTaken (log list : List ℕ) (session : Session) : Type 0 where
-  pub table : List TableRow
+  pub table : List DeclaredAlgorithm
   pub events : List LogEvent
   pub log_is : IsLog log table events
   pub same_log : log_bytes session.log ≡ log
@@ -22,7 +22,7 @@ pub record HasTaken (log list : List ℕ) (session : Session) : Type 0 where
 
 -- The log leaves the registers that are before the checkpoint's list.
 pub record IsOfBoot (log : List ℕ) (known : Checkpoint) : Type 0 where
-  pub table : List TableRow
+  pub table : List DeclaredAlgorithm
   pub events : List LogEvent
   pub log_is : IsLog log table events
   pub start : IsFirmware (algs_in table) events known.before

@@ -3,7 +3,7 @@
 ghost use Rattle.std.specs.Prelude.{◌≡◌, ◌↔◌, IsTrue, List, [], Some, is_some, IsOk, IfOk, IfErr, IsErrOf, OnOk, OnErr, ℕ};
 ghost use Rattle.byte_streams.specs.Streams.{LosesPrefix};
 ghost use Rattle.boot_log.specs.Reading.{log_fault};
-ghost use Rattle.boot_log.specs.declared.header.Row.{Row as TableRow};
+ghost use Rattle.boot_log.specs.declared.header.DeclaredAlgorithm.{DeclaredAlgorithm};
 ghost use Rattle.boot_log.specs.LogViews.{log_bytes};
 ghost use Rattle.boot_log.specs.Spelling.{LogEvent, IsLog};
 ghost use Rattle.boot_verdict.specs.Checkpoints.{IsCheckpoint, IsMoreFault, most_after};
@@ -33,7 +33,7 @@ impl<'a> Session<'a> {
     /// A session of this log that has taken no bytes of the list. Fails with the fault of the log.
     pub fn new(log: &'a [u8]) -> Result<Self, LogFault>
         ensures taken { IfOk result (HasTaken log.now []) }
-        ensures only { (table : List TableRow) (events : List LogEvent) → IsLog log.now table events → IsOk result }
+        ensures only { (table : List DeclaredAlgorithm) (events : List LogEvent) → IsLog log.now table events → IsOk result }
         ensures fault { IfErr result (λ fault. log_fault log.now ≡ Some fault) }
     {
         let log = LogView::new(log)?;

@@ -5,7 +5,7 @@ use Rattle.std.specs.Option.{option_map_or}
 use Rattle.pcr_banks.specs.declared.alg.Alg.{Alg}
 use Rattle.pcr_banks.specs.declared.banks.Banks.{Banks}
 use Rattle.pcr_banks.specs.Hashing.{hash_of}
-use Rattle.boot_log.specs.declared.header.Row.{Row}
+use Rattle.boot_log.specs.declared.header.DeclaredAlgorithm.{DeclaredAlgorithm}
 use Rattle.boot_log.specs.Spelling.{IsLog, LogEvent, algs_in}
 use Rattle.ima_list.specs.Aggregates.{joined_values}
 use Rattle.ima_list.specs.ListEntry.{ListEntry}
@@ -43,7 +43,7 @@ pub record BeginsWithOld (values : Alg → ℕ → Option (List ℕ)) (list : Li
 
 -- The first entry of the list records that of the registers after the log.
 pub record RecordsOld (log list : List ℕ) : Type 0 where
-  pub table : List Row
+  pub table : List DeclaredAlgorithm
   pub events : List LogEvent
   pub log_is : IsLog log table events
   pub first_is : BeginsWithOld (pcr_after_log (algs_in table) events) list

@@ -7,7 +7,7 @@ use Rattle.byte_streams.specs.declared.streams.Failed.{Failed}
 use Rattle.byte_streams.specs.Streams.{Sends, SinkState}
 use Rattle.byte_streams.proofs.SinkLaws.{Sends-none, Sends-ok, Sends-same, Sends-then}
 use Rattle.boot_log.specs.declared.fault.LogFault.{LogFault}
-use Rattle.boot_log.specs.declared.header.Row.{Row}
+use Rattle.boot_log.specs.declared.header.DeclaredAlgorithm.{DeclaredAlgorithm}
 use Rattle.boot_log.specs.Spelling.{LogEvent}
 use Rattle.ima_list.specs.declared.fault.ListFault.{ListFault}
 use Rattle.ima_list.specs.declared.fault.ListFault.TheVariants as lists
@@ -119,7 +119,7 @@ streams_so P Q old new (Err (streams.Run fault)) so sent =
 -- ---- the events of a log
 
 module _ (form : Form) (matched : Option (List Pcr)) (done : ℕ) (log : List ℕ) (old new : SinkState) where
-  abbrev lines : List Row → List LogEvent → List ℕ
+  abbrev lines : List DeclaredAlgorithm → List LogEvent → List ℕ
   lines = log_lines form matched log
 
   abbrev AreAll : List ℕ → Type 0

@@ -12,7 +12,7 @@ use Rattle.pcr_values.specs.ExpectedTexts.{IsExpectedText}
 use Rattle.pcr_values.specs.declared.expected.Expected.{Expected}
 use Rattle.tpm_quotes.specs.Spelling.{BankSelection, all_registers, is_selected}
 use Rattle.attestations.specs.Quoted.{stated_of}
-use Rattle.boot_log.specs.declared.header.Row.{Row}
+use Rattle.boot_log.specs.declared.header.DeclaredAlgorithm.{DeclaredAlgorithm}
 use Rattle.boot_log.specs.Spelling.{IsLog, LogEvent, algs_in}
 use Rattle.boot_verdict.specs.Isolation.{list_register}
 use Rattle.boot_verdict.specs.Verdicts.{is_value, ReadsAsLog, pcr_after_log}
@@ -113,7 +113,7 @@ AreMatchedByQuote inputs asked places status =
 
 -- The bytes are a log, the text states expected registers, and these of them match.
 pub record MatchIn (log text : List ℕ) (places : List Pcr) : Type 0 where
-  pub table : List Row
+  pub table : List DeclaredAlgorithm
   pub events : List LogEvent
   pub expected : List Expected
   pub log_is : IsLog log table events

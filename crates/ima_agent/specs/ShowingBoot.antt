@@ -1,6 +1,6 @@
 -- What is answered on a boot.
 use Rattle.std.specs.Prelude.{◌≡◌, ◌⊎◌, ℕ, List, [], ◌++◌, Option, None, Some}
-use Rattle.boot_log.specs.declared.header.Row.{Row}
+use Rattle.boot_log.specs.declared.header.DeclaredAlgorithm.{DeclaredAlgorithm}
 use Rattle.boot_log.specs.Spelling.{IsLog, LogEvent}
 use Rattle.measured_data.specs.declared.pcr.Pcr.{Pcr}
 use Rattle.boot_texts.specs.BootLines.{AreBootLines}
@@ -23,14 +23,14 @@ places_of (Some places) = places
 abbrev pub AreCompared : Inputs → Form → List Pcr → List LogEvent → Option (List ℕ) → List ℕ → Type 0
 AreCompared inputs form matched events None text = text ≡ []
 AreCompared inputs form matched events (Some name) text =
-    OfInput inputs (Some name) (λ earlier. (table : List Row) × (others : List LogEvent) × IsLog earlier table others
+    OfInput inputs (Some name) (λ earlier. (table : List DeclaredAlgorithm) × (others : List LogEvent) × IsLog earlier table others
     × AreDifferenceLines form matched events others text)
 
 -- The bytes are a log, and the text answers what was booted, by the registers that match; and compares this with the boot of the log in the
 -- file of this name, if there is one. The status is that of what they match by.
 pub record ShowsBoot (inputs : Inputs) (form : Form) (confirmed_by : ConfirmedBy) (before : Option (List ℕ)) (log text : List ℕ) (status : ℕ)
     : Type 0 where
-  pub table : List Row
+  pub table : List DeclaredAlgorithm
   pub events : List LogEvent
   pub log_is : IsLog log table events
   pub matched : Option (List Pcr)

@@ -1,6 +1,6 @@
 -- How the events of a log are shown.
 use Rattle.std.specs.Prelude.{◌≡◌, ℕ, Bool, true, false, ◌⊎◌, List, [], Option, Some, None}
-use Rattle.boot_log.specs.declared.header.Row.{Row}
+use Rattle.boot_log.specs.declared.header.DeclaredAlgorithm.{DeclaredAlgorithm}
 use Rattle.boot_log.specs.Spelling.{BeginsWith, LogEvent}
 use Rattle.measured_data.specs.declared.pcr.Pcr.{Pcr}
 use Rattle.event_lines.specs.EventTexts.{events_text}
@@ -39,7 +39,7 @@ ShowsTold form matched done log shown status =
 abbrev pub RunsOutAfterEvents : Form → Option (List Pcr) → List ℕ → List ℕ → RunFault → Type 0
 RunsOutAfterEvents form matched log text fault =
     (fault ≡ runs.Memory)
-    × ((table : List Row) × (given : List LogEvent) × (rest : List ℕ) × BeginsWith log table given rest × (text ≡ log_lines form matched log table given))
+    × ((table : List DeclaredAlgorithm) × (given : List LogEvent) × (rest : List ℕ) × BeginsWith log table given rest × (text ≡ log_lines form matched log table given))
 
 -- ---- a log whose bytes were loaded
 

@@ -3,7 +3,7 @@
 ghost use Rattle.std.specs.Prelude.{◌≡◌, ◌⊎◌, ℕ, List, ◌++◌, option_map, IfErr, IfOk, OnErr, OnOk};
 ghost use Rattle.agent_plans.specs.declared.plan.Task.TheVariants as tasks;
 ghost use Rattle.agent_inputs.specs.declared.fault.RunFault.TheVariants.{Memory};
-ghost use Rattle.boot_log.specs.declared.header.Row.{Row};
+ghost use Rattle.boot_log.specs.declared.header.DeclaredAlgorithm.{DeclaredAlgorithm};
 ghost use Rattle.boot_log.specs.LogViews.{log_bytes};
 ghost use Rattle.boot_log.specs.Spelling.{IsLog, LogEvent};
 ghost use Rattle.ima_agent.specs.Program.{IsFaultOf, IsOutputFor};
@@ -87,7 +87,7 @@ fn append_compared<F: AgentFiles>(
     before: Option<&str>,
     lines: &mut Vec<u8>,
 ) -> Result<(), RunFault>
-    ensures lines { OnOk result ((table : List Row) (events : List LogEvent) → IsLog (log_bytes view.now) table events
+    ensures lines { OnOk result ((table : List DeclaredAlgorithm) (events : List LogEvent) → IsLog (log_bytes view.now) table events
         → (text : List ℕ) × AreCompared (F.known files.old) form matched.now events (option_map (λ name. name.now) before.entry) text
         × (lines.new.items ≡ lines.old.items ++ text)) }
     ensures fault { IfErr result (λ fault. IsNoEarlierLog (F.known files.old) (option_map (λ name. name.now) before.entry) fault

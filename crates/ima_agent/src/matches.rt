@@ -4,7 +4,7 @@ ghost use Rattle.std.specs.Prelude.{◌≡◌, ◌↔◌, List, IfOk, IfErr, Som
 ghost use Rattle.std.specs.List.{Contains};
 ghost use Rattle.agent_plans.specs.declared.plan.ConfirmedBy.TheVariants as confirmed;
 ghost use Rattle.boot_verdict.specs.Verdicts.{ReadsAsLog};
-ghost use Rattle.boot_log.specs.declared.header.Row.{Row};
+ghost use Rattle.boot_log.specs.declared.header.DeclaredAlgorithm.{DeclaredAlgorithm};
 ghost use Rattle.boot_log.specs.LogViews.{log_bytes};
 ghost use Rattle.boot_log.specs.Spelling.{LogEvent, IsLog, algs_in};
 ghost use Rattle.pcr_banks.specs.Registers.{value_at};
@@ -91,7 +91,7 @@ fn expected_in<F: AgentFiles>(
 
 // Those of the expected registers that match after the log in these bytes.
 fn places_in(alloc: Global, log: &[u8], expected: &[Expected]) -> Result<Vec<Pcr>, RunFault>
-    ensures matched { IfOk result (λ places. (table : List Row) × (events : List LogEvent) × IsLog log.now table events
+    ensures matched { IfOk result (λ places. (table : List DeclaredAlgorithm) × (events : List LogEvent) × IsLog log.now table events
         × (places.items ≡ matched_places (algs_in table) events expected.now)) }
     ensures fault { IfErr result (IsLogFaultOf log.now) }
 {
@@ -107,10 +107,10 @@ pub(crate) fn matched_places(
     log: &LogView<'_>,
     expected: &[Expected],
 ) -> Result<Vec<Pcr>, AllocError>
-    ensures places { IfOk result (λ places. (table : List Row) (events : List LogEvent) → IsLog (log_bytes log.now) table events
+    ensures places { IfOk result (λ places. (table : List DeclaredAlgorithm) (events : List LogEvent) → IsLog (log_bytes log.now) table events
         → places.items ≡ matched_places (algs_in table) events expected.now) }
     // Exactly these are among them.
-    ensures each { IfOk result (λ places. (table : List Row) (events : List LogEvent) (place : Pcr) → IsLog (log_bytes log.now) table events
+    ensures each { IfOk result (λ places. (table : List DeclaredAlgorithm) (events : List LogEvent) (place : Pcr) → IsLog (log_bytes log.now) table events
         → Contains places.items place ↔ IsMatched (algs_in table) events expected.now place) }
 {
     let registers = log.registers();

@@ -5,7 +5,7 @@ use Rattle.std.specs.Io.KnownBytes.{Consumes, IsAtEnd}
 use Rattle.std.proofs.lemmas.List.{length-append}
 use Rattle.byte_streams.specs.Streams.{SourceState}
 use Rattle.pcr_values.specs.declared.expected.Expected.{Expected}
-use Rattle.boot_log.specs.declared.header.Row.{Row as TableRow}
+use Rattle.boot_log.specs.declared.header.DeclaredAlgorithm.{DeclaredAlgorithm}
 use Rattle.boot_log.specs.Spelling.{IsLog, LogEvent, algs_in}
 use Rattle.boot_log.proofs.LogLaws.{one_reading}
 use Rattle.ima_list.specs.declared.fault.ListFault.{ListFault}
@@ -80,7 +80,7 @@ goes_on taken came later entries rest begins = record {
 }
 
 -- The verdict on a log and the spelling of entries is that on what they read as.
-verdict_here : {log list rest : List ℕ} {prefix : List ListEntry} {table : List TableRow} {events : List LogEvent} (expected : List Expected)
+verdict_here : {log list rest : List ℕ} {prefix : List ListEntry} {table : List DeclaredAlgorithm} {events : List LogEvent} (expected : List Expected)
     (verdict : Verdict) → IsLog log table events → BeginsWith list prefix rest → IsVerdict log (list_spelling prefix) expected verdict
     → verdict ≡ verdict_on (algs_in table) events prefix expected
 verdict_here {log} {list} {rest} {prefix} {table} {events} expected verdict log_is begins is =

@@ -9,7 +9,7 @@ use Rattle.pcr_values.specs.declared.expected.ExpectFault.TheVariants.{NoRegiste
 use Rattle.pcr_values.specs.ExpectedTexts.{BeginsWithRegister, HasFirstFault, IsExpectedText}
 use Rattle.pcr_values.specs.PrintedTexts.{HasPrintedFault, IsPrintedText, PrintsRegister}
 use Rattle.pcr_values.specs.Selections.{BeginsWithBankRange, SpellsRanges, those_selected}
-use Rattle.boot_log.specs.declared.header.Row.{Row as TableRow, Row}
+use Rattle.boot_log.specs.declared.header.DeclaredAlgorithm.{DeclaredAlgorithm}
 use Rattle.boot_log.specs.Spelling.{IsLog, LogEvent, algs_in}
 use Rattle.ima_list.specs.ListEntry.{ListEntry}
 use Rattle.ima_list.specs.ListFaults.{list_fault_entry}
@@ -160,7 +160,7 @@ pub record IsNext (log list : List ℕ) (next : Checkpoint) : Type 0 where
 -- No prefix of these entries is confirmed, with as many of them as were taken before, or more.
 abbrev pub AreUnconfirmedAfter : Evidence → List ListEntry → Type 0
 AreUnconfirmedAfter evidence entries =
-    (table : List TableRow) (events : List LogEvent) → IsLog evidence.log table events
+    (table : List DeclaredAlgorithm) (events : List LogEvent) → IsLog evidence.log table events
     → AreUnconfirmed (algs_in table) events (goal_in evidence) (entries_taken evidence.known) entries
 
 -- No prefix of the list is confirmed.
@@ -170,7 +170,7 @@ HasNoPrefix evidence list = (entries : List ListEntry) × IsReading list (Ok ent
 -- The report is on the confirmed prefix of the list, no shorter than what was taken before; this is the checkpoint of the prefix; and its
 -- entries have this property.
 pub record IsPrefixOf (evidence : Evidence) (Tells : List ListEntry → Type 0) (list : List ℕ) (report : PrefixReport) (next : Checkpoint) : Type 0 where
-  pub table : List TableRow
+  pub table : List DeclaredAlgorithm
   pub events : List LogEvent
   pub prefix : List ListEntry
   pub rest : List ℕ
@@ -636,7 +636,7 @@ IsNoAttestation inputs asked fault =
 -- The bytes are a firmware event log, and these are the registers before its events, at their reset values, and after them.
 abbrev pub AreRegistersAfter : List ℕ → Banks → Banks → Type 0
 AreRegistersAfter log start now =
-    (table : List Row) × (events : List LogEvent) × IsLog log table events × IsReset (algs_in table) (startup_locality events) start
+    (table : List DeclaredAlgorithm) × (events : List LogEvent) × IsLog log table events × IsReset (algs_in table) (startup_locality events) start
     × IsFirmware (algs_in table) events now
 
 -- The bytes are a list of genuine entries, and these are the registers before it, at their reset values, and after it.

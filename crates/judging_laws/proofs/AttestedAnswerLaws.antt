@@ -5,7 +5,7 @@ use Rattle.std.proofs.lemmas.Bool.{true≢false}
 use Rattle.pcr_banks.specs.declared.sets.AlgSet.{AlgSet}
 use Rattle.pcr_banks.specs.Registers.{value_at}
 use Rattle.pcr_values.specs.declared.expected.Expected.{Expected}
-use Rattle.boot_log.specs.declared.header.Row.{Row as TableRow}
+use Rattle.boot_log.specs.declared.header.DeclaredAlgorithm.{DeclaredAlgorithm}
 use Rattle.boot_log.specs.Replaying.{IsFirmware}
 use Rattle.boot_log.specs.Spelling.{LogEvent, IsLog, algs_in}
 use Rattle.boot_log.proofs.LogLaws.{one_reading}
@@ -76,7 +76,7 @@ well_told told quote next is_signed well signed_is quoted_is =
 
 -- ---- the attestation
 
-attested_on : (log list message : List ℕ) (terms : Terms) (quote : TpmQuote) (expected : List Expected) (table : List TableRow)
+attested_on : (log list message : List ℕ) (terms : Terms) (quote : TpmQuote) (expected : List Expected) (table : List DeclaredAlgorithm)
     (events : List LogEvent) (entries : List ListEntry) (verdict : Verdict) (next : Checkpoint) → policy_fault terms ≡ None
     → IsQuote message quote → quote_refusal quote terms ≡ None → IsLog log table events → IsReading list (Ok entries) → AreGenuine entries
     → verdict ≡ verdict_on (algs_in table) events entries expected → IsNext log list next → AreGood verdict quote next
@@ -85,7 +85,7 @@ attested_on log list message terms quote expected table events entries verdict n
     let boot = next_is.boot in
     let logs = one_reading log boot.table table boot.events events boot.log_is log_is in
     let firmware : IsFirmware (algs_in table) events next.before =
-    subst (λ (p : List TableRow × List LogEvent). IsFirmware (algs_in p.0) p.1 next.before) (λ i. (logs.0 i, logs.1 i)) boot.start in
+    subst (λ (p : List DeclaredAlgorithm × List LogEvent). IsFirmware (algs_in p.0) p.1 next.before) (λ i. (logs.0 i, logs.1 i)) boot.start in
     let lists : next_is.checkpoint.entries ≡ entries = one_list next_is.checkpoint.list_is list_is in
     let replayed : IsReplayed next.before entries next.after =
     subst (λ (es : List ListEntry). IsReplayed next.before es next.after) lists next_is.checkpoint.replayed in
@@ -183,7 +183,7 @@ module _ (inputs : Inputs) (asked : Attested) (given : Answered) (is : IsAttesta
         good = good.1;
       }
 
-  tells_on : (list : List ℕ) (table : List TableRow) (events : List LogEvent) (entries : List ListEntry) (verdict : Verdict)
+  tells_on : (list : List ℕ) (table : List DeclaredAlgorithm) (events : List LogEvent) (entries : List ListEntry) (verdict : Verdict)
       (on_prefix : Bool) (next : Checkpoint) → IsLog is.log table events → IsReading list (Ok entries) → AreGenuine entries
       → verdict ≡ verdict_on (algs_in table) events entries is.counted → IsNext is.log list next → Says verdict on_prefix next
       → TellsAttested inputs asked given is list

@@ -1,7 +1,7 @@
 -- What a quote tells of a log's registers.
 use Rattle.std.specs.Prelude.{◌≡◌, ℕ, true, List}
 use Rattle.pcr_banks.specs.declared.alg.Alg.{Alg}
-use Rattle.boot_log.specs.declared.header.Row.{Row}
+use Rattle.boot_log.specs.declared.header.DeclaredAlgorithm.{DeclaredAlgorithm}
 use Rattle.boot_log.specs.Spelling.{IsLog, LogEvent, algs_in}
 use Rattle.ima_list.specs.ListEntry.{ListEntry}
 use Rattle.boot_verdict.specs.Isolation.{list_register}
@@ -12,7 +12,7 @@ use Rattle.tpm_quotes.specs.Spelling.{TpmQuote}
 -- The bytes are a log, and the quote is of the values of registers after its events and these entries; which leave each register but the list's
 -- as it is after the log.
 pub record QuotesLog (log : List ℕ) (quote : TpmQuote) : Type 0 where
-  pub table : List Row
+  pub table : List DeclaredAlgorithm
   pub events : List LogEvent
   pub entries : List ListEntry
   pub log_is : IsLog log table events

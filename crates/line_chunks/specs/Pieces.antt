@@ -16,7 +16,7 @@ use Rattle.entry_lines.specs.EntryJson.{entry_json}
 use Rattle.cells.specs.Values as json
 use Rattle.entry_lines.specs.ListLines as shown
 use Rattle.event_lines.specs.LogLines as logged
-use Rattle.boot_log.specs.declared.header.Row.{Row}
+use Rattle.boot_log.specs.declared.header.DeclaredAlgorithm.{DeclaredAlgorithm}
 use Rattle.boot_log.specs.Reading.{specification_in}
 use Rattle.boot_log.specs.Spelling as logs
 use Rattle.boot_log.specs.Spelling.{LogEvent}
@@ -185,21 +185,21 @@ IsEntryPiece form list room before piece = IsPiece (entries_of form list) room b
 -- ---- the algorithms and the events of a log
 
 -- The lines of a log, as JSON; no registers are compared.
-abbrev pub log_lines : List ℕ → List Row → List LogEvent → List ℕ
+abbrev pub log_lines : List ℕ → List DeclaredAlgorithm → List LogEvent → List ℕ
 log_lines log table read = sent.log_lines events.Json None log table read
 
 -- The log begins with a header and events whose lines are this text, up to the position; or nothing comes before it.
 abbrev pub AreEventsBefore : List ℕ → LineOffset → List ℕ → Type 0
 AreEventsBefore log position text =
     ((position ≡ start) × (text ≡ []))
-    ⊎ ((0 < position.offset) × ((table : List Row) × AreItemsBefore (logs.BeginsWith log table) (log_lines log table) log position text))
+    ⊎ ((0 < position.offset) × ((table : List DeclaredAlgorithm) × AreItemsBefore (logs.BeginsWith log table) (log_lines log table) log position text))
 
 -- The line is the first, that of what the header declares; or the log begins with a header and events whose lines are this text,
 -- and after them comes another, which has this line.
 abbrev pub HasEventLine : List ℕ → List ℕ → List ℕ → Type 0
 HasEventLine log text line =
-    ((text ≡ []) × ((table : List Row) × (rest : List ℕ) × logs.BeginsWith log table [] rest × (line ≡ json.line_of (header_json (specification_in log) table))))
-    ⊎ ((table : List Row)
+    ((text ≡ []) × ((table : List DeclaredAlgorithm) × (rest : List ℕ) × logs.BeginsWith log table [] rest × (line ≡ json.line_of (header_json (specification_in log) table))))
+    ⊎ ((table : List DeclaredAlgorithm)
     × HasItemLine (logs.BeginsWith log table) (log_lines log table) (λ number event. json.line_of (event_json None (number + 1) event)) text line)
 
 -- The bytes are no log: the text is the lines of the header and of the events after it, and after these they have this fault.

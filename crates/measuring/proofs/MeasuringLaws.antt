@@ -6,7 +6,7 @@ use Rattle.std.proofs.lemmas.Bool.{cases_lt}
 use Rattle.std.proofs.lemmas.List.{length-map}
 use Rattle.std.proofs.lemmas.Option.{slice_get-get_or}
 use Rattle.agent_plans.specs.declared.plan.Measurement.{Measurement}
-use Rattle.boot_log.specs.declared.header.Row.{Row}
+use Rattle.boot_log.specs.declared.header.DeclaredAlgorithm.{DeclaredAlgorithm}
 use Rattle.boot_log.specs.Replaying.{IsFirmware}
 use Rattle.boot_log.specs.Spelling.{LogEvent, IsLog, algs_in}
 use Rattle.measure_book.specs.declared.origin.Origin.{Origin}
@@ -101,7 +101,7 @@ module _ (held : Contents) (Fails Others : List ℕ → Type 0) (more : (name : 
   }
 
 -- The origin of a book over a log, as asked.
-abbrev pub set_out : (log : List ℕ) (request : Measurement) (table : List Row) (events : List LogEvent) → IsLog log table events → (start : Banks)
+abbrev pub set_out : (log : List ℕ) (request : Measurement) (table : List DeclaredAlgorithm) (events : List LogEvent) → IsLog log table events → (start : Banks)
     → IsFirmware (algs_in table) events start
     → IsSetOut log request (record { start = start; template = request.template; alg = request.alg; limit = request.limit })
 set_out log request table events is start starts =

@@ -5,7 +5,7 @@ use Rattle.std.specs.Str.{IsUtf8}
 use Rattle.pcr_banks.specs.declared.alg.Alg.{Alg}
 use Rattle.pcr_banks.specs.Hashing.{hash_of}
 use Rattle.pcr_banks.specs.Registers.{IsReset}
-use Rattle.boot_log.specs.declared.header.Row.{Row}
+use Rattle.boot_log.specs.declared.header.DeclaredAlgorithm.{DeclaredAlgorithm}
 use Rattle.boot_log.specs.Spelling.{LogEvent, IsLog, algs_in}
 use Rattle.boot_log.specs.Replaying.{IsFirmware, startup_locality}
 use Rattle.measure_book.specs.declared.origin.Origin.{Origin}
@@ -93,11 +93,11 @@ pub record HasRecorded (held : Contents) (names : List (List ℕ)) (origin : Ori
 
 -- The bytes are a log.
 abbrev pub AreLog : List ℕ → Type 0
-AreLog bytes = (table : List Row) × (events : List LogEvent) × IsLog bytes table events
+AreLog bytes = (table : List DeclaredAlgorithm) × (events : List LogEvent) × IsLog bytes table events
 
 -- Files are to be measured as asked, into a book of this origin: it starts with the registers after the events of this log.
 pub record IsSetOut (log : List ℕ) (request : Measurement) (origin : Origin) : Type 0 where
-  pub table : List Row
+  pub table : List DeclaredAlgorithm
   pub events : List LogEvent
   pub log_is : IsLog log table events
   pub starts : IsFirmware (algs_in table) events origin.start

@@ -8,7 +8,7 @@ use Rattle.pcr_banks.specs.Digests.{digest_of}
 use Rattle.pcr_banks.specs.Hashing.{hash_of}
 use Rattle.pcr_values.specs.declared.expected.Expected.{Expected}
 use Rattle.pcr_values.specs.ExpectedTexts.{IsExpectedText}
-use Rattle.boot_log.specs.declared.header.Row.{Row as TableRow}
+use Rattle.boot_log.specs.declared.header.DeclaredAlgorithm.{DeclaredAlgorithm}
 use Rattle.boot_log.specs.Spelling.{LogEvent, IsLog, algs_in}
 use Rattle.boot_log.specs.Replaying.{IsFirmware}
 use Rattle.ima_list.specs.declared.template.Template.TheVariants.{ImaNg}
@@ -23,7 +23,7 @@ use Rattle.boot_verdict.specs.Verdicts.{Verdict, IsVerdict, pcr_after_log, match
 
 -- The bytes are a log, and this is what its events make of a register: none where the log has no such bank, or there is no such register.
 pub record IsRegisterAfter (log : List ℕ) (alg : Alg) (register : ℕ) (value : Option Digest) : Type 0 where
-  pub table : List TableRow
+  pub table : List DeclaredAlgorithm
   pub events : List LogEvent
   pub log_is : IsLog log table events
   pub value_is : value ≡ option_map (digest_of alg) (pcr_after_log (algs_in table) events alg register)
@@ -45,7 +45,7 @@ origin_from start = record { start = start; template = ImaNg; alg = Sha256; limi
 
 -- The bytes are a log, and the origin starts with the registers that its events make.
 pub record IsOriginAfter (log : List ℕ) (origin : Origin) : Type 0 where
-  pub table : List TableRow
+  pub table : List DeclaredAlgorithm
   pub events : List LogEvent
   pub start : Banks
   pub log_is : IsLog log table events

@@ -1,7 +1,7 @@
 use Rattle.std.proofs.Common.{List, take}
 use Rattle.std.specs.List.{AllByRecursion}
 use Rattle.pcr_banks.specs.Hashing.{all_algs}
-use Rattle.boot_log.specs.declared.header.Row.{Row}
+use Rattle.boot_log.specs.declared.header.DeclaredAlgorithm.{DeclaredAlgorithm}
 use Rattle.boot_log.specs.LogViews.{log_bytes}
 use Rattle.boot_log.specs.Spelling.{IsLog, LogEvent}
 use Rattle.boot_answers.specs.parts.SecureBoot.{Agrees}
@@ -9,5 +9,5 @@ use Rattle.boot_answers.proofs.secure_boot_state.all_agree.Given as goal
 
 abbrev pub invariant-loop-alg : goal.invariant-loop-alg
 invariant-loop-alg l =
-    (table : List Row) (events : List LogEvent) → IsLog (log_bytes l.log) table events
+    (table : List DeclaredAlgorithm) (events : List LogEvent) → IsLog (log_bytes l.log) table events
     → AllByRecursion (Agrees l.matched events l.answer) (take l.alg-index all_algs)

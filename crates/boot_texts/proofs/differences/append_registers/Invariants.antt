@@ -1,5 +1,5 @@
 use Rattle.std.proofs.Common.{◌≡◌, ◌++◌, List, length}
-use Rattle.boot_log.specs.declared.header.Row.{Row}
+use Rattle.boot_log.specs.declared.header.DeclaredAlgorithm.{DeclaredAlgorithm}
 use Rattle.boot_log.specs.LogViews.{log_bytes}
 use Rattle.boot_log.specs.Spelling.{IsLog, LogEvent}
 use Rattle.boot_texts.specs.declared.differences.Difference.{Difference}
@@ -9,6 +9,6 @@ use Rattle.boot_texts.proofs.differences.append_registers.Given as goal
 -- The lines are those of the registers so far.
 abbrev pub invariant-loop-register : goal.invariant-loop-register
 invariant-loop-register l =
-    (table rows : List Row) (events others : List LogEvent) → IsLog (log_bytes l.log) table events → IsLog (log_bytes l.before) rows others
+    (table rows : List DeclaredAlgorithm) (events others : List LogEvent) → IsLog (log_bytes l.log) table events → IsLog (log_bytes l.before) rows others
     → (differences : List Difference) × (length differences ≡ l.register) × AreOfRegisters l.matched events others 0 differences
     × (l.lines.items ≡ l.fn.lines.items ++ difference_lines l.form events others differences)

@@ -1,5 +1,5 @@
 use Rattle.std.proofs.Common.{ℕ, List, [], length}
-use Rattle.boot_log.specs.declared.header.Row.{Row}
+use Rattle.boot_log.specs.declared.header.DeclaredAlgorithm.{DeclaredAlgorithm}
 use Rattle.boot_log.specs.LogViews.{HasBorrowed, unread}
 use Rattle.boot_log.specs.Spelling.{LogEvent, IsLog}
 use Rattle.boot_verdict.specs.Steps.{events_as_steps}
@@ -7,7 +7,7 @@ use Rattle.boot_verdict.proofs.location.track_events.Given as goal
 
 abbrev pub invariant-loop-event : goal.invariant-loop-event
 invariant-loop-event g l =
-    (start : g.row.F.Denot) (bytes : List ℕ) (table : List Row) (all : List LogEvent) → HasBorrowed bytes [] l.initial.events → IsLog bytes table all
+    (start : g.row.F.Denot) (bytes : List ℕ) (table : List DeclaredAlgorithm) (all : List LogEvent) → HasBorrowed bytes [] l.initial.events → IsLog bytes table all
     → g.F.Tracker.is_after start (length all) [] l.initial.tracker
     → (borrowed : List LogEvent) × HasBorrowed bytes borrowed l.events × g.F.Tracker.is_after start (length all) (events_as_steps borrowed) l.tracker
 
