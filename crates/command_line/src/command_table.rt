@@ -19,11 +19,11 @@ pub(crate) struct ArgumentRow<'a> {
     /// Its name: that of an option after the two hyphens, or what the help calls an argument that is no option.
     pub(crate) id: &'a str,
     /// How it is given.
-    pub(crate) form: Form<'a>,
+    pub(crate) form: ArgumentForm<'a>,
 }
 
 /// How an argument is given. The first text of an option with a value is what the help calls the value.
-pub(crate) enum Form<'a> {
+pub(crate) enum ArgumentForm<'a> {
     /// By one value, which has to be there.
     Required,
     /// By one value, or not at all.
@@ -76,53 +76,53 @@ macro_rules! row {
 }
 
 /// A firmware event log.
-const LOG: ArgumentRow<'static> = row!("LOG"; Form::Required);
+const LOG: ArgumentRow<'static> = row!("LOG"; ArgumentForm::Required);
 
 /// A measurement list.
-const LIST: ArgumentRow<'static> = row!("LIST"; Form::Required);
+const LIST: ArgumentRow<'static> = row!("LIST"; ArgumentForm::Required);
 
 /// Expected registers.
-const EXPECTED: ArgumentRow<'static> = row!("EXPECTED"; Form::Required);
+const EXPECTED: ArgumentRow<'static> = row!("EXPECTED"; ArgumentForm::Required);
 
 /// Expected registers, or none.
-const EXPECTED_IF_GIVEN: ArgumentRow<'static> = row!("EXPECTED"; Form::Omittable);
+const EXPECTED_IF_GIVEN: ArgumentRow<'static> = row!("EXPECTED"; ArgumentForm::Omittable);
 
 /// Expected registers that tell what of a log is confirmed.
-const CONFIRMED: ArgumentRow<'static> = row!("expected"; Form::Optional("EXPECTED"));
+const CONFIRMED: ArgumentRow<'static> = row!("expected"; ArgumentForm::Optional("EXPECTED"));
 
 /// A quote that tells what of a log is confirmed, with the list that it is also of, and what it must be.
-const QUOTE: ArgumentRow<'static> = row!("quote"; Form::Optional("QUOTE"));
+const QUOTE: ArgumentRow<'static> = row!("quote"; ArgumentForm::Optional("QUOTE"));
 
-const QUOTED_LIST: ArgumentRow<'static> = row!("list"; Form::Optional("LIST"));
+const QUOTED_LIST: ArgumentRow<'static> = row!("list"; ArgumentForm::Optional("LIST"));
 
-const NONCE: ArgumentRow<'static> = row!("nonce"; Form::Optional("HEX"));
+const NONCE: ArgumentRow<'static> = row!("nonce"; ArgumentForm::Optional("HEX"));
 
 /// Whether registers of the SHA-1 bank alone are taken.
-const SHA1: ArgumentRow<'static> = row!("sha1"; Form::Flag);
+const SHA1: ArgumentRow<'static> = row!("sha1"; ArgumentForm::Flag);
 
 /// Whether the caller has verified the quote's signature.
-const SIGNATURE_CHECKED: ArgumentRow<'static> = row!("signature-checked"; Form::Flag);
+const SIGNATURE_CHECKED: ArgumentRow<'static> = row!("signature-checked"; ArgumentForm::Flag);
 
 /// PCRs that have to be expected, or quoted.
-const REQUIRE: ArgumentRow<'static> = row!("require"; Form::Optional("SELECTION"));
+const REQUIRE: ArgumentRow<'static> = row!("require"; ArgumentForm::Optional("SELECTION"));
 
 /// The files that are known.
-const KNOWN: ArgumentRow<'static> = row!("known"; Form::Several("FILE"));
+const KNOWN: ArgumentRow<'static> = row!("known"; ArgumentForm::Several("FILE"));
 
 /// Whether the verdict is on the shortest prefix that matches.
-const PREFIX: ArgumentRow<'static> = row!("prefix"; Form::Flag);
+const PREFIX: ArgumentRow<'static> = row!("prefix"; ArgumentForm::Flag);
 
 /// Where the checkpoint is saved.
-const SAVE: ArgumentRow<'static> = row!("save"; Form::Optional("FILE"));
+const SAVE: ArgumentRow<'static> = row!("save"; ArgumentForm::Optional("FILE"));
 
 /// The checkpoint to go on from.
-const RESUME: ArgumentRow<'static> = row!("resume"; Form::Optional("FILE"));
+const RESUME: ArgumentRow<'static> = row!("resume"; ArgumentForm::Optional("FILE"));
 
 /// Whether standard error says what to do next even if it is no terminal.
-const EXPLAIN: ArgumentRow<'static> = row!("explain"; Form::Flag);
+const EXPLAIN: ArgumentRow<'static> = row!("explain"; ArgumentForm::Flag);
 
 /// Whether the result is printed as JSON.
-const JSON: ArgumentRow<'static> = row!("json"; Form::Flag);
+const JSON: ArgumentRow<'static> = row!("json"; ArgumentForm::Flag);
 
 /// The commands, in the order of the help. `table` of specs/Arguments.antt has the same.
 pub(crate) static COMMANDS: [CommandRow; 11] = [
@@ -137,8 +137,8 @@ pub(crate) static COMMANDS: [CommandRow; 11] = [
         name: "attest",
         about: with_abouts!(; attest),
         arguments: &[
-            row!("nonce"; Form::RequiredOption("HEX")),
-            row!("require"; Form::RequiredOption("SELECTION")),
+            row!("nonce"; ArgumentForm::RequiredOption("HEX")),
+            row!("require"; ArgumentForm::RequiredOption("SELECTION")),
             KNOWN,
             SHA1,
             SIGNATURE_CHECKED,
@@ -149,7 +149,7 @@ pub(crate) static COMMANDS: [CommandRow; 11] = [
             JSON,
             LOG,
             LIST,
-            row!("QUOTE"; Form::Required),
+            row!("QUOTE"; ArgumentForm::Required),
             EXPECTED_IF_GIVEN,
         ],
     },
@@ -157,9 +157,9 @@ pub(crate) static COMMANDS: [CommandRow; 11] = [
         name: "replay",
         about: with_abouts!(; replay),
         arguments: &[
-            row!("require"; Form::OptionalBeside("SELECTION", "EXPECTED")),
+            row!("require"; ArgumentForm::OptionalBeside("SELECTION", "EXPECTED")),
             KNOWN,
-            row!("explain"; Form::FlagBeside("EXPECTED")),
+            row!("explain"; ArgumentForm::FlagBeside("EXPECTED")),
             JSON,
             LIST,
             EXPECTED_IF_GIVEN,
@@ -181,7 +181,7 @@ pub(crate) static COMMANDS: [CommandRow; 11] = [
             REQUIRE,
             SHA1,
             SIGNATURE_CHECKED,
-            row!("before"; Form::Optional("OLD_LOG")),
+            row!("before"; ArgumentForm::Optional("OLD_LOG")),
             JSON,
             LOG,
         ],
@@ -190,8 +190,8 @@ pub(crate) static COMMANDS: [CommandRow; 11] = [
         name: "events",
         about: with_abouts!(; events),
         arguments: &[
-            row!("data"; Form::Flag),
-            row!("explain"; Form::Flag),
+            row!("data"; ArgumentForm::Flag),
+            row!("explain"; ArgumentForm::Flag),
             CONFIRMED,
             QUOTE,
             QUOTED_LIST,
@@ -217,35 +217,35 @@ pub(crate) static COMMANDS: [CommandRow; 11] = [
         name: "expected",
         about: with_abouts!(; expected),
         arguments: &[
-            row!("registers"; Form::Optional("SELECTION")),
+            row!("registers"; ArgumentForm::Optional("SELECTION")),
             JSON,
-            row!("PCRREAD"; Form::Required),
+            row!("PCRREAD"; ArgumentForm::Required),
         ],
     },
     CommandRow {
         name: "key",
         about: with_abouts!(; key),
         arguments: &[
-            row!("endorsement"; Form::Flag),
-            row!("print"; Form::Defaulted("PART", "all", Values::Parsed(ValueParser::Names(&["all", "name", "pem"])))),
+            row!("endorsement"; ArgumentForm::Flag),
+            row!("print"; ArgumentForm::Defaulted("PART", "all", Values::Parsed(ValueParser::Names(&["all", "name", "pem"])))),
             JSON,
-            row!("FILE"; Form::Required),
+            row!("FILE"; ArgumentForm::Required),
         ],
     },
     CommandRow {
         name: "measure",
         about: with_abouts!(; measure),
         arguments: &[
-            row!("alg"; Form::Defaulted("HASH", "sha256", Values::Algs)),
-            row!("template"; Form::Defaulted("TEMPLATE", "ima-ng", Values::Templates)),
-            row!("workers"; Form::Defaulted("THREADS", "2", Values::Parsed(ValueParser::Unsigned(1, MOST_WORKERS)))),
-            row!("limit"; Form::Defaulted("RECORDS", "100000", Values::Parsed(ValueParser::Unsigned(1, MOST_RECORDS)))),
-            row!("print"; Form::Defaulted("OUTPUT", "ascii", Values::Parsed(ValueParser::Names(&["ascii", "binary", "registers"])))),
-            row!("files-from"; Form::Optional("NAMES")),
-            row!("null"; Form::ShortFlagBeside('0', "files-from")),
+            row!("alg"; ArgumentForm::Defaulted("HASH", "sha256", Values::Algs)),
+            row!("template"; ArgumentForm::Defaulted("TEMPLATE", "ima-ng", Values::Templates)),
+            row!("workers"; ArgumentForm::Defaulted("THREADS", "2", Values::Parsed(ValueParser::Unsigned(1, MOST_WORKERS)))),
+            row!("limit"; ArgumentForm::Defaulted("RECORDS", "100000", Values::Parsed(ValueParser::Unsigned(1, MOST_RECORDS)))),
+            row!("print"; ArgumentForm::Defaulted("OUTPUT", "ascii", Values::Parsed(ValueParser::Names(&["ascii", "binary", "registers"])))),
+            row!("files-from"; ArgumentForm::Optional("NAMES")),
+            row!("null"; ArgumentForm::ShortFlagBeside('0', "files-from")),
             JSON,
             LOG,
-            row!("FILE"; Form::Repeated),
+            row!("FILE"; ArgumentForm::Repeated),
         ],
     },
 ];

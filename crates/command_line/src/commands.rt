@@ -8,7 +8,7 @@ ghost use Rattle.command_line.specs.declared.commands.KnownNames.{KnownNames};
 ghost use Rattle.command_line.specs.Arguments.{Parsers, commands, program_app};
 
 use crate::argument_help::help_of;
-use crate::command_table::{ArgumentRow, COMMANDS, CommandRow, Form, Values};
+use crate::command_table::{ArgumentRow, COMMANDS, CommandRow, ArgumentForm, Values};
 use crate::help_texts::{PROGRAM_HELP, PROGRAM_USAGE, help_end_of};
 use clap::builder::ValueParser;
 use clap::{Arg, ArgAction, Command};
@@ -89,26 +89,26 @@ fn argument<'a>(
 {
     let arg = Arg::new(alloc, row.id).help(help);
     match row.form {
-        Form::Required => Ok(arg.required(true)),
-        Form::Omittable => Ok(arg),
-        Form::Repeated => Ok(arg.action(ArgAction::Append).num_args(0..)),
-        Form::Flag => Ok(arg.long(row.id).action(ArgAction::SetTrue)),
-        Form::FlagBeside(argument) => arg
+        ArgumentForm::Required => Ok(arg.required(true)),
+        ArgumentForm::Omittable => Ok(arg),
+        ArgumentForm::Repeated => Ok(arg.action(ArgAction::Append).num_args(0..)),
+        ArgumentForm::Flag => Ok(arg.long(row.id).action(ArgAction::SetTrue)),
+        ArgumentForm::FlagBeside(argument) => arg
             .long(row.id)
             .action(ArgAction::SetTrue)
             .requires_arg(argument),
-        Form::ShortFlagBeside(letter, option) => arg
+        ArgumentForm::ShortFlagBeside(letter, option) => arg
             .short(letter)
             .long(row.id)
             .action(ArgAction::SetTrue)
             .requires_arg(option),
-        Form::RequiredOption(value) => Ok(arg.long(row.id).value_name(value).required(true)),
-        Form::Optional(value) => Ok(arg.long(row.id).value_name(value)),
-        Form::OptionalBeside(value, argument) => {
+        ArgumentForm::RequiredOption(value) => Ok(arg.long(row.id).value_name(value).required(true)),
+        ArgumentForm::Optional(value) => Ok(arg.long(row.id).value_name(value)),
+        ArgumentForm::OptionalBeside(value, argument) => {
             arg.long(row.id).value_name(value).requires_arg(argument)
         }
-        Form::Several(value) => Ok(arg.long(row.id).value_name(value).action(ArgAction::Append)),
-        Form::Defaulted(value, default, values) => Ok(
+        ArgumentForm::Several(value) => Ok(arg.long(row.id).value_name(value).action(ArgAction::Append)),
+        ArgumentForm::Defaulted(value, default, values) => Ok(
             arg.long(row.id)
                 .value_name(value)
                 .value_parser(parser_of(values, known))

@@ -2,8 +2,8 @@
 use Rattle.std.proofs.Common.{◌≡◌, ℕ, true, List, [], ◌∷◌, ◌++◌, Option, Some, None, option_map, unwrap_or, refl, sym, ap, ◌∙◌, ◌⊎◌, inl, inr, ⊎_elim, append_assoc}
 use Rattle.std.proofs.lemmas.List.{append_cancel_right}
 use Rattle.byte_fields.proofs.Steps.{IsBytes}
-use Rattle.event_data.specs.declared.content.Form.{Form}
-use Rattle.event_data.specs.declared.content.Form.TheVariants as forms
+use Rattle.event_data.specs.declared.content.DataForm.{DataForm}
+use Rattle.event_data.specs.declared.content.DataForm.TheVariants as forms
 use Rattle.event_data.specs.Forms.{CommandData, IsCommand, has_no_nul}
 use Rattle.event_data.specs.EventForms.{Content, separator, text, wide_text, guid, command, variable, image, gpt, blob, tagged, locality, unknown, SaysText, SaysVersion, SaysLoader, SaysPostCode, SaysIn, Says, SaysKnown, form_of}
 use Rattle.event_data.specs.ContentReading.{text_content, version_content, loader_content, post_code_content, form_content, content_in}
@@ -124,7 +124,7 @@ post_code_only bytes content is = absurd (search is)
 
 -- ---- any form
 
-form_is : (form : Form) (bytes : List ℕ) (content : Content) → IsBytes bytes → form_content form bytes ≡ Some content
+form_is : (form : DataForm) (bytes : List ℕ) (content : Content) → IsBytes bytes → form_content form bytes ≡ Some content
     → SaysIn form bytes content
 form_is forms.Separator bytes content fits e =
     mapped_is separator (SaysIn forms.Separator bytes) (λ v is. is) (separator_in bytes) (separator_finds bytes fits) content e
@@ -148,7 +148,7 @@ form_is forms.Locality bytes content fits e =
     mapped_is locality (SaysIn forms.Locality bytes) (λ v is. is) (locality_in bytes) (locality_finds bytes fits) content e
 form_is forms.Other bytes content fits e = absurd cc
 
-form_only : (form : Form) (bytes : List ℕ) (content : Content) → SaysIn form bytes content
+form_only : (form : DataForm) (bytes : List ℕ) (content : Content) → SaysIn form bytes content
     → form_content form bytes ≡ Some content
 form_only forms.Text bytes content is = text_only bytes content is
 form_only forms.Version bytes content is = version_only bytes content is
@@ -164,7 +164,7 @@ form_only forms.Tagged bytes (tagged v) is = ap (option_map tagged) (tagged_only
 form_only forms.Locality bytes (locality v) is = ap (option_map locality) (locality_only bytes v is)
 form_only form bytes content is = absurd (search is)
 
-form_finds : (form : Form) (bytes : List ℕ) → IsBytes bytes → Finds (SaysIn form bytes) (form_content form bytes)
+form_finds : (form : DataForm) (bytes : List ℕ) → IsBytes bytes → Finds (SaysIn form bytes) (form_content form bytes)
 form_finds form bytes fits =
     record { is = λ content e. form_is form bytes content fits e; only = λ content is. form_only form bytes content is }
 

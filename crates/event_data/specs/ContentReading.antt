@@ -1,8 +1,8 @@
 -- What the data of an event says, by its type: functions, where EventForms has relations.
 use Rattle.std.specs.Prelude.{ℕ, List, Option, None, option_map, unwrap_or}
 use Rattle.std.specs.Option.{option_or}
-use Rattle.event_data.specs.declared.content.Form.{Form}
-use Rattle.event_data.specs.declared.content.Form.TheVariants as forms
+use Rattle.event_data.specs.declared.content.DataForm.{DataForm}
+use Rattle.event_data.specs.declared.content.DataForm.TheVariants as forms
 use Rattle.event_data.specs.EventForms.{Content, separator, text, wide_text, guid, command, variable, image, gpt, blob, tagged, locality, unknown, form_of}
 use Rattle.event_data.specs.Reading.{separator_in, variable_in, image_in}
 use Rattle.event_data.specs.Results.{text_in, wide_text_in, command_in, guid_in, locality_in}
@@ -22,7 +22,7 @@ abbrev pub post_code_content : List ℕ → Option Content
 post_code_content bytes = option_or (option_map text (text_in bytes)) (option_map blob (plain_blob_in bytes))
 
 -- What data of this form says.
-abbrev pub form_content : Form → List ℕ → Option Content
+abbrev pub form_content : DataForm → List ℕ → Option Content
 form_content forms.Separator bytes = option_map separator (separator_in bytes)
 form_content forms.Text bytes = text_content bytes
 form_content forms.Version bytes = version_content bytes

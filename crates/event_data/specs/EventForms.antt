@@ -3,8 +3,8 @@ use Rattle.std.specs.Prelude.{◌≡◌, ℕ, ◌⊎◌, Bool, ◌==◌, if◌th
 use Rattle.std.specs.List.{list_any}
 use Rattle.event_data.specs.declared.content.EventContent.{EventContent}
 use Rattle.event_data.specs.declared.content.EventContent.TheVariants as contents
-use Rattle.event_data.specs.declared.content.Form.{Form}
-use Rattle.event_data.specs.declared.content.Form.TheVariants as forms
+use Rattle.event_data.specs.declared.content.DataForm.{DataForm}
+use Rattle.event_data.specs.declared.content.DataForm.TheVariants as forms
 use Rattle.event_data.specs.Forms.{CommandData, VariableData, ImageData, IsSeparator, IsText, IsWideText, IsCommand, IsVariable, IsImage, command_of, variable_of, image_of}
 use Rattle.event_data.specs.Blobs.{BlobData, TaggedData, IsPlainBlob, IsDescribedBlob, IsTagged, IsLocality, IsGuid, blob_of, tagged_of}
 use Rattle.event_data.specs.GptForms.{GptData, IsGpt}
@@ -37,7 +37,7 @@ described_blob_types = 0x00000013 ∷ 0x8000000a ∷ []
 
 -- The types that have a form of their own: EV_POST_CODE, EV_NO_ACTION, EV_SEPARATOR, EV_EVENT_TAG, EV_S_CRTM_VERSION, EV_IPL,
 -- EV_EFI_PLATFORM_FIRMWARE_BLOB.
-abbrev pub form_of : ℕ → Form
+abbrev pub form_of : ℕ → DataForm
 form_of kind =
     if kind == 0x00000001 then forms.PostCode
     else if kind == 0x00000003 then forms.Locality
@@ -92,7 +92,7 @@ SaysPostCode bytes (blob value) = IsPlainBlob bytes value × ((other : List ℕ)
 SaysPostCode bytes content = ⊥
 
 -- Data of this form says this.
-abbrev pub SaysIn : Form → List ℕ → Content → Type 0
+abbrev pub SaysIn : DataForm → List ℕ → Content → Type 0
 SaysIn forms.Separator bytes (separator value) = IsSeparator bytes value
 SaysIn forms.Text bytes content = SaysText bytes content
 SaysIn forms.Version bytes content = SaysVersion bytes content

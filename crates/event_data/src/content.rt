@@ -18,7 +18,7 @@ use crate::variable_reader::read_variable;
 
 /// A form of an event's data.
 #[derive(Clone, Copy)]
-pub enum Form {
+pub enum DataForm {
     /// Four bytes.
     Separator,
     /// A text, in UTF-8 or UTF-16.
@@ -48,27 +48,27 @@ pub enum Form {
 }
 
 /// The form that the data of events of this type has.
-pub fn form_of(kind: u32) -> Form
+pub fn form_of(kind: u32) -> DataForm
     ensures { result ≡ form_of kind }
 {
     match kind {
-        0x0000_0001 => Form::PostCode,
-        0x0000_0003 => Form::Locality,
-        0x0000_0004 => Form::Separator,
-        0x0000_0006 => Form::Tagged,
-        0x0000_0008 => Form::Version,
-        0x0000_000D => Form::Loader,
-        0x8000_0008 => Form::PlainBlob,
+        0x0000_0001 => DataForm::PostCode,
+        0x0000_0003 => DataForm::Locality,
+        0x0000_0004 => DataForm::Separator,
+        0x0000_0006 => DataForm::Tagged,
+        0x0000_0008 => DataForm::Version,
+        0x0000_000D => DataForm::Loader,
+        0x8000_0008 => DataForm::PlainBlob,
         0x0000_0005 | 0x0000_0007 | 0x0000_000C | 0x0000_0012 | 0x8000_0007 | 0x8000_0010 => {
-            Form::Text
+            DataForm::Text
         }
         0x8000_0001 | 0x8000_0002 | 0x8000_000C | 0x8000_00E0 | 0x8000_00E3 | 0x8000_00E4 => {
-            Form::Variable
+            DataForm::Variable
         }
-        0x8000_0003 | 0x8000_0004 | 0x8000_0005 => Form::Image,
-        0x8000_0006 | 0x8000_000D => Form::Gpt,
-        0x0000_0013 | 0x8000_000A => Form::DescribedBlob,
-        _ => Form::Other,
+        0x8000_0003 | 0x8000_0004 | 0x8000_0005 => DataForm::Image,
+        0x8000_0006 | 0x8000_000D => DataForm::Gpt,
+        0x0000_0013 | 0x8000_000A => DataForm::DescribedBlob,
+        _ => DataForm::Other,
     }
 }
 
@@ -142,23 +142,23 @@ fn post_code_content(bytes: &[u8]) -> Option<EventContent<'_>>
 }
 
 // What data of this form says.
-fn form_content(form: Form, bytes: &[u8]) -> Option<EventContent<'_>>
+fn form_content(form: DataForm, bytes: &[u8]) -> Option<EventContent<'_>>
     ensures { option_map content_of result ≡ form_content form bytes.now }
 {
     match form {
-        Form::Separator => Some(EventContent::Separator(read_separator(bytes)?)),
-        Form::Text => text_content(bytes),
-        Form::Version => version_content(bytes),
-        Form::Loader => loader_content(bytes),
-        Form::PostCode => post_code_content(bytes),
-        Form::Variable => Some(EventContent::Variable(read_variable(bytes)?)),
-        Form::Image => Some(EventContent::Image(read_image(bytes)?)),
-        Form::Gpt => Some(EventContent::Gpt(read_gpt(bytes)?)),
-        Form::PlainBlob => Some(EventContent::Blob(read_plain_blob(bytes)?)),
-        Form::DescribedBlob => Some(EventContent::Blob(read_described_blob(bytes)?)),
-        Form::Tagged => Some(EventContent::Tagged(read_tagged(bytes)?)),
-        Form::Locality => Some(EventContent::Locality(read_locality(bytes)?)),
-        Form::Other => None,
+        DataForm::Separator => Some(EventContent::Separator(read_separator(bytes)?)),
+        DataForm::Text => text_content(bytes),
+        DataForm::Version => version_content(bytes),
+        DataForm::Loader => loader_content(bytes),
+        DataForm::PostCode => post_code_content(bytes),
+        DataForm::Variable => Some(EventContent::Variable(read_variable(bytes)?)),
+        DataForm::Image => Some(EventContent::Image(read_image(bytes)?)),
+        DataForm::Gpt => Some(EventContent::Gpt(read_gpt(bytes)?)),
+        DataForm::PlainBlob => Some(EventContent::Blob(read_plain_blob(bytes)?)),
+        DataForm::DescribedBlob => Some(EventContent::Blob(read_described_blob(bytes)?)),
+        DataForm::Tagged => Some(EventContent::Tagged(read_tagged(bytes)?)),
+        DataForm::Locality => Some(EventContent::Locality(read_locality(bytes)?)),
+        DataForm::Other => None,
     }
 }
 
@@ -176,5 +176,5 @@ pub fn event_content(kind: u32, bytes: &[u8]) -> EventContent<'_>
 /// Bytes do not have the form.
 #[derive(Clone, Copy)]
 pub(crate) enum Mismatch {
-    Form,
+    DataForm,
 }

@@ -9,8 +9,8 @@ use Rattle.clap.specs.declared.builder.ValueParser.TheVariants.{Names}
 use Rattle.command_line.specs.Arguments.{beside, flag, optional, repeated, required, required_option, several, short_flag, without_default}
 use Rattle.command_line.specs.declared.command_table.ArgumentRow.{ArgumentRow}
 use Rattle.command_line.specs.declared.command_table.CommandRow.{CommandRow}
-use Rattle.command_line.specs.declared.command_table.Form.{Form}
-use Rattle.command_line.specs.declared.command_table.Form.TheVariants.{Required, Omittable, Repeated, Flag, FlagBeside, ShortFlagBeside, RequiredOption, Optional, OptionalBeside, Several, Defaulted}
+use Rattle.command_line.specs.declared.command_table.ArgumentForm.{ArgumentForm}
+use Rattle.command_line.specs.declared.command_table.ArgumentForm.TheVariants.{Required, Omittable, Repeated, Flag, FlagBeside, ShortFlagBeside, RequiredOption, Optional, OptionalBeside, Several, Defaulted}
 use Rattle.command_line.specs.declared.command_table.Values.{Values}
 use Rattle.command_line.specs.declared.command_table.Values.TheVariants.{Algs, Templates, Parsed}
 use Rattle.command_line.specs.declared.commands.KnownNames.{KnownNames}
@@ -31,7 +31,7 @@ parser_of_values known Templates = Names known.templates
 parser_of_values known (Parsed parser) = parser
 
 -- The rule of an argument with this name, given in this form.
-abbrev pub rule_of_form : KnownNames → Text → Form → Rule
+abbrev pub rule_of_form : KnownNames → Text → ArgumentForm → Rule
 rule_of_form known id Required = required id
 rule_of_form known id Omittable = new_rule id
 rule_of_form known id Repeated = repeated id
