@@ -2,12 +2,12 @@
 //! Lines of JSON alone have writers of their parts, as [`write_text`]: a line is begun ([`begin_line`]), written and ended ([`end_line`]).
 #![tactic(auto)]
 
-mod lines;
+mod json_lines;
 mod members;
 mod shown;
 mod writer;
 
-pub use lines::{begin_line, end_line, send_line};
+pub use json_lines::{begin_line, end_line, send_line};
 pub use members::{write_flag, write_hex, write_number, write_shown, write_text};
 pub use shown::{Shown, append, render};
 pub use writer::{CellWriter, Form, Written};

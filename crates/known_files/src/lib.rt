@@ -9,7 +9,7 @@ mod entry_file;
 mod fault;
 mod known;
 pub mod laws;
-mod lines;
+mod text_lines;
 mod listed;
 mod sorted;
 mod unknown;

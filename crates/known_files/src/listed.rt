@@ -12,7 +12,7 @@ ghost use Rattle.known_files.specs.Known.{AddsDigest, AddsLines, HoldsAll, Holds
 
 use crate::digest_line::digest_on;
 use crate::fault::KnownFault;
-use crate::lines::line_at;
+use crate::text_lines::line_at;
 use pcr_banks::Digest;
 use std::alloc::Global;
 

@@ -5,7 +5,7 @@
 mod all_registers;
 mod expected;
 pub mod laws;
-mod lines;
+mod text_lines;
 mod pcr_read;
 mod printed;
 mod register_range;
@@ -15,7 +15,7 @@ mod texts;
 
 pub use all_registers::{ALL_REGISTERS, register_numbered};
 pub use expected::{ExpectFault, Expected, read_expected, register_on};
-pub use lines::{after_prefix, split_once};
+pub use text_lines::{after_prefix, split_once};
 pub use printed::read_printed;
 pub use register_range::RegisterRange;
 pub use selection::{BankRange, Selection, SelectionFault};

@@ -8,7 +8,7 @@ ghost use Rattle.pcr_values.specs.declared.expected.Expected.{Expected};
 ghost use Rattle.pcr_values.specs.PcrReadTexts.{IsBankLine, IsValueLine, Position, Says, is_name_byte, two_columns};
 
 use crate::expected::Expected;
-use crate::lines::{after_prefix, before_suffix, register_named};
+use crate::text_lines::{after_prefix, before_suffix, register_named};
 use crate::stated::LinePosition;
 use pcr_banks::{Alg, Digest};
 

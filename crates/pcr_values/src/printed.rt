@@ -10,7 +10,7 @@ ghost use Rattle.pcr_values.specs.declared.printed.PrintedPart.TheVariants.{Quot
 ghost use Rattle.pcr_values.specs.PrintedTexts.{HasPrintedFault, IsPrintedText, IsQuoteOutput, IsSignatureLine, MayEnd, PrintedPosition, Prints, PrintsRegister, Turns};
 
 use crate::expected::{ExpectFault, Expected};
-use crate::lines::after_prefix;
+use crate::text_lines::after_prefix;
 use crate::pcr_read::InBank;
 use crate::stated::{LinePosition, read_lines};
 use std::alloc::Global;

@@ -6,7 +6,7 @@ ghost use Rattle.pcr_values.specs.declared.register_range.RegisterRange.{Registe
 ghost use Rattle.pcr_values.specs.RegisterRanges.{IsNumberedRange, IsRangeText, is_within};
 ghost use Rattle.pcr_values.specs.parts.RangeEnds.{AreEnds};
 
-use crate::lines::{register_named, split_once};
+use crate::text_lines::{register_named, split_once};
 use pcr_banks::REGISTERS;
 
 /// Some registers of a bank: from a first to a last one, both included.

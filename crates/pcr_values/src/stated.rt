@@ -8,7 +8,7 @@ ghost use Rattle.pcr_values.specs.StatedRegisters.{AreStated, BeginsWithStated, 
 ghost use Rattle.pcr_values.specs.parts.StatedLines.{AddsStated, SaysOnce, StatesAnother};
 
 use crate::expected::{ExpectFault, Expected};
-use crate::lines::line_at;
+use crate::text_lines::line_at;
 use std::alloc::Global;
 
 /// A position in a text whose lines have one form: the beginning, or after a line.

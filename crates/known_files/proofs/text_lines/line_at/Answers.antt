@@ -1,5 +1,5 @@
 use Rattle.known_files.proofs.LineLaws.{first_line, only_line}
-use Rattle.known_files.proofs.lines.line_at.Goals as goal
+use Rattle.known_files.proofs.text_lines.line_at.Goals as goal
 
 pub returns-in-Some-clause-line : goal.returns-in-Some-clause-line
 returns-in-Some-clause-line c = first_line c.args.text.now c.in-Some.parts.0.now c.in-Some.parts.1.now c.in-Some.ensures.cut

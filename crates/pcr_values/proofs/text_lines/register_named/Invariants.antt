@@ -1,5 +1,5 @@
 use Rattle.std.proofs.Common.{◌≡◌, ℕ, ◌<◌, decimal}
-use Rattle.pcr_values.proofs.lines.register_named.Given as goal
+use Rattle.pcr_values.proofs.text_lines.register_named.Given as goal
 
 abbrev pub invariant-loop-register : goal.invariant-loop-register
 invariant-loop-register l = (register : ℕ) → register < l.register → l.text ≡ decimal register → ⊥

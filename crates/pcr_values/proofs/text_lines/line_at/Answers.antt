@@ -1,7 +1,7 @@
 use Rattle.std.proofs.Common.{List, ℕ, ◌∷◌, [], sym, ap, ◌∙◌}
 use Rattle.pcr_values.specs.StatedRegisters.{lines_of}
 use Rattle.pcr_values.proofs.ExpectedLaws.{first_line, only_line}
-use Rattle.pcr_values.proofs.lines.line_at.Goals as goal
+use Rattle.pcr_values.proofs.text_lines.line_at.Goals as goal
 
 pub returns-in-Some-clause-line : goal.returns-in-Some-clause-line
 returns-in-Some-clause-line c =

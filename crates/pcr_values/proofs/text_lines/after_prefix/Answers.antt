@@ -1,7 +1,7 @@
 use Rattle.std.proofs.lemmas.Bool.Decides.{Decides-eqb}
 use Rattle.std.proofs.lemmas.Slice.Eq.{strip_prefix_is}
 use Rattle.pcr_values.proofs.LineLaws.{if_absent, if_found}
-use Rattle.pcr_values.proofs.lines.after_prefix.Goals as goal
+use Rattle.pcr_values.proofs.text_lines.after_prefix.Goals as goal
 
 pub returns-clause-found : goal.returns-clause-found
 returns-clause-found c =
