@@ -8,15 +8,15 @@ pub use Rattle.agent_plans.specs.declared.plan.DataShown.{DataShown}
 use Rattle.agent_plans.specs.declared.plan.DataShown.TheVariants.{Size, Bytes, Meaning}
 pub use Rattle.cells.specs.declared.writer.Form.{Form}
 use Rattle.cells.specs.declared.writer.Form.TheVariants as forms
-pub use Rattle.agent_plans.specs.declared.plan.Judged.{Judged}
-use Rattle.agent_plans.specs.declared.plan.Judged.TheVariants as judged
+pub use Rattle.agent_plans.specs.declared.plan.ComparisonKind.{ComparisonKind}
+use Rattle.agent_plans.specs.declared.plan.ComparisonKind.TheVariants as kinds
 pub use Rattle.agent_plans.specs.declared.plan.Measurement.{Measurement}
 pub use Rattle.agent_plans.specs.declared.plan.Plan.{Plan}
 use Rattle.agent_plans.specs.declared.plan.Plan.TheVariants as plans
 pub use Rattle.agent_plans.specs.declared.plan.Print.{Print}
 use Rattle.agent_plans.specs.declared.plan.Print.TheVariants.{Binary}
-use Rattle.agent_plans.specs.declared.plan.Question.{Question}
-use Rattle.agent_plans.specs.declared.plan.Question.TheVariants as questions
+use Rattle.agent_plans.specs.declared.plan.Query.{Query}
+use Rattle.agent_plans.specs.declared.plan.Query.TheVariants as queries
 pub use Rattle.agent_plans.specs.declared.plan.Task.{Task}
 use Rattle.agent_plans.specs.declared.plan.Task.TheVariants as tasks
 
@@ -29,7 +29,7 @@ task_of (plans.Measure alg template workers limit print log files) = (
   forms.Text,
 )
 task_of (plans.Verify log list expected) =
-    (tasks.Answer (questions.Judge (record { judged = judged.Verdict log Whole None None; list = list; expected = expected; required = None; known = None; explained = false })), forms.Text)
+    (tasks.Answer (queries.Comparison (record { kind = kinds.Verdict log Whole None None; list = list; expected = expected; required = None; known = None; explained = false })), forms.Text)
 task_of (plans.Show list) = (tasks.Entries list, forms.Text)
 task_of (plans.Help text) = (tasks.Help text, forms.Text)
 task_of (plans.Task task form) = (task, form)
@@ -37,14 +37,14 @@ task_of (plans.Task task form) = (task, form)
 -- ---- one plan for each
 
 -- The verdict on a whole list, and nothing more.
-abbrev pub is_plain_verdict : Judged → Option (String Global) → Option (Vec (String Global)) → Bool → Bool
-is_plain_verdict (judged.Verdict log Whole None None) None None false = true
-is_plain_verdict judged required known explained = false
+abbrev pub is_plain_verdict : ComparisonKind → Option (String Global) → Option (Vec (String Global)) → Bool → Bool
+is_plain_verdict (kinds.Verdict log Whole None None) None None false = true
+is_plain_verdict kind required known explained = false
 
 -- Some other plan than `Task` requests this, as text.
 abbrev pub has_plan : Task → Bool
 has_plan tasks.Registers = true
-has_plan (tasks.Answer (questions.Judge judge)) = is_plain_verdict judge.judged judge.required judge.known judge.explained
+has_plan (tasks.Answer (queries.Comparison judge)) = is_plain_verdict judge.kind judge.required judge.known judge.explained
 has_plan (tasks.Measure request) = not (is_some request.names)
 has_plan (tasks.Entries list) = true
 has_plan (tasks.Help text) = true
@@ -77,15 +77,15 @@ IsWithinLimits form request =
     (1 ≤ request.workers) × (request.workers ≤ 8) × (1 ≤ request.limit) × (vec_len request.files < 2 ^ 32) × HasForm form request.print
 
 -- Texts of known files are named only for a verdict, and only where registers are required.
-abbrev pub TakesKnown : Judged → Option (String Global) → Option (Vec (String Global)) → Type 0
-TakesKnown judged required None = Unit {0}
-TakesKnown (judged.Positions log) required (Some names) = ⊥
-TakesKnown judged None (Some names) = ⊥
-TakesKnown judged (Some text) (Some names) = Unit {0}
+abbrev pub TakesKnown : ComparisonKind → Option (String Global) → Option (Vec (String Global)) → Type 0
+TakesKnown kind required None = Unit {0}
+TakesKnown (kinds.Positions log) required (Some names) = ⊥
+TakesKnown kind None (Some names) = ⊥
+TakesKnown kind (Some text) (Some names) = Unit {0}
 
 -- So it is in a question.
-abbrev pub NamesKnown : Question → Type 0
-NamesKnown (questions.Judge judge) = TakesKnown judge.judged judge.required judge.known
+abbrev pub NamesKnown : Query → Type 0
+NamesKnown (queries.Comparison judge) = TakesKnown judge.kind judge.required judge.known
 NamesKnown question = Unit {0}
 
 abbrev pub IsWithin : Form → Task → Type 0

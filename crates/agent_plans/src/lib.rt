@@ -7,6 +7,6 @@ mod plan;
 pub use cells::Form;
 pub use fault::ArgumentsFault;
 pub use plan::{
-    Attest, ConfirmedBy, DataShown, Judge, Judged, Measurement, NameEnd, Names, Plan, Print,
-    Question, Quoting, Scope, Task,
+    AttestOptions, ConfirmedBy, DataShown, ComparisonOptions, ComparisonKind, Measurement, NameEnd, Names, Plan, Print,
+    Query, Quoting, Scope, Task,
 };

@@ -3,7 +3,7 @@
 ghost use Rattle.std.specs.Prelude.{◌≡◌};
 ghost use Rattle.agent_plans.specs.Plans.{IsOneOf, task_of};
 ghost use Rattle.cells.specs.declared.writer.Form.TheVariants.{Text};
-ghost use Rattle.agent_plans.specs.declared.plan.Question.TheVariants as questions;
+ghost use Rattle.agent_plans.specs.declared.plan.Query.TheVariants as queries;
 ghost use Rattle.agent_plans.specs.declared.plan.Task.TheVariants as tasks;
 
 use cells::Form;
@@ -53,7 +53,7 @@ pub enum Scope {
 
 /// What is judged, with what only it is of.
 #[derive(Drop)]
-pub enum Judged {
+pub enum ComparisonKind {
     /// A log, a list and expected registers.
     Verdict {
         /// The name of the firmware event log, binary.
@@ -76,9 +76,9 @@ pub enum Judged {
 
 /// What is asked of a list and expected registers.
 #[derive(Drop)]
-pub struct Judge {
+pub struct ComparisonOptions {
     /// What is judged.
-    pub judged: Judged,
+    pub kind: ComparisonKind,
     /// The name of the measurement list, binary; with a checkpoint, of what follows it.
     pub list: String,
     /// The name of the text of expected registers.
@@ -110,7 +110,7 @@ pub struct Quoting {
 
 /// What is asked of a log and a list where the TPM has quoted registers.
 #[derive(Drop)]
-pub struct Attest {
+pub struct AttestOptions {
     /// The name of the firmware event log, binary.
     pub log: String,
     /// The list and the quote.
@@ -172,7 +172,7 @@ pub struct Measurement {
 
 /// What is asked of a log, of a list, of a text of registers or of a key.
 #[derive(Drop)]
-pub enum Question {
+pub enum Query {
     /// The registers after a firmware event log.
     LogRegisters {
         /// The name of the log, binary.
@@ -184,9 +184,9 @@ pub enum Question {
         list: String,
     },
     /// What a list is worth.
-    Judge(Judge),
+    Comparison(ComparisonOptions),
     /// Whether a quote is of a log and a list.
-    Attest(Attest),
+    Attestation(AttestOptions),
     /// The expected registers that `tpm2_pcrread` or `tpm2_checkquote` printed.
     Expected {
         /// The name of the text that one of them printed.
@@ -211,7 +211,7 @@ pub enum Task {
     /// Show the registers after a firmware event log, which is read in hexadecimal from standard input.
     Registers,
     /// Answer a question.
-    Answer(Question),
+    Answer(Query),
     /// Measure files into the registers of a log.
     Measure(Measurement),
     /// Show the events of a firmware event log.
@@ -318,21 +318,21 @@ impl Plan {
                 list,
                 expected,
             } => {
-                let judged = Judged::Verdict {
+                let kind = ComparisonKind::Verdict {
                     log,
                     scope: Scope::Whole,
                     resume: None,
                     save: None,
                 };
-                let judge = Judge {
-                    judged,
+                let judge = ComparisonOptions {
+                    kind,
                     list,
                     expected,
                     required: None,
                     known: None,
                     explained: false,
                 };
-                (Task::Answer(Question::Judge(judge)), Form::Text)
+                (Task::Answer(Query::Comparison(judge)), Form::Text)
             }
             Plan::Show { list } => (Task::Entries { list }, Form::Text),
             Plan::Help(text) => (Task::Help(text), Form::Text),
@@ -370,7 +370,7 @@ impl Plan {
                 log,
                 files,
             },
-            (Task::Answer(Question::Judge(judge)), Form::Text) => judge_plan(judge),
+            (Task::Answer(Query::Comparison(judge)), Form::Text) => comparison_plan(judge),
             (Task::Entries { list }, Form::Text) => Plan::Show { list },
             (Task::Help(text), Form::Text) => Plan::Help(text),
             (task, form) => Plan::Task(task, form),
@@ -379,21 +379,21 @@ impl Plan {
 }
 
 // The plan of this question, shown as text: `Verify`, if it is the verdict on a whole list, and nothing more.
-fn judge_plan(judge: Judge) -> Plan
-    ensures task { task_of result ≡ (tasks.Answer (questions.Judge judge), Text) }
+fn comparison_plan(judge: ComparisonOptions) -> Plan
+    ensures task { task_of result ≡ (tasks.Answer (queries.Comparison judge), Text) }
     ensures one { IsOneOf result }
 {
-    let Judge {
-        judged,
+    let ComparisonOptions {
+        kind,
         list,
         expected,
         required,
         known,
         explained,
     } = judge;
-    match (judged, required, known, explained) {
+    match (kind, required, known, explained) {
         (
-            Judged::Verdict {
+            ComparisonKind::Verdict {
                 log,
                 scope: Scope::Whole,
                 resume: None,
@@ -407,16 +407,16 @@ fn judge_plan(judge: Judge) -> Plan
             list,
             expected,
         },
-        (judged, required, known, explained) => {
-            let judge = Judge {
-                judged,
+        (kind, required, known, explained) => {
+            let judge = ComparisonOptions {
+                kind,
                 list,
                 expected,
                 required,
                 known,
                 explained,
             };
-            Plan::Task(Task::Answer(Question::Judge(judge)), Form::Text)
+            Plan::Task(Task::Answer(Query::Comparison(judge)), Form::Text)
         }
     }
 }

@@ -12,15 +12,15 @@ use Rattle.pcr_banks.specs.Hashing.{name_of}
 use Rattle.ima_list.specs.Templates.{template_name}
 use Rattle.agent_plans.specs.Plans.{IsOneOf, task_of}
 use Rattle.hex.specs.Hex.{decode_of}
-use Rattle.agent_plans.specs.declared.plan.Attest.{Attest}
+use Rattle.agent_plans.specs.declared.plan.AttestOptions.{AttestOptions}
 use Rattle.agent_plans.specs.declared.plan.ConfirmedBy.{ConfirmedBy}
 use Rattle.agent_plans.specs.declared.plan.ConfirmedBy.TheVariants.{Expected, Nothing, Quote}
 use Rattle.agent_plans.specs.declared.plan.DataShown.{DataShown}
 use Rattle.agent_plans.specs.declared.plan.DataShown.TheVariants.{Bytes, Meaning}
 use Rattle.cells.specs.declared.writer.Form.{Form}
 use Rattle.cells.specs.declared.writer.Form.TheVariants as forms
-use Rattle.agent_plans.specs.declared.plan.Judged.{Judged}
-use Rattle.agent_plans.specs.declared.plan.Judged.TheVariants as judged
+use Rattle.agent_plans.specs.declared.plan.ComparisonKind.{ComparisonKind}
+use Rattle.agent_plans.specs.declared.plan.ComparisonKind.TheVariants as kinds
 use Rattle.agent_plans.specs.declared.plan.Measurement.{Measurement}
 use Rattle.agent_plans.specs.declared.plan.NameEnd.TheVariants.{LineFeed, Nul}
 use Rattle.agent_plans.specs.declared.plan.Names.{Names}
@@ -28,8 +28,8 @@ use Rattle.agent_plans.specs.declared.plan.Plan.{Plan}
 use Rattle.agent_plans.specs.declared.plan.Plan.TheVariants as plans
 use Rattle.agent_plans.specs.declared.plan.Print.{Print}
 use Rattle.agent_plans.specs.declared.plan.Print.TheVariants as prints
-use Rattle.agent_plans.specs.declared.plan.Question.{Question}
-use Rattle.agent_plans.specs.declared.plan.Question.TheVariants as questions
+use Rattle.agent_plans.specs.declared.plan.Query.{Query}
+use Rattle.agent_plans.specs.declared.plan.Query.TheVariants as queries
 use Rattle.agent_plans.specs.declared.plan.Quoting.{Quoting}
 use Rattle.agent_plans.specs.declared.plan.Scope.TheVariants.{Whole, Prefix}
 use Rattle.agent_plans.specs.declared.plan.Task.{Task}
@@ -264,7 +264,7 @@ pub record HasQuoting (list : Text) (rows : List Row) (quote : String Global) (q
   pub is_signed_is : IsFlag (codes "signature-checked") rows false true quoting.is_signed
 
 -- The matches have the options and names of this attestation.
-pub record HasAttest (rows : List Row) (attest : Attest) : Type 0 where
+pub record HasAttestOptions (rows : List Row) (attest : AttestOptions) : Type 0 where
   pub log_is : IsGivenAs (codes "LOG") rows (Some attest.log)
   pub quote_is : IsGivenAs (codes "QUOTE") rows (Some attest.quoting.quote)
   pub quoting_is : HasQuoting (codes "LIST") rows attest.quoting.quote attest.quoting
@@ -321,42 +321,42 @@ IsConfirmedBy rows (Quote quoting) =
 -- ---- commands and their tasks
 
 -- The command of this name judges this, and the matches have the options and names that only this has.
-abbrev pub HasJudged : Text → List Row → Judged → Type 0
-HasJudged command rows (judged.Verdict log scope resume save) =
+abbrev pub HasComparison : Text → List Row → ComparisonKind → Type 0
+HasComparison command rows (kinds.Verdict log scope resume save) =
     (command ≡ codes "verify")
     × IsGivenAs (codes "LOG") rows (Some log)
     × IsFlag (codes "prefix") rows Whole Prefix scope
     × IsGivenAs (codes "resume") rows resume
     × IsGivenAs (codes "save") rows save
-HasJudged command rows (judged.Positions log) = (command ≡ codes "locate") × IsGivenAs (codes "LOG") rows (Some log)
-HasJudged command rows judged.ListVerdict = command ≡ codes "replay"
+HasComparison command rows (kinds.Positions log) = (command ≡ codes "locate") × IsGivenAs (codes "LOG") rows (Some log)
+HasComparison command rows kinds.ListVerdict = command ≡ codes "replay"
 
 -- The command of this name asks this, and the matches have its options and names. `ListRegisters` requires that none of EXPECTED,
 -- `--require`, `--known` and `--explain` is present.
-abbrev pub HasQuestion : Text → List Row → Question → Type 0
-HasQuestion command rows (questions.LogRegisters log) = (command ≡ codes "registers") × IsGivenAs (codes "LOG") rows (Some log)
-HasQuestion command rows (questions.ListRegisters list) =
+abbrev pub HasQuery : Text → List Row → Query → Type 0
+HasQuery command rows (queries.LogRegisters log) = (command ≡ codes "registers") × IsGivenAs (codes "LOG") rows (Some log)
+HasQuery command rows (queries.ListRegisters list) =
     (command ≡ codes "replay")
     × IsGivenAs (codes "LIST") rows (Some list)
     × IsGivenAs (codes "EXPECTED") rows None
     × IsGivenAs (codes "require") rows None
     × AreGivenAs (codes "known") rows None
     × IsFlag (codes "explain") rows false true false
-HasQuestion command rows (questions.Judge judge) =
-    HasJudged command rows judge.judged
+HasQuery command rows (queries.Comparison judge) =
+    HasComparison command rows judge.kind
     × IsGivenAs (codes "LIST") rows (Some judge.list)
     × IsGivenAs (codes "EXPECTED") rows (Some judge.expected)
     × IsGivenAs (codes "require") rows judge.required
     × AreGivenAs (codes "known") rows judge.known
     × IsFlag (codes "explain") rows false true judge.explained
-HasQuestion command rows (questions.Attest attest) = (command ≡ codes "attest") × HasAttest rows attest
-HasQuestion command rows (questions.Expected printed registers) =
+HasQuery command rows (queries.Attestation attest) = (command ≡ codes "attest") × HasAttestOptions rows attest
+HasQuery command rows (queries.Expected printed registers) =
     (command ≡ codes "expected") × IsGivenAs (codes "PCRREAD") rows (Some printed) × IsGivenAs (codes "registers") rows registers
-HasQuestion command rows (questions.Key area purpose part) = (command ≡ codes "key") × HasKey rows area purpose part
+HasQuery command rows (queries.Key area purpose part) = (command ≡ codes "key") × HasKey rows area purpose part
 
 -- The command of this name does this, and the matches have its options and names.
 abbrev pub HasValues : Text → List Row → Task → Type 0
-HasValues command rows (tasks.Answer question) = HasQuestion command rows question
+HasValues command rows (tasks.Answer question) = HasQuery command rows question
 HasValues command rows (tasks.Measure request) = (command ≡ codes "measure") × HasMeasure rows request
 HasValues command rows (tasks.Events log shown confirmed_by) =
     (command ≡ codes "events") × IsGivenAs (codes "LOG") rows (Some log) × IsDataShown rows shown × IsConfirmedBy rows confirmed_by

@@ -5,11 +5,11 @@ ghost use Rattle.clap.specs.Values.{kind_of};
 ghost use Rattle.clap.specs.Words.{Text as Words, found_of, rows_of, subcommand_rows_of};
 ghost use Rattle.std.specs.Vec.Iter.{into_iter_items};
 ghost use Rattle.agent_plans.specs.Plans.{IsWithinRanges, IsWithin, NamesKnown, TakesKnown};
-ghost use Rattle.command_line.specs.Arguments.{BeginsWithVersion, HasHelpWord, HasJudged, HasQuestion, HasValues, HasValuesIn, IsRequestedBy, IsHelp, IsPlanOrHelp, asks_help, asks_version};
+ghost use Rattle.command_line.specs.Arguments.{BeginsWithVersion, HasHelpWord, HasComparison, HasQuery, HasValues, HasValuesIn, IsRequestedBy, IsHelp, IsPlanOrHelp, asks_help, asks_version};
 ghost use Rattle.std.specs.List.{list_any};
 ghost use Rattle.cells.specs.declared.writer.Form.TheVariants.{Text};
 ghost use Rattle.agent_plans.specs.declared.plan.Plan.TheVariants as plans;
-ghost use Rattle.agent_plans.specs.declared.plan.Question.TheVariants as questions;
+ghost use Rattle.agent_plans.specs.declared.plan.Query.TheVariants as queries;
 ghost use Rattle.agent_plans.specs.declared.plan.Task.TheVariants.{Version};
 
 use crate::commands::{KnownNames, all_commands};
@@ -17,7 +17,7 @@ use crate::values::{
     attest_of, boot_of, events_of, flag_of, key_of, known_of, measurement_of, name_of,
     text_if_given,
 };
-use agent_plans::{ArgumentsFault, Form, Judge, Judged, Plan, Question, Scope, Task};
+use agent_plans::{ArgumentsFault, Form, ComparisonOptions, ComparisonKind, Plan, Query, Scope, Task};
 use clap::error::ErrorKind;
 use clap::{ArgMatches, Error};
 use hex::FromHexError;
@@ -303,76 +303,76 @@ fn question_of(
     alloc: Global,
     command: &str,
     matches: &ArgMatches,
-) -> Result<Question, ArgumentsFault>
-    ensures values { IfOk result (HasQuestion command.now (rows_of (found_of matches.now))) }
+) -> Result<Query, ArgumentsFault>
+    ensures values { IfOk result (HasQuery command.now (rows_of (found_of matches.now))) }
     ensures known { IfOk result NamesKnown }
 {
     match command {
         "verify" => {
-            let judged = Judged::Verdict {
+            let kind = ComparisonKind::Verdict {
                 log: name_of(alloc, matches, "LOG")?,
                 scope: flag_of(matches, "prefix", Scope::Whole, Scope::Prefix)?,
                 resume: text_if_given(alloc, matches, "resume")?,
                 save: text_if_given(alloc, matches, "save")?,
             };
-            Ok(Question::Judge(judge_of(alloc, matches, judged)?))
+            Ok(Query::Comparison(comparison_of(alloc, matches, kind)?))
         }
         "locate" => {
             let log = name_of(alloc, matches, "LOG")?;
-            Ok(Question::Judge(judge_of(alloc, matches, Judged::Positions { log })?))
+            Ok(Query::Comparison(comparison_of(alloc, matches, ComparisonKind::Positions { log })?))
         }
-        "expected" => Ok(Question::Expected {
+        "expected" => Ok(Query::Expected {
             printed: name_of(alloc, matches, "PCRREAD")?,
             registers: text_if_given(alloc, matches, "registers")?,
         }),
         "key" => key_of(alloc, matches),
-        "registers" => Ok(Question::LogRegisters {
+        "registers" => Ok(Query::LogRegisters {
             log: name_of(alloc, matches, "LOG")?,
         }),
         "replay" => replay_of(alloc, matches),
-        "attest" => Ok(Question::Attest(attest_of(alloc, matches)?)),
+        "attest" => Ok(Query::Attestation(attest_of(alloc, matches)?)),
         _ => Err(ArgumentsFault::Usage),
     }
 }
 
 // What is asked of a list and expected registers, if this is judged.
-fn judge_of(alloc: Global, matches: &ArgMatches, judged: Judged) -> Result<Judge, ArgumentsFault>
-    ensures values { IfOk result (λ judge. (command : Words) → HasJudged command (rows_of (found_of matches.now)) judged
-        → HasQuestion command (rows_of (found_of matches.now)) (questions.Judge judge)) }
-    ensures known { IfOk result (λ judge. NamesKnown (questions.Judge judge)) }
+fn comparison_of(alloc: Global, matches: &ArgMatches, kind: ComparisonKind) -> Result<ComparisonOptions, ArgumentsFault>
+    ensures values { IfOk result (λ judge. (command : Words) → HasComparison command (rows_of (found_of matches.now)) kind
+        → HasQuery command (rows_of (found_of matches.now)) (queries.Comparison judge)) }
+    ensures known { IfOk result (λ judge. NamesKnown (queries.Comparison judge)) }
 {
     let required = text_if_given(alloc, matches, "require")?;
-    Ok(Judge {
+    Ok(ComparisonOptions {
         list: name_of(alloc, matches, "LIST")?,
         expected: name_of(alloc, matches, "EXPECTED")?,
-        known: known_of(alloc, matches, &judged, &required)?,
-        judged,
+        known: known_of(alloc, matches, &kind, &required)?,
+        kind,
         required,
         explained: flag_of(matches, "explain", false, true)?,
     })
 }
 
 // What `replay` asks. Refuses `--require` and `--explain` without EXPECTED, and `--known` without `--require`.
-fn replay_of(alloc: Global, matches: &ArgMatches) -> Result<Question, ArgumentsFault>
-    ensures values { IfOk result (HasQuestion (codes "replay") (rows_of (found_of matches.now))) }
+fn replay_of(alloc: Global, matches: &ArgMatches) -> Result<Query, ArgumentsFault>
+    ensures values { IfOk result (HasQuery (codes "replay") (rows_of (found_of matches.now))) }
     ensures known { IfOk result NamesKnown }
 {
     let list = name_of(alloc, matches, "LIST")?;
     let expected = text_if_given(alloc, matches, "EXPECTED")?;
     let required = text_if_given(alloc, matches, "require")?;
-    let judged = Judged::ListVerdict;
-    let known = known_of(alloc, matches, &judged, &required)?;
+    let kind = ComparisonKind::ListVerdict;
+    let known = known_of(alloc, matches, &kind, &required)?;
     let explained = flag_of(matches, "explain", false, true)?;
     match (expected, required, known, explained) {
-        (Some(expected), required, known, explained) => Ok(Question::Judge(Judge {
-            judged,
+        (Some(expected), required, known, explained) => Ok(Query::Comparison(ComparisonOptions {
+            kind,
             list,
             expected,
             required,
             known,
             explained,
         })),
-        (None, None, None, false) => Ok(Question::ListRegisters { list }),
+        (None, None, None, false) => Ok(Query::ListRegisters { list }),
         (None, _, _, _) => Err(ArgumentsFault::Usage),
     }
 }

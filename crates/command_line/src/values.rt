@@ -3,12 +3,12 @@
 ghost use Rattle.std.specs.Prelude.{◌≡◌, ◌<◌, ◌≤◌, ◌^◌, [], Some, codes, map, string_bytes, unwrap_or, vec_len, IfOk};
 ghost use Rattle.clap.specs.Words.{all_of, first_of, found_of, rows_of};
 ghost use Rattle.agent_plans.specs.Plans.{HasForm, IsWithin, IsWithinLimits, TakesKnown};
-ghost use Rattle.command_line.specs.Arguments.{AreFurtherNames, AreGivenAs, HasAttest, HasBytes, HasMeasure, HasNoQuoting, HasNumber, HasQuestion, HasQuoting, HasValues, IsConfirmedBy, IsDataShown, IsFlag, IsGivenAs, part_name, print_name};
+ghost use Rattle.command_line.specs.Arguments.{AreFurtherNames, AreGivenAs, HasAttestOptions, HasBytes, HasMeasure, HasNoQuoting, HasNumber, HasQuery, HasQuoting, HasValues, IsConfirmedBy, IsDataShown, IsFlag, IsGivenAs, part_name, print_name};
 
 use crate::command_table::{MOST_RECORDS, MOST_WORKERS};
 use agent_plans::{
-    ArgumentsFault, Attest, ConfirmedBy, DataShown, Form, Judged, Measurement, NameEnd, Names,
-    Print, Question, Quoting, Scope, Task,
+    ArgumentsFault, AttestOptions, ConfirmedBy, DataShown, Form, ComparisonKind, Measurement, NameEnd, Names,
+    Print, Query, Quoting, Scope, Task,
 };
 use clap::ArgMatches;
 use hex::FromHexError;
@@ -144,11 +144,11 @@ fn data_of(matches: &ArgMatches) -> Result<DataShown, ArgumentsFault>
 }
 
 /// The options and names of `attest`. Refuses a nonce that is not hexadecimal.
-pub(crate) fn attest_of(alloc: Global, matches: &ArgMatches) -> Result<Attest, ArgumentsFault>
-    ensures { IfOk result (HasAttest (rows_of (found_of matches.now))) }
+pub(crate) fn attest_of(alloc: Global, matches: &ArgMatches) -> Result<AttestOptions, ArgumentsFault>
+    ensures { IfOk result (HasAttestOptions (rows_of (found_of matches.now))) }
 {
     let quote = name_of(alloc, matches, "QUOTE")?;
-    Ok(Attest {
+    Ok(AttestOptions {
         log: name_of(alloc, matches, "LOG")?,
         quoting: quoting_of(alloc, matches, quote, "LIST")?,
         expected: text_if_given(alloc, matches, "EXPECTED")?,
@@ -161,10 +161,10 @@ pub(crate) fn attest_of(alloc: Global, matches: &ArgMatches) -> Result<Attest, A
 }
 
 /// What `key` asks.
-pub(crate) fn key_of(alloc: Global, matches: &ArgMatches) -> Result<Question, ArgumentsFault>
-    ensures { IfOk result (HasQuestion (codes "key") (rows_of (found_of matches.now))) }
+pub(crate) fn key_of(alloc: Global, matches: &ArgMatches) -> Result<Query, ArgumentsFault>
+    ensures { IfOk result (HasQuery (codes "key") (rows_of (found_of matches.now))) }
 {
-    Ok(Question::Key {
+    Ok(Query::Key {
         area: name_of(alloc, matches, "FILE")?,
         purpose: flag_of(
             matches,
@@ -250,15 +250,15 @@ fn files_of(alloc: Global, matches: &ArgMatches) -> Result<Vec<String>, Argument
 pub(crate) fn known_of(
     alloc: Global,
     matches: &ArgMatches,
-    judged: &Judged,
+    kind: &ComparisonKind,
     required: &Option<String>,
 ) -> Result<Option<Vec<String>>, ArgumentsFault>
     ensures names { IfOk result (AreGivenAs (codes "known") (rows_of (found_of matches.now))) }
-    ensures takes { IfOk result (TakesKnown judged.now required.now) }
+    ensures takes { IfOk result (TakesKnown kind.now required.now) }
 {
-    match (names_if_given(alloc, matches, "known")?, judged, required) {
+    match (names_if_given(alloc, matches, "known")?, kind, required) {
         (None, _, _) => Ok(None),
-        (Some(_), Judged::Positions { .. }, _) | (Some(_), _, None) => Err(ArgumentsFault::Usage),
+        (Some(_), ComparisonKind::Positions { .. }, _) | (Some(_), _, None) => Err(ArgumentsFault::Usage),
         (known, _, _) => Ok(known),
     }
 }

@@ -7,7 +7,7 @@ use Rattle.byte_streams.specs.declared.piece_reader.ReadFault.TheVariants.{Memor
 use Rattle.byte_streams.specs.Streams.{SourceState, failures_after_reading}
 use Rattle.agent_inputs.specs.Loading.{HasFailed, Inputs}
 use Rattle.agent_inputs.proofs.LoadingLemmas.{HasLost}
-use Rattle.agent_plans.specs.declared.plan.Question.{Question}
+use Rattle.agent_plans.specs.declared.plan.Query.{Query}
 use Rattle.agent_plans.specs.declared.plan.Task.{Task}
 use Rattle.agent_plans.specs.declared.plan.Task.TheVariants as tasks
 use Rattle.judging.specs.Requests.{Requested}
@@ -42,6 +42,6 @@ head_given None left head given is = (head, tt, record { rest = []; whole = sym 
 head_given (Some all) left head given is = (all, refl, rw given at is)
 
 -- Nothing is said where what a question asks is not seen to differ.
-pub nothing_seen : (inputs : Inputs) (task : Task) (question : Question) (asked : Requested) (text : List ℕ) → task ≡ tasks.Answer question
+pub nothing_seen : (inputs : Inputs) (task : Task) (question : Query) (asked : Requested) (text : List ℕ) → task ≡ tasks.Answer question
     → asked ≡ requested_by question → IsNotSeen inputs asked → text ≡ [] → TellsOf inputs task text
 nothing_seen inputs task question asked text is by unseen none = rw is (inl (rw by at unseen, none))

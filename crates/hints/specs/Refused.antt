@@ -4,10 +4,10 @@ use Rattle.agent_inputs.specs.declared.fault.RunFault.{RunFault}
 use Rattle.agent_inputs.specs.declared.fault.RunFault.TheVariants as runs
 use Rattle.agent_plans.specs.declared.plan.ConfirmedBy.{ConfirmedBy}
 use Rattle.agent_plans.specs.declared.plan.ConfirmedBy.TheVariants as confirmed
-use Rattle.agent_plans.specs.declared.plan.Judged.{Judged}
-use Rattle.agent_plans.specs.declared.plan.Judged.TheVariants as judged
-use Rattle.agent_plans.specs.declared.plan.Question.{Question}
-use Rattle.agent_plans.specs.declared.plan.Question.TheVariants as questions
+use Rattle.agent_plans.specs.declared.plan.ComparisonKind.{ComparisonKind}
+use Rattle.agent_plans.specs.declared.plan.ComparisonKind.TheVariants as kinds
+use Rattle.agent_plans.specs.declared.plan.Query.{Query}
+use Rattle.agent_plans.specs.declared.plan.Query.TheVariants as queries
 use Rattle.agent_plans.specs.declared.plan.Quoting.{Quoting}
 use Rattle.agent_plans.specs.declared.plan.Task.{Task}
 use Rattle.agent_plans.specs.declared.plan.Task.TheVariants as tasks
@@ -21,29 +21,29 @@ quote_in (confirmed.Quote quoting) = Some quoting
 quote_in confirmed = None
 
 abbrev pub quoting_of : Task → Option Quoting
-quoting_of (tasks.Answer (questions.Attest attest)) = Some attest.quoting
+quoting_of (tasks.Answer (queries.Attestation attest)) = Some attest.quoting
 quoting_of (tasks.Events log shown confirmed_by) = quote_in confirmed_by
 quoting_of (tasks.Boot log confirmed_by before) = quote_in confirmed_by
 quoting_of task = None
 
-abbrev pub judged_log : Judged → Option (List ℕ)
-judged_log (judged.Verdict log scope resume save) = Some (string_bytes log)
-judged_log (judged.Positions log) = Some (string_bytes log)
-judged_log judged.ListVerdict = None
+abbrev pub compared_log : ComparisonKind → Option (List ℕ)
+compared_log (kinds.Verdict log scope resume save) = Some (string_bytes log)
+compared_log (kinds.Positions log) = Some (string_bytes log)
+compared_log kinds.ListVerdict = None
 
 -- The log; none where there are two, as of a boot and the one before it.
 abbrev pub log_of : Task → Option (List ℕ)
 log_of (tasks.Measure request) = Some (string_bytes request.log)
-log_of (tasks.Answer (questions.LogRegisters log)) = Some (string_bytes log)
-log_of (tasks.Answer (questions.Attest attest)) = Some (string_bytes attest.log)
-log_of (tasks.Answer (questions.Judge judge)) = judged_log judge.judged
+log_of (tasks.Answer (queries.LogRegisters log)) = Some (string_bytes log)
+log_of (tasks.Answer (queries.Attestation attest)) = Some (string_bytes attest.log)
+log_of (tasks.Answer (queries.Comparison judge)) = compared_log judge.kind
 log_of (tasks.Events log shown confirmed_by) = Some (string_bytes log)
 log_of (tasks.Boot log confirmed_by None) = Some (string_bytes log)
 log_of task = None
 
 abbrev pub list_of : Task → Option (List ℕ)
-list_of (tasks.Answer (questions.Judge judge)) = Some (string_bytes judge.list)
-list_of (tasks.Answer (questions.ListRegisters list)) = Some (string_bytes list)
+list_of (tasks.Answer (queries.Comparison judge)) = Some (string_bytes judge.list)
+list_of (tasks.Answer (queries.ListRegisters list)) = Some (string_bytes list)
 list_of (tasks.Entries list) = Some (string_bytes list)
 list_of task = option_map (λ quoting. string_bytes quoting.list) (quoting_of task)
 
@@ -53,9 +53,9 @@ expected_in confirmed = None
 
 -- The text that should state registers: EXPECTED, or what tpm2-tools printed.
 abbrev pub expected_of : Task → Option (List ℕ)
-expected_of (tasks.Answer (questions.Expected printed registers)) = Some (string_bytes printed)
-expected_of (tasks.Answer (questions.Judge judge)) = Some (string_bytes judge.expected)
-expected_of (tasks.Answer (questions.Attest attest)) = option_map string_bytes attest.expected
+expected_of (tasks.Answer (queries.Expected printed registers)) = Some (string_bytes printed)
+expected_of (tasks.Answer (queries.Comparison judge)) = Some (string_bytes judge.expected)
+expected_of (tasks.Answer (queries.Attestation attest)) = option_map string_bytes attest.expected
 expected_of (tasks.Events log shown confirmed_by) = expected_in confirmed_by
 expected_of (tasks.Boot log confirmed_by before) = expected_in confirmed_by
 expected_of task = None
@@ -63,7 +63,7 @@ expected_of task = None
 -- ---- the refused input
 
 abbrev pub text_wanted : Task → ExpectedInput
-text_wanted (tasks.Answer (questions.Expected printed registers)) = wanted.Printed
+text_wanted (tasks.Answer (queries.Expected printed registers)) = wanted.Printed
 text_wanted task = wanted.Expected
 
 -- The input of this name, which should be this.

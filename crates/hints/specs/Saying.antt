@@ -2,7 +2,7 @@
 use Rattle.std.specs.Prelude.{◌≡◌, ℕ, ◌⊎◌, ◌++◌, ◌∷◌, Bool, List, [], codes, flat_map, take, Option, None, Some, MatchOption, IfSome, IfNone}
 use Rattle.agent_inputs.specs.declared.fault.RunFault.{RunFault}
 use Rattle.agent_inputs.specs.Loading.{Inputs}
-use Rattle.agent_plans.specs.declared.plan.Question.{Question}
+use Rattle.agent_plans.specs.declared.plan.Query.{Query}
 use Rattle.agent_plans.specs.declared.plan.Task.{Task}
 use Rattle.agent_plans.specs.declared.plan.Task.TheVariants as tasks
 use Rattle.judging.specs.Requests.{Requested}
@@ -22,13 +22,13 @@ use Rattle.questions.specs.declared.failures.Failure.{Failure}
 use Rattle.questions.specs.declared.failures.Failure.TheVariants as failures
 
 -- What a question asks, without known files.
-abbrev pub without_known : Question → Requested
+abbrev pub without_known : Query → Requested
 without_known question = with_known [] (requested_by question)
 
 -- Three lines at most, on the causes for which what is asked for differs when the inputs are judged once more, and on a prefix of the list, if all
 -- is well with one but for files that are not known; and whether the question's list records an older kernel's aggregate. Nothing is said only
 -- where it differs no longer, or cannot be judged again.
-abbrev pub TellsCauses : Inputs → Question → List ℕ → Type 0
+abbrev pub TellsCauses : Inputs → Query → List ℕ → Type 0
 TellsCauses inputs question text =
     (IsNotSeen inputs (requested_by question) × (text ≡ []))
     ⊎ ((causes : Causes) × (grown : Option Grown) × (is_old : Bool) × IsSeen inputs (requested_by question) causes

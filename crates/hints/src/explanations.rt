@@ -7,7 +7,7 @@ ghost use Rattle.hints.specs.Escaping.{is_shown};
 use crate::escapes::{escape_each, shown_line, shown_lines};
 use crate::task_inputs::{STANDARD_INPUT, input_of, known_name, quoting_of};
 use agent_inputs::RunFault;
-use agent_plans::{Judge, Question, Quoting, Task};
+use agent_plans::{ComparisonOptions, Query, Quoting, Task};
 use attestations::{Policy, PolicyFault};
 use boot_verdict::Requirement;
 use command_line::refusal_of;
@@ -106,15 +106,15 @@ fn of_value_in(alloc: Global, task: &Task) -> Result<String, AllocError>
     }
     let text = match task {
         Task::Answer(
-            Question::Judge(
-                Judge {
+            Query::Comparison(
+                ComparisonOptions {
                     required: Some(text),
                     ..
                 },
             ),
         ) => of_requirement(alloc, text)?,
         Task::Answer(
-            Question::Expected {
+            Query::Expected {
                 registers: Some(text),
                 ..
             },

@@ -1,11 +1,11 @@
 //! The names of a task's inputs.
 
 ghost use Rattle.std.specs.Prelude.{◌≡◌, option_map};
-ghost use Rattle.hints.specs.Refused.{as_wanted, expected_of, judged_log, list_of, log_of, quoting_of, refused_input, text_wanted};
+ghost use Rattle.hints.specs.Refused.{as_wanted, expected_of, compared_log, list_of, log_of, quoting_of, refused_input, text_wanted};
 
 use crate::wrong_input::ExpectedInput;
 use agent_inputs::RunFault;
-use agent_plans::{Attest, ConfirmedBy, Judge, Judged, Measurement, Question, Quoting, Task};
+use agent_plans::{AttestOptions, ConfirmedBy, ComparisonOptions, ComparisonKind, Measurement, Query, Quoting, Task};
 use measure_book::BookFault;
 
 /// What standard input is called.
@@ -19,12 +19,12 @@ pub(crate) fn input_of<'a>(task: &'a Task, fault: &RunFault) -> Option<&'a str> 
         (RunFault::List(_) | RunFault::Replay(_), _) => list_of(task),
         (RunFault::Expect(_), _) => expected_of(task),
         (RunFault::Quote(_), _) => Some(quoting_of(task)?.quote.as_str()),
-        (RunFault::Key(_), Task::Answer(Question::Key { area, .. })) => Some(area.as_str()),
-        (RunFault::Checkpoint(_), Task::Answer(Question::Attest(attest))) => {
+        (RunFault::Key(_), Task::Answer(Query::Key { area, .. })) => Some(area.as_str()),
+        (RunFault::Checkpoint(_), Task::Answer(Query::Attestation(attest))) => {
             attest.resume.as_deref()
         }
-        (RunFault::Checkpoint(_), Task::Answer(Question::Judge(judge))) => match &judge.judged {
-            Judged::Verdict { resume, .. } => resume.as_deref(),
+        (RunFault::Checkpoint(_), Task::Answer(Query::Comparison(judge))) => match &judge.kind {
+            ComparisonKind::Verdict { resume, .. } => resume.as_deref(),
             _ => None,
         },
         (RunFault::Outcome { job, .. }, Task::Measure(Measurement { files, .. })) => {
@@ -38,8 +38,8 @@ pub(crate) fn input_of<'a>(task: &'a Task, fault: &RunFault) -> Option<&'a str> 
 /// The name of the text of known files of this number, counted from 1.
 pub(crate) fn known_name(task: &Task, file: usize) -> Option<&str> {
     let names = match task {
-        Task::Answer(Question::Judge(judge)) => judge.known.as_ref()?,
-        Task::Answer(Question::Attest(attest)) => attest.known.as_ref()?,
+        Task::Answer(Query::Comparison(judge)) => judge.known.as_ref()?,
+        Task::Answer(Query::Attestation(attest)) => attest.known.as_ref()?,
         _ => return None,
     };
     let name = names.get(file.checked_sub(1)?)?;
@@ -73,7 +73,7 @@ fn text_wanted(task: &Task) -> ExpectedInput
     ensures { result ≡ text_wanted task.now }
 {
     match task {
-        Task::Answer(Question::Expected { .. }) => ExpectedInput::Printed,
+        Task::Answer(Query::Expected { .. }) => ExpectedInput::Printed,
         _ => ExpectedInput::Expected,
     }
 }
@@ -84,26 +84,26 @@ pub(crate) fn log_of(task: &Task) -> Option<&str>
 {
     match task {
         Task::Measure(Measurement { log, .. })
-        | Task::Answer(Question::LogRegisters { log })
-        | Task::Answer(Question::Attest(Attest { log, .. }))
+        | Task::Answer(Query::LogRegisters { log })
+        | Task::Answer(Query::Attestation(AttestOptions { log, .. }))
         | Task::Events { log, .. }
         | Task::Boot {
             log,
             before: None,
             ..
         } => Some(log.as_str()),
-        Task::Answer(Question::Judge(judge)) => judged_log(&judge.judged),
+        Task::Answer(Query::Comparison(judge)) => compared_log(&judge.kind),
         _ => None,
     }
 }
 
 // The log of what is judged.
-fn judged_log(judged: &Judged) -> Option<&str>
-    ensures { option_map (λ name. name.now) result ≡ judged_log judged.now }
+fn compared_log(kind: &ComparisonKind) -> Option<&str>
+    ensures { option_map (λ name. name.now) result ≡ compared_log kind.now }
 {
-    match judged {
-        Judged::Verdict { log, .. } | Judged::Positions { log } => Some(log.as_str()),
-        Judged::ListVerdict => None,
+    match kind {
+        ComparisonKind::Verdict { log, .. } | ComparisonKind::Positions { log } => Some(log.as_str()),
+        ComparisonKind::ListVerdict => None,
     }
 }
 
@@ -112,8 +112,8 @@ pub(crate) fn list_of(task: &Task) -> Option<&str>
     ensures { option_map (λ name. name.now) result ≡ list_of task.now }
 {
     match task {
-        Task::Answer(Question::Judge(Judge { list, .. }))
-        | Task::Answer(Question::ListRegisters { list })
+        Task::Answer(Query::Comparison(ComparisonOptions { list, .. }))
+        | Task::Answer(Query::ListRegisters { list })
         | Task::Entries { list } => Some(list.as_str()),
         _ => Some(quoting_of(task)?.list.as_str()),
     }
@@ -124,9 +124,9 @@ fn expected_of(task: &Task) -> Option<&str>
     ensures { option_map (λ name. name.now) result ≡ expected_of task.now }
 {
     match task {
-        Task::Answer(Question::Expected { printed, .. }) => Some(printed.as_str()),
-        Task::Answer(Question::Judge(Judge { expected, .. })) => Some(expected.as_str()),
-        Task::Answer(Question::Attest(Attest { expected, .. })) => expected.as_deref(),
+        Task::Answer(Query::Expected { printed, .. }) => Some(printed.as_str()),
+        Task::Answer(Query::Comparison(ComparisonOptions { expected, .. })) => Some(expected.as_str()),
+        Task::Answer(Query::Attestation(AttestOptions { expected, .. })) => expected.as_deref(),
         Task::Events {
             confirmed_by: ConfirmedBy::Expected(name),
             ..
@@ -144,7 +144,7 @@ pub(crate) fn quoting_of(task: &Task) -> Option<&Quoting>
     ensures { option_map (λ quoting. quoting.now) result ≡ quoting_of task.now }
 {
     match task {
-        Task::Answer(Question::Attest(Attest { quoting, .. }))
+        Task::Answer(Query::Attestation(AttestOptions { quoting, .. }))
         | Task::Events {
             confirmed_by: ConfirmedBy::Quote(quoting),
             ..

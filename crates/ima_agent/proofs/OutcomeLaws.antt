@@ -13,9 +13,9 @@ use Rattle.agent_plans.specs.declared.plan.ConfirmedBy.{ConfirmedBy}
 use Rattle.agent_plans.specs.declared.plan.DataShown.{DataShown}
 use Rattle.cells.specs.declared.writer.Form.{Form}
 use Rattle.cells.specs.declared.writer.Form.TheVariants.{Json, Text}
-use Rattle.agent_plans.specs.declared.plan.Judged.TheVariants as judged
-use Rattle.agent_plans.specs.declared.plan.Question.{Question}
-use Rattle.agent_plans.specs.declared.plan.Question.TheVariants as questions
+use Rattle.agent_plans.specs.declared.plan.ComparisonKind.TheVariants as kinds
+use Rattle.agent_plans.specs.declared.plan.Query.{Query}
+use Rattle.agent_plans.specs.declared.plan.Query.TheVariants as queries
 use Rattle.agent_plans.specs.declared.plan.Task.{Task}
 use Rattle.agent_plans.specs.declared.plan.Task.TheVariants as tasks
 use Rattle.rendering.specs.declared.outputs.Output.{Output}
@@ -193,6 +193,6 @@ answers_failed P old mid new fault answer sent reported = record {
 -- ---- texts of known files that are named
 
 -- Memory may run out for the texts that a question names.
-pub question_out : (inputs : Inputs) (question : Question) (form : Form) → (known_by question ≡ [] → ⊥)
+pub question_out : (inputs : Inputs) (question : Query) (form : Form) → (known_by question ≡ [] → ⊥)
     → IsFaultOf inputs (tasks.Answer question) form Memory
 question_out inputs question form some = inr (some, refl)

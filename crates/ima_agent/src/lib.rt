@@ -19,8 +19,8 @@ pub use agent_inputs::{
     SystemFiles, WriteSink, hash_from, load,
 };
 pub use agent_plans::{
-    Attest, ConfirmedBy, DataShown, Form, Judge, Judged, Measurement, NameEnd, Names, Plan, Print,
-    Question, Quoting, Scope, Task,
+    AttestOptions, ConfirmedBy, DataShown, Form, ComparisonOptions, ComparisonKind, Measurement, NameEnd, Names, Plan, Print,
+    Query, Quoting, Scope, Task,
 };
 pub use answers::{write_positions, write_report};
 pub use boot_verdict::{

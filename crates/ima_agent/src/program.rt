@@ -17,7 +17,7 @@ use crate::shown::{entries_for, shown_registers};
 use crate::streams::{DONE, Prepared, Sent, StreamFault};
 use crate::version::version_text;
 use agent_inputs::{AgentFiles, RunFault};
-use agent_plans::{Form, Measurement, Plan, Question, Task};
+use agent_plans::{Form, Measurement, Plan, Query, Task};
 use byte_streams::{Failed, Sink, send};
 use measuring::measure;
 use questions::{Failure, NoProgress, Progress, known_inputs, request_of, save_of};
@@ -258,7 +258,7 @@ fn send_text<S: Sink>(text: &[u8], status: u8, sink: &mut S) -> Sent
 // The output of the answer to a question.
 fn answer_for<F: AgentFiles>(
     alloc: Global,
-    question: &Question,
+    question: &Query,
     form: Form,
     files: &mut F,
 ) -> Prepared

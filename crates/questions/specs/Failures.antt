@@ -1,6 +1,6 @@
 -- When a person is told beside the output why a run failed, and what to do next.
 use Rattle.std.specs.Prelude.{Bool, false, ◌||◌}
-use Rattle.agent_plans.specs.declared.plan.Question.TheVariants as questions
+use Rattle.agent_plans.specs.declared.plan.Query.TheVariants as queries
 use Rattle.agent_plans.specs.declared.plan.Task.{Task}
 use Rattle.agent_plans.specs.declared.plan.Task.TheVariants as tasks
 use Rattle.questions.specs.declared.failures.Failure.{Failure}
@@ -8,8 +8,8 @@ use Rattle.questions.specs.declared.failures.Failure.TheVariants as failures
 
 -- The task asks to say what to do next.
 abbrev pub is_explained : Task → Bool
-is_explained (tasks.Answer (questions.Judge judge)) = judge.explained
-is_explained (tasks.Answer (questions.Attest attest)) = attest.explained
+is_explained (tasks.Answer (queries.Comparison judge)) = judge.explained
+is_explained (tasks.Answer (queries.Attestation attest)) = attest.explained
 is_explained task = false
 
 abbrev pub is_asked_for : Failure → Bool

@@ -2,12 +2,12 @@
 use Rattle.std.specs.Prelude.{ℕ, List, [], map, string_bytes, Option, None, Some, option_map, String}
 use Rattle.std.specs.Global.{Global, Vec}
 use Rattle.agent_plans.specs.declared.plan.Scope.TheVariants.{Whole}
-use Rattle.agent_plans.specs.declared.plan.Attest.{Attest}
-use Rattle.agent_plans.specs.declared.plan.Judge.{Judge}
-use Rattle.agent_plans.specs.declared.plan.Judged.{Judged}
-use Rattle.agent_plans.specs.declared.plan.Judged.TheVariants as judged
-use Rattle.agent_plans.specs.declared.plan.Question.{Question}
-use Rattle.agent_plans.specs.declared.plan.Question.TheVariants as questions
+use Rattle.agent_plans.specs.declared.plan.AttestOptions.{AttestOptions}
+use Rattle.agent_plans.specs.declared.plan.ComparisonOptions.{ComparisonOptions}
+use Rattle.agent_plans.specs.declared.plan.ComparisonKind.{ComparisonKind}
+use Rattle.agent_plans.specs.declared.plan.ComparisonKind.TheVariants as kinds
+use Rattle.agent_plans.specs.declared.plan.Query.{Query}
+use Rattle.agent_plans.specs.declared.plan.Query.TheVariants as queries
 use Rattle.agent_plans.specs.declared.plan.Quoting.{Quoting}
 use Rattle.judging.specs.Requests.{Any, Attested, Attests, Requested, Compared, Compares, ExpectedOf, Judgement, KeyOf, ListRegistersOf, ListVerdictOf, LogRegistersOf, Nothing, PositionsOf, Requires, These, VerdictOf}
 use Rattle.judging.specs.Inputs.{FileOf, Where}
@@ -21,26 +21,26 @@ abbrev pub files_of : Option (Vec (String Global)) → List Where
 files_of None = []
 files_of (Some names) = map file_of names.items
 
-abbrev pub judgement_by : Judged → Judgement
-judgement_by (judged.Verdict log scope resume save) = VerdictOf (file_of log) scope (option_map file_of resume)
-judgement_by (judged.Positions log) = PositionsOf (file_of log)
-judgement_by judged.ListVerdict = ListVerdictOf
+abbrev pub judgement_by : ComparisonKind → Judgement
+judgement_by (kinds.Verdict log scope resume save) = VerdictOf (file_of log) scope (option_map file_of resume)
+judgement_by (kinds.Positions log) = PositionsOf (file_of log)
+judgement_by kinds.ListVerdict = ListVerdictOf
 
 -- What has to be among the expected registers: those that the text spells, if it is given; else some register, if the verdict is on a list
 -- that grows.
-abbrev pub requires_by : Judged → Option (String Global) → Requires
-requires_by judged (Some text) = These (string_bytes text)
-requires_by (judged.Verdict log Whole None None) None = Nothing
-requires_by (judged.Verdict log scope resume save) None = Any
-requires_by (judged.Positions log) None = Nothing
-requires_by judged.ListVerdict None = Nothing
+abbrev pub requires_by : ComparisonKind → Option (String Global) → Requires
+requires_by kind (Some text) = These (string_bytes text)
+requires_by (kinds.Verdict log Whole None None) None = Nothing
+requires_by (kinds.Verdict log scope resume save) None = Any
+requires_by (kinds.Positions log) None = Nothing
+requires_by kinds.ListVerdict None = Nothing
 
-abbrev pub compared_by : Judge → Compared
+abbrev pub compared_by : ComparisonOptions → Compared
 compared_by judge = record {
-  judgement = judgement_by judge.judged;
+  judgement = judgement_by judge.kind;
   list = file_of judge.list;
   expected = file_of judge.expected;
-  required = requires_by judge.judged judge.required;
+  required = requires_by judge.kind judge.required;
   known = files_of judge.known;
 }
 
@@ -61,7 +61,7 @@ attested_with log quoting = record {
 }
 
 -- What is judged by a quote.
-abbrev pub attested_by : Attest → Attested
+abbrev pub attested_by : AttestOptions → Attested
 attested_by attest = record (attested_with (file_of attest.log) attest.quoting) {
   expected = option_map file_of attest.expected;
   scope = attest.scope;
@@ -70,13 +70,13 @@ attested_by attest = record (attested_with (file_of attest.log) attest.quoting) 
 }
 
 -- What a question asks.
-abbrev pub requested_by : Question → Requested
-requested_by (questions.LogRegisters log) = LogRegistersOf (file_of log)
-requested_by (questions.ListRegisters list) = ListRegistersOf (file_of list)
-requested_by (questions.Judge judge) = Compares (compared_by judge)
-requested_by (questions.Attest attest) = Attests (attested_by attest)
-requested_by (questions.Expected printed registers) = ExpectedOf (file_of printed) (option_map string_bytes registers)
-requested_by (questions.Key area purpose part) = KeyOf (file_of area) purpose part
+abbrev pub requested_by : Query → Requested
+requested_by (queries.LogRegisters log) = LogRegistersOf (file_of log)
+requested_by (queries.ListRegisters list) = ListRegistersOf (file_of list)
+requested_by (queries.Comparison judge) = Compares (compared_by judge)
+requested_by (queries.Attestation attest) = Attests (attested_by attest)
+requested_by (queries.Expected printed registers) = ExpectedOf (file_of printed) (option_map string_bytes registers)
+requested_by (queries.Key area purpose part) = KeyOf (file_of area) purpose part
 
 -- The same with these texts of known files.
 abbrev pub with_known : List Where → Requested → Requested
@@ -85,17 +85,17 @@ with_known known (Attests asked) = Attests (record asked { known = known })
 with_known known request = request
 
 -- The texts of known files that a question names.
-abbrev pub known_by : Question → List Where
-known_by (questions.Judge judge) = files_of judge.known
-known_by (questions.Attest attest) = files_of attest.known
+abbrev pub known_by : Query → List Where
+known_by (queries.Comparison judge) = files_of judge.known
+known_by (queries.Attestation attest) = files_of attest.known
 known_by question = []
 
 -- The name under which the checkpoint is saved, if it is.
-abbrev pub save_of : Judged → Option (List ℕ)
-save_of (judged.Verdict log scope resume save) = option_map string_bytes save
-save_of judged = None
+abbrev pub save_of : ComparisonKind → Option (List ℕ)
+save_of (kinds.Verdict log scope resume save) = option_map string_bytes save
+save_of kind = None
 
-abbrev pub save_by : Question → Option (List ℕ)
-save_by (questions.Judge judge) = save_of judge.judged
-save_by (questions.Attest attest) = option_map string_bytes attest.save
+abbrev pub save_by : Query → Option (List ℕ)
+save_by (queries.Comparison judge) = save_of judge.kind
+save_by (queries.Attestation attest) = option_map string_bytes attest.save
 save_by question = None

@@ -4,7 +4,7 @@ ghost use Rattle.std.specs.Prelude.{◌≡◌};
 ghost use Rattle.questions.specs.Failures.{is_asked_for, is_explained, is_said};
 
 use agent_inputs::RunFault;
-use agent_plans::{Question, Task};
+use agent_plans::{Query, Task};
 use std::io;
 
 /// What came of a run that failed, or of an answer that something differs.
@@ -62,8 +62,8 @@ fn is_explained(task: &Task) -> bool
     ensures { result ≡ is_explained task.now }
 {
     match task {
-        Task::Answer(Question::Judge(judge)) => judge.explained,
-        Task::Answer(Question::Attest(attest)) => attest.explained,
+        Task::Answer(Query::Comparison(judge)) => judge.explained,
+        Task::Answer(Query::Attestation(attest)) => attest.explained,
         _ => false,
     }
 }

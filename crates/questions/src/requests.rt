@@ -4,12 +4,12 @@ ghost use Rattle.std.specs.Prelude.{◌≡◌, [], map, option_map, IfOk, OnErr}
 ghost use Rattle.judging.specs.Requests.{requested_of, location_of, attested_of, compared_of, judgement_of, requires_of};
 ghost use Rattle.questions.specs.Questions.{attested_with, requested_by, file_of, files_of, known_by, attested_by, compared_by, judgement_by, requires_by, save_by, with_known};
 
-use agent_plans::{Attest, Judge, Judged, Question, Quoting, Scope};
+use agent_plans::{AttestOptions, ComparisonOptions, ComparisonKind, Query, Quoting, Scope};
 use judging::{Attesting, Comparison, Input, ReportKind, Request, Required};
 use std::alloc::{AllocError, Global};
 
 /// The texts of known files that a question names.
-pub fn known_inputs(alloc: Global, question: &Question) -> Result<Vec<Input<'_>>, AllocError>
+pub fn known_inputs(alloc: Global, question: &Query) -> Result<Vec<Input<'_>>, AllocError>
     ensures inputs { IfOk result (λ known. map location_of known.items ≡ known_by question.now) }
     // Memory runs out only where there is one.
     ensures some { OnErr result (known_by question.now ≡ [] → ⊥) }
@@ -22,12 +22,12 @@ pub fn known_inputs(alloc: Global, question: &Question) -> Result<Vec<Input<'_>>
 }
 
 // The names of the texts of known files.
-fn known_names(question: &Question) -> &[String]
+fn known_names(question: &Query) -> &[String]
     ensures { map file_of result.now ≡ known_by question.now }
 {
     let names = match question {
-        Question::Judge(judge) => &judge.known,
-        Question::Attest(attest) => &attest.known,
+        Query::Comparison(judge) => &judge.known,
+        Query::Attestation(attest) => &attest.known,
         _ => return &[],
     };
     match names {
@@ -37,28 +37,28 @@ fn known_names(question: &Question) -> &[String]
 }
 
 /// What a question asks, where these are the texts of known files that it names.
-pub fn request_of<'a>(question: &'a Question, known: &'a [Input<'a>]) -> Request<'a>
+pub fn request_of<'a>(question: &'a Query, known: &'a [Input<'a>]) -> Request<'a>
     ensures asked { map location_of known.now ≡ known_by question.now → requested_of result ≡ requested_by question.now }
     // With other texts of known files it is the same, but for these.
     ensures given { requested_of result ≡ with_known (map location_of known.now) (requested_by question.now) }
 {
     match question {
-        Question::LogRegisters { log } => Request::LogRegisters {
+        Query::LogRegisters { log } => Request::LogRegisters {
             log: Input::File(log),
         },
-        Question::ListRegisters { list } => Request::ListRegisters {
+        Query::ListRegisters { list } => Request::ListRegisters {
             list: Input::File(list),
         },
-        Question::Judge(judge) => Request::Comparison(comparison_of(judge, known)),
-        Question::Attest(attest) => Request::Attestation(attesting_of(attest, known)),
-        Question::Expected { printed, registers } => Request::Expected {
+        Query::Comparison(judge) => Request::Comparison(comparison_of(judge, known)),
+        Query::Attestation(attest) => Request::Attestation(attesting_of(attest, known)),
+        Query::Expected { printed, registers } => Request::Expected {
             printed: Input::File(printed),
             registers: match registers {
                 None => None,
                 Some(range) => Some(range.as_bytes()),
             },
         },
-        Question::Key {
+        Query::Key {
             area,
             purpose,
             part,
@@ -71,7 +71,7 @@ pub fn request_of<'a>(question: &'a Question, known: &'a [Input<'a>]) -> Request
 }
 
 // What is judged by a quote.
-fn attesting_of<'a>(attest: &'a Attest, known: &'a [Input<'a>]) -> Attesting<'a>
+fn attesting_of<'a>(attest: &'a AttestOptions, known: &'a [Input<'a>]) -> Attesting<'a>
     ensures asked { map location_of known.now ≡ files_of attest.now.known → attested_of result ≡ attested_by attest.now }
     ensures given { attested_of result ≡ record (attested_by attest.now) { known = map location_of known.now } }
 {
@@ -114,12 +114,12 @@ fn file_of(name: &Option<String>) -> Option<Input<'_>>
 }
 
 // What is compared.
-fn comparison_of<'a>(judge: &'a Judge, known: &'a [Input<'a>]) -> Comparison<'a>
+fn comparison_of<'a>(judge: &'a ComparisonOptions, known: &'a [Input<'a>]) -> Comparison<'a>
     ensures asked { map location_of known.now ≡ files_of judge.now.known → compared_of result ≡ compared_by judge.now }
     ensures given { compared_of result ≡ record (compared_by judge.now) { known = map location_of known.now } }
 {
     Comparison {
-        wanted: wanted_of(&judge.judged),
+        wanted: wanted_of(&judge.kind),
         list: Input::File(&judge.list),
         expected: Input::File(&judge.expected),
         required: required_of(judge),
@@ -128,11 +128,11 @@ fn comparison_of<'a>(judge: &'a Judge, known: &'a [Input<'a>]) -> Comparison<'a>
 }
 
 // What the answer is to be.
-fn wanted_of(judged: &Judged) -> ReportKind<'_>
-    ensures { judgement_of result ≡ judgement_by judged.now }
+fn wanted_of(kind: &ComparisonKind) -> ReportKind<'_>
+    ensures { judgement_of result ≡ judgement_by kind.now }
 {
-    match judged {
-        Judged::Verdict {
+    match kind {
+        ComparisonKind::Verdict {
             log,
             scope,
             resume,
@@ -142,45 +142,45 @@ fn wanted_of(judged: &Judged) -> ReportKind<'_>
             scope: *scope,
             resume: file_of(resume),
         },
-        Judged::Positions { log } => ReportKind::Positions {
+        ComparisonKind::Positions { log } => ReportKind::Positions {
             log: Input::File(log),
         },
-        Judged::ListVerdict => ReportKind::ListVerdict,
+        ComparisonKind::ListVerdict => ReportKind::ListVerdict,
     }
 }
 
 // What has to be among the expected registers.
-fn required_of(judge: &Judge) -> Required<'_>
-    ensures { requires_of result ≡ requires_by judge.now.judged judge.now.required }
+fn required_of(judge: &ComparisonOptions) -> Required<'_>
+    ensures { requires_of result ≡ requires_by judge.now.kind judge.now.required }
 {
-    match (&judge.required, &judge.judged) {
+    match (&judge.required, &judge.kind) {
         (Some(text), _) => Required::These(text.as_bytes()),
         (
             None,
-            Judged::Verdict {
+            ComparisonKind::Verdict {
                 scope: Scope::Whole,
                 resume: None,
                 save: None,
                 ..
             },
         ) => Required::Nothing,
-        (None, Judged::Verdict { .. }) => Required::Any,
-        (None, Judged::Positions { .. } | Judged::ListVerdict) => Required::Nothing,
+        (None, ComparisonKind::Verdict { .. }) => Required::Any,
+        (None, ComparisonKind::Positions { .. } | ComparisonKind::ListVerdict) => Required::Nothing,
     }
 }
 
 /// The name under which the checkpoint is saved, if it is.
-pub fn save_of(question: &Question) -> Option<&str>
+pub fn save_of(question: &Query) -> Option<&str>
     ensures { option_map (λ name. name.now) result ≡ save_by question.now }
 {
     match question {
-        Question::Judge(
-            Judge {
-                judged: Judged::Verdict { save, .. },
+        Query::Comparison(
+            ComparisonOptions {
+                kind: ComparisonKind::Verdict { save, .. },
                 ..
             },
         ) => save.as_deref(),
-        Question::Attest(attest) => attest.save.as_deref(),
+        Query::Attestation(attest) => attest.save.as_deref(),
         _ => None,
     }
 }
