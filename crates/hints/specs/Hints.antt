@@ -24,7 +24,7 @@ use Rattle.judging.specs.declared.request.Answered.{Answered}
 use Rattle.known_files.specs.declared.unknown.Unknown.{Unknown}
 use Rattle.agent_inputs.specs.declared.fault.RunFault.{RunFault}
 use Rattle.judging.specs.Answering.{IsAnswer, IsRefusal}
-use Rattle.judging.specs.Requests.{Attested, Attests, Compares, Judgement, Requested, VerdictOf}
+use Rattle.judging.specs.Requests.{AttestRequested, Attests, Compares, Judgement, Requested, VerdictOf}
 use Rattle.judging.specs.declared.request.Answer.TheVariants as answers
 use Rattle.hints.specs.declared.reasons.Causes.{Causes}
 use Rattle.hints.specs.declared.reasons.Grown.{Grown}
@@ -184,7 +184,7 @@ abbrev pub compared_on_prefix : Judgement → Option Judgement
 compared_on_prefix (VerdictOf log Whole resume) = Some (VerdictOf log Prefix resume)
 compared_on_prefix judgement = None
 
-abbrev pub attested_on_prefix : Attested → Scope → Option Requested
+abbrev pub attested_on_prefix : AttestRequested → Scope → Option Requested
 attested_on_prefix asked Whole = Some (Attests (record asked { scope = Prefix }))
 attested_on_prefix asked Prefix = None
 

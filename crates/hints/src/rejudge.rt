@@ -16,7 +16,7 @@ use crate::task_inputs::refused_input;
 use crate::wrong_input::mistake_in;
 use agent_inputs::{AgentFiles, RunFault};
 use agent_plans::{Scope, Task};
-use judging::{Attesting, Comparison, ReportKind, Request, answer_request};
+use judging::{AttestRequest, Comparison, ReportKind, Request, answer_request};
 use questions::{Failure, known_inputs, request_of};
 use std::alloc::{AllocError, Global};
 use std::rt::Files as FileSystem;
@@ -133,11 +133,11 @@ fn on_prefix(request: Request<'_>) -> Option<Request<'_>>
             known,
         })),
         Request::Attestation(
-            asked @ Attesting {
+            asked @ AttestRequest {
                 scope: Scope::Whole,
                 ..
             },
-        ) => Some(Request::Attestation(Attesting {
+        ) => Some(Request::Attestation(AttestRequest {
             scope: Scope::Prefix,
             ..asked
         })),

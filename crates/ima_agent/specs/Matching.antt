@@ -26,7 +26,7 @@ use Rattle.judging.specs.declared.request.Answer.TheVariants as answers
 use Rattle.judging.specs.declared.request.Answered.{Answered}
 use Rattle.judging.specs.Answering.{IsAttestation, IsNotExpected}
 use Rattle.judging.specs.Inputs.{BytesOf}
-use Rattle.judging.specs.Requests.{Attested, Attests}
+use Rattle.judging.specs.Requests.{AttestRequested, Attests}
 use Rattle.rendering.specs.Rendering.{IsRefusalOn, answer_status}
 use Rattle.agent_inputs.specs.declared.fault.RunFault.{RunFault}
 use Rattle.agent_inputs.specs.Faults.{HasLogFault}
@@ -104,7 +104,7 @@ places_by true (answers.Attestation report) = quoted_places (stated_of report.qu
 places_by is_success answer = []
 
 -- These match by the answer to what is asked of a quote; and the status is that of the answer.
-abbrev pub AreMatchedByQuote : Inputs → Attested → List Pcr → ℕ → Type 0
+abbrev pub AreMatchedByQuote : Inputs → AttestRequested → List Pcr → ℕ → Type 0
 AreMatchedByQuote inputs asked places status =
     (given : Answered) × IsAttestation inputs asked given × (places ≡ places_by given.is_success given.answer)
     × (status ≡ answer_status given.is_success given.answer)

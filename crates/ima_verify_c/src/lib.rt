@@ -24,7 +24,7 @@ use crate::requests::{
     verdict_of,
 };
 use agent_plans::Form;
-use judging::{Attesting, Input, ReportKind, Request, Required};
+use judging::{AttestRequest, Input, ReportKind, Request, Required};
 use line_chunks::{LineOffset, entry_lines, event_lines};
 use std::alloc::Global;
 pub use told::Told;
@@ -168,7 +168,7 @@ pub extern "C" fn ima_verify_raw_attest<'a>(
         (form_of json)) result told.new out.old out.new next_size.new next.old next.new }
 {
     let texts = [Input::Bytes(known)];
-    let request = Request::Attestation(Attesting {
+    let request = Request::Attestation(AttestRequest {
         log: Input::Bytes(log),
         list: Input::Bytes(more),
         message: Input::Bytes(message),

@@ -14,7 +14,7 @@ use Rattle.tpm_quotes.specs.Spelling.{TpmQuote}
 use Rattle.agent_inputs.specs.Loading.{Inputs}
 use Rattle.judging.specs.Answering.{AreTaken, IsCheckpointText, IsResumedState, IsNoCheckpoint, IsNoResumedState, IsOfQuote, terms_with}
 use Rattle.judging.specs.Inputs.{IsInputFault, OfInput, Where}
-use Rattle.judging.specs.Requests.{Attested}
+use Rattle.judging.specs.Requests.{AttestRequested}
 
 -- What holds of an answer, or of a fault, so far as it is one.
 pub of_given : (result : Result Answered RunFault) (P Q : Answered → Type 0) → ((given : Answered) → P given → Q given) → IfOk result P
@@ -32,7 +32,7 @@ none_when None e = refl
 none_when (Some x) e = absurd cc
 
 -- If with the ranges that a text spells the terms are refused, no other ranges are taken.
-pub not_taken : (asked : Attested) (ranges other : List BankRange) → AreTaken asked other
+pub not_taken : (asked : AttestRequested) (ranges other : List BankRange) → AreTaken asked other
     → IsRequirementText asked.required ranges
     → is_some (policy_fault (terms_with asked ranges)) ≡ true → ⊥
 not_taken asked ranges other taken spells refused =

@@ -12,7 +12,7 @@ use Rattle.judging.specs.declared.request.ScopedReport.{ScopedReport}
 use Rattle.judging.specs.declared.request.ScopedReport.TheVariants as judged
 use Rattle.judging.specs.Answering.{Evidence, IsAttestation, IsJudged, IsVerdictOn, checkpoint_of, quoted_evidence}
 use Rattle.judging.specs.Inputs.{Where}
-use Rattle.judging.specs.Requests.{Attested, VerdictOf}
+use Rattle.judging.specs.Requests.{AttestRequested, VerdictOf}
 
 module _ (inputs : Inputs) (list : Where) (evidence : Evidence) (first : evidence.known ≡ None) where
   -- A verdict that goes on from nothing is on a log.
@@ -29,7 +29,7 @@ module _ (inputs : Inputs) (list : Where) (evidence : Evidence) (first : evidenc
   log_judged place answer (Some next) unknown (on, is, answered) = log_on _ on next is
 
 -- So it is where a whole list is judged, from its beginning.
-pub log_attested : (inputs : Inputs) (asked : Attested) (given : Answered) (is : IsAttestation inputs asked given) → asked.scope ≡ Whole
+pub log_attested : (inputs : Inputs) (asked : AttestRequested) (given : Answered) (is : IsAttestation inputs asked given) → asked.scope ≡ Whole
     → asked.resume ≡ None → ReadsAsLog is.log
 log_attested inputs asked given is whole none =
     let evidence = quoted_evidence is.log is.quote asked.is_signed is.values is.counted (checkpoint_of is.state) is.files in

@@ -71,7 +71,7 @@ use Rattle.judging.specs.declared.request.Answer.TheVariants as answers
 use Rattle.judging.specs.declared.request.Found.{Found}
 use Rattle.judging.specs.declared.request.ScopedReport.{ScopedReport}
 use Rattle.judging.specs.declared.request.ScopedReport.TheVariants as judged
-use Rattle.judging.specs.Requests.{Attested, Attests, Judgement, ListVerdictOf, PositionsOf, VerdictOf, Requested, Compared, Compares, ExpectedOf, KeyOf, ListRegistersOf, LogRegistersOf, Nothing, Requires, These, held_bytes, log_of, resume_of, takes_known}
+use Rattle.judging.specs.Requests.{AttestRequested, Attests, Judgement, ListVerdictOf, PositionsOf, VerdictOf, Requested, Compared, Compares, ExpectedOf, KeyOf, ListRegistersOf, LogRegistersOf, Nothing, Requires, These, held_bytes, log_of, resume_of, takes_known}
 use Rattle.judging.specs.Inputs.{IsFaultAt, IsNotOpened, MayFail, OfInput, Where, held_in, limit_of, Holds, IsInputFault}
 use Rattle.pcr_banks.specs.declared.banks.Banks.{Banks}
 use Rattle.pcr_banks.specs.Registers.{IsReset, value_at}
@@ -512,15 +512,15 @@ IsNoComparison inputs request fault =
 -- ---- what is judged by a quote
 
 -- The terms of what is asked, where its text spells these ranges.
-abbrev pub terms_with : Attested → List BankRange → Terms
+abbrev pub terms_with : AttestRequested → List BankRange → Terms
 terms_with asked ranges = record { nonce = asked.nonce; required = ranges; takes_sha1 = asked.takes_sha1 }
 
 -- The text spells these ranges, and with them the terms are sound.
-abbrev pub AreTaken : Attested → List BankRange → Type 0
+abbrev pub AreTaken : AttestRequested → List BankRange → Type 0
 AreTaken asked ranges = IsRequirementText asked.required ranges × (policy_fault (terms_with asked ranges) ≡ None)
 
 -- The message of the input is this quote, and it is the one that is asked for.
-abbrev pub IsAskedFor : Inputs → Attested → List BankRange → TpmQuote → Type 0
+abbrev pub IsAskedFor : Inputs → AttestRequested → List BankRange → TpmQuote → Type 0
 IsAskedFor inputs asked ranges quote =
     OfInput inputs asked.message (λ message. IsQuote message quote) × (quote_refusal quote (terms_with asked ranges) ≡ None)
 
@@ -564,7 +564,7 @@ IsOfQuote quote state = state.boot ≡ Some (boot_of quote)
 
 -- This is what comes of a log, a list and a quote, and what it is worth: nobody goes on from it, unless all is well. What is gone on from is of
 -- the quote's boot, and so is what is saved.
-pub record IsAttestation (inputs : Inputs) (asked : Attested) (given : Answered) : Type 0 where
+pub record IsAttestation (inputs : Inputs) (asked : AttestRequested) (given : Answered) : Type 0 where
   pub ranges : List BankRange
   pub quote : TpmQuote
   pub log : List ℕ
@@ -605,7 +605,7 @@ IsNotStated inputs expected fault =
 
 -- Why there is no judgement by this quote: the log is not read; the expected registers are not; what is to be gone on from is not read, or is not
 -- of the quote's boot; it is, or there is none, and an input gives no text of known files; or all are, and nothing is found in the list.
-abbrev pub IsNotJudgedBy : Inputs → Attested → TpmQuote → RunFault → Type 0
+abbrev pub IsNotJudgedBy : Inputs → AttestRequested → TpmQuote → RunFault → Type 0
 IsNotJudgedBy inputs asked quote fault =
     IsInputFault inputs asked.log fault
     ⊎ IsNotStated inputs asked.expected fault
@@ -622,7 +622,7 @@ IsNotJudgedBy inputs asked quote fault =
 
 -- Why nothing comes of it: the text spells no registers, or with them a match would say too little; its first part spells some, and memory ran
 -- out; the message is not read, or not the quote that is asked for; or there is no judgement by the quote.
-abbrev pub IsNoAttestation : Inputs → Attested → RunFault → Type 0
+abbrev pub IsNoAttestation : Inputs → AttestRequested → RunFault → Type 0
 IsNoAttestation inputs asked fault =
     ((fault ≡ runs.Usage) × ((ranges : List BankRange) → AreTaken asked ranges → ⊥))
     ⊎ ((fault ≡ runs.Memory) × BeginsWithBankRange asked.required)

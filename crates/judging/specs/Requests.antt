@@ -8,7 +8,7 @@ use Rattle.judging.specs.declared.inputs.Input.{Input}
 use Rattle.judging.specs.declared.inputs.Input.TheVariants as inputs
 use Rattle.judging.specs.declared.inputs.Held.{Held}
 use Rattle.judging.specs.declared.inputs.Held.TheVariants as helds
-use Rattle.judging.specs.declared.request.Attesting.{Attesting}
+use Rattle.judging.specs.declared.request.AttestRequest.{AttestRequest}
 use Rattle.judging.specs.declared.request.Comparison.{Comparison}
 use Rattle.judging.specs.declared.request.Request.{Request}
 use Rattle.judging.specs.declared.request.Request.TheVariants as requests
@@ -43,7 +43,7 @@ pub record Compared : Type 0 where
 -- registers that must be quoted, and whether one may be in the SHA-1 bank alone; whether the message's signature was verified; where the text of
 -- expected registers is, if there is one; which part of the list; where the checkpoint is that is gone on from, if there is one; and where the
 -- texts of known files are, if files have to be known.
-pub record Attested : Type 0 where
+pub record AttestRequested : Type 0 where
   pub log : Where
   pub list : Where
   pub message : Where
@@ -60,7 +60,7 @@ pub record Attested : Type 0 where
 -- a list alone; the expected registers that a text has, as tpm2-tools printed it, of those that another text selects, if there is
 -- one; or what is told of a key of a TPM, if it is one for this purpose, and what of that is wanted.
 pub data Requested : Type 0 where
-  Attests : Attested → Requested
+  Attests : AttestRequested → Requested
   Compares : Compared → Requested
   LogRegistersOf : Where → Requested
   ListRegistersOf : Where → Requested
@@ -115,7 +115,7 @@ compared_of comparison = record {
   known = map location_of comparison.known.now;
 }
 
-abbrev pub attested_of : Attesting → Attested
+abbrev pub attested_of : AttestRequest → AttestRequested
 attested_of asked = record {
   log = location_of asked.log;
   list = location_of asked.list;

@@ -18,7 +18,7 @@ use crate::answers::{Evidence, checkpoint_of, state_in};
 use crate::inputs::{Input, load_at};
 use crate::known_texts::known_in;
 use crate::request::{
-    Answering, Attesting, Comparison, ScopedReport, ReportKind, Required, answered_with,
+    Answering, AttestRequest, Comparison, ScopedReport, ReportKind, Required, answered_with,
 };
 use agent_inputs::{AgentFiles, NotResumed, RunFault};
 use attestations::{
@@ -36,7 +36,7 @@ use tpm_quotes::Quote;
 pub(crate) fn attest<F: AgentFiles>(
     alloc: Global,
     files: &mut F,
-    request: Attesting<'_>,
+    request: AttestRequest<'_>,
 ) -> Answering
     ensures answer { IfOk result (IsAttestation (F.known files.old) (attested_of request.entry)) }
     ensures fault { IfErr result (IsNoAttestation (F.known files.old) (attested_of request.entry)) }
@@ -86,7 +86,7 @@ fn asked_quote<'a>(message: &'a [u8], policy: &Policy<'_>) -> Result<Quote<'a>, 
 fn judge_by<F: AgentFiles>(
     alloc: Global,
     files: &mut F,
-    request: Attesting<'_>,
+    request: AttestRequest<'_>,
     quote: &Quote<'_>,
 ) -> Answering
     ensures answer { IfOk result (λ given. (ranges : List BankRange) → AreTaken (attested_of request.entry) ranges
@@ -170,7 +170,7 @@ fn is_of_quote(state: Option<SavedState>, quote: &Quote<'_>) -> bool
 }
 
 // The verdict on log and list, as it is asked for where registers are expected.
-fn comparison_of(request: Attesting<'_>) -> Comparison<'_>
+fn comparison_of(request: AttestRequest<'_>) -> Comparison<'_>
     ensures wanted { judgement_of result.wanted ≡ VerdictOf (attested_of request.entry).log request.entry.scope (attested_of request.entry).resume }
     ensures list { location_of result.list ≡ (attested_of request.entry).list }
 {

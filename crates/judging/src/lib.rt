@@ -14,5 +14,5 @@ mod sessions;
 pub use answers::answer_request;
 pub use inputs::Input;
 pub use request::{
-    Answer, Answered, Attesting, Comparison, Registers, ReportKind, Request, Required,
+    Answer, Answered, AttestRequest, Comparison, Registers, ReportKind, Request, Required,
 };

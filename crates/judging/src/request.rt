@@ -67,7 +67,7 @@ pub struct Comparison<'a> {
 
 /// What a log and a list are judged by, where the TPM has quoted registers.
 #[derive(Clone, Copy)]
-pub struct Attesting<'a> {
+pub struct AttestRequest<'a> {
     /// The firmware event log.
     pub log: Input<'a>,
     /// The measurement list; with a checkpoint, what follows it.
@@ -96,7 +96,7 @@ pub struct Attesting<'a> {
 #[derive(Clone, Copy)]
 pub enum Request<'a> {
     /// Whether a quote is of a log and a list.
-    Attestation(Attesting<'a>),
+    Attestation(AttestRequest<'a>),
     /// What a list is worth against expected registers, or where they have their values.
     Comparison(Comparison<'a>),
     /// The registers after a firmware event log.

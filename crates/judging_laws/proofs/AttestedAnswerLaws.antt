@@ -38,7 +38,7 @@ use Rattle.judging.specs.declared.request.Answer.TheVariants as answers
 use Rattle.judging.specs.declared.request.Answered.{Answered}
 use Rattle.judging.specs.Answering.{Evidence, IsAnswerOn, IsAttestation, IsJudged, IsResumedState, IsNext, IsPrefixOf, IsTaken, IsVerdictOn, OfList, OfMore, TellsUnknown, checkpoint_of, entries_taken, is_good as is_good_answer, most_more, quoted_evidence, seeks_prefix, terms_with, told_by}
 use Rattle.judging.specs.Inputs.{OfInput, Where}
-use Rattle.judging.specs.Requests.{Attested, Nothing, VerdictOf}
+use Rattle.judging.specs.Requests.{AttestRequested, Nothing, VerdictOf}
 use Rattle.judging_laws.specs.AttestedAnswers.{is_on_prefix, TellsAttested, TellsPrefixAttested, TellsSomeAttested}
 
 -- ---- Booleans
@@ -137,13 +137,13 @@ told_stated quote is_signed values next on = grind arith
 -- ---- the answer
 
 -- Nothing was taken before, where nothing is gone on from.
-pub from_nothing : (inputs : Inputs) (asked : Attested) (given : Answered) (is : IsAttestation inputs asked given) → asked.resume ≡ None
+pub from_nothing : (inputs : Inputs) (asked : AttestRequested) (given : Answered) (is : IsAttestation inputs asked given) → asked.resume ≡ None
     → IsTaken (checkpoint_of is.state) []
 from_nothing inputs asked given is resume =
     let none : is.state ≡ None = subst (λ (r : Option Where). IsResumedState inputs r is.state) resume is.state_is in
     subst (λ (s : Option SavedState). IsTaken (checkpoint_of s) []) (sym none) refl
 
-module _ (inputs : Inputs) (asked : Attested) (given : Answered) (is : IsAttestation inputs asked given) (well : given.is_success ≡ true) where
+module _ (inputs : Inputs) (asked : AttestRequested) (given : Answered) (is : IsAttestation inputs asked given) (well : given.is_success ≡ true) where
   abbrev evidence : Evidence
   evidence = quoted_evidence is.log is.quote asked.is_signed is.values is.counted (checkpoint_of is.state) is.files
 

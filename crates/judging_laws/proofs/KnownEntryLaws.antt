@@ -29,7 +29,7 @@ use Rattle.judging.specs.declared.request.Answer.TheVariants as answers
 use Rattle.judging.specs.declared.request.Answered.{Answered}
 use Rattle.judging.specs.Answering.{AreKnownFiles, AreKnownTexts, Evidence, IsAnswerOn, IsAttestation, IsComparison, IsJudged, IsResumedState as IsState, IsTaken, IsVerdictOn, OfList, TellsUnknown, checkpoint_of, entries_taken, is_good, quoted_evidence, told_by}
 use Rattle.judging.specs.Inputs.{Where}
-use Rattle.judging.specs.Requests.{Attested, Compared, Judgement, ListVerdictOf, Nothing, PositionsOf, Requires, VerdictOf, resume_of, takes_known}
+use Rattle.judging.specs.Requests.{AttestRequested, Compared, Judgement, ListVerdictOf, Nothing, PositionsOf, Requires, VerdictOf, resume_of, takes_known}
 use Rattle.judging_laws.specs.KnownEntries.{HasKnownEntries, IsFirstKnown, TellsKnown, entries_of}
 use Rattle.judging_laws.proofs.AttestedAnswerLaws.{both_true, PrefixOn, WholeOn, of_each}
 
@@ -138,7 +138,7 @@ entries_told : (quote : TpmQuote) (is_signed : Bool) (values : ExpectedValues) (
     → entries_of answer ≡ Some (told_by quote is_signed values next on).verdict.entries
 entries_told quote is_signed values next on answer is = ap entries_of is.1 ∙ ap (λ (v : AttestVerdict). Some v.verdict.entries) is.2
 
-pub attested_known : KnownLaw → (inputs : Inputs) (asked : Attested) (given : Answered) (is : IsAttestation inputs asked given)
+pub attested_known : KnownLaw → (inputs : Inputs) (asked : AttestRequested) (given : Answered) (is : IsAttestation inputs asked given)
     → given.is_success ≡ true → 0 < length asked.known → TellsKnown inputs asked.known asked.list (checkpoint_of is.state) given
 attested_known law inputs asked given is well some = record { texts = has.texts; texts_are = has.texts_are; entries_are = by is.next is.judged }
   where

@@ -12,7 +12,7 @@ use Rattle.judging.specs.declared.request.Answer.TheVariants as answers
 use Rattle.judging.specs.declared.request.Answered.{Answered}
 use Rattle.judging.specs.Answering.{IsAttestation, terms_with}
 use Rattle.judging.specs.Inputs.{Holds}
-use Rattle.judging.specs.Requests.{Attested}
+use Rattle.judging.specs.Requests.{AttestRequested}
 
 -- The answer is the report of this attestation: by what its quote states, on so many events, from this locality, and on so many entries.
 pub record IsReportOf (answer : Answer) (attestation : Attestation) : Type 0 where
@@ -25,7 +25,7 @@ pub record IsReportOf (answer : Answer) (attestation : Attestation) : Type 0 whe
 
 -- The message's signature was verified. The log of the input, this list and the message of the input are attested, by the terms that are
 -- asked for and the quote that the answer is by; and the answer is the report of that.
-pub record TellsAttested (inputs : Inputs) (asked : Attested) (given : Answered) (is : IsAttestation inputs asked given) (list : List ℕ) : Type 0 where
+pub record TellsAttested (inputs : Inputs) (asked : AttestRequested) (given : Answered) (is : IsAttestation inputs asked given) (list : List ℕ) : Type 0 where
   pub message : List ℕ
   pub attestation : Attestation
   pub signed : asked.is_signed ≡ true
@@ -36,7 +36,7 @@ pub record TellsAttested (inputs : Inputs) (asked : Attested) (given : Answered)
   pub report_is : IsReportOf given.answer attestation
 
 -- The list begins with these entries, and it is their bytes that are attested.
-pub record TellsPrefixAttested (inputs : Inputs) (asked : Attested) (given : Answered) (is : IsAttestation inputs asked given) (list : List ℕ) : Type 0 where
+pub record TellsPrefixAttested (inputs : Inputs) (asked : AttestRequested) (given : Answered) (is : IsAttestation inputs asked given) (list : List ℕ) : Type 0 where
   pub prefix : List ListEntry
   pub rest : List ℕ
   pub begins : BeginsWith list prefix rest
@@ -48,7 +48,7 @@ is_on_prefix (answers.Attestation report) = is_some report.prefix
 is_on_prefix answer = false
 
 -- The whole list is attested, or a prefix of it: the answer says which.
-abbrev pub TellsSomeAttested : (inputs : Inputs) (asked : Attested) (given : Answered) → IsAttestation inputs asked given → List ℕ → Type 0
+abbrev pub TellsSomeAttested : (inputs : Inputs) (asked : AttestRequested) (given : Answered) → IsAttestation inputs asked given → List ℕ → Type 0
 TellsSomeAttested inputs asked given is list =
     ((is_on_prefix given.answer ≡ false) × TellsAttested inputs asked given is list)
     ⊎ ((is_on_prefix given.answer ≡ true) × TellsPrefixAttested inputs asked given is list)

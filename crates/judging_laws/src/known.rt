@@ -4,7 +4,7 @@ ghost use Rattle.std.specs.Prelude.{◌≡◌, ◌<◌, length, true};
 ghost use Rattle.agent_inputs.specs.Loading.{Inputs};
 ghost use Rattle.judging.specs.declared.request.Answered.{Answered};
 ghost use Rattle.judging.specs.Answering.{IsAttestation, IsComparison, checkpoint_of};
-ghost use Rattle.judging.specs.Requests.{Attested, Compared};
+ghost use Rattle.judging.specs.Requests.{AttestRequested, Compared};
 ghost use Rattle.judging_laws.specs.KnownEntries.{TellsKnown};
 
 use known_files::laws::each_is_known;
@@ -14,7 +14,7 @@ use known_files::laws::each_is_known;
 pub fn well_answer_has_known_entries()
     ensures comparison { (inputs : Inputs) (request : Compared) (given : Answered) (is : IsComparison inputs request given) → given.is_success ≡ true
         → 0 < length request.known → TellsKnown inputs request.known request.list is.evidence.known given }
-    ensures attestation { (inputs : Inputs) (asked : Attested) (given : Answered) (is : IsAttestation inputs asked given) → given.is_success ≡ true
+    ensures attestation { (inputs : Inputs) (asked : AttestRequested) (given : Answered) (is : IsAttestation inputs asked given) → given.is_success ≡ true
         → 0 < length asked.known → TellsKnown inputs asked.known asked.list (checkpoint_of is.state) given }
 {
     each_is_known();

@@ -9,7 +9,7 @@ use Rattle.agent_plans.specs.declared.plan.ComparisonKind.TheVariants as kinds
 use Rattle.agent_plans.specs.declared.plan.Query.{Query}
 use Rattle.agent_plans.specs.declared.plan.Query.TheVariants as queries
 use Rattle.agent_plans.specs.declared.plan.Quoting.{Quoting}
-use Rattle.judging.specs.Requests.{Any, Attested, Attests, Requested, Compared, Compares, ExpectedOf, Judgement, KeyOf, ListRegistersOf, ListVerdictOf, LogRegistersOf, Nothing, PositionsOf, Requires, These, VerdictOf}
+use Rattle.judging.specs.Requests.{Any, AttestRequested, Attests, Requested, Compared, Compares, ExpectedOf, Judgement, KeyOf, ListRegistersOf, ListVerdictOf, LogRegistersOf, Nothing, PositionsOf, Requires, These, VerdictOf}
 use Rattle.judging.specs.Inputs.{FileOf, Where}
 
 -- The file of this name.
@@ -45,7 +45,7 @@ compared_by judge = record {
 }
 
 -- What is judged by a quote of this log, and of a whole list: nobody goes on from anything.
-abbrev pub attested_with : Where → Quoting → Attested
+abbrev pub attested_with : Where → Quoting → AttestRequested
 attested_with log quoting = record {
   log = log;
   list = FileOf (string_bytes quoting.list);
@@ -61,7 +61,7 @@ attested_with log quoting = record {
 }
 
 -- What is judged by a quote.
-abbrev pub attested_by : AttestOptions → Attested
+abbrev pub attested_by : AttestOptions → AttestRequested
 attested_by attest = record (attested_with (file_of attest.log) attest.quoting) {
   expected = option_map file_of attest.expected;
   scope = attest.scope;

@@ -5,7 +5,7 @@ ghost use Rattle.judging.specs.Requests.{requested_of, location_of, attested_of,
 ghost use Rattle.questions.specs.Questions.{attested_with, requested_by, file_of, files_of, known_by, attested_by, compared_by, judgement_by, requires_by, save_by, with_known};
 
 use agent_plans::{AttestOptions, ComparisonOptions, ComparisonKind, Query, Quoting, Scope};
-use judging::{Attesting, Comparison, Input, ReportKind, Request, Required};
+use judging::{AttestRequest, Comparison, Input, ReportKind, Request, Required};
 use std::alloc::{AllocError, Global};
 
 /// The texts of known files that a question names.
@@ -71,11 +71,11 @@ pub fn request_of<'a>(question: &'a Query, known: &'a [Input<'a>]) -> Request<'a
 }
 
 // What is judged by a quote.
-fn attesting_of<'a>(attest: &'a AttestOptions, known: &'a [Input<'a>]) -> Attesting<'a>
+fn attesting_of<'a>(attest: &'a AttestOptions, known: &'a [Input<'a>]) -> AttestRequest<'a>
     ensures asked { map location_of known.now ≡ files_of attest.now.known → attested_of result ≡ attested_by attest.now }
     ensures given { attested_of result ≡ record (attested_by attest.now) { known = map location_of known.now } }
 {
-    Attesting {
+    AttestRequest {
         expected: file_of(&attest.expected),
         scope: attest.scope,
         resume: file_of(&attest.resume),
@@ -85,10 +85,10 @@ fn attesting_of<'a>(attest: &'a AttestOptions, known: &'a [Input<'a>]) -> Attest
 }
 
 /// What is judged by a quote of this log, and of a whole list.
-pub fn attesting_by<'a>(log: Input<'a>, quoting: &'a Quoting) -> Attesting<'a>
+pub fn attesting_by<'a>(log: Input<'a>, quoting: &'a Quoting) -> AttestRequest<'a>
     ensures { attested_of result ≡ attested_with (location_of log.entry) quoting.now }
 {
-    Attesting {
+    AttestRequest {
         log,
         list: Input::File(&quoting.list),
         message: Input::File(&quoting.quote),
