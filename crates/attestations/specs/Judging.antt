@@ -9,7 +9,7 @@ use Rattle.boot_verdict.specs.Verdicts.{aggregate_of, is_good, pcr_after_log_and
 use Rattle.tpm_quotes.specs.Spelling.{TpmQuote, quote_of}
 use Rattle.tpm_quotes.specs.Quoting.{confirms}
 use Rattle.tpm_quotes.specs.Faults.{quote_fault_number}
-use Rattle.attestations.specs.declared.attested.Attested.{Attested}
+use Rattle.attestations.specs.declared.attested.AttestedLog.{AttestedLog}
 use Rattle.attestations.specs.declared.cause.Cause.{Cause}
 use Rattle.attestations.specs.declared.cause.Cause.TheVariants.{LogExtends, ListExtends, BadAggregate, Differs}
 use Rattle.attestations.specs.declared.refusal.QuoteRefusal.{QuoteRefusal}
@@ -62,7 +62,7 @@ cause_against algs events entries quote = option_or (cause_in_extends events ent
 
 -- ---- what contracts see of what is known
 
-abbrev pub attestation_of : Attested → Attestation
+abbrev pub attestation_of : AttestedLog → Attestation
 attestation_of attested = record {
   events = attested.events;
   locality = attested.locality;

@@ -28,7 +28,7 @@ use tpm_quotes::Quote;
 ///
 /// Of the log it confirms the events of the registers that it selects. The locality is confirmed if register 0 is among them.
 #[derive(Drop)]
-pub struct Attested<'a> {
+pub struct AttestedLog<'a> {
     /// How many events the log has after its header.
     pub events: usize,
     /// The locality from which the TPM was started.
@@ -90,7 +90,7 @@ pub fn attest<'a>(
     list: &[u8],
     message: &'a [u8],
     policy: &Policy<'_>,
-) -> Result<Attested<'a>, AttestFault>
+) -> Result<AttestedLog<'a>, AttestFault>
     // `Ok` only if all of this holds.
     ensures attested { IfOk result (λ attested. IsAttested log.now list.now message.now (terms_of policy.now) (attestation_of attested)) }
     // Where nothing is refused and no cause is against it, there is an attestation.
@@ -114,11 +114,11 @@ pub fn attest<'a>(
 }
 
 // What the quote confirms.
-fn confirmed<'a>(log: &LogView<'_>, known: &Checkpoint, quote: Quote<'a>) -> Attested<'a>
+fn confirmed<'a>(log: &LogView<'_>, known: &Checkpoint, quote: Quote<'a>) -> AttestedLog<'a>
     ensures { (list : List ℕ) (table : List DeclaredAlgorithm) (events : List LogEvent) → IsLog (log_bytes log.now) table events
         → (is : IsCheckpoint list known.now) → attestation_of result ≡ attestation_on events is.entries (quote_of quote.entry) }
 {
-    Attested {
+    AttestedLog {
         events: log.count(),
         locality: log.locality(),
         entries: known.entries,

@@ -11,7 +11,7 @@ mod quoted;
 mod refusal;
 mod report;
 
-pub use attested::{AttestFault, Attested, attest};
+pub use attested::{AttestFault, AttestedLog, attest};
 pub use cause::Cause;
 pub use expected::{ExpectedValues, keep_confirmed};
 pub use policy::{LEAST_NONCE, Policy, PolicyFault};
