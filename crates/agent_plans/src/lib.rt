@@ -7,6 +7,6 @@ mod plan;
 pub use cells::Form;
 pub use fault::ArgumentsFault;
 pub use plan::{
-    AttestOptions, ConfirmedBy, DataShown, ComparisonOptions, ComparisonKind, Measurement, NameEnd, Names, Plan, Print,
-    Query, Quoting, Scope, Task,
+    AttestOptions, ComparisonKind, ComparisonOptions, ConfirmedBy, DataShown, Measurement, NameEnd,
+    Names, Plan, Print, Query, Quoting, Scope, Task,
 };

@@ -72,7 +72,10 @@ impl Quoted {
 }
 
 // The selections, with bits of their own.
-fn selected_of(alloc: Global, selections: &[QuotedSelection<'_>]) -> Result<Vec<Selected>, AllocError>
+fn selected_of(
+    alloc: Global,
+    selections: &[QuotedSelection<'_>],
+) -> Result<Vec<Selected>, AllocError>
     ensures { IfOk result (λ selected. map bank_selection_of selected.items ≡ map selection_of selections.now) }
 {
     let mut selected = Vec::new(alloc);

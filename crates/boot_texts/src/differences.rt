@@ -135,7 +135,15 @@ fn append_from(
     };
     append(alloc, line.form, &apart, lines)?;
     append_events(alloc, log, ComparedBoot::Now, line, place, marks, lines)?;
-    append_events(alloc, before, ComparedBoot::Before, line, place, other_marks, lines)
+    append_events(
+        alloc,
+        before,
+        ComparedBoot::Before,
+        line,
+        place,
+        other_marks,
+        lines,
+    )
 }
 
 // Appends the lines of the register.

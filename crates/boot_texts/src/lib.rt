@@ -5,7 +5,6 @@
 #![tactic(auto)]
 
 mod answering_banks;
-mod policy_question;
 mod boot_lines;
 mod boot_question;
 mod commands;
@@ -15,6 +14,7 @@ mod event_walk;
 mod images;
 pub mod laws;
 mod policies;
+mod policy_question;
 mod policy_scan;
 mod variables;
 

@@ -8,8 +8,8 @@ ghost use Rattle.cells.specs.Cells.{ShowsMembers, rendered};
 ghost use Rattle.boot_texts.specs.declared.policies.ImaPolicy.{ImaPolicy as PolicyData};
 ghost use Rattle.boot_texts.specs.Policies.{IsAskingEvent, IsAskingIn, IsImaPolicy, policy_cell, policy_event, policy_word};
 
-use crate::policy_question::PolicyQuestion;
 use crate::commands::show_event;
+use crate::policy_question::PolicyQuestion;
 use crate::policy_scan::asks;
 use boot_answers::told_text;
 use boot_log::LogView;

@@ -14,7 +14,11 @@ use std::alloc::{AllocError, Global};
 use std::str;
 
 /// Whether the text asks this.
-pub(crate) fn asks(alloc: Global, asked: PolicyQuestion, text: &CommandText<'_>) -> Result<bool, AllocError>
+pub(crate) fn asks(
+    alloc: Global,
+    asked: PolicyQuestion,
+    text: &CommandText<'_>,
+) -> Result<bool, AllocError>
     ensures { IfOk result (λ asks. IsTrue asks ↔ Asks asked (read_text (said_of text.now))) }
 {
     match text {

@@ -17,7 +17,9 @@ use crate::values::{
     attest_of, boot_of, events_of, flag_of, key_of, known_of, measurement_of, name_of,
     text_if_given,
 };
-use agent_plans::{ArgumentsFault, Form, ComparisonOptions, ComparisonKind, Plan, Query, Scope, Task};
+use agent_plans::{
+    ArgumentsFault, ComparisonKind, ComparisonOptions, Form, Plan, Query, Scope, Task,
+};
 use clap::error::ErrorKind;
 use clap::{ArgMatches, Error};
 use hex::FromHexError;
@@ -299,11 +301,7 @@ fn task_of(
 }
 
 // What the command of this name asks.
-fn question_of(
-    alloc: Global,
-    command: &str,
-    matches: &ArgMatches,
-) -> Result<Query, ArgumentsFault>
+fn question_of(alloc: Global, command: &str, matches: &ArgMatches) -> Result<Query, ArgumentsFault>
     ensures values { IfOk result (HasQuery command.now (rows_of (found_of matches.now))) }
     ensures known { IfOk result NamesKnown }
 {
@@ -336,7 +334,11 @@ fn question_of(
 }
 
 // What is asked of a list and expected registers, if this is judged.
-fn comparison_of(alloc: Global, matches: &ArgMatches, kind: ComparisonKind) -> Result<ComparisonOptions, ArgumentsFault>
+fn comparison_of(
+    alloc: Global,
+    matches: &ArgMatches,
+    kind: ComparisonKind,
+) -> Result<ComparisonOptions, ArgumentsFault>
     ensures values { IfOk result (λ judge. (command : Words) → HasComparison command (rows_of (found_of matches.now)) kind
         → HasQuery command (rows_of (found_of matches.now)) (queries.Comparison judge)) }
     ensures known { IfOk result (λ judge. NamesKnown (queries.Comparison judge)) }

@@ -8,7 +8,7 @@ ghost use Rattle.command_line.specs.declared.commands.KnownNames.{KnownNames};
 ghost use Rattle.command_line.specs.Arguments.{Parsers, commands, program_app};
 
 use crate::argument_help::help_of;
-use crate::command_table::{ArgumentRow, COMMANDS, CommandRow, ArgumentForm, Values};
+use crate::command_table::{ArgumentForm, ArgumentRow, COMMANDS, CommandRow, Values};
 use crate::help_texts::{PROGRAM_HELP, PROGRAM_USAGE, help_end_of};
 use clap::builder::ValueParser;
 use clap::{Arg, ArgAction, Command};
@@ -102,12 +102,16 @@ fn argument<'a>(
             .long(row.id)
             .action(ArgAction::SetTrue)
             .requires_arg(option),
-        ArgumentForm::RequiredOption(value) => Ok(arg.long(row.id).value_name(value).required(true)),
+        ArgumentForm::RequiredOption(value) => Ok(
+            arg.long(row.id).value_name(value).required(true),
+        ),
         ArgumentForm::Optional(value) => Ok(arg.long(row.id).value_name(value)),
         ArgumentForm::OptionalBeside(value, argument) => {
             arg.long(row.id).value_name(value).requires_arg(argument)
         }
-        ArgumentForm::Several(value) => Ok(arg.long(row.id).value_name(value).action(ArgAction::Append)),
+        ArgumentForm::Several(value) => Ok(
+            arg.long(row.id).value_name(value).action(ArgAction::Append),
+        ),
         ArgumentForm::Defaulted(value, default, values) => Ok(
             arg.long(row.id)
                 .value_name(value)

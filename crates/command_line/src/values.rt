@@ -7,8 +7,8 @@ ghost use Rattle.command_line.specs.Arguments.{AreFurtherNames, AreGivenAs, HasA
 
 use crate::command_table::{MOST_RECORDS, MOST_WORKERS};
 use agent_plans::{
-    ArgumentsFault, AttestOptions, ConfirmedBy, DataShown, Form, ComparisonKind, Measurement, NameEnd, Names,
-    Print, Query, Quoting, Scope, Task,
+    ArgumentsFault, AttestOptions, ComparisonKind, ConfirmedBy, DataShown, Form, Measurement,
+    NameEnd, Names, Print, Query, Quoting, Scope, Task,
 };
 use clap::ArgMatches;
 use hex::FromHexError;
@@ -144,7 +144,10 @@ fn data_of(matches: &ArgMatches) -> Result<DataShown, ArgumentsFault>
 }
 
 /// The options and names of `attest`. Refuses a nonce that is not hexadecimal.
-pub(crate) fn attest_of(alloc: Global, matches: &ArgMatches) -> Result<AttestOptions, ArgumentsFault>
+pub(crate) fn attest_of(
+    alloc: Global,
+    matches: &ArgMatches,
+) -> Result<AttestOptions, ArgumentsFault>
     ensures { IfOk result (HasAttestOptions (rows_of (found_of matches.now))) }
 {
     let quote = name_of(alloc, matches, "QUOTE")?;
@@ -258,7 +261,9 @@ pub(crate) fn known_of(
 {
     match (names_if_given(alloc, matches, "known")?, kind, required) {
         (None, _, _) => Ok(None),
-        (Some(_), ComparisonKind::Positions { .. }, _) | (Some(_), _, None) => Err(ArgumentsFault::Usage),
+        (Some(_), ComparisonKind::Positions { .. }, _) | (Some(_), _, None) => Err(
+            ArgumentsFault::Usage,
+        ),
         (known, _, _) => Ok(known),
     }
 }

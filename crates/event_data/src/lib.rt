@@ -26,7 +26,7 @@ mod variable_reader;
 
 pub use blob::{Blob, read_described_blob, read_plain_blob};
 pub use command::{Command, CommandKind, read_command};
-pub use content::{EventContent, DataForm, event_content, form_of};
+pub use content::{DataForm, EventContent, event_content, form_of};
 pub use gpt::{Gpt, Partition, Partitions};
 pub use gpt_reader::read_gpt;
 pub use guid::{Guid, read_guid};

@@ -264,7 +264,10 @@ fn messaging_row(subtype: u8, payload: &[u8]) -> Option<NodeRow>
         10 => vendor_row("VenMsg", size),
         11 if size == 33 => Some(mac_row(byte_at(payload, 32))),
         17 if size == 1 => Some(NodeRow::new("Unit", &[Field::U8(0)])),
-        18 if size == 6 => Some(NodeRow::new("Sata", &[Field::U16(0), Field::U16(2), Field::U16(4)])),
+        18 if size == 6 => Some(NodeRow::new(
+            "Sata",
+            &[Field::U16(0), Field::U16(2), Field::U16(4)],
+        )),
         23 if size == 12 => Some(NodeRow::new("NVMe", &[Field::U32(0), Field::Eui(4)])),
         25 if size == 2 => Some(NodeRow::new("UFS", &[Field::U8(0), Field::U8(1)])),
         26 if size == 1 => Some(NodeRow::new("SD", &[Field::U8(0)])),
@@ -304,7 +307,10 @@ fn media_row(subtype: u8, payload: &[u8]) -> Option<NodeRow>
     let size = payload.len();
     match subtype {
         1 if size == 38 => drive_row(byte_at(payload, 37)),
-        2 if size == 20 => Some(NodeRow::new("CDROM", &[Field::U32(0), Field::U64(4), Field::U64(12)])),
+        2 if size == 20 => Some(NodeRow::new(
+            "CDROM",
+            &[Field::U32(0), Field::U64(4), Field::U64(12)],
+        )),
         3 => vendor_row("VenMedia", size),
         6 if size == 16 => Some(NodeRow::new("FvFile", &[Field::Guid(0)])),
         7 if size == 16 => Some(NodeRow::new("Fv", &[Field::Guid(0)])),

@@ -5,7 +5,10 @@ ghost use Rattle.hints.specs.Refused.{as_wanted, expected_of, compared_log, list
 
 use crate::wrong_input::ExpectedInput;
 use agent_inputs::RunFault;
-use agent_plans::{AttestOptions, ConfirmedBy, ComparisonOptions, ComparisonKind, Measurement, Query, Quoting, Task};
+use agent_plans::{
+    AttestOptions, ComparisonKind, ComparisonOptions, ConfirmedBy, Measurement, Query, Quoting,
+    Task,
+};
 use measure_book::BookFault;
 
 /// What standard input is called.
@@ -102,7 +105,9 @@ fn compared_log(kind: &ComparisonKind) -> Option<&str>
     ensures { option_map (λ name. name.now) result ≡ compared_log kind.now }
 {
     match kind {
-        ComparisonKind::Verdict { log, .. } | ComparisonKind::Positions { log } => Some(log.as_str()),
+        ComparisonKind::Verdict { log, .. } | ComparisonKind::Positions { log } => Some(
+            log.as_str(),
+        ),
         ComparisonKind::ListVerdict => None,
     }
 }
@@ -125,7 +130,9 @@ fn expected_of(task: &Task) -> Option<&str>
 {
     match task {
         Task::Answer(Query::Expected { printed, .. }) => Some(printed.as_str()),
-        Task::Answer(Query::Comparison(ComparisonOptions { expected, .. })) => Some(expected.as_str()),
+        Task::Answer(Query::Comparison(ComparisonOptions { expected, .. })) => Some(
+            expected.as_str(),
+        ),
         Task::Answer(Query::Attestation(AttestOptions { expected, .. })) => expected.as_deref(),
         Task::Events {
             confirmed_by: ConfirmedBy::Expected(name),

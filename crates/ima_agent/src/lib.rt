@@ -15,12 +15,12 @@ mod streams;
 mod version;
 
 pub use agent_inputs::{
-    AgentFiles, Files, OpenInput, LoadFault, NotResumed, ReadSource, RunFault, SharedFiles,
+    AgentFiles, Files, LoadFault, NotResumed, OpenInput, ReadSource, RunFault, SharedFiles,
     SystemFiles, WriteSink, hash_from, load,
 };
 pub use agent_plans::{
-    AttestOptions, ConfirmedBy, DataShown, Form, ComparisonOptions, ComparisonKind, Measurement, NameEnd, Names, Plan, Print,
-    Query, Quoting, Scope, Task,
+    AttestOptions, ComparisonKind, ComparisonOptions, ConfirmedBy, DataShown, Form, Measurement,
+    NameEnd, Names, Plan, Print, Query, Quoting, Scope, Task,
 };
 pub use answers::{write_positions, write_report};
 pub use boot_verdict::{

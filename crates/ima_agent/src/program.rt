@@ -256,12 +256,7 @@ fn send_text<S: Sink>(text: &[u8], status: u8, sink: &mut S) -> Sent
 }
 
 // The output of the answer to a question.
-fn answer_for<F: AgentFiles>(
-    alloc: Global,
-    question: &Query,
-    form: Form,
-    files: &mut F,
-) -> Prepared
+fn answer_for<F: AgentFiles>(alloc: Global, question: &Query, form: Form, files: &mut F) -> Prepared
     requires { NamesKnown question.now }
     ensures shown { IfOk result (λ output. IsOutputFor (F.known files.old) (tasks.Answer question.now) form (F.saved files.old) (F.saved files.new)
         output.text.items output.status) }

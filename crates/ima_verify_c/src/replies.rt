@@ -10,7 +10,7 @@ use agent_inputs::{FaultKind, RunFault};
 use agent_plans::Form;
 use byte_streams::{Failed, VecSink};
 use judging::Request;
-use line_chunks::{PieceEnd, Piece, LineOffset};
+use line_chunks::{LineOffset, Piece, PieceEnd};
 use rendering::{
     Rendered, json_fault_line, json_memory_line, memory_line, output_on, status_of, write_fault,
 };

@@ -107,7 +107,9 @@ fn required_in(alloc: Global, required: Required<'_>) -> Result<Option<Requireme
         Required::Nothing | Required::Any => Ok(None),
         Required::These(text) => match Requirement::from_text(alloc, text) {
             Ok(requirement) => Ok(Some(requirement)),
-            Err(SelectionFault::Malformed { .. } | SelectionFault::LacksPcr10) => Err(RunFault::Usage),
+            Err(SelectionFault::Malformed { .. } | SelectionFault::LacksPcr10) => Err(
+                RunFault::Usage,
+            ),
             Err(SelectionFault::Memory) => Err(RunFault::Memory),
         },
     }

@@ -18,7 +18,7 @@ use crate::answers::{Evidence, checkpoint_of, state_in};
 use crate::inputs::{Input, load_at};
 use crate::known_texts::known_in;
 use crate::request::{
-    Answering, AttestRequest, Comparison, ScopedReport, ReportKind, Required, answered_with,
+    Answering, AttestRequest, Comparison, ReportKind, Required, ScopedReport, answered_with,
 };
 use agent_inputs::{AgentFiles, NotResumed, RunFault};
 use attestations::{

@@ -9,9 +9,9 @@ mod entry_file;
 mod fault;
 mod known;
 pub mod laws;
-mod text_lines;
 mod listed;
 mod sorted;
+mod text_lines;
 mod unknown;
 
 pub use digest_line::digest_on;

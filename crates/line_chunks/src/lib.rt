@@ -9,4 +9,4 @@ mod piece;
 
 pub use entry_pieces::entry_lines;
 pub use event_pieces::event_lines;
-pub use piece::{PieceEnd, Piece, LineOffset};
+pub use piece::{LineOffset, Piece, PieceEnd};

@@ -6,8 +6,8 @@ ghost use Rattle.pcr_values.specs.declared.expected.ExpectFault.TheVariants.{Mem
 ghost use Rattle.pcr_values.specs.ExpectFaults.{expect_fault_number, expect_fault_line};
 ghost use Rattle.pcr_values.specs.ExpectedTexts.{BeginsWithRegister, HasFirstFault, IsExpectedText, IsRegisterLine, Spells};
 
-use crate::text_lines::{register_named, split_once};
 use crate::stated::{LinePosition, read_lines};
+use crate::text_lines::{register_named, split_once};
 use pcr_banks::{Alg, Digest};
 use std::alloc::{AllocError, AllocFailed, Global};
 use thiserror::Error;

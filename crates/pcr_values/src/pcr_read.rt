@@ -8,8 +8,8 @@ ghost use Rattle.pcr_values.specs.declared.expected.Expected.{Expected};
 ghost use Rattle.pcr_values.specs.PcrReadTexts.{IsBankLine, IsValueLine, Position, Says, is_name_byte, two_columns};
 
 use crate::expected::Expected;
-use crate::text_lines::{after_prefix, before_suffix, register_named};
 use crate::stated::LinePosition;
+use crate::text_lines::{after_prefix, before_suffix, register_named};
 use pcr_banks::{Alg, Digest};
 
 /// A position between lines: in the bank of this name, or before the first bank line.

@@ -10,9 +10,9 @@ ghost use Rattle.pcr_values.specs.declared.printed.PrintedPart.TheVariants.{Quot
 ghost use Rattle.pcr_values.specs.PrintedTexts.{HasPrintedFault, IsPrintedText, IsQuoteOutput, IsSignatureLine, MayEnd, PrintedPosition, Prints, PrintsRegister, Turns};
 
 use crate::expected::{ExpectFault, Expected};
-use crate::text_lines::after_prefix;
 use crate::pcr_read::InBank;
 use crate::stated::{LinePosition, read_lines};
+use crate::text_lines::after_prefix;
 use std::alloc::Global;
 
 /// Reads the registers that `tpm2_pcrread` of tpm2-tools prints, or that `tpm2_checkquote` prints of a quote.
@@ -110,7 +110,9 @@ fn part_begun(part: PrintedPart, bank: InBank<'_>, line: &[u8]) -> Option<Printe
     ensures none { IfNone result ((next : PrintedPart) → Turns part (option_map (λ name. name.now) bank.entry.name) line.now next → ⊥) }
 {
     match part {
-        PrintedPart::Printed if bank.name.is_none() && line == b"pcrs:".as_slice() => Some(PrintedPart::Quoted),
+        PrintedPart::Printed if bank.name.is_none() && line == b"pcrs:".as_slice() => Some(
+            PrintedPart::Quoted,
+        ),
         PrintedPart::Quoted if is_signature(line) => Some(PrintedPart::Signed),
         _ => None,
     }

@@ -7,8 +7,8 @@ ghost use Rattle.pcr_values.specs.Selections.{BeginsWithBankRange, IsBankRangeTe
 ghost use Rattle.pcr_values.specs.parts.SelectionParts.{parts_left};
 
 use crate::expected::Expected;
-use crate::text_lines::split_once;
 use crate::register_range::RegisterRange;
+use crate::text_lines::split_once;
 use memchr::memchr2;
 use pcr_banks::Alg;
 use std::alloc::{AllocFailed, Global};

@@ -4,7 +4,7 @@ ghost use Rattle.std.specs.Prelude.{◌≡◌, [], map, option_map, IfOk, OnErr}
 ghost use Rattle.judging.specs.Requests.{requested_of, location_of, attested_of, compared_of, judgement_of, requires_of};
 ghost use Rattle.questions.specs.Questions.{attested_with, requested_by, file_of, files_of, known_by, attested_by, compared_by, judgement_by, requires_by, save_by, with_known};
 
-use agent_plans::{AttestOptions, ComparisonOptions, ComparisonKind, Query, Quoting, Scope};
+use agent_plans::{AttestOptions, ComparisonKind, ComparisonOptions, Query, Quoting, Scope};
 use judging::{AttestRequest, Comparison, Input, ReportKind, Request, Required};
 use std::alloc::{AllocError, Global};
 

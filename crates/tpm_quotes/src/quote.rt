@@ -231,7 +231,11 @@ impl Quote<'_> {
 }
 
 // The hash of the values of the selected registers. `None` where one is missing.
-fn hash_of<V: RegisterValues>(alg: Alg, selections: &[QuotedSelection], registers: &V) -> Option<Digest>
+fn hash_of<V: RegisterValues>(
+    alg: Alg,
+    selections: &[QuotedSelection],
+    registers: &V,
+) -> Option<Digest>
     ensures { result ≡ option_map (λ bytes. digest_of alg (hash_of alg bytes))
         (joined (V.values registers.now) (selected (map selection_of selections.now))) }
 {
