@@ -11,11 +11,11 @@ import io
 import os
 import re
 import shutil
+import signal
 import stat
 import subprocess
 import sys
 import tempfile
-import time
 from contextlib import redirect_stdout
 from importlib.machinery import SourceFileLoader
 from importlib.util import module_from_spec, spec_from_loader
@@ -203,11 +203,11 @@ class Commands(harness.TestCase):
         self.check("three calls at once are answered", answers, 3 * [("<2>\n", 2)])
         self.check("by one build", self.tree.builds.read_text().removeprefix(before), "built\n")
         edit(main)
-        self.builds_for(DURING="sleep 50 >/dev/null 2>&1 &")
+        left = self.tree.root.parent / "left"
+        self.builds_for(DURING=f"sleep 1000 >/dev/null 2>&1 & echo $! >'{left}'")
         edit(main)
-        started = time.monotonic()
         self.check("built while something runs that a build left", self.builds_for(), 1)
-        self.check("for which no call waits", time.monotonic() - started < 40)
+        os.kill(int(left.read_text()), signal.SIGKILL)  # (which raises an error if it runs no longer: then a call has waited for it)
 
     def test_ends(self):
         """Of a build stay the program and the libraries below it, and of one that fails nothing."""
