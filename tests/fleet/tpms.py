@@ -19,7 +19,7 @@ NEEDED = ("swtpm", "swtpm_ioctl", "tpm2_startup", "tpm2_shutdown", "tpm2_createp
 HANDLE = "0x81010002"  # of the attestation key
 ATTRIBUTES = "fixedtpm|fixedparent|sensitivedataorigin|userwithauth|restricted|sign"
 LOW = ",".join(map(str, range(11)))
-SECONDS = 60
+SECONDS = 240  # (a limit for what is to come: the computer may have much else to do than to make a key)
 
 
 @dataclass
