@@ -26,6 +26,7 @@ import json
 import os
 import re
 import resource
+import shutil
 import subprocess
 import sys
 import tempfile
@@ -170,8 +171,12 @@ def command_runs(program, folder):
                     run = CommandRun(program, case, command, home)
                     if any(name and not (home / name).exists() for name in (command.output, command.saved)):
                         run.fault({}, home / "none")  # (it makes a file for those after it)
-                    if not any(word.startswith("/") for word in command.words):
-                        runs.setdefault(kind_of(command, home), run)
+                    kind = kind_of(command, home)
+                    if kind not in runs and not any(word.startswith("/") for word in command.words):
+                        if command.saved:  # (nothing else then runs where it saves)
+                            own = folder / f"case-{number}-{command.line}"
+                            run = CommandRun(program, case, command, shutil.copytree(home, own, symlinks=True))
+                        runs[kind] = run
         except form.Malformed as fault:
             faults.append(f"{path}:{fault}")
     return list(runs.values()), faults + json_faults(runs.values())
