@@ -213,7 +213,7 @@ def sockets_of(process, number="*"):
 def test_deaths_at_start(ends):
     """Workers that die at their start are replaced; if all do, the run says so."""
     deaths = ends.tools.folder / "deaths"
-    all_died = "10 workers, one after another, ended before they had started"
+    all_died = "workers, one after another, ended before they had started"
     for name, count, status, said in (("some die", 3, 1, "done"), ("all die", 1000, 3, all_died)):
         deaths.write_bytes(bytes(count))
         client = ends.client(name, module=ends.dying, DEATHS=str(deaths))
@@ -222,6 +222,8 @@ def test_deaths_at_start(ends):
         ends.check_said(f"{name} at the start", name, said)
         wanted = ends.fleet.rows if status == 1 else {}
         ends.check(f"{name} at the start: verdicts", rows_of(ends.tools.folder / f"{name}.db"), wanted)
+    count = re.search(rf"(\d+) {all_died}", (ends.tools.folder / "all die").read_text())
+    ends.check("all die at the start: how many", count and count[1] in ("10", "11"), True)  # (the other worker may end meanwhile)
 
 
 def test_deadly_machines(ends):
