@@ -38,7 +38,7 @@ parser = argparse.ArgumentParser(usage="tests/cases/limits.py [--library FILE] [
 parser.add_argument("--library", type=Library)
 parser.add_argument("program", nargs="?", type=Path, default=harness.PROGRAM)
 ASKED = parser.parse_args()
-SECONDS = 60
+SECONDS = 240  # after which a command hangs, however busy the machine is
 MEBIBYTE = 1 << 20
 SIZES = (63 * MEBIBYTE, MOST_BYTES, MOST_BYTES + 1, 65 * MEBIBYTE)
 # (the two in the middle are of no concern to the library)
