@@ -14,7 +14,7 @@ use Rattle.growing_lists.specs.Sessions.{HasTaken, IsOfBoot}
 
 -- What a session knows of another list of its boot.
 abbrev pub taken_as : {log list other : List ℕ} {session : Session} {next : Checkpoint} → HasTaken log list session → IsCheckpoint other next
-    → next.before ≡ session.known.before → HasTaken log other (record { log = session.log; known = next })
+    → next.before ≡ session.checkpoint.before → HasTaken log other (record { log = session.log; checkpoint = next })
 taken_as has is same = record {
   table = has.table;
   events = has.events;

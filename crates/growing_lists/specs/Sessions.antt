@@ -17,8 +17,8 @@ pub record HasTaken (log list : List ℕ) (session : Session) : Type 0 where
   pub events : List LogEvent
   pub log_is : IsLog log table events
   pub same_log : log_bytes session.log ≡ log
-  pub start : IsFirmware (algs_in table) events session.known.before
-  pub checkpoint : IsCheckpoint list session.known
+  pub start : IsFirmware (algs_in table) events session.checkpoint.before
+  pub checkpoint : IsCheckpoint list session.checkpoint
 
 -- The log leaves the registers that are before the checkpoint's list.
 pub record IsOfBoot (log : List ℕ) (known : Checkpoint) : Type 0 where

@@ -88,36 +88,36 @@ impl Session<'_> {
     ) -> Result<(Option<Confirmed>, W), VerifyFault>
         // The session has taken the confirmed prefix.
         ensures prefix { IfOk result (λ found. IfSome found.0 (λ confirmed. (log list : List ℕ) → HasTaken log list self.old
-            → IsPrefixTaken log list (R.state source.old).remaining (R.state source.new).remaining (most_after self.old.known limit) (goal_data goal.entry)
-            self.old.known.entries self.new confirmed)) }
+            → IsPrefixTaken log list (R.state source.old).remaining (R.state source.new).remaining (most_after self.old.checkpoint limit) (goal_data goal.entry)
+            self.old.checkpoint.entries self.new confirmed)) }
         // Else no prefix is confirmed.
         ensures none { IfOk result (λ found. IfNone found.0 ((log list : List ℕ) → HasTaken log list self.old
-            → TakesUnconfirmed log list (R.state source.old).remaining (R.state source.new).remaining (most_after self.old.known limit) (goal_data goal.entry)
-            self.old.known.entries self.new)) }
+            → TakesUnconfirmed log list (R.state source.old).remaining (R.state source.new).remaining (most_after self.old.checkpoint limit) (goal_data goal.entry)
+            self.old.checkpoint.entries self.new)) }
         // What had tracked the entries taken so far has tracked those of the prefix, or of the whole list.
         ensures watched { IfOk result (λ found. (start : W) (log list : List ℕ) (taken : HasTaken log list self.old)
             → AreTracked W.is_after start taken.checkpoint.entries watch
-            → WatchesFound W.is_after start log list (R.state source.old).remaining (R.state source.new).remaining (most_after self.old.known limit)
-            (goal_data goal.entry) self.old.known.entries self.new found.0 found.1) }
+            → WatchesFound W.is_after start log list (R.state source.old).remaining (R.state source.new).remaining (most_after self.old.checkpoint limit)
+            (goal_data goal.entry) self.old.checkpoint.entries self.new found.0 found.1) }
         ensures kept { OnErr result (self.new ≡ self.old) }
         // Any fault is the first reason, and the list is refused only if no prefix is confirmed.
         ensures fault { IfErr result (λ fault. (log list : List ℕ) → HasTaken log list self.old
-            → IsMoreFault list (R.state source.old).remaining (R.state source.new).remaining (most_after self.old.known limit) fault) }
+            → IsMoreFault list (R.state source.old).remaining (R.state source.new).remaining (most_after self.old.checkpoint limit) fault) }
         ensures unconfirmed { IfErr result (λ fault. (log list : List ℕ) → HasTaken log list self.old
-            → IsUnconfirmedFault log list (R.state source.old).remaining (R.state source.new).remaining (most_after self.old.known limit)
-            (goal_data goal.entry) self.old.known.entries fault) }
+            → IsUnconfirmedFault log list (R.state source.old).remaining (R.state source.new).remaining (most_after self.old.checkpoint limit)
+            (goal_data goal.entry) self.old.checkpoint.entries fault) }
         // In any case the source loses bytes from its start, and nothing else.
         ensures source { LosesPrefix (R.state source.old).remaining (R.state source.new).remaining }
         ensures telling { is_some (R.state source.new).remaining ≡ is_some (R.state source.old).remaining }
         ensures counts { (R.state source.new).failures ≡ failures_after_list result (R.state source.old).failures }
     {
         let mut watch = watch;
-        let search = search_list(alloc, &self.known, source, limit, goal, &mut watch)?;
+        let search = search_list(alloc, &self.checkpoint, source, limit, goal, &mut watch)?;
         let Some(prefix) = search.prefix else {
-            self.known = whole_of(search.whole)?;
+            self.checkpoint = whole_of(search.whole)?;
             return Ok((None, watch));
         };
-        self.known = prefix;
+        self.checkpoint = prefix;
         let confirmed = Confirmed {
             entries: search.entries,
             unconfirmed: wrong_with(search.whole),

@@ -24,7 +24,7 @@ use std::alloc::Global;
 #[derive(Drop)]
 pub struct Session<'a> {
     pub(crate) log: LogView<'a>,
-    pub(crate) known: Checkpoint,
+    pub(crate) checkpoint: Checkpoint,
 }
 
 impl<'a> Session<'a> {
@@ -37,22 +37,22 @@ impl<'a> Session<'a> {
         ensures fault { IfErr result (λ fault. log_fault log.now ≡ Some fault) }
     {
         let log = LogView::new(log)?;
-        let known = Checkpoint::before_list(log.registers());
-        Ok(Session { log, known })
+        let checkpoint = Checkpoint::before_list(log.registers());
+        Ok(Session { log, checkpoint })
     }
 
     /// A session of this log that goes on from a checkpoint.
     ///
     /// Fails with the fault of the log, or with [`ResumeFault::OtherBoot`] if the log leaves other registers than those before the
     /// checkpoint's list.
-    pub fn resume(log: &'a [u8], known: Checkpoint) -> Result<Self, ResumeFault>
+    pub fn resume(log: &'a [u8], checkpoint: Checkpoint) -> Result<Self, ResumeFault>
         // If it is the checkpoint of a list, the session has taken that list.
-        ensures taken { IfOk result (λ session. (list : List ℕ) → IsCheckpoint list known → HasTaken log.now list session) }
+        ensures taken { IfOk result (λ session. (list : List ℕ) → IsCheckpoint list checkpoint → HasTaken log.now list session) }
         ensures log { IfOk result (λ session. log_bytes session.log ≡ log.now) }
-        ensures known { IfOk result (λ session. session.known ≡ known) }
-        ensures boot { IfOk result (λ _. IsOfBoot log.now known) }
+        ensures checkpoint { IfOk result (λ session. session.checkpoint ≡ checkpoint) }
+        ensures boot { IfOk result (λ _. IsOfBoot log.now checkpoint) }
         // Wherever the log leaves the registers before the checkpoint, the session goes on.
-        ensures only { IsOfBoot log.now known → IsOk result }
+        ensures only { IsOfBoot log.now checkpoint → IsOk result }
         // The log's fault comes first.
         ensures fault { (fault : LogFault) → IsErrOf result (ResumeFault.Log fault) → log_fault log.now ≡ Some fault }
         ensures other { IsErrOf result ResumeFault.OtherBoot → ReadsAsLog log.now }
@@ -61,17 +61,17 @@ impl<'a> Session<'a> {
             Ok(log) => log,
             Err(fault) => return Err(ResumeFault::Log(fault)),
         };
-        if !are_same_banks(&log.registers(), &known.before) {
+        if !are_same_banks(&log.registers(), &checkpoint.before) {
             return Err(ResumeFault::OtherBoot);
         }
-        Ok(Session { log, known })
+        Ok(Session { log, checkpoint })
     }
 
     /// What is known after the bytes taken so far: enough to go on later with [`Session::resume`].
     pub fn checkpoint(&self) -> &Checkpoint
-        ensures { result.now ≡ self.now.known }
+        ensures { result.now ≡ self.now.checkpoint }
     {
-        &self.known
+        &self.checkpoint
     }
 
     /// Takes all that the source has left, as the bytes that follow those taken so far: at most `limit`, and no more than make a list
@@ -86,24 +86,24 @@ impl<'a> Session<'a> {
         watch: W,
     ) -> Result<W, VerifyFault>
         ensures taken { OnOk result ((log list : List ℕ) → HasTaken log list self.old
-            → TakesMore log list (R.state source.old).remaining (R.state source.new).remaining (most_after self.old.known limit) self.new) }
+            → TakesMore log list (R.state source.old).remaining (R.state source.new).remaining (most_after self.old.checkpoint limit) self.new) }
         // What had tracked the entries taken so far has tracked those of the whole list.
         ensures watched { IfOk result (λ now. (start : W) (log list : List ℕ) (taken : HasTaken log list self.old)
             → AreTracked W.is_after start taken.checkpoint.entries watch
-            → WatchesMore W.is_after start log list (R.state source.old).remaining (R.state source.new).remaining (most_after self.old.known limit) self.new now) }
+            → WatchesMore W.is_after start log list (R.state source.old).remaining (R.state source.new).remaining (most_after self.old.checkpoint limit) self.new now) }
         ensures kept { OnErr result (self.new ≡ self.old) }
         // Any fault is the first reason.
         ensures fault { IfErr result (λ fault. (log list : List ℕ) → HasTaken log list self.old
-            → IsMoreFault list (R.state source.old).remaining (R.state source.new).remaining (most_after self.old.known limit) fault) }
+            → IsMoreFault list (R.state source.old).remaining (R.state source.new).remaining (most_after self.old.checkpoint limit) fault) }
         // In any case the source loses bytes from its start, and nothing else.
         ensures prefix { LosesPrefix (R.state source.old).remaining (R.state source.new).remaining }
         ensures telling { is_some (R.state source.new).remaining ≡ is_some (R.state source.old).remaining }
         ensures counts { (R.state source.new).failures ≡ failures_after_list result (R.state source.old).failures }
     {
         let (next, watch) = self
-            .known
-            .go_on(alloc, source, self.known.room(limit), watch)?;
-        self.known = next;
+            .checkpoint
+            .go_on(alloc, source, self.checkpoint.room(limit), watch)?;
+        self.checkpoint = next;
         Ok(watch)
     }
 
@@ -113,7 +113,7 @@ impl<'a> Session<'a> {
         ensures report { IfOk result (λ report. (log list : List ℕ) → HasTaken log list self.now → IsVerdict log list expected.now (verdict_of report)) }
         ensures fault { IfErr result (λ fault. fault ≡ VerifyFault.Memory) }
     {
-        Ok(report_on(alloc, &self.log, &self.known, expected)?)
+        Ok(report_on(alloc, &self.log, &self.checkpoint, expected)?)
     }
 }
 

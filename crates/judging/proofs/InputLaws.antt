@@ -137,7 +137,7 @@ tells_of inputs scope list evidence Tells Also (judged.Prefix report) next so is
 )
 
 -- Whoever goes on from what a session knows goes on from what it has taken.
-next_of : {log list : List ℕ} {session : Session} → HasTaken log list session → IsPossible session.known → IsNext log list session.known
+next_of : {log list : List ℕ} {session : Session} → HasTaken log list session → IsPossible session.checkpoint → IsNext log list session.checkpoint
 next_of is possible = record {
   checkpoint = is.checkpoint;
   boot = record { table = is.table; events = is.events; log_is = is.log_is; start = is.start };
@@ -205,17 +205,17 @@ module _ {inputs : Inputs} {list : Where} {old new : SourceState} (gives : Gives
   -- ---- a verdict
 
   module _ (place : Where) (resume : Option Where) (scope : Scope) (evidence : Evidence) {before : Session}
-      (started : IsStarted evidence.log evidence.known before) where
+      (started : IsStarted evidence.log evidence.checkpoint before) where
     -- All of the list was taken, and if a prefix is sought, none is confirmed.
-    pub whole_found : (Tells : List ListEntry → Type 0) (after : Session) (report : Report) → CanBeReadBack after.known
+    pub whole_found : (Tells : List ListEntry → Type 0) (after : Session) (report : Report) → CanBeReadBack after.checkpoint
         → ((log taken : List ℕ) → HasTaken log taken before
-        → (takes : TakesMore log taken old.remaining new.remaining (most_after before.known (limit_of list)) after)
+        → (takes : TakesMore log taken old.remaining new.remaining (most_after before.checkpoint (limit_of list)) after)
         × Tells takes.taken.checkpoint.entries)
         → (seeks_prefix scope evidence ≡ true → (log taken : List ℕ) → HasTaken log taken before
-        → TakesUnconfirmed log taken old.remaining new.remaining (most_after before.known (limit_of list)) (goal_in evidence)
-        before.known.entries after)
+        → TakesUnconfirmed log taken old.remaining new.remaining (most_after before.checkpoint (limit_of list)) (goal_in evidence)
+        before.checkpoint.entries after)
         → ((log all : List ℕ) → HasTaken log all after → IsVerdict log all evidence.expected (verdict_of report))
-        → IsVerdictOn inputs scope list evidence Tells (judged.Whole report) after.known
+        → IsVerdictOn inputs scope list evidence Tells (judged.Whole report) after.checkpoint
     unfolding next_of
     whole_found Tells after report room takes none verdict = (
       started.boot,
@@ -235,13 +235,13 @@ module _ {inputs : Inputs} {list : Where} {old new : SourceState} (gives : Gives
           (n.takes.more, held n.takes.came, (n.entries, n.list_is, n.none)),
     )
 
-    pub prefix_found : (Tells : List ListEntry → Type 0) (after : Session) (report : Report) (confirmed : Confirmed) → CanBeReadBack after.known
+    pub prefix_found : (Tells : List ListEntry → Type 0) (after : Session) (report : Report) (confirmed : Confirmed) → CanBeReadBack after.checkpoint
         → seeks_prefix scope evidence ≡ true
         → ((log taken : List ℕ) → HasTaken log taken before → (prefix : IsPrefixTaken log taken old.remaining new.remaining
-        (most_after before.known (limit_of list)) (goal_in evidence) before.known.entries after confirmed) × Tells prefix.prefix)
+        (most_after before.checkpoint (limit_of list)) (goal_in evidence) before.checkpoint.entries after confirmed) × Tells prefix.prefix)
         → ((log all : List ℕ) → HasTaken log all after → IsVerdict log all evidence.expected (verdict_of report))
         → IsVerdictOn inputs scope list evidence Tells
-        (judged.Prefix (record { report = report; entries = confirmed.entries; unconfirmed = confirmed.unconfirmed })) after.known
+        (judged.Prefix (record { report = report; entries = confirmed.entries; unconfirmed = confirmed.unconfirmed })) after.checkpoint
     prefix_found Tells after report confirmed room sought prefixes verdict = (
       started.boot,
       sought,
@@ -266,12 +266,12 @@ module _ {inputs : Inputs} {list : Where} {old new : SourceState} (gives : Gives
             },
           ),
       λ taken take.
-          wrong_with taken (most_after before.known (limit_of list)) confirmed.entries confirmed.unconfirmed
+          wrong_with taken (most_after before.checkpoint (limit_of list)) confirmed.entries confirmed.unconfirmed
           (prefixes evidence.log taken (started.takes taken take)).0.wrong,
     )
 
     unconfirmed_in : (first : VerifyFault) → ((log taken : List ℕ) → HasTaken log taken before → IsUnconfirmedFault log taken old.remaining
-        new.remaining (most_after before.known (limit_of list)) (goal_in evidence) before.known.entries first)
+        new.remaining (most_after before.checkpoint (limit_of list)) (goal_in evidence) before.checkpoint.entries first)
         → IsUnconfirmedIn inputs list evidence first
     unconfirmed_in (verdicts.Log first) is = tt
     unconfirmed_in (verdicts.List first) is =
@@ -298,10 +298,10 @@ module _ {inputs : Inputs} {list : Where} {old new : SourceState} (gives : Gives
 
     pub not_found : (first : VerifyFault) (fault : RunFault) → (first ≡ verdicts.Source → HasFailed old new)
         → ((log taken : List ℕ) → HasTaken log taken before
-        → IsMoreFault taken old.remaining new.remaining (most_after before.known (limit_of list)) first)
+        → IsMoreFault taken old.remaining new.remaining (most_after before.checkpoint (limit_of list)) first)
         → (seeks_prefix scope evidence ≡ true → (log taken : List ℕ) → HasTaken log taken before
-        → IsUnconfirmedFault log taken old.remaining new.remaining (most_after before.known (limit_of list)) (goal_in evidence)
-        before.known.entries first) → IsFaultAt list first fault → IsNotFound inputs (VerdictOf place scope resume) list evidence fault
+        → IsUnconfirmedFault log taken old.remaining new.remaining (most_after before.checkpoint (limit_of list)) (goal_in evidence)
+        before.checkpoint.entries first) → IsFaultAt list first fault → IsNotFound inputs (VerdictOf place scope resume) list evidence fault
     not_found first fault failed is unconfirmed says =
         inr (inr (record {
           first = first;

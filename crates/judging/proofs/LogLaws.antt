@@ -14,7 +14,7 @@ use Rattle.judging.specs.Answering.{Evidence, IsAttestation, IsJudged, IsVerdict
 use Rattle.judging.specs.Inputs.{Where}
 use Rattle.judging.specs.Requests.{AttestRequested, VerdictOf}
 
-module _ (inputs : Inputs) (list : Where) (evidence : Evidence) (first : evidence.known ≡ None) where
+module _ (inputs : Inputs) (list : Where) (evidence : Evidence) (first : evidence.checkpoint ≡ None) where
   -- A verdict that goes on from nothing is on a log.
   log_on : (Tells : List ListEntry → Type 0) (on : ScopedReport) (next : Checkpoint) → IsVerdictOn inputs Whole list evidence Tells on next
       → ReadsAsLog evidence.log

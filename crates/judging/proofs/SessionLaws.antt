@@ -8,7 +8,7 @@ use Rattle.growing_lists.specs.Sessions.{HasTaken}
 use Rattle.judging.specs.Inputs.{FileOf, BytesOf, Where, limit_of}
 
 -- It counts no entries.
-pub no_entries : (log : List ℕ) (session : Session) → HasTaken log [] session → session.known.entries ≡ 0
+pub no_entries : (log : List ℕ) (session : Session) → HasTaken log [] session → session.checkpoint.entries ≡ 0
 no_entries log session taken = taken.checkpoint.count ∙ ap length (none_listed taken.checkpoint.list_is)
 
 -- As many bytes may follow as the input may have.

@@ -91,8 +91,8 @@ pub record Evidence : Type 0 where
   pub quote : Option TpmQuote
   pub is_signed : Bool
   pub values : ExpectedValues
-  pub known : Option Checkpoint
-  pub files : Option KnownFiles
+  pub checkpoint : Option Checkpoint
+  pub known_files : Option KnownFiles
 
 -- What a prefix is confirmed by: the quote, if there is one; else the expected registers.
 abbrev pub goal_by : Option TpmQuote → List Expected → GoalData
@@ -161,7 +161,7 @@ pub record IsNext (log list : List ℕ) (next : Checkpoint) : Type 0 where
 abbrev pub AreUnconfirmedAfter : Evidence → List ListEntry → Type 0
 AreUnconfirmedAfter evidence entries =
     (table : List DeclaredAlgorithm) (events : List LogEvent) → IsLog evidence.log table events
-    → AreUnconfirmed (algs_in table) events (goal_in evidence) (entries_taken evidence.known) entries
+    → AreUnconfirmed (algs_in table) events (goal_in evidence) (entries_taken evidence.checkpoint) entries
 
 -- No prefix of the list is confirmed.
 abbrev pub HasNoPrefix : Evidence → List ℕ → Type 0
@@ -176,17 +176,17 @@ pub record IsPrefixOf (evidence : Evidence) (Tells : List ListEntry → Type 0) 
   pub rest : List ℕ
   pub log_is : IsLog evidence.log table events
   pub begins : BeginsWith list prefix rest
-  pub confirmed : IsConfirmed (algs_in table) events (goal_in evidence) (entries_taken evidence.known) prefix
+  pub confirmed : IsConfirmed (algs_in table) events (goal_in evidence) (entries_taken evidence.checkpoint) prefix
   pub verdict_is : verdict_of report.report ≡ verdict_on (algs_in table) events prefix evidence.expected
   pub next_is : IsNext evidence.log (list_spelling prefix) next
   pub tells : Tells prefix
 
 -- The list is refused only if no prefix is confirmed: of the entries before the one that the fault names, or of all.
 abbrev pub IsUnconfirmedIn : Inputs → Where → Evidence → VerifyFault → Type 0
-IsUnconfirmedIn inputs place evidence (verdicts.List first) = OfList inputs place evidence.known (λ list.
+IsUnconfirmedIn inputs place evidence (verdicts.List first) = OfList inputs place evidence.checkpoint (λ list.
     (entries : List ListEntry) × (rest : List ℕ) × (list_fault_entry first ≡ Some (length entries)) × BeginsWith list entries rest
     × AreUnconfirmedAfter evidence entries)
-IsUnconfirmedIn inputs place evidence (verdicts.Replay first) = OfList inputs place evidence.known (HasNoPrefix evidence)
+IsUnconfirmedIn inputs place evidence (verdicts.Replay first) = OfList inputs place evidence.checkpoint (HasNoPrefix evidence)
 IsUnconfirmedIn inputs place evidence first = Unit {0}
 
 -- This was judged on this evidence and the list of this input; and this is where to go on. A verdict is on a log that leaves the registers
@@ -194,16 +194,16 @@ IsUnconfirmedIn inputs place evidence first = Unit {0}
 -- that it is on have the property `Tells`.
 abbrev pub IsVerdictOn : Inputs → Scope → Where → Evidence → (List ListEntry → Type 0) → ScopedReport → Checkpoint → Type 0
 IsVerdictOn inputs scope list evidence Tells (judged.Whole report) next =
-    IfSome evidence.known (IsOfBoot evidence.log)
-    × OfMore inputs list evidence.known (λ taken more. (length more ≤ most_more evidence.known list)
+    IfSome evidence.checkpoint (IsOfBoot evidence.log)
+    × OfMore inputs list evidence.checkpoint (λ taken more. (length more ≤ most_more evidence.checkpoint list)
     × IsVerdict evidence.log (taken ++ more) evidence.expected (verdict_of report)
     × ((next_is : IsNext evidence.log (taken ++ more) next) × Tells next_is.checkpoint.entries))
-    × (seeks_prefix scope evidence ≡ true → OfList inputs list evidence.known (HasNoPrefix evidence))
+    × (seeks_prefix scope evidence ≡ true → OfList inputs list evidence.checkpoint (HasNoPrefix evidence))
 IsVerdictOn inputs scope list evidence Tells (judged.Prefix report) next =
-    IfSome evidence.known (IsOfBoot evidence.log)
+    IfSome evidence.checkpoint (IsOfBoot evidence.log)
     × (seeks_prefix scope evidence ≡ true)
-    × OfList inputs list evidence.known (λ all. IsPrefixOf evidence Tells all report next)
-    × OfList inputs list evidence.known (λ all. IsWrongWith all report.entries report.unconfirmed)
+    × OfList inputs list evidence.checkpoint (λ all. IsPrefixOf evidence Tells all report next)
+    × OfList inputs list evidence.checkpoint (λ all. IsWrongWith all report.entries report.unconfirmed)
 
 -- What a report by a quote says of what was judged, a whole list or its confirmed prefix, after which this is known: by the registers after it.
 abbrev pub told_by : TpmQuote → Bool → ExpectedValues → Checkpoint → ScopedReport → AttestVerdict
@@ -235,12 +235,12 @@ IsAnswerOn (Some quote) is_signed values on next answer =
 -- answer is on, without those of the list that was taken before.
 abbrev pub IsJudged : Inputs → Judgement → Where → Evidence → Answer → Option Checkpoint → Option Unknown → Type 0
 IsJudged inputs (VerdictOf place scope resume) list evidence answer (Some next) unknown =
-    (on : ScopedReport) × IsVerdictOn inputs scope list evidence (TellsUnknown evidence.files (entries_taken evidence.known) unknown) on next
+    (on : ScopedReport) × IsVerdictOn inputs scope list evidence (TellsUnknown evidence.known_files (entries_taken evidence.checkpoint) unknown) on next
     × IsAnswerOn evidence.quote evidence.is_signed evidence.values on next answer
 IsJudged inputs (PositionsOf place) list evidence (answers.Positions located) None unknown =
     OfInput inputs list (λ all. AreLocated evidence.log all evidence.expected located.items) × (unknown ≡ None)
 IsJudged inputs ListVerdictOf list evidence (answers.ListReport report) None unknown =
-    OfInput inputs list (λ all. (is : IsListVerdict all evidence.expected (list_verdict_of report)) × TellsUnknown evidence.files 0 unknown is.entries)
+    OfInput inputs list (λ all. (is : IsListVerdict all evidence.expected (list_verdict_of report)) × TellsUnknown evidence.known_files 0 unknown is.entries)
 IsJudged inputs judgement list evidence answer next unknown = ⊥
 
 -- ---- why there is no answer
@@ -270,8 +270,8 @@ IsRefusedList inputs list fault =
 pub record IsNotTaken (inputs : Inputs) (scope : Scope) (list : Where) (evidence : Evidence) (fault : RunFault) : Type 0 where
   pub first : VerifyFault
   pub log_is : ReadsAsLog evidence.log
-  pub boot : IfSome evidence.known (IsOfBoot evidence.log)
-  pub first_is : (taken : List ℕ) → IsTaken evidence.known taken → IsRefusedAfter inputs list (most_more evidence.known list) taken first
+  pub boot : IfSome evidence.checkpoint (IsOfBoot evidence.log)
+  pub first_is : (taken : List ℕ) → IsTaken evidence.checkpoint taken → IsRefusedAfter inputs list (most_more evidence.checkpoint list) taken first
   pub unconfirmed : seeks_prefix scope evidence ≡ true → IsUnconfirmedIn inputs list evidence first
   pub says : IsFaultAt list first fault
 
@@ -279,7 +279,7 @@ pub record IsNotTaken (inputs : Inputs) (scope : Scope) (list : Where) (evidence
 -- is refused.
 abbrev pub IsNotJudged : Inputs → Judgement → Where → Evidence → RunFault → Type 0
 IsNotJudged inputs (VerdictOf place scope resume) list evidence fault =
-    IsLogRefused evidence.log evidence.known fault ⊎ IsNotTaken inputs scope list evidence fault
+    IsLogRefused evidence.log evidence.checkpoint fault ⊎ IsNotTaken inputs scope list evidence fault
 IsNotJudged inputs (PositionsOf place) list evidence fault =
     HasLogFault evidence.log fault ⊎ (ReadsAsLog evidence.log × IsRefusedList inputs list fault)
 IsNotJudged inputs ListVerdictOf list evidence fault = IsRefusedList inputs list fault
@@ -300,8 +300,8 @@ pub record IsStarted (log : List ℕ) (known : Option Checkpoint) (session : Ses
   pub valid : ReadsAsLog log
   pub boot : IfSome known (IsOfBoot log)
   pub takes : (taken : List ℕ) → IsTaken known taken → HasTaken log taken session
-  pub count : session.known.entries ≡ entries_taken known
-  pub most : (place : Where) → most_after session.known (limit_of place) ≡ most_more known place
+  pub count : session.checkpoint.entries ≡ entries_taken known
+  pub most : (place : Where) → most_after session.checkpoint (limit_of place) ≡ most_more known place
 
 -- If this is the checkpoint of a list, it is read back from its text.
 abbrev pub CanBeReadBack : Checkpoint → Type 0
@@ -330,10 +330,10 @@ BeginsAfter known start = (entries : List ListEntry) → length entries ≡ entr
 abbrev pub JudgesFrom : Scope → Where → Evidence → UnknownEntries → SourceState → SourceState → Session → Session
     → Result (ScopedReport × UnknownEntries) RunFault → Type 0
 JudgesFrom scope list evidence start old new before after result =
-    (inputs : Inputs) (log : Where) (resume : Option Where) → GivesInput inputs list old new → IsStarted evidence.log evidence.known before
-    → BeginsAfter evidence.known start
-    → MatchResult result (λ found. CanBeReadBack after.known
-    → IsVerdictOn inputs scope list evidence (HasWatched start found.1) found.0 after.known)
+    (inputs : Inputs) (log : Where) (resume : Option Where) → GivesInput inputs list old new → IsStarted evidence.log evidence.checkpoint before
+    → BeginsAfter evidence.checkpoint start
+    → MatchResult result (λ found. CanBeReadBack after.checkpoint
+    → IsVerdictOn inputs scope list evidence (HasWatched start found.1) found.0 after.checkpoint)
     (IsNotFound inputs (VerdictOf log scope resume) list evidence)
 
 -- ---- evidence
@@ -394,8 +394,8 @@ pub record IsEvidence (inputs : Inputs) (request : Compared) (evidence : Evidenc
   pub none_quoted : evidence.quote ≡ None
   pub state : Option SavedState
   pub state_is : IsResumedState inputs (resume_of request.judgement) state
-  pub known_is : evidence.known ≡ checkpoint_of state
-  pub files_are : AreKnownFiles inputs request.known evidence.files
+  pub checkpoint_is : evidence.checkpoint ≡ checkpoint_of state
+  pub files_are : AreKnownFiles inputs request.known evidence.known_files
 
 abbrev pub evidence_of : HeldEvidence → Evidence
 evidence_of held = record {
@@ -405,8 +405,8 @@ evidence_of held = record {
   quote = option_map (λ quote. quote_of quote.now) held.quote;
   is_signed = held.is_signed;
   values = held.values;
-  known = held.known;
-  files = held.files;
+  checkpoint = held.checkpoint;
+  known_files = held.known_files;
 }
 
 -- Why a text is not read as a checkpoint: it is of another version; or it is not, and no possible checkpoint's text; or it begins as one of this
@@ -547,15 +547,15 @@ pub record AreCounted (inputs : Inputs) (expected : Option Where) (quote : TpmQu
 
 -- What a list is judged with by a quote, with the expected registers that count.
 abbrev pub quoted_evidence : List ℕ → TpmQuote → Bool → ExpectedValues → List Expected → Option Checkpoint → Option KnownFiles → Evidence
-quoted_evidence log quote is_signed values counted known files = record {
+quoted_evidence log quote is_signed values counted checkpoint known_files = record {
   required = None;
   log = log;
   expected = counted;
   quote = Some quote;
   is_signed = is_signed;
   values = values;
-  known = known;
-  files = files;
+  checkpoint = checkpoint;
+  known_files = known_files;
 }
 
 -- A quote confirmed the state, in the boot in which the TPM made this one.

@@ -131,9 +131,9 @@ pub(crate) struct Evidence<'a> {
     /// What came of the values of expected registers beside the quote.
     pub values: ExpectedValues,
     /// The checkpoint to go on from, if there is one.
-    pub known: Option<Checkpoint>,
+    pub checkpoint: Option<Checkpoint>,
     /// The files that are known, if files have to be known.
-    pub files: Option<KnownFiles>,
+    pub known_files: Option<KnownFiles>,
 }
 
 // Loads the log, then loads and reads the expected registers, then the checkpoint, and then the texts of known files.
@@ -153,7 +153,7 @@ fn evidence_of<'a, F: AgentFiles>(
     let text = load_at(alloc, files, request.expected)?;
     let expected = read_expected(alloc, text.bytes())?;
     let state = state_in(alloc, files, request.wanted)?;
-    let known = known_in(alloc, files, request.known)?;
+    let known_files = known_in(alloc, files, request.known)?;
     Ok(Evidence {
         requirement,
         log,
@@ -161,8 +161,8 @@ fn evidence_of<'a, F: AgentFiles>(
         quote: None,
         is_signed: false,
         values: ExpectedValues::NotGiven,
-        known: checkpoint_of(state),
-        files: known,
+        checkpoint: checkpoint_of(state),
+        known_files,
     })
 }
 
@@ -280,7 +280,7 @@ impl Evidence<'_> {
     ) -> Finding
         ensures { FindsFrom ListVerdictOf (location_of list.entry) (evidence_of self.now) (R.state source.old) (R.state source.new) result }
     {
-        let watch = UnknownEntries::new(alloc, self.files.as_ref(), 0);
+        let watch = UnknownEntries::new(alloc, self.known_files.as_ref(), 0);
         match verify_list_from(alloc, source, limit_of(list), &self.expected, watch) {
             Ok((report, watch)) => {
                 let unknown = watch.within(report.entries)?;

@@ -100,7 +100,7 @@ fn judge_by<F: AgentFiles>(
     let log = load_at(alloc, files, request.log)?;
     let (values, expected) = counted_in(alloc, files, request.expected, quote)?;
     let state = state_by(alloc, files, comparison.wanted, quote)?;
-    let known = known_in(alloc, files, request.known)?;
+    let known_files = known_in(alloc, files, request.known)?;
     let evidence = Evidence {
         requirement: None,
         log,
@@ -108,8 +108,8 @@ fn judge_by<F: AgentFiles>(
         quote: Some(quote),
         is_signed: request.is_signed,
         values,
-        known: checkpoint_of(state),
-        files: known,
+        checkpoint: checkpoint_of(state),
+        known_files,
     };
     let found = evidence.find(alloc, files, comparison)?;
     let boot = Boot::of(quote);

@@ -48,8 +48,12 @@ impl Evidence<'_> {
         ensures { (log : Where) (resume : Option Where) → FindsFrom (VerdictOf log scope resume) (location_of list.entry) (evidence_of self.now)
             (R.state source.old) (R.state source.new) result }
     {
-        let mut session = session_of(self.log.bytes(), self.known)?;
-        let watch = UnknownEntries::new(alloc, self.files.as_ref(), session.checkpoint().entries);
+        let mut session = session_of(self.log.bytes(), self.checkpoint)?;
+        let watch = UnknownEntries::new(
+            alloc,
+            self.known_files.as_ref(),
+            session.checkpoint().entries,
+        );
         let (judged, watch) = self.judge_from(alloc, &mut session, source, list, scope, watch)?;
         let next = next_of(&session)?;
         let unknown = watch.within(next.entries)?;
@@ -147,16 +151,16 @@ impl Evidence<'_> {
 }
 
 // A session of this log that goes on from this checkpoint, if there is one.
-fn session_of(log: &[u8], known: Option<Checkpoint>) -> Result<Session<'_>, RunFault>
-    ensures started { IfOk result (IsStarted log.now known) }
-    ensures fault { IfErr result (IsLogRefused log.now known) }
+fn session_of(log: &[u8], checkpoint: Option<Checkpoint>) -> Result<Session<'_>, RunFault>
+    ensures started { IfOk result (IsStarted log.now checkpoint) }
+    ensures fault { IfErr result (IsLogRefused log.now checkpoint) }
 {
-    match known {
+    match checkpoint {
         None => match Session::new(log) {
             Ok(session) => Ok(session),
             Err(fault) => Err(fault.into()),
         },
-        Some(known) => match Session::resume(log, known) {
+        Some(checkpoint) => match Session::resume(log, checkpoint) {
             Ok(session) => Ok(session),
             Err(ResumeFault::Log(fault)) => Err(fault.into()),
             Err(ResumeFault::OtherBoot) => Err(RunFault::Checkpoint(NotResumed::OtherBoot)),
@@ -166,13 +170,13 @@ fn session_of(log: &[u8], known: Option<Checkpoint>) -> Result<Session<'_>, RunF
 
 // Where to go on. Fails for want of memory if no whole input fits after what the session has taken: its checkpoint would not be read back.
 fn next_of(session: &Session<'_>) -> Result<Checkpoint, RunFault>
-    ensures next { IfOk result (λ next. (next ≡ session.now.known) × CanBeReadBack session.now.known) }
+    ensures next { IfOk result (λ next. (next ≡ session.now.checkpoint) × CanBeReadBack session.now.checkpoint) }
     ensures fault { IfErr result (λ fault. fault ≡ runs.Memory) }
 {
-    let known = session.checkpoint();
-    counted_checkpoint_is_possible(known);
-    if leaves_room(known) {
-        Ok(*known)
+    let next = session.checkpoint();
+    counted_checkpoint_is_possible(next);
+    if leaves_room(next) {
+        Ok(*next)
     } else {
         Err(RunFault::Memory)
     }

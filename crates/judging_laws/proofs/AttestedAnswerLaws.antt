@@ -104,12 +104,12 @@ attested_on log list message terms quote expected table events entries verdict n
 -- The verdict is on a log and the whole list of this input, and this is where to go on. The list's entries have this property.
 abbrev pub WholeOn : Inputs → Where → Evidence → (List ListEntry → Type 0) → Verdict → Checkpoint → Type 0
 WholeOn inputs list evidence Tells verdict next =
-    OfMore inputs list evidence.known (λ taken more. (length more ≤ most_more evidence.known list)
+    OfMore inputs list evidence.checkpoint (λ taken more. (length more ≤ most_more evidence.checkpoint list)
     × IsVerdict evidence.log (taken ++ more) evidence.expected verdict
     × ((next_is : IsNext evidence.log (taken ++ more) next) × Tells next_is.checkpoint.entries))
 
 abbrev pub PrefixOn : Inputs → Where → Evidence → (List ListEntry → Type 0) → PrefixReport → Checkpoint → Type 0
-PrefixOn inputs list evidence Tells report next = OfList inputs list evidence.known (λ all. IsPrefixOf evidence Tells all report next)
+PrefixOn inputs list evidence Tells report next = OfList inputs list evidence.checkpoint (λ all. IsPrefixOf evidence Tells all report next)
 
 -- What follows from a verdict on the whole list, and from one on its prefix, follows from the verdict that an answer tells. (What was
 -- judged has a type that its own crate alone can name.)

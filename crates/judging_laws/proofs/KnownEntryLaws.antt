@@ -96,18 +96,18 @@ has_known law given texts files first list rest entries knows begins count (Some
 -- ---- what was judged
 
 module _ (law : KnownLaw) (inputs : Inputs) (places : List Where) (list : Where) (evidence : Evidence) (given : Answered)
-    (has : HasTexts inputs places evidence.files) (none : has_no_unknown given.unknown ≡ true) where
+    (has : HasTexts inputs places evidence.known_files) (none : has_no_unknown given.unknown ≡ true) where
   abbrev Tells : List ListEntry → Type 0
-  Tells = TellsUnknown evidence.files (entries_taken evidence.known) given.unknown
+  Tells = TellsUnknown evidence.known_files (entries_taken evidence.checkpoint) given.unknown
 
   abbrev Known : Type 0
-  Known = OfList inputs list evidence.known (HasKnownEntries given has.texts (entries_taken evidence.known))
+  Known = OfList inputs list evidence.checkpoint (HasKnownEntries given has.texts (entries_taken evidence.checkpoint))
 
   known_on : (all rest : List ℕ) (entries : List ListEntry) → BeginsWith all entries rest → entries_of given.answer ≡ Some (length entries)
-      → Tells entries → HasKnownEntries given has.texts (entries_taken evidence.known) all
+      → Tells entries → HasKnownEntries given has.texts (entries_taken evidence.checkpoint) all
   known_on all rest entries begins count tells =
-      has_known law given has.texts has.known (entries_taken evidence.known) all rest entries has.knows begins count given.unknown refl none
-      (subst (λ (files : Option KnownFiles). TellsUnknown files (entries_taken evidence.known) given.unknown entries) has.files_are tells)
+      has_known law given has.texts has.known (entries_taken evidence.checkpoint) all rest entries has.knows begins count given.unknown refl none
+      (subst (λ (files : Option KnownFiles). TellsUnknown files (entries_taken evidence.checkpoint) given.unknown entries) has.files_are tells)
 
   whole_known : (report : Report) (next : Checkpoint) → entries_of given.answer ≡ Some (verdict_of report).entries
       → WholeOn inputs list evidence Tells (verdict_of report) next → Known
@@ -186,14 +186,14 @@ no_state : (inputs : Inputs) (state : Option SavedState) → IsState inputs None
 no_state inputs state is = ap checkpoint_of is
 
 module _ (law : KnownLaw) (inputs : Inputs) (places : List Where) (list : Where) (evidence : Evidence) (given : Answered)
-    (has : HasTexts inputs places evidence.files) (none : has_no_unknown given.unknown ≡ true) (alone : evidence.known ≡ None) where
+    (has : HasTexts inputs places evidence.known_files) (none : has_no_unknown given.unknown ≡ true) (alone : evidence.checkpoint ≡ None) where
   list_known : (answer : Answer) (next : Option Checkpoint) → given.answer ≡ answer
       → IsJudged inputs ListVerdictOf list evidence answer next given.unknown → Known law inputs places list evidence given has none
   list_known (answers.ListReport report) None same judged =
       λ taken take.
       let all = judged.0 in
       let found = judged.2.0 in
-      let first : entries_taken evidence.known ≡ 0 = ap entries_taken alone in
+      let first : entries_taken evidence.checkpoint ≡ 0 = ap entries_taken alone in
       let empty : taken ≡ [] = subst (λ (known : Option Checkpoint). IsTaken known taken) alone take in
       let count : entries_of given.answer ≡ Some (length found.entries) =
       ap entries_of same ∙ ap (λ (v : ListVerdict). Some v.entries) found.verdict_is in (
@@ -212,15 +212,15 @@ module _ (law : KnownLaw) (inputs : Inputs) (places : List Where) (list : Where)
   list_known (answers.Key report part) next same judged = absurd judged
 
 pub comparison_known : KnownLaw → (inputs : Inputs) (request : Compared) (given : Answered) (is : IsComparison inputs request given)
-    → given.is_success ≡ true → 0 < length request.known → TellsKnown inputs request.known request.list is.evidence.known given
+    → given.is_success ≡ true → 0 < length request.known → TellsKnown inputs request.known request.list is.evidence.checkpoint given
 comparison_known law inputs request given is well some = record {
   texts = has.texts;
   texts_are = has.texts_are;
   entries_are = by request.judgement is.next is.takes is.evidence_is.state_is is.judged;
 }
   where
-    has : HasTexts inputs request.known is.evidence.files
-    has = texts_in inputs request.known is.evidence.files some is.evidence_is.files_are
+    has : HasTexts inputs request.known is.evidence.known_files
+    has = texts_in inputs request.known is.evidence.known_files some is.evidence_is.files_are
 
     none : has_no_unknown given.unknown ≡ true
     none = (both_true (has_no_unknown given.unknown) (is_good request.required given.requirement given.answer) (sym is.well_is ∙ well)).0
@@ -233,7 +233,7 @@ comparison_known law inputs request given is well some = record {
     by (VerdictOf place scope resume) (Some next) takes state judged =
         let plain = subst (λ (quote : Option TpmQuote). IsAnswerOn quote is.evidence.is_signed is.evidence.values judged.0 next given.answer)
         is.evidence_is.none_quoted judged.2 in
-        plain_of_each inputs scope request.list is.evidence (TellsUnknown is.evidence.files (entries_taken is.evidence.known) given.unknown) next
+        plain_of_each inputs scope request.list is.evidence (TellsUnknown is.evidence.known_files (entries_taken is.evidence.checkpoint) given.unknown) next
         is.evidence.is_signed is.evidence.values judged.0 given.answer (Known law inputs request.known request.list is.evidence given has none)
         (λ report on same.
         whole_known law inputs request.known request.list is.evidence given has none report next (ap entries_of same) on)
@@ -243,4 +243,4 @@ comparison_known law inputs request given is well some = record {
     by (PositionsOf place) next takes state judged = absurd (not_positions place request.required request.known some takes)
     by ListVerdictOf next takes state judged =
         list_known law inputs request.known request.list is.evidence given has none
-        (is.evidence_is.known_is ∙ no_state inputs is.evidence_is.state state) given.answer next refl judged
+        (is.evidence_is.checkpoint_is ∙ no_state inputs is.evidence_is.state state) given.answer next refl judged

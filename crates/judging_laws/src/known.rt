@@ -13,7 +13,7 @@ use known_files::laws::each_is_known;
 /// texts, but for those of a checkpoint that was gone on from; the first of the list is known, or one of the boot aggregate.
 pub fn well_answer_has_known_entries()
     ensures comparison { (inputs : Inputs) (request : Compared) (given : Answered) (is : IsComparison inputs request given) → given.is_success ≡ true
-        → 0 < length request.known → TellsKnown inputs request.known request.list is.evidence.known given }
+        → 0 < length request.known → TellsKnown inputs request.known request.list is.evidence.checkpoint given }
     ensures attestation { (inputs : Inputs) (asked : AttestRequested) (given : Answered) (is : IsAttestation inputs asked given) → given.is_success ≡ true
         → 0 < length asked.known → TellsKnown inputs asked.known asked.list (checkpoint_of is.state) given }
 {

@@ -19,10 +19,10 @@ returns-in_err-state-clause-fault g c =
       rw (c.in_ok-text.ensures.known, c.in_ok-log.ensures.known) at c.in_err-state.ensures.fault,
     )))))
 
-pub returns-in_err-known-clause-fault : goal.returns-in_err-known-clause-fault
-returns-in_err-known-clause-fault g c =
-    let p = err_from_is_err_and c.from_residual-in_err-known.result c.from_residual-in_err-known.ensures.1 in
-    let why = rw (c.in_ok-state.ensures.known, c.in_ok-text.ensures.known, c.in_ok-log.ensures.known) at c.in_err-known.ensures.fault in
+pub returns-in_err-known_files-clause-fault : goal.returns-in_err-known_files-clause-fault
+returns-in_err-known_files-clause-fault g c =
+    let p = err_from_is_err_and c.from_residual-in_err-known_files.result c.from_residual-in_err-known_files.ensures.1 in
+    let why = rw (c.in_ok-state.ensures.known, c.in_ok-text.ensures.known, c.in_ok-log.ensures.known) at c.in_err-known_files.ensures.fault in
     rw (p.1, p.2)
     (inr (inr (inr (inr (
       (_, (_, rw c.in_ok-log.ensures.known at c.in_ok-text.ensures.all, rw c.bytes.ensures at c.in_ok-expected.ensures.found)),

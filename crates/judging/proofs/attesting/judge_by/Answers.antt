@@ -21,9 +21,9 @@ pub returns-in_err-found-clause-fault : goal.returns-in_err-found-clause-fault
 returns-in_err-found-clause-fault g c =
     let p = err_from_is_err_and c.from_residual-in_err-found.result c.from_residual-in_err-found.ensures.1 in
     let known = rw (c.in_ok-values.ensures.known, c.in_ok-log.ensures.known, c.comparison_of-comparison.ensures.wanted) at c.in_ok-state.ensures.state in
-    let files = rw (c.in_ok-state.ensures.known, c.in_ok-values.ensures.known, c.in_ok-log.ensures.known) at c.in_ok-known.ensures.found in
+    let files = rw (c.in_ok-state.ensures.known, c.in_ok-values.ensures.known, c.in_ok-log.ensures.known) at c.in_ok-known_files.ensures.found in
     let why = rw (
-      c.in_ok-known.ensures.known,
+      c.in_ok-known_files.ensures.known,
       c.in_ok-state.ensures.known,
       c.in_ok-values.ensures.known,
       c.in_ok-log.ensures.known,
@@ -37,7 +37,7 @@ returns-in_err-found-clause-fault g c =
       c.in_ok-values.values,
       c.in_ok-values.expected.items,
       c.in_ok-state.state,
-      c.in_ok-known.known,
+      c.in_ok-known_files.known_files,
       c.in_ok-log.ensures.all,
       rw c.in_ok-log.ensures.known at c.in_ok-values.ensures.counted,
       known,
@@ -46,12 +46,12 @@ returns-in_err-found-clause-fault g c =
       why,
     )))))
 
-pub returns-in_err-known-clause-fault : goal.returns-in_err-known-clause-fault
-returns-in_err-known-clause-fault g c =
-    let p = err_from_is_err_and c.from_residual-in_err-known.result c.from_residual-in_err-known.ensures.1 in
+pub returns-in_err-known_files-clause-fault : goal.returns-in_err-known_files-clause-fault
+returns-in_err-known_files-clause-fault g c =
+    let p = err_from_is_err_and c.from_residual-in_err-known_files.result c.from_residual-in_err-known_files.ensures.1 in
     let counted = rw c.in_ok-log.ensures.known at c.in_ok-values.ensures.counted in
     let state = rw (c.in_ok-values.ensures.known, c.in_ok-log.ensures.known, c.comparison_of-comparison.ensures.wanted) at c.in_ok-state.ensures.state in
-    let why = rw (c.in_ok-state.ensures.known, c.in_ok-values.ensures.known, c.in_ok-log.ensures.known) at c.in_err-known.ensures.fault in
+    let why = rw (c.in_ok-state.ensures.known, c.in_ok-values.ensures.known, c.in_ok-log.ensures.known) at c.in_err-known_files.ensures.fault in
     rw (p.1, p.2)
     (inr (inr (inr (inl ((counted.stated, counted.stated_is), (c.in_ok-state.state, state, c.in_ok-state.ensures.boot), why)))))
 
@@ -64,7 +64,7 @@ returns-clause-answer g c =
       values = c.in_ok-values.values;
       counted = c.in_ok-values.expected.items;
       state = c.in_ok-state.state;
-      files = c.in_ok-known.known;
+      files = c.in_ok-known_files.known_files;
       next = c.in_ok-found.found.next;
       taken = taken;
       asked_for = asked;
@@ -72,9 +72,9 @@ returns-clause-answer g c =
       counted_are = rw c.in_ok-log.ensures.known at c.in_ok-values.ensures.counted;
       state_is = rw (c.in_ok-values.ensures.known, c.in_ok-log.ensures.known, c.comparison_of-comparison.ensures.wanted) at c.in_ok-state.ensures.state;
       boot_is = c.in_ok-state.ensures.boot;
-      files_are = rw (c.in_ok-state.ensures.known, c.in_ok-values.ensures.known, c.in_ok-log.ensures.known) at c.in_ok-known.ensures.found;
+      files_are = rw (c.in_ok-state.ensures.known, c.in_ok-values.ensures.known, c.in_ok-log.ensures.known) at c.in_ok-known_files.ensures.found;
       judged = rw (c.answered_with.ensures.answer, c.answered_with.ensures.unknown) (rw (
-        c.in_ok-known.ensures.known,
+        c.in_ok-known_files.ensures.known,
         c.in_ok-state.ensures.known,
         c.in_ok-values.ensures.known,
         c.in_ok-log.ensures.known,

@@ -11,7 +11,7 @@ returns-in-Ok-clause-started c =
       boot = tt;
       takes = λ taken is. rw is t;
       count = none;
-      most = λ place. most_at_first place c.in-Ok.session.known none t.checkpoint.size;
+      most = λ place. most_at_first place c.in-Ok.session.checkpoint none t.checkpoint.size;
     })
 
 pub returns-in-Ok-resume-clause-started : goal.returns-in-Ok-resume-clause-started
@@ -21,6 +21,6 @@ returns-in-Ok-resume-clause-started c =
       valid = record { table = boot.table; events = boot.events; log_is = boot.log_is };
       boot = boot;
       takes = c.in-Ok-resume.ensures.taken;
-      count = rw c.in-Ok-resume.ensures.known refl;
-      most = λ place. rw c.in-Ok-resume.ensures.known refl;
+      count = rw c.in-Ok-resume.ensures.checkpoint refl;
+      most = λ place. rw c.in-Ok-resume.ensures.checkpoint refl;
     })

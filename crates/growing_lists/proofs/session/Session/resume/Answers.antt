@@ -12,14 +12,14 @@ returns-then-not-are_same_banks-clause-only c =
     let found = rw c.in-Ok.is at c.new.ensures.found in
     let viewed = log_viewed found boot.log_is in
     sym c.if-not-are_same_banks.true
-    ∙ c.are_same_banks.ensures.only (same_of_boot c.args.log.now c.args.known c.registers.result boot (c.registers.ensures boot.table boot.events viewed))
+    ∙ c.are_same_banks.ensures.only (same_of_boot c.args.log.now c.args.checkpoint c.registers.result boot (c.registers.ensures boot.table boot.events viewed))
 
 pub returns-clause-boot : goal.returns-clause-boot
 returns-clause-boot c =
     let found = rw c.in-Ok.is at c.new.ensures.found in
     let sound = rw c.in-Ok.is at c.new.ensures.sound in
     let viewed = log_viewed found sound.2 in
-    of_boot c.args.log.now c.args.known c.registers.result sound.0 sound.1 sound.2 (c.registers.ensures sound.0 sound.1 viewed)
+    of_boot c.args.log.now c.args.checkpoint c.registers.result sound.0 sound.1 sound.2 (c.registers.ensures sound.0 sound.1 viewed)
     (c.are_same_banks.ensures.same c.if-not-are_same_banks.false)
 
 pub returns-clause-taken : goal.returns-clause-taken
@@ -27,7 +27,7 @@ returns-clause-taken c =
     let found = rw c.in-Ok.is at c.new.ensures.found in
     let sound = rw c.in-Ok.is at c.new.ensures.sound in
     let viewed = log_viewed found sound.2 in
-    let boot = of_boot c.args.log.now c.args.known c.registers.result sound.0 sound.1 sound.2 (c.registers.ensures sound.0 sound.1 viewed)
+    let boot = of_boot c.args.log.now c.args.checkpoint c.registers.result sound.0 sound.1 sound.2 (c.registers.ensures sound.0 sound.1 viewed)
     (c.are_same_banks.ensures.same c.if-not-are_same_banks.false) in
     λ list is. record {
       table = boot.table;

@@ -29,13 +29,13 @@ returns-in_ok-unknown-in-Ok g c =
     let w = (rw (c.deref.ensures.value) at c.in-Ok.ensures.watched) c.new-watch.result (c.new-watch.ensures.begins [] (omega arith)) in
     let entries = w.verdict_is.entries in
     let files = c.as_ref.ensures.value in
-    let fresh : IsFresh c.args.self.now.files 0 c.new-watch.result =
+    let fresh : IsFresh c.args.self.now.known_files 0 c.new-watch.result =
     subst (λ (known : Option KnownFiles). IsFresh known 0 c.new-watch.result) files c.new-watch.ensures.fresh in (
       w.list,
       held gives {came = w.list} w.came,
       (
         w.verdict_is,
-        told_within c.args.self.now.files 0 c.in-Ok.report.entries c.new-watch.result c.in-Ok.watch c.in_ok-unknown-in-Ok.unknown fresh
+        told_within c.args.self.now.known_files 0 c.in-Ok.report.entries c.new-watch.result c.in-Ok.watch c.in_ok-unknown-in-Ok.unknown fresh
             c.in_ok-unknown-in-Ok.ensures.unknown c.in_ok-unknown-in-Ok.ensures.none entries
             (counted_list w.list c.args.self.now.expected.items _ w.verdict_is) (entries, take-length entries, w.tracked),
       ),

@@ -47,14 +47,14 @@ returns g c =
     (λ entries count. c.new-watch.ensures.begins entries (omega (arith, count, started.count, ap (λ (k : Checkpoint). k.entries) c.checkpoint.ensures)))
     next.1 in
     let files = c.as_ref.ensures.value in
-    let first : c.checkpoint.result.now.entries ≡ entries_taken c.args.self.now.known =
+    let first : c.checkpoint.result.now.entries ≡ entries_taken c.args.self.now.checkpoint =
     ap (λ (k : Checkpoint). k.entries) c.checkpoint.ensures ∙ started.count in
-    let fresh : IsFresh c.args.self.now.files (entries_taken c.args.self.now.known) c.new-watch.result =
+    let fresh : IsFresh c.args.self.now.known_files (entries_taken c.args.self.now.checkpoint) c.new-watch.result =
     subst (λ (p : Option KnownFiles × ℕ). IsFresh p.0 p.1 c.new-watch.result) (λ i. (files i, first i)) c.new-watch.ensures.fresh in (
       c.in_ok-judged.judged,
       tells_of inputs c.args.scope (location_of c.args.list) (evidence_of c.args.self.now) _ _ c.in_ok-judged.judged c.in_ok-next.next
           (λ entries counted has.
-          told_within c.args.self.now.files (entries_taken c.args.self.now.known) c.in_ok-next.next.entries c.new-watch.result c.in_ok-judged.watch
+          told_within c.args.self.now.known_files (entries_taken c.args.self.now.checkpoint) c.in_ok-next.next.entries c.new-watch.result c.in_ok-judged.watch
           c.in_ok-unknown.unknown fresh c.in_ok-unknown.ensures.unknown c.in_ok-unknown.ensures.none entries counted has)
           (rw next.0 verdict),
       c.in_ok-answer.ensures.answer,
