@@ -10,14 +10,14 @@ use std::alloc::Global;
 
 /// Where the program's inputs come from.
 ///
-/// An implementation may make the bytes of its inputs known, and which may fail (`known`): a source then gives exactly those bytes, and no
+/// An implementation may make the bytes of its inputs known, and which may fail (`inputs`): a source then gives exactly those bytes, and no
 /// other fails. It may also make known which files were replaced (`saved`).
 pub trait Files {
     /// The source of one input's bytes.
     type Src: Source;
 
     // What the inputs hold, and which of them may fail.
-    ghost known: { Self → Inputs } = { λ _. unknown };
+    ghost inputs: { Self → Inputs } = { λ _. unknown };
 
     // Which files were replaced so far.
     ghost saved: { Self → Saved } = { λ _. None };
@@ -25,11 +25,11 @@ pub trait Files {
     /// The source of the file of this name, or of standard input without a name. Fails if it cannot be opened.
     fn source(&mut self, name: Option<&str>) -> Result<Self::Src, Failed>
         ensures gives { IfOk result (λ source.
-            GivesAll ((known self.old).held (option_map (λ name. name.now) name.entry)) (Self.Src.state source)) }
-        ensures refused { IsErr result → IsTrue ((known self.old).may_fail (option_map (λ name. name.now) name.entry)) }
+            GivesAll ((inputs self.old).held (option_map (λ name. name.now) name.entry)) (Self.Src.state source)) }
+        ensures refused { IsErr result → IsTrue ((inputs self.old).may_fail (option_map (λ name. name.now) name.entry)) }
         ensures failing { IfOk result (λ source. (later : Self.Src) → HasFailed (Self.Src.state source) (Self.Src.state later)
-            → IsTrue ((known self.old).may_fail (option_map (λ name. name.now) name.entry))) }
-        ensures known { known self.new ≡ known self.old }
+            → IsTrue ((inputs self.old).may_fail (option_map (λ name. name.now) name.entry))) }
+        ensures inputs { inputs self.new ≡ inputs self.old }
         ensures saved { saved self.new ≡ saved self.old };
 }
 
@@ -46,16 +46,16 @@ pub trait AgentFiles: Files<Src: Drop> {
         ensures replaced { OnOk result (HasReplaced (Self.saved self.old) (Self.saved self.new)
             (record { name = name.now; bytes = bytes.now })) }
         ensures kept { OnErr result (Self.saved self.new ≡ Self.saved self.old) }
-        ensures known { Self.known self.new ≡ Self.known self.old };
+        ensures inputs { Self.inputs self.new ≡ Self.inputs self.old };
 
     /// Whether the file of this name is a regular one: it can be opened again, and then gives its bytes once more. A pipe or a device does not.
     fn is_regular(&self, name: &str) -> bool;
 
     /// These files, for several threads at once.
     fn shared(&self) -> &Self::Shared
-        ensures held { (name : List ℕ) → Self.Shared.held result.now name ≡ (Self.known self.now).held (Some name) }
+        ensures held { (name : List ℕ) → Self.Shared.held result.now name ≡ (Self.inputs self.now).held (Some name) }
         ensures fails { (name : List ℕ) → Self.Shared.fails result.now name
-            → IsTrue ((Self.known self.now).may_fail (Some name)) };
+            → IsTrue ((Self.inputs self.now).may_fail (Some name)) };
 }
 
 /// Files that several threads read at once.

@@ -110,10 +110,10 @@ type Loaded = Result<Vec<u8>, RunFault>;
 /// All bytes, at most 64 MiB, of the file of this name, or of standard input without a name. A fault names the input; standard
 /// input is `-`.
 pub fn load_input<F: AgentFiles>(alloc: Global, files: &mut F, name: Option<&str>) -> Loaded
-    ensures all { IfOk result (λ bytes. Holds (F.known files.old) (option_map (λ name. name.now) name.entry) bytes.items) }
+    ensures all { IfOk result (λ bytes. Holds (F.inputs files.old) (option_map (λ name. name.now) name.entry) bytes.items) }
     ensures within { IfOk result (λ bytes. vec_len bytes ≤ input_limit) }
-    ensures fault { IfErr result (IsInputFault (F.known files.old) (option_map (λ name. name.now) name.entry)) }
-    ensures known { F.known files.new ≡ F.known files.old }
+    ensures fault { IfErr result (IsInputFault (F.inputs files.old) (option_map (λ name. name.now) name.entry)) }
+    ensures inputs { F.inputs files.new ≡ F.inputs files.old }
     ensures saved { F.saved files.new ≡ F.saved files.old }
 {
     let input = name.unwrap_or(STANDARD_INPUT);

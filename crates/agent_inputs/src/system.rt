@@ -154,7 +154,7 @@ impl<R: FileSystem + io::Input + Sync> Files for SystemFiles<'_, R> {
     type Src = ReadSource<OpenInput<R::File, R::Reader>>;
 
     // Nothing is known of the system's files.
-    ghost known = { λ _. unknown };
+    ghost inputs = { λ _. unknown };
 
     /// Opens the file of this name, or standard input.
     fn source(&mut self, name: Option<&str>) -> Result<Self::Src, Failed>

@@ -81,7 +81,7 @@ impl<'a> Files for PieceFiles<'a> {
     type Src = MemorySource<'a>;
 
     // The bytes of each file but the one that is to fail. That one may, and a file that is none of these.
-    ghost known = { λ files. record {
+    ghost inputs = { λ files. record {
       held = λ name. held files.files.now files.failing.now (input_name name);
       may_fail = λ name. is_none (held files.files.now files.failing.now (input_name name));
     } };

@@ -27,8 +27,8 @@ pub(crate) fn is_old_aggregate<F: AgentFiles>(
     files: &mut F,
     task: &Task,
 ) -> Result<bool, AllocError>
-    ensures said { IfOk result (IsSaidOld (F.known files.old) (log_of task.now) (list_of task.now)) }
-    ensures known { F.known files.new ≡ F.known files.old }
+    ensures said { IfOk result (IsSaidOld (F.inputs files.old) (log_of task.now) (list_of task.now)) }
+    ensures inputs { F.inputs files.new ≡ F.inputs files.old }
     ensures saved { F.saved files.new ≡ F.saved files.old }
 {
     let Some(log) = log_of(task) else {
@@ -52,8 +52,8 @@ fn registers_after<F: AgentFiles>(
     files: &mut F,
     log: &str,
 ) -> Result<Option<Banks>, AllocError>
-    ensures left { IfOk result (LogLeaves (F.known files.old) log.now) }
-    ensures known { F.known files.new ≡ F.known files.old }
+    ensures left { IfOk result (LogLeaves (F.inputs files.old) log.now) }
+    ensures inputs { F.inputs files.new ≡ F.inputs files.old }
     ensures saved { F.saved files.new ≡ F.saved files.old }
 {
     let request = Request::LogRegisters {

@@ -42,7 +42,7 @@ pub fn hint_from<F: AgentFiles>(
     files: &mut F,
     failure: Failure<'_>,
 ) -> Result<String, AllocError>
-    ensures told { IfOk result (λ text. TellsNext (F.known files.old) failure.entry (string_bytes text)) }
+    ensures told { IfOk result (λ text. TellsNext (F.inputs files.old) failure.entry (string_bytes text)) }
     ensures shown { IfOk result (λ text. list_all is_shown (string_bytes text) ≡ true) }
     ensures saved { F.saved files.new ≡ F.saved files.old }
 {
@@ -59,7 +59,7 @@ fn on_difference<F: AgentFiles>(
     files: &mut F,
     task: &Task,
 ) -> Result<String, AllocError>
-    ensures told { IfOk result (λ text. TellsOf (F.known files.old) task.now (string_bytes text)) }
+    ensures told { IfOk result (λ text. TellsOf (F.inputs files.old) task.now (string_bytes text)) }
     ensures shown { IfOk result (λ text. list_all is_shown (string_bytes text) ≡ true) }
     ensures saved { F.saved files.new ≡ F.saved files.old }
 {
@@ -79,9 +79,9 @@ fn on_difference<F: AgentFiles>(
 
 // Why what is asked for differs, if it still does.
 fn causes_seen<F: AgentFiles>(alloc: Global, files: &mut F, request: Request<'_>) -> Option<Causes>
-    ensures seen { IfSome result (IsSeen (F.known files.old) (requested_of request.entry)) }
-    ensures unseen { IfNone result (IsNotSeen (F.known files.old) (requested_of request.entry)) }
-    ensures known { F.known files.new ≡ F.known files.old }
+    ensures seen { IfSome result (IsSeen (F.inputs files.old) (requested_of request.entry)) }
+    ensures unseen { IfNone result (IsNotSeen (F.inputs files.old) (requested_of request.entry)) }
+    ensures inputs { F.inputs files.new ≡ F.inputs files.old }
     ensures saved { F.saved files.new ≡ F.saved files.old }
 {
     match answer_request(alloc, files, request) {
@@ -92,9 +92,9 @@ fn causes_seen<F: AgentFiles>(alloc: Global, files: &mut F, request: Request<'_>
 
 // Of which prefix of the list the values are, if what is asked for is on a whole list.
 fn grown_seen<F: AgentFiles>(alloc: Global, files: &mut F, request: Request<'_>) -> Option<Grown>
-    ensures grown { IfSome result (IsGrown (F.known files.old) (requested_of request.entry)) }
-    ensures not_grown { IfNone result (IsNotGrown (F.known files.old) (requested_of request.entry)) }
-    ensures known { F.known files.new ≡ F.known files.old }
+    ensures grown { IfSome result (IsGrown (F.inputs files.old) (requested_of request.entry)) }
+    ensures not_grown { IfNone result (IsNotGrown (F.inputs files.old) (requested_of request.entry)) }
+    ensures inputs { F.inputs files.new ≡ F.inputs files.old }
     ensures saved { F.saved files.new ≡ F.saved files.old }
 {
     let request = on_prefix(request)?;
@@ -152,7 +152,7 @@ fn on_fault<F: AgentFiles>(
     fault: &RunFault,
     task: &Task,
 ) -> Result<String, AllocError>
-    ensures told { IfOk result (λ text. TellsMistake (F.known files.old) fault.now task.now (string_bytes text)) }
+    ensures told { IfOk result (λ text. TellsMistake (F.inputs files.old) fault.now task.now (string_bytes text)) }
     ensures shown { IfOk result (λ text. list_all is_shown (string_bytes text) ≡ true) }
     ensures saved { F.saved files.new ≡ F.saved files.old }
 {

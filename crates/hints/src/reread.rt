@@ -83,8 +83,8 @@ pub(crate) fn head_of<F: AgentFiles>(
     files: &mut F,
     name: &str,
 ) -> Result<Option<Vec<u8>>, AllocError>
-    ensures head { IfOk result (λ head. IsLookedAt (F.known files.old) name.now (option_map (λ bytes. bytes.items) head)) }
-    ensures known { F.known files.new ≡ F.known files.old }
+    ensures head { IfOk result (λ head. IsLookedAt (F.inputs files.old) name.now (option_map (λ bytes. bytes.items) head)) }
+    ensures inputs { F.inputs files.new ≡ F.inputs files.old }
     ensures saved { F.saved files.new ≡ F.saved files.old }
 {
     let Ok(mut source) = files.source(Some(name)) else {

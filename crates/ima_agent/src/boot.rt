@@ -32,10 +32,10 @@ pub(crate) fn boot_for<F: AgentFiles>(
     before: &Option<String>,
     form: Form,
 ) -> Prepared
-    ensures shown { IfOk result (λ output. IsOutputFor (F.known files.old) (tasks.Boot log.now confirmed_by.now before.now) form (F.saved files.old)
+    ensures shown { IfOk result (λ output. IsOutputFor (F.inputs files.old) (tasks.Boot log.now confirmed_by.now before.now) form (F.saved files.old)
         (F.saved files.new) output.text.items output.status) }
     ensures kept { OnErr result (F.saved files.new ≡ F.saved files.old) }
-    ensures fault { IfErr result (IsFaultOf (F.known files.old) (tasks.Boot log.now confirmed_by.now before.now) form) }
+    ensures fault { IfErr result (IsFaultOf (F.inputs files.old) (tasks.Boot log.now confirmed_by.now before.now) form) }
 {
     let bytes = load_input(alloc, files, Some(log))?;
     boot_output(alloc, files, &bytes, confirmed_by, before.as_deref(), form)
@@ -60,9 +60,9 @@ fn boot_output<F: AgentFiles>(
     before: Option<&str>,
     form: Form,
 ) -> Prepared
-    ensures shown { IfOk result (λ output. ShowsBoot (F.known files.old) form confirmed_by.now (option_map (λ name. name.now) before.entry) log.now
+    ensures shown { IfOk result (λ output. ShowsBoot (F.inputs files.old) form confirmed_by.now (option_map (λ name. name.now) before.entry) log.now
         output.text.items output.status) }
-    ensures fault { IfErr result (IsNoBootFor (F.known files.old) confirmed_by.now (option_map (λ name. name.now) before.entry) log.now) }
+    ensures fault { IfErr result (IsNoBootFor (F.inputs files.old) confirmed_by.now (option_map (λ name. name.now) before.entry) log.now) }
     ensures saved { F.saved files.new ≡ F.saved files.old }
 {
     let matched = matched_in(alloc, files, log, form, confirmed_by)?;
@@ -88,9 +88,9 @@ fn append_compared<F: AgentFiles>(
     lines: &mut Vec<u8>,
 ) -> Result<(), RunFault>
     ensures lines { OnOk result ((table : List DeclaredAlgorithm) (events : List LogEvent) → IsLog (log_bytes view.now) table events
-        → (text : List ℕ) × AreCompared (F.known files.old) form matched.now events (option_map (λ name. name.now) before.entry) text
+        → (text : List ℕ) × AreCompared (F.inputs files.old) form matched.now events (option_map (λ name. name.now) before.entry) text
         × (lines.new.items ≡ lines.old.items ++ text)) }
-    ensures fault { IfErr result (λ fault. IsNoEarlierLog (F.known files.old) (option_map (λ name. name.now) before.entry) fault
+    ensures fault { IfErr result (λ fault. IsNoEarlierLog (F.inputs files.old) (option_map (λ name. name.now) before.entry) fault
         ⊎ (fault ≡ Memory)) }
     ensures saved { F.saved files.new ≡ F.saved files.old }
 {

@@ -27,7 +27,7 @@ pub(crate) fn events_for<F: AgentFiles, S: Sink>(
     form: Form,
     sink: &mut S,
 ) -> Sent
-    ensures { Streams form (IsOutcome (F.known files.old) (tasks.Events log.now requested confirmed_by.now) form (F.saved files.old) (F.saved files.new))
+    ensures { Streams form (IsOutcome (F.inputs files.old) (tasks.Events log.now requested confirmed_by.now) form (F.saved files.old) (F.saved files.new))
         (S.state sink.old) (S.state sink.new) result }
 {
     let bytes = match load_input(alloc, files, Some(log)) {
@@ -75,7 +75,7 @@ fn tell_log<F: AgentFiles, S: Sink>(
     confirmed_by: &ConfirmedBy,
     sink: &mut S,
 ) -> Sent
-    ensures streams { Streams form (ShowsToldOf (F.known files.old) form confirmed_by.now log.now) (S.state sink.old) (S.state sink.new) result }
+    ensures streams { Streams form (ShowsToldOf (F.inputs files.old) form confirmed_by.now log.now) (S.state sink.old) (S.state sink.new) result }
     ensures saved { F.saved files.new ≡ F.saved files.old }
 {
     match matched_in(alloc, files, log, form, confirmed_by) {

@@ -43,11 +43,11 @@ pub(crate) fn matched_in<F: AgentFiles>(
     form: Form,
     confirmed_by: &ConfirmedBy,
 ) -> Result<Matched, RunFault>
-    ensures matched { IfOk result (λ matched. AreMatched (F.known files.old) confirmed_by.now log.now
+    ensures matched { IfOk result (λ matched. AreMatched (F.inputs files.old) confirmed_by.now log.now
         (option_map (λ places. places.items) matched.places) matched.status) }
     ensures known { IfOk result (λ _. IsKnownFor form log.now) }
-    ensures fault { IfErr result (IsNotTold (F.known files.old) form confirmed_by.now log.now) }
-    ensures inputs { F.known files.new ≡ F.known files.old }
+    ensures fault { IfErr result (IsNotTold (F.inputs files.old) form confirmed_by.now log.now) }
+    ensures inputs { F.inputs files.new ≡ F.inputs files.old }
     ensures saved { F.saved files.new ≡ F.saved files.old }
 {
     match (form, confirmed_by) {
@@ -74,11 +74,11 @@ fn expected_in<F: AgentFiles>(
     log: &[u8],
     name: &String,
 ) -> Result<Matched, RunFault>
-    ensures matched { IfOk result (λ matched. AreMatched (F.known files.old) (confirmed.Expected name.now) log.now
+    ensures matched { IfOk result (λ matched. AreMatched (F.inputs files.old) (confirmed.Expected name.now) log.now
         (option_map (λ places. places.items) matched.places) matched.status) }
     ensures known { IfOk result (λ _. ReadsAsLog log.now) }
-    ensures fault { IfErr result (AreNotExpected (F.known files.old) (Some (string_bytes name.now)) log.now) }
-    ensures inputs { F.known files.new ≡ F.known files.old }
+    ensures fault { IfErr result (AreNotExpected (F.inputs files.old) (Some (string_bytes name.now)) log.now) }
+    ensures inputs { F.inputs files.new ≡ F.inputs files.old }
     ensures saved { F.saved files.new ≡ F.saved files.old }
 {
     let text = load_input(alloc, files, Some(name))?;

@@ -30,11 +30,11 @@ pub(crate) fn quoted_in<F: AgentFiles>(
     log: &[u8],
     quoting: &Quoting,
 ) -> Result<Matched, RunFault>
-    ensures matched { IfOk result (λ matched. AreMatched (F.known files.old) (confirmed.Quote quoting.now) log.now
+    ensures matched { IfOk result (λ matched. AreMatched (F.inputs files.old) (confirmed.Quote quoting.now) log.now
         (option_map (λ places. places.items) matched.places) matched.status) }
     ensures known { IfOk result (λ _. ReadsAsLog log.now) }
-    ensures fault { IfErr result (IsRefusalOn (F.known files.old) (Attests (attested_with (BytesOf log.now) quoting.now))) }
-    ensures inputs { F.known files.new ≡ F.known files.old }
+    ensures fault { IfErr result (IsRefusalOn (F.inputs files.old) (Attests (attested_with (BytesOf log.now) quoting.now))) }
+    ensures inputs { F.inputs files.new ≡ F.inputs files.old }
     ensures saved { F.saved files.new ≡ F.saved files.old }
 {
     let asked = attesting_by(Input::Bytes(log), quoting);

@@ -25,10 +25,10 @@ use std::alloc::Global;
 
 /// The registers that differ from their reset values after the log in hexadecimal on standard input, in this form.
 pub(crate) fn shown_registers<F: AgentFiles>(alloc: Global, files: &mut F, form: Form) -> Prepared
-    ensures shown { IfOk result (λ output. IsOutputFor (F.known files.old) tasks.Registers form (F.saved files.old) (F.saved files.new)
+    ensures shown { IfOk result (λ output. IsOutputFor (F.inputs files.old) tasks.Registers form (F.saved files.old) (F.saved files.new)
         output.text.items output.status) }
     ensures kept { OnErr result (F.saved files.new ≡ F.saved files.old) }
-    ensures fault { IfErr result (IsFaultOf (F.known files.old) tasks.Registers form) }
+    ensures fault { IfErr result (IsFaultOf (F.inputs files.old) tasks.Registers form) }
 {
     let text = load_input(alloc, files, None)?;
     registers_in(alloc, text, form)
@@ -55,7 +55,7 @@ pub(crate) fn entries_for<F: AgentFiles, S: Sink>(
     form: Form,
     sink: &mut S,
 ) -> Sent
-    ensures { Streams form (IsOutcome (F.known files.old) (tasks.Entries list.now) form (F.saved files.old) (F.saved files.new))
+    ensures { Streams form (IsOutcome (F.inputs files.old) (tasks.Entries list.now) form (F.saved files.old) (F.saved files.new))
         (S.state sink.old) (S.state sink.new) result }
 {
     match form {
@@ -66,7 +66,7 @@ pub(crate) fn entries_for<F: AgentFiles, S: Sink>(
 
 // Sends as JSON the entries of the list in the file of this name while it is read; of a damaged one those before its fault.
 fn send_list<F: AgentFiles, S: Sink>(alloc: Global, files: &mut F, list: &str, sink: &mut S) -> Sent
-    ensures streams { Streams Json (ShowsEntriesOf Json (F.known files.old) list.now) (S.state sink.old) (S.state sink.new) result }
+    ensures streams { Streams Json (ShowsEntriesOf Json (F.inputs files.old) list.now) (S.state sink.old) (S.state sink.new) result }
     ensures saved { F.saved files.new ≡ F.saved files.old }
 {
     let Ok(mut source) = files.source(Some(list)) else {
@@ -83,7 +83,7 @@ fn send_sound_list<F: AgentFiles, S: Sink>(
     list: &str,
     sink: &mut S,
 ) -> Sent
-    ensures streams { Streams Text (ShowsSoundList (F.known files.old) list.now) (S.state sink.old) (S.state sink.new) result }
+    ensures streams { Streams Text (ShowsSoundList (F.inputs files.old) list.now) (S.state sink.old) (S.state sink.new) result }
     ensures saved { F.saved files.new ≡ F.saved files.old }
 {
     if files.is_regular(list) {
@@ -95,7 +95,7 @@ fn send_sound_list<F: AgentFiles, S: Sink>(
 
 // Sends as text the entries of the list in the file of this name, which is opened twice.
 fn send_file<F: AgentFiles, S: Sink>(alloc: Global, files: &mut F, list: &str, sink: &mut S) -> Sent
-    ensures streams { Streams Text (ShowsSoundList (F.known files.old) list.now) (S.state sink.old) (S.state sink.new) result }
+    ensures streams { Streams Text (ShowsSoundList (F.inputs files.old) list.now) (S.state sink.old) (S.state sink.new) result }
     ensures saved { F.saved files.new ≡ F.saved files.old }
 {
     let Ok(mut first) = files.source(Some(list)) else {
@@ -114,7 +114,7 @@ fn send_loaded<F: AgentFiles, S: Sink>(
     list: &str,
     sink: &mut S,
 ) -> Sent
-    ensures streams { Streams Text (ShowsSoundList (F.known files.old) list.now) (S.state sink.old) (S.state sink.new) result }
+    ensures streams { Streams Text (ShowsSoundList (F.inputs files.old) list.now) (S.state sink.old) (S.state sink.new) result }
     ensures saved { F.saved files.new ≡ F.saved files.old }
 {
     match load_input(alloc, files, Some(list)) {

@@ -33,9 +33,9 @@ pub fn answer_request<F: AgentFiles>(
     files: &mut F,
     request: Request<'_>,
 ) -> Result<Answered, RunFault>
-    ensures answer { IfOk result (IsAnswer (F.known files.old) (requested_of request.entry)) }
-    ensures fault { IfErr result (IsRefusal (F.known files.old) (requested_of request.entry)) }
-    ensures known { F.known files.new ≡ F.known files.old }
+    ensures answer { IfOk result (IsAnswer (F.inputs files.old) (requested_of request.entry)) }
+    ensures fault { IfErr result (IsRefusal (F.inputs files.old) (requested_of request.entry)) }
+    ensures inputs { F.inputs files.new ≡ F.inputs files.old }
     ensures saved { F.saved files.new ≡ F.saved files.old }
 {
     match request {
@@ -56,9 +56,9 @@ pub fn answer_request<F: AgentFiles>(
 
 // What comes of what is compared.
 fn compare<F: AgentFiles>(alloc: Global, files: &mut F, request: Comparison<'_>) -> Answering
-    ensures answer { IfOk result (IsComparison (F.known files.old) (compared_of request.entry)) }
-    ensures fault { IfErr result (IsNoComparison (F.known files.old) (compared_of request.entry)) }
-    ensures known { F.known files.new ≡ F.known files.old }
+    ensures answer { IfOk result (IsComparison (F.inputs files.old) (compared_of request.entry)) }
+    ensures fault { IfErr result (IsNoComparison (F.inputs files.old) (compared_of request.entry)) }
+    ensures inputs { F.inputs files.new ≡ F.inputs files.old }
     ensures saved { F.saved files.new ≡ F.saved files.old }
 {
     if takes_known(request) {
@@ -87,9 +87,9 @@ fn compare_as_asked<F: AgentFiles>(
     request: Comparison<'_>,
 ) -> Answering
     requires { takes_known (compared_of request).judgement (compared_of request).required (compared_of request).known ≡ true }
-    ensures answer { IfOk result (IsComparison (F.known files.old) (compared_of request.entry)) }
-    ensures fault { IfErr result (IsNotCompared (F.known files.old) (compared_of request.entry)) }
-    ensures known { F.known files.new ≡ F.known files.old }
+    ensures answer { IfOk result (IsComparison (F.inputs files.old) (compared_of request.entry)) }
+    ensures fault { IfErr result (IsNotCompared (F.inputs files.old) (compared_of request.entry)) }
+    ensures inputs { F.inputs files.new ≡ F.inputs files.old }
     ensures saved { F.saved files.new ≡ F.saved files.old }
 {
     let requirement = required_in(alloc, request.required)?;
@@ -144,9 +144,9 @@ fn evidence_of<'a, F: AgentFiles>(
     requirement: Option<Requirement>,
 ) -> Result<Evidence<'a>, RunFault>
     requires { IsRequired (requires_of request.required) requirement }
-    ensures evidence { IfOk result (λ evidence. IsEvidence (F.known files.old) (compared_of request.entry) (evidence_of evidence)) }
-    ensures fault { IfErr result (HasNoEvidence (F.known files.old) (compared_of request.entry)) }
-    ensures known { F.known files.new ≡ F.known files.old }
+    ensures evidence { IfOk result (λ evidence. IsEvidence (F.inputs files.old) (compared_of request.entry) (evidence_of evidence)) }
+    ensures fault { IfErr result (HasNoEvidence (F.inputs files.old) (compared_of request.entry)) }
+    ensures inputs { F.inputs files.new ≡ F.inputs files.old }
     ensures saved { F.saved files.new ≡ F.saved files.old }
 {
     let log = log_in(alloc, files, request.wanted)?;
@@ -173,9 +173,9 @@ fn log_in<'a, F: AgentFiles>(
     wanted: ReportKind<'a>,
 ) -> Result<Held<'a>, RunFault>
     ensures log { IfOk result (λ log. MatchOption (log_of (judgement_of wanted.entry)) (held_bytes log ≡ [])
-        (λ place. Holds (F.known files.old) place (held_bytes log))) }
-    ensures fault { IfErr result (λ fault. IsSomeAnd (log_of (judgement_of wanted.entry)) (λ place. IsInputFault (F.known files.old) place fault)) }
-    ensures known { F.known files.new ≡ F.known files.old }
+        (λ place. Holds (F.inputs files.old) place (held_bytes log))) }
+    ensures fault { IfErr result (λ fault. IsSomeAnd (log_of (judgement_of wanted.entry)) (λ place. IsInputFault (F.inputs files.old) place fault)) }
+    ensures inputs { F.inputs files.new ≡ F.inputs files.old }
     ensures saved { F.saved files.new ≡ F.saved files.old }
 {
     match wanted {
@@ -201,10 +201,10 @@ pub(crate) fn state_in<F: AgentFiles>(
     files: &mut F,
     wanted: ReportKind<'_>,
 ) -> Result<Option<SavedState>, RunFault>
-    ensures state { IfOk result (IsResumedState (F.known files.old) (resume_of (judgement_of wanted.entry))) }
+    ensures state { IfOk result (IsResumedState (F.inputs files.old) (resume_of (judgement_of wanted.entry))) }
     ensures fault { IfErr result (λ fault. IsSomeAnd (resume_of (judgement_of wanted.entry))
-        (λ place. IsInputFault (F.known files.old) place fault ⊎ OfInput (F.known files.old) place (λ text. IsNoCheckpoint text fault))) }
-    ensures known { F.known files.new ≡ F.known files.old }
+        (λ place. IsInputFault (F.inputs files.old) place fault ⊎ OfInput (F.inputs files.old) place (λ text. IsNoCheckpoint text fault))) }
+    ensures inputs { F.inputs files.new ≡ F.inputs files.old }
     ensures saved { F.saved files.new ≡ F.saved files.old }
 {
     match wanted {
@@ -230,8 +230,8 @@ impl Evidence<'_> {
         files: &mut F,
         request: Comparison<'_>,
     ) -> Finding
-        ensures found { Finds (F.known files.old) (judgement_of request.entry.wanted) (location_of request.entry.list) (evidence_of self.now) result }
-        ensures known { F.known files.new ≡ F.known files.old }
+        ensures found { Finds (F.inputs files.old) (judgement_of request.entry.wanted) (location_of request.entry.list) (evidence_of self.now) result }
+        ensures inputs { F.inputs files.new ≡ F.inputs files.old }
         ensures saved { F.saved files.new ≡ F.saved files.old }
     {
         match request.list {

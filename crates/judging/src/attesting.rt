@@ -38,9 +38,9 @@ pub(crate) fn attest<F: AgentFiles>(
     files: &mut F,
     request: AttestRequest<'_>,
 ) -> Answering
-    ensures answer { IfOk result (IsAttestation (F.known files.old) (attested_of request.entry)) }
-    ensures fault { IfErr result (IsNoAttestation (F.known files.old) (attested_of request.entry)) }
-    ensures known { F.known files.new ≡ F.known files.old }
+    ensures answer { IfOk result (IsAttestation (F.inputs files.old) (attested_of request.entry)) }
+    ensures fault { IfErr result (IsNoAttestation (F.inputs files.old) (attested_of request.entry)) }
+    ensures inputs { F.inputs files.new ≡ F.inputs files.old }
     ensures saved { F.saved files.new ≡ F.saved files.old }
 {
     let required = required_by(alloc, request.required)?;
@@ -90,10 +90,10 @@ fn judge_by<F: AgentFiles>(
     quote: &Quote<'_>,
 ) -> Answering
     ensures answer { IfOk result (λ given. (ranges : List BankRange) → AreTaken (attested_of request.entry) ranges
-        → IsAskedFor (F.known files.old) (attested_of request.entry) ranges (quote_of quote.now)
-        → IsAttestation (F.known files.old) (attested_of request.entry) given) }
-    ensures fault { IfErr result (IsNotJudgedBy (F.known files.old) (attested_of request.entry) (quote_of quote.now)) }
-    ensures known { F.known files.new ≡ F.known files.old }
+        → IsAskedFor (F.inputs files.old) (attested_of request.entry) ranges (quote_of quote.now)
+        → IsAttestation (F.inputs files.old) (attested_of request.entry) given) }
+    ensures fault { IfErr result (IsNotJudgedBy (F.inputs files.old) (attested_of request.entry) (quote_of quote.now)) }
+    ensures inputs { F.inputs files.new ≡ F.inputs files.old }
     ensures saved { F.saved files.new ≡ F.saved files.old }
 {
     let comparison = comparison_of(request);
@@ -123,10 +123,10 @@ fn counted_in<F: AgentFiles>(
     input: Option<Input<'_>>,
     quote: &Quote<'_>,
 ) -> Result<(ExpectedValues, Vec<Expected>), RunFault>
-    ensures counted { IfOk result (λ found. AreCounted (F.known files.old) (option_map location_of input.entry) (quote_of quote.now)
+    ensures counted { IfOk result (λ found. AreCounted (F.inputs files.old) (option_map location_of input.entry) (quote_of quote.now)
         found.0 found.1.items) }
-    ensures fault { IfErr result (IsNotStated (F.known files.old) (option_map location_of input.entry)) }
-    ensures known { F.known files.new ≡ F.known files.old }
+    ensures fault { IfErr result (IsNotStated (F.inputs files.old) (option_map location_of input.entry)) }
+    ensures inputs { F.inputs files.new ≡ F.inputs files.old }
     ensures saved { F.saved files.new ≡ F.saved files.old }
 {
     let Some(input) = input else {
@@ -145,10 +145,10 @@ fn state_by<F: AgentFiles>(
     wanted: ReportKind<'_>,
     quote: &Quote<'_>,
 ) -> Result<Option<SavedState>, RunFault>
-    ensures state { IfOk result (IsResumedState (F.known files.old) (resume_of (judgement_of wanted.entry))) }
+    ensures state { IfOk result (IsResumedState (F.inputs files.old) (resume_of (judgement_of wanted.entry))) }
     ensures boot { IfOk result (λ state. IfSome state (IsOfQuote (quote_of quote.now))) }
-    ensures fault { IfErr result (IsNoResumedState (F.known files.old) (quote_of quote.now) (resume_of (judgement_of wanted.entry))) }
-    ensures known { F.known files.new ≡ F.known files.old }
+    ensures fault { IfErr result (IsNoResumedState (F.inputs files.old) (quote_of quote.now) (resume_of (judgement_of wanted.entry))) }
+    ensures inputs { F.inputs files.new ≡ F.inputs files.old }
     ensures saved { F.saved files.new ≡ F.saved files.old }
 {
     let state = state_in(alloc, files, wanted)?;

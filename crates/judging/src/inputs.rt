@@ -47,9 +47,9 @@ pub(crate) fn load_at<'a, F: AgentFiles>(
     files: &mut F,
     input: Input<'a>,
 ) -> Result<Held<'a>, RunFault>
-    ensures all { IfOk result (λ held. Holds (F.known files.old) (location_of input.entry) (held_bytes held)) }
-    ensures fault { IfErr result (IsInputFault (F.known files.old) (location_of input.entry)) }
-    ensures known { F.known files.new ≡ F.known files.old }
+    ensures all { IfOk result (λ held. Holds (F.inputs files.old) (location_of input.entry) (held_bytes held)) }
+    ensures fault { IfErr result (IsInputFault (F.inputs files.old) (location_of input.entry)) }
+    ensures inputs { F.inputs files.new ≡ F.inputs files.old }
     ensures saved { F.saved files.new ≡ F.saved files.old }
 {
     match input {

@@ -19,9 +19,9 @@ pub(crate) fn told_of_key<F: AgentFiles>(
     purpose: Purpose,
     part: KeyPart,
 ) -> Answering
-    ensures answer { IfOk result (IsAnswer (F.known files.old) (KeyOf (location_of area.entry) purpose part)) }
-    ensures fault { IfErr result (IsRefusal (F.known files.old) (KeyOf (location_of area.entry) purpose part)) }
-    ensures known { F.known files.new ≡ F.known files.old }
+    ensures answer { IfOk result (IsAnswer (F.inputs files.old) (KeyOf (location_of area.entry) purpose part)) }
+    ensures fault { IfErr result (IsRefusal (F.inputs files.old) (KeyOf (location_of area.entry) purpose part)) }
+    ensures inputs { F.inputs files.new ≡ F.inputs files.old }
     ensures saved { F.saved files.new ≡ F.saved files.old }
 {
     let area = load_at(alloc, files, area)?;

@@ -16,9 +16,9 @@ pub(crate) fn known_in<F: AgentFiles>(
     files: &mut F,
     inputs: &[Input<'_>],
 ) -> Result<Option<KnownFiles>, RunFault>
-    ensures found { IfOk result (AreKnownFiles (F.known files.old) (map location_of inputs.now)) }
-    ensures fault { IfErr result (IsFirstNotKnown (F.known files.old) (map location_of inputs.now)) }
-    ensures known { F.known files.new ≡ F.known files.old }
+    ensures found { IfOk result (AreKnownFiles (F.inputs files.old) (map location_of inputs.now)) }
+    ensures fault { IfErr result (IsFirstNotKnown (F.inputs files.old) (map location_of inputs.now)) }
+    ensures inputs { F.inputs files.new ≡ F.inputs files.old }
     ensures saved { F.saved files.new ≡ F.saved files.old }
 {
     if inputs.is_empty() {
@@ -39,9 +39,9 @@ fn add_text<F: AgentFiles>(
     file: usize,
     listed: &mut ListedFiles,
 ) -> Result<(), RunFault>
-    ensures added { OnOk result (ListsAlso (F.known files.old) (location_of input.entry) listed.old listed.new) }
-    ensures fault { IfErr result (IsTextRefused (F.known files.old) (location_of input.entry) file) }
-    ensures known { F.known files.new ≡ F.known files.old }
+    ensures added { OnOk result (ListsAlso (F.inputs files.old) (location_of input.entry) listed.old listed.new) }
+    ensures fault { IfErr result (IsTextRefused (F.inputs files.old) (location_of input.entry) file) }
+    ensures inputs { F.inputs files.new ≡ F.inputs files.old }
     ensures saved { F.saved files.new ≡ F.saved files.old }
 {
     let text = load_at(alloc, files, input)?;

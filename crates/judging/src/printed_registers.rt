@@ -18,11 +18,11 @@ pub(crate) fn printed_registers<F: AgentFiles>(
     printed: Input<'_>,
     registers: Option<&[u8]>,
 ) -> Answering
-    ensures answer { IfOk result (IsAnswer (F.known files.old)
+    ensures answer { IfOk result (IsAnswer (F.inputs files.old)
         (ExpectedOf (location_of printed.entry) (option_map (λ text. text.now) registers.entry))) }
-    ensures fault { IfErr result (IsRefusal (F.known files.old)
+    ensures fault { IfErr result (IsRefusal (F.inputs files.old)
         (ExpectedOf (location_of printed.entry) (option_map (λ text. text.now) registers.entry))) }
-    ensures known { F.known files.new ≡ F.known files.old }
+    ensures inputs { F.inputs files.new ≡ F.inputs files.old }
     ensures saved { F.saved files.new ≡ F.saved files.old }
 {
     let selection = selection_of(alloc, registers)?;

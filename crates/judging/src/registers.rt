@@ -15,9 +15,9 @@ use std::alloc::Global;
 
 /// The registers after the log in this input, which is loaded.
 pub(crate) fn after_log<F: AgentFiles>(alloc: Global, files: &mut F, log: Input<'_>) -> Answering
-    ensures answer { IfOk result (IsAnswer (F.known files.old) (LogRegistersOf (location_of log.entry))) }
-    ensures fault { IfErr result (IsRefusal (F.known files.old) (LogRegistersOf (location_of log.entry))) }
-    ensures known { F.known files.new ≡ F.known files.old }
+    ensures answer { IfOk result (IsAnswer (F.inputs files.old) (LogRegistersOf (location_of log.entry))) }
+    ensures fault { IfErr result (IsRefusal (F.inputs files.old) (LogRegistersOf (location_of log.entry))) }
+    ensures inputs { F.inputs files.new ≡ F.inputs files.old }
     ensures saved { F.saved files.new ≡ F.saved files.old }
 {
     let log = load_at(alloc, files, log)?;
@@ -30,9 +30,9 @@ pub(crate) fn after_log<F: AgentFiles>(alloc: Global, files: &mut F, log: Input<
 
 /// The registers after the list in this input, which is replayed as it is read, without loading it.
 pub(crate) fn after_list<F: AgentFiles>(alloc: Global, files: &mut F, list: Input<'_>) -> Answering
-    ensures answer { IfOk result (IsAnswer (F.known files.old) (ListRegistersOf (location_of list.entry))) }
-    ensures fault { IfErr result (IsRefusal (F.known files.old) (ListRegistersOf (location_of list.entry))) }
-    ensures known { F.known files.new ≡ F.known files.old }
+    ensures answer { IfOk result (IsAnswer (F.inputs files.old) (ListRegistersOf (location_of list.entry))) }
+    ensures fault { IfErr result (IsRefusal (F.inputs files.old) (ListRegistersOf (location_of list.entry))) }
+    ensures inputs { F.inputs files.new ≡ F.inputs files.old }
     ensures saved { F.saved files.new ≡ F.saved files.old }
 {
     match list {

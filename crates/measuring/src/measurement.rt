@@ -39,8 +39,8 @@ pub fn measure<R: Threads + Wait + Sync, F: AgentFiles, P: FileProgress>(
     progress: &P,
 ) -> Result<Measured, RunFault>
     requires { vec_len request.now.files < 2 ^ 32 }
-    ensures measured { IfOk result (IsMeasured (F.known files.old) request.now) }
-    ensures fault { IfErr result (IsMeasuringFault (F.known files.old) request.now) }
+    ensures measured { IfOk result (IsMeasured (F.inputs files.old) request.now) }
+    ensures fault { IfErr result (IsMeasuringFault (F.inputs files.old) request.now) }
     ensures saved { F.saved files.new ≡ F.saved files.old }
 {
     let bytes = load_input(alloc, files, Some(&request.log))?;
@@ -52,9 +52,9 @@ pub fn measure<R: Threads + Wait + Sync, F: AgentFiles, P: FileProgress>(
 
 // All bytes of the text of further names; none if there is no such text.
 fn text_of<F: AgentFiles>(alloc: Global, files: &mut F, request: &Measurement) -> Loaded
-    ensures text { IfOk result (λ text. IsTextFor (F.known files.old) request.now text.items) }
-    ensures fault { IfErr result (IsNamesFault (F.known files.old) request.now) }
-    ensures known { F.known files.new ≡ F.known files.old }
+    ensures text { IfOk result (λ text. IsTextFor (F.inputs files.old) request.now text.items) }
+    ensures fault { IfErr result (IsNamesFault (F.inputs files.old) request.now) }
+    ensures inputs { F.inputs files.new ≡ F.inputs files.old }
     ensures saved { F.saved files.new ≡ F.saved files.old }
 {
     match &request.names {

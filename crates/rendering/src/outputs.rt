@@ -64,10 +64,10 @@ pub fn output_for<F: AgentFiles>(
     name: Option<&str>,
     form: Form,
 ) -> Result<Output, RunFault>
-    ensures shown { IfOk result (λ output. ShowsAnswer (F.known files.old) (requested_of request.entry) (option_map (λ name. name.now) name.entry) form
+    ensures shown { IfOk result (λ output. ShowsAnswer (F.inputs files.old) (requested_of request.entry) (option_map (λ name. name.now) name.entry) form
         (F.saved files.old) (F.saved files.new) output.text.items output.status) }
     ensures kept { OnErr result (F.saved files.new ≡ F.saved files.old) }
-    ensures fault { IfErr result (IsOutputFault (F.known files.old) (requested_of request.entry) (option_map (λ name. name.now) name.entry)) }
+    ensures fault { IfErr result (IsOutputFault (F.inputs files.old) (requested_of request.entry) (option_map (λ name. name.now) name.entry)) }
 {
     let given = answer_request(alloc, files, request)?;
     let output = render(alloc, &given, form)?;

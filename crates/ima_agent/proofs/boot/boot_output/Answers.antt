@@ -13,7 +13,7 @@ pub returns-in_err-matched-clause-fault : goal.returns-in_err-matched-clause-fau
 returns-in_err-matched-clause-fault g c =
     let p = err_from_is_err_and c.from_residual.result c.from_residual.ensures.1 in
     rw (p.1, p.2)
-    (not_told (g.F.Files.known c.args.files.now) c.args.form c.args.confirmed_by.now (name_in c.args.before) c.args.log.now
+    (not_told (g.F.Files.inputs c.args.files.now) c.args.form c.args.confirmed_by.now (name_in c.args.before) c.args.log.now
     c.in_err-matched.field-0.0 c.in_err-matched.ensures.fault)
 
 pub returns-in_err-append_boot-clause-fault : goal.returns-in_err-append_boot-clause-fault

@@ -6,20 +6,20 @@ use Rattle.ima_agent.proofs.events.events_for.Goals as goal
 
 pub returns-in-Err : goal.returns-in-Err
 returns-in-Err g c =
-    let known = g.F.Files.known c.args.files.now in
-    none_sent known (tasks.Events c.args.log.now c.args.requested c.args.confirmed_by.now) c.args.form _ _ _ c.in-Err.fault
+    let inputs = g.F.Files.inputs c.args.files.now in
+    none_sent inputs (tasks.Events c.args.log.now c.args.requested c.args.confirmed_by.now) c.args.form _ _ _ c.in-Err.fault
     (inl (rw c.deref.ensures at c.in-Err.ensures.fault)) c.load_input.ensures.saved
 
 pub returns-in-Some : goal.returns-in-Some
 returns-in-Some g c =
     streams_so _ _ _ _ c.write_log.result
-    (plain_outcome (g.F.Files.known c.args.files.now) c.args.log.now c.args.requested c.args.confirmed_by.now c.args.form _ _ c.in-Ok.bytes.items
+    (plain_outcome (g.F.Files.inputs c.args.files.now) c.args.log.now c.args.requested c.args.confirmed_by.now c.args.form _ _ c.in-Ok.bytes.items
     (rw c.deref.ensures at c.in-Ok.ensures.all) c.load_input.ensures.saved c.in-Some.with_data (sym c.plain_lines.ensures ∙ c.in-Some.is))
     (rw c.deref-in-Some.ensures.value at (c.write_log.ensures c.args.form))
 
 pub returns : goal.returns
 returns g c =
     streams_so _ _ _ _ c.tell_log.result
-    (told_outcome (g.F.Files.known c.args.files.now) c.args.log.now c.args.requested c.args.confirmed_by.now c.args.form _ _ c.in-Ok.bytes.items
+    (told_outcome (g.F.Files.inputs c.args.files.now) c.args.log.now c.args.requested c.args.confirmed_by.now c.args.form _ _ c.in-Ok.bytes.items
     (rw c.deref.ensures at c.in-Ok.ensures.all) (c.tell_log.ensures.saved ∙ c.load_input.ensures.saved) (sym c.plain_lines.ensures ∙ c.in-None.is))
-    (rw (c.deref-in-None.ensures.value, c.load_input.ensures.known) at c.tell_log.ensures.streams)
+    (rw (c.deref-in-None.ensures.value, c.load_input.ensures.inputs) at c.tell_log.ensures.streams)

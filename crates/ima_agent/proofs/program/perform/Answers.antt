@@ -7,19 +7,19 @@ use Rattle.ima_agent.proofs.program.perform.Goals as goal
 pub returns-in-Registers : goal.returns-in-Registers
 returns-in-Registers g c =
     rw c.in-Registers.is
-    (outcome_sent (g.F.Files.known c.args.files.now) tasks.Registers c.args.form _ _ c.shown_registers.result _ _ _ c.shown_registers.ensures.shown
+    (outcome_sent (g.F.Files.inputs c.args.files.now) tasks.Registers c.args.form _ _ c.shown_registers.result _ _ _ c.shown_registers.ensures.shown
     c.shown_registers.ensures.kept c.shown_registers.ensures.fault c.send_output.ensures)
 
 pub returns-in-Answer : goal.returns-in-Answer
 returns-in-Answer g c =
     rw c.in-Answer.is
-    (outcome_sent (g.F.Files.known c.args.files.now) (tasks.Answer c.in-Answer.question) c.args.form _ _ c.answer_for.result _ _ _
+    (outcome_sent (g.F.Files.inputs c.args.files.now) (tasks.Answer c.in-Answer.question) c.args.form _ _ c.answer_for.result _ _ _
     c.answer_for.ensures.shown c.answer_for.ensures.kept c.answer_for.ensures.fault c.send_output-in-Answer.ensures)
 
 pub returns-in-Measure : goal.returns-in-Measure
 returns-in-Measure g c =
     rw c.in-Measure.is
-    (outcome_sent (g.F.Files.known c.args.files.now) (tasks.Measure c.in-Measure.request) c.args.form _ _ c.measure_for.result _ _ _
+    (outcome_sent (g.F.Files.inputs c.args.files.now) (tasks.Measure c.in-Measure.request) c.args.form _ _ c.measure_for.result _ _ _
     c.measure_for.ensures.shown c.measure_for.ensures.kept c.measure_for.ensures.fault c.send_output-in-Measure.ensures)
 
 pub returns-in-Events : goal.returns-in-Events
@@ -28,7 +28,7 @@ returns-in-Events g c = rw c.in-Events.is c.events_for.ensures
 pub returns-in-Boot : goal.returns-in-Boot
 returns-in-Boot g c =
     rw c.in-Boot.is
-    (outcome_sent (g.F.Files.known c.args.files.now) (tasks.Boot c.in-Boot.log c.in-Boot.confirmed_by c.in-Boot.before) c.args.form _ _ c.boot_for.result _ _ _
+    (outcome_sent (g.F.Files.inputs c.args.files.now) (tasks.Boot c.in-Boot.log c.in-Boot.confirmed_by c.in-Boot.before) c.args.form _ _ c.boot_for.result _ _ _
     c.boot_for.ensures.shown c.boot_for.ensures.kept c.boot_for.ensures.fault c.send_output-in-Boot.ensures)
 
 pub returns-in-Entries : goal.returns-in-Entries

@@ -15,7 +15,7 @@ returns-in_err-found-clause-fault g c =
     (inr (inr (
       evidence_of c.in_ok-evidence.evidence,
       c.in_ok-evidence.ensures.evidence,
-      rw c.in_ok-evidence.ensures.known at c.in_err-found.ensures.found,
+      rw c.in_ok-evidence.ensures.inputs at c.in_err-found.ensures.found,
     )))
 
 pub returns-clause-answer : goal.returns-clause-answer
@@ -25,7 +25,7 @@ returns-clause-answer g c = record {
   takes = c.requires;
   evidence_is = c.in_ok-evidence.ensures.evidence;
   requirement_is = c.answered_with.ensures.requirement;
-  judged = rw (c.answered_with.ensures.answer, c.answered_with.ensures.unknown) (rw c.in_ok-evidence.ensures.known at c.in_ok-found.ensures.found);
+  judged = rw (c.answered_with.ensures.answer, c.answered_with.ensures.unknown) (rw c.in_ok-evidence.ensures.inputs at c.in_ok-found.ensures.found);
   well_is = rw (c.answered_with.ensures.answer, c.answered_with.ensures.requirement, c.answered_with.ensures.unknown) c.answered_with.ensures.well;
   next_is = c.answered_with.ensures.next;
 }

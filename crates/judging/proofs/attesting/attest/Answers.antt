@@ -19,7 +19,7 @@ returns-clause-answer g c =
     let found = rw c.bytes.ensures at c.in_ok-quote.ensures.found in
     of_given c.judge_by.result _ _
     (λ given is. is c.in_ok-required.required (c.in_ok-required.ensures.found, none) ((held_bytes c.in_ok-message.message, c.in_ok-message.ensures.all, found), c.in_ok-quote.ensures.asked))
-    (rw c.in_ok-message.ensures.known at c.judge_by.ensures.answer)
+    (rw c.in_ok-message.ensures.inputs at c.judge_by.ensures.answer)
 
 pub returns-clause-fault : goal.returns-clause-fault
 returns-clause-fault g c =
@@ -31,4 +31,4 @@ returns-clause-fault g c =
       (c.in_ok-required.ensures.found, none),
       inr (inr (quote_of c.in_ok-quote.quote, ((held_bytes c.in_ok-message.message, c.in_ok-message.ensures.all, found), c.in_ok-quote.ensures.asked), why)),
     )))
-    (rw c.in_ok-message.ensures.known at c.judge_by.ensures.fault)
+    (rw c.in_ok-message.ensures.inputs at c.judge_by.ensures.fault)

@@ -9,4 +9,4 @@ returns-in_err-state-clause-fault g c =
     let p = err_from_is_err_and c.from_residual.result c.from_residual.ensures.1 in
     let why = c.in_err-state.ensures.fault in
     rw (p.1, p.2)
-    (not_known (g.F.Files.known c.args.files.now) (quote_of c.args.quote.now) (resume_of (judgement_of c.args.wanted)) c.in_err-state.field-0.0 why)
+    (not_known (g.F.Files.inputs c.args.files.now) (quote_of c.args.quote.now) (resume_of (judgement_of c.args.wanted)) c.in_err-state.field-0.0 why)

@@ -6,14 +6,14 @@ use Rattle.judging.proofs.KnownLaws.{all_listed, listed_more, listed_none, not_l
 use Rattle.judging.proofs.known_texts.known_in.Goals as goal
 
 pub loop-index-init : goal.loop-index-init
-loop-index-init g c = record { known = refl; saved = refl; listed = listed_none _ _ c.new-listed.result c.new-listed.ensures }
+loop-index-init g c = record { inputs = refl; saved = refl; listed = listed_none _ _ c.new-listed.result c.new-listed.ensures }
 
 pub loop-index-preserved : goal.loop-index-preserved
 loop-index-preserved g c = record {
-  known = c.in_ok-add_text.ensures.known ∙ c.loop-index.invariant.known;
+  inputs = c.in_ok-add_text.ensures.inputs ∙ c.loop-index.invariant.inputs;
   saved = c.in_ok-add_text.ensures.saved ∙ c.loop-index.invariant.saved;
   listed = listed_more _ c.args.inputs.now c.loop-index.index _ (omega (arith, c.loop-index-test.true)) c.loop-index.listed c.add_text.new.listed
-      c.loop-index.invariant.listed (rw c.loop-index.invariant.known at c.in_ok-add_text.ensures.added);
+      c.loop-index.invariant.listed (rw c.loop-index.invariant.inputs at c.in_ok-add_text.ensures.added);
 }
 
 pub returns-clause-found : goal.returns-clause-found
@@ -24,6 +24,6 @@ returns-clause-found g c =
 pub returns-in_err-add_text-clause-fault : goal.returns-in_err-add_text-clause-fault
 returns-in_err-add_text-clause-fault g c =
     let p = err_from_is_err_and c.from_residual.result c.from_residual.ensures.1 in
-    let why = rw c.loop-index.invariant.known at c.in_err-add_text.ensures.fault in
+    let why = rw c.loop-index.invariant.inputs at c.in_err-add_text.ensures.fault in
     rw (p.1, p.2)
     (not_listed _ c.args.inputs.now c.loop-index.index _ (omega (arith, c.loop-index-test.true)) c.loop-index.listed _ c.loop-index.invariant.listed why)
