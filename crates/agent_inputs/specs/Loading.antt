@@ -61,11 +61,11 @@ pub record Replaced : Type 0 where
   pub bytes : List ℕ
 
 -- The files that were replaced, one after another; `None` if this is not known.
-abbrev pub Saved : Type 0
-Saved = Option (List Replaced)
+abbrev pub ReplacedFiles : Type 0
+ReplacedFiles = Option (List Replaced)
 
 -- One more file was replaced, and no other; where it is known which were.
-abbrev pub HasReplaced : Saved → Saved → Replaced → Type 0
+abbrev pub HasReplaced : ReplacedFiles → ReplacedFiles → Replaced → Type 0
 HasReplaced old new file = IfSome old (λ earlier. new ≡ Some (earlier ++ file ∷ []))
 
 -- These are all bytes of the input of this name, if they are known.

@@ -1,7 +1,7 @@
 //! Where the program's inputs come from.
 
 ghost use Rattle.std.specs.Prelude.{◌≡◌, ◌<◌, length, List, ℕ, None, Some, Option, option_map, IfOk, IfSome, IsErr, IsErrOf, IsTrue, OnErr, OnOk, ⊤};
-ghost use Rattle.agent_inputs.specs.Loading.{IsHashOfAll, GivesAll, HasFailed, HasReplaced, Inputs, Saved, unknown};
+ghost use Rattle.agent_inputs.specs.Loading.{IsHashOfAll, GivesAll, HasFailed, HasReplaced, Inputs, ReplacedFiles, unknown};
 
 use crate::loader::LoadFault;
 use byte_streams::{Failed, Source};
@@ -11,7 +11,7 @@ use std::alloc::Global;
 /// Where the program's inputs come from.
 ///
 /// An implementation may make the bytes of its inputs known, and which may fail (`inputs`): a source then gives exactly those bytes, and no
-/// other fails. It may also make known which files were replaced (`saved`).
+/// other fails. It may also make known which files were replaced (`replaced`).
 pub trait Files {
     /// The source of one input's bytes.
     type Src: Source;
@@ -20,7 +20,7 @@ pub trait Files {
     ghost inputs: { Self → Inputs } = { λ _. unknown };
 
     // Which files were replaced so far.
-    ghost saved: { Self → Saved } = { λ _. None };
+    ghost replaced: { Self → ReplacedFiles } = { λ _. None };
 
     /// The source of the file of this name, or of standard input without a name. Fails if it cannot be opened.
     fn source(&mut self, name: Option<&str>) -> Result<Self::Src, Failed>
@@ -30,7 +30,7 @@ pub trait Files {
         ensures failing { IfOk result (λ source. (later : Self.Src) → HasFailed (Self.Src.state source) (Self.Src.state later)
             → IsTrue ((inputs self.old).may_fail (option_map (λ name. name.now) name.entry))) }
         ensures inputs { inputs self.new ≡ inputs self.old }
-        ensures saved { saved self.new ≡ saved self.old };
+        ensures replaced { replaced self.new ≡ replaced self.old };
 }
 
 /// Files whose sources can be let go, of which several threads read some at once, and of which one may be replaced: what a run of the
@@ -43,9 +43,9 @@ pub trait AgentFiles: Files<Src: Drop> {
     /// whoever opens the file gets all it held before, or all of these bytes. Nothing else that is there is changed. Fails if the system
     /// refuses any of this, and if what has the name is no regular file.
     fn replace(&mut self, name: &str, bytes: &[u8]) -> Result<(), Failed>
-        ensures replaced { OnOk result (HasReplaced (Self.saved self.old) (Self.saved self.new)
+        ensures replaced { OnOk result (HasReplaced (Self.replaced self.old) (Self.replaced self.new)
             (record { name = name.now; bytes = bytes.now })) }
-        ensures kept { OnErr result (Self.saved self.new ≡ Self.saved self.old) }
+        ensures kept { OnErr result (Self.replaced self.new ≡ Self.replaced self.old) }
         ensures inputs { Self.inputs self.new ≡ Self.inputs self.old };
 
     /// Whether the file of this name is a regular one: it can be opened again, and then gives its bytes once more. A pipe or a device does not.

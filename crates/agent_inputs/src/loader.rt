@@ -114,7 +114,7 @@ pub fn load_input<F: AgentFiles>(alloc: Global, files: &mut F, name: Option<&str
     ensures within { IfOk result (λ bytes. vec_len bytes ≤ input_limit) }
     ensures fault { IfErr result (IsInputFault (F.inputs files.old) (option_map (λ name. name.now) name.entry)) }
     ensures inputs { F.inputs files.new ≡ F.inputs files.old }
-    ensures saved { F.saved files.new ≡ F.saved files.old }
+    ensures replaced { F.replaced files.new ≡ F.replaced files.old }
 {
     let input = name.unwrap_or(STANDARD_INPUT);
     let Ok(mut source) = files.source(name) else {

@@ -29,7 +29,7 @@ pub(crate) fn is_old_aggregate<F: AgentFiles>(
 ) -> Result<bool, AllocError>
     ensures said { IfOk result (IsSaidOld (F.inputs files.old) (log_of task.now) (list_of task.now)) }
     ensures inputs { F.inputs files.new ≡ F.inputs files.old }
-    ensures saved { F.saved files.new ≡ F.saved files.old }
+    ensures replaced { F.replaced files.new ≡ F.replaced files.old }
 {
     let Some(log) = log_of(task) else {
         return Ok(false);
@@ -54,7 +54,7 @@ fn registers_after<F: AgentFiles>(
 ) -> Result<Option<Banks>, AllocError>
     ensures left { IfOk result (LogLeaves (F.inputs files.old) log.now) }
     ensures inputs { F.inputs files.new ≡ F.inputs files.old }
-    ensures saved { F.saved files.new ≡ F.saved files.old }
+    ensures replaced { F.replaced files.new ≡ F.replaced files.old }
 {
     let request = Request::LogRegisters {
         log: Input::File(log),

@@ -44,7 +44,7 @@ pub fn hint_from<F: AgentFiles>(
 ) -> Result<String, AllocError>
     ensures told { IfOk result (λ text. TellsNext (F.inputs files.old) failure.entry (string_bytes text)) }
     ensures shown { IfOk result (λ text. list_all is_shown (string_bytes text) ≡ true) }
-    ensures saved { F.saved files.new ≡ F.saved files.old }
+    ensures replaced { F.replaced files.new ≡ F.replaced files.old }
 {
     match failure {
         Failure::Differs { task } => on_difference(alloc, files, task),
@@ -61,7 +61,7 @@ fn on_difference<F: AgentFiles>(
 ) -> Result<String, AllocError>
     ensures told { IfOk result (λ text. TellsOf (F.inputs files.old) task.now (string_bytes text)) }
     ensures shown { IfOk result (λ text. list_all is_shown (string_bytes text) ≡ true) }
-    ensures saved { F.saved files.new ≡ F.saved files.old }
+    ensures replaced { F.replaced files.new ≡ F.replaced files.old }
 {
     let Task::Answer(question) = task else {
         return Ok(String::new(alloc));
@@ -82,7 +82,7 @@ fn causes_seen<F: AgentFiles>(alloc: Global, files: &mut F, request: Request<'_>
     ensures seen { IfSome result (IsSeen (F.inputs files.old) (requested_of request.entry)) }
     ensures unseen { IfNone result (IsNotSeen (F.inputs files.old) (requested_of request.entry)) }
     ensures inputs { F.inputs files.new ≡ F.inputs files.old }
-    ensures saved { F.saved files.new ≡ F.saved files.old }
+    ensures replaced { F.replaced files.new ≡ F.replaced files.old }
 {
     match answer_request(alloc, files, request) {
         Ok(given) if !given.is_success => Some(causes_of(&given)),
@@ -95,7 +95,7 @@ fn grown_seen<F: AgentFiles>(alloc: Global, files: &mut F, request: Request<'_>)
     ensures grown { IfSome result (IsGrown (F.inputs files.old) (requested_of request.entry)) }
     ensures not_grown { IfNone result (IsNotGrown (F.inputs files.old) (requested_of request.entry)) }
     ensures inputs { F.inputs files.new ≡ F.inputs files.old }
-    ensures saved { F.saved files.new ≡ F.saved files.old }
+    ensures replaced { F.replaced files.new ≡ F.replaced files.old }
 {
     let request = on_prefix(request)?;
     match answer_request(alloc, files, request) {
@@ -154,7 +154,7 @@ fn on_fault<F: AgentFiles>(
 ) -> Result<String, AllocError>
     ensures told { IfOk result (λ text. TellsMistake (F.inputs files.old) fault.now task.now (string_bytes text)) }
     ensures shown { IfOk result (λ text. list_all is_shown (string_bytes text) ≡ true) }
-    ensures saved { F.saved files.new ≡ F.saved files.old }
+    ensures replaced { F.replaced files.new ≡ F.replaced files.old }
 {
     let Some((input, wanted)) = refused_input(task, fault) else {
         return Ok(String::new(alloc));

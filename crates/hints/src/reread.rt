@@ -85,7 +85,7 @@ pub(crate) fn head_of<F: AgentFiles>(
 ) -> Result<Option<Vec<u8>>, AllocError>
     ensures head { IfOk result (λ head. IsLookedAt (F.inputs files.old) name.now (option_map (λ bytes. bytes.items) head)) }
     ensures inputs { F.inputs files.new ≡ F.inputs files.old }
-    ensures saved { F.saved files.new ≡ F.saved files.old }
+    ensures replaced { F.replaced files.new ≡ F.replaced files.old }
 {
     let Ok(mut source) = files.source(Some(name)) else {
         return Ok(None);

@@ -8,7 +8,7 @@ use Rattle.byte_streams.specs.Streams.{Sends, SinkState}
 use Rattle.byte_streams.proofs.SinkLaws.{Sends-none, Sends-then}
 use Rattle.agent_inputs.specs.declared.fault.RunFault.{RunFault}
 use Rattle.agent_inputs.specs.declared.fault.RunFault.TheVariants.{Memory}
-use Rattle.agent_inputs.specs.Loading.{Holds, Inputs, Saved}
+use Rattle.agent_inputs.specs.Loading.{Holds, Inputs, ReplacedFiles}
 use Rattle.agent_plans.specs.declared.plan.ConfirmedBy.{ConfirmedBy}
 use Rattle.agent_plans.specs.declared.plan.DataShown.{DataShown}
 use Rattle.cells.specs.declared.writer.Form.{Form}
@@ -61,7 +61,7 @@ text_sent IsWanted text status old new (Err (streams.Sink failed)) request sent 
     record { text = text; sends = sent; goes_on = ([], status, rw (append-nil text) request) }
 text_sent IsWanted text status old new (Err (streams.Run fault)) request sent = absurd sent
 
-module _ (inputs : Inputs) (task : Task) (form : Form) (old new : Saved) where
+module _ (inputs : Inputs) (task : Task) (form : Form) (old new : ReplacedFiles) where
   pub none_sent : (sink : SinkState) (fault : RunFault) → IsFaultOf inputs task form fault → new ≡ old
       → Streams form (IsOutcome inputs task form old new) sink sink (Err (streams.Run fault))
   none_sent sink fault is kept = record {
@@ -85,7 +85,7 @@ reported_so : (form : Form) (fault : RunFault) (line : List ℕ) (status : ℕ) 
 reported_so Text fault line status is = is
 reported_so Json fault line status is = inl is
 
-module _ (inputs : Inputs) (log : String Global) (requested : DataShown) (confirmed_by : ConfirmedBy) (form : Form) (old new : Saved)
+module _ (inputs : Inputs) (log : String Global) (requested : DataShown) (confirmed_by : ConfirmedBy) (form : Form) (old new : ReplacedFiles)
     (bytes : List ℕ) (held : Holds inputs (Some (string_bytes log)) bytes) (kept : new ≡ old) where
   abbrev Outcome : List ℕ → ℕ → Type 0
   Outcome = IsOutcome inputs (tasks.Events log requested confirmed_by) form old new
@@ -111,7 +111,7 @@ module _ (inputs : Inputs) (log : String Global) (requested : DataShown) (confir
     told_outcome text status (inl (known, (matched, done, are, shown))) = events_outcome known matched done are text status shown
     told_outcome text status (inr (fault, none, failure)) = inr (inl (fault, inr (bytes, held, rw is none), failure, kept))
 
-pub entries_outcome : (inputs : Inputs) (list : String Global) (old new : Saved) → new ≡ old → (text : List ℕ) (status : ℕ)
+pub entries_outcome : (inputs : Inputs) (list : String Global) (old new : ReplacedFiles) → new ≡ old → (text : List ℕ) (status : ℕ)
     → ShowsEntriesOf Json inputs (string_bytes list) text status → IsOutcome inputs (tasks.Entries list) Json old new text status
 entries_outcome inputs list old new kept text status (inl ((bytes, held, all), done)) = inl ((bytes, held, inl (all, done)), kept)
 entries_outcome inputs list old new kept text status (inr (begun, fault, line, inl (bytes, held, fails), reported, is)) =
@@ -125,7 +125,7 @@ text_lines number [] = refl
 text_lines number (first ∷ entries) =
     ap (λ (t : List ℕ). line_of first ++ t) (text_lines (number + 1) entries) ∙ sym (flat_map-cons line_of first entries)
 
-pub sound_outcome : (inputs : Inputs) (list : String Global) (old new : Saved) → new ≡ old → (text : List ℕ) (status : ℕ)
+pub sound_outcome : (inputs : Inputs) (list : String Global) (old new : ReplacedFiles) → new ≡ old → (text : List ℕ) (status : ℕ)
     → ShowsSoundList inputs (string_bytes list) text status → IsOutcome inputs (tasks.Entries list) Text old new text status
 sound_outcome inputs list old new kept text status (inl (whole, inl ((bytes, held, all), done))) =
     let as_text : AreAllEntries (flat_map line_of) bytes text = record {

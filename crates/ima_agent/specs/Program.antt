@@ -7,7 +7,7 @@ use Rattle.ima_list.specs.Lines.{line_of}
 use Rattle.agent_inputs.specs.declared.fault.RunFault.{RunFault}
 use Rattle.agent_inputs.specs.declared.fault.RunFault.TheVariants as runs
 use Rattle.agent_inputs.specs.Faults.{IsArgumentsFault, fault_of_list}
-use Rattle.agent_inputs.specs.Loading.{Inputs, IsInputFault, IsNotRead, IsTooLong, OfInput, Saved}
+use Rattle.agent_inputs.specs.Loading.{Inputs, IsInputFault, IsNotRead, IsTooLong, OfInput, ReplacedFiles}
 use Rattle.cells.specs.declared.writer.Form.{Form}
 use Rattle.cells.specs.declared.writer.Form.TheVariants as forms
 use Rattle.agent_plans.specs.declared.plan.Plan.{Plan}
@@ -50,7 +50,7 @@ Shows inputs tasks.Version form shown status = (shown ≡ version_text) × (stat
 
 -- This text and this exit status are the output of the task in this form, with these inputs, and this was saved before and after. A question
 -- is answered; with any other output nothing is saved.
-abbrev pub IsOutputFor : Inputs → Task → Form → Saved → Saved → List ℕ → ℕ → Type 0
+abbrev pub IsOutputFor : Inputs → Task → Form → ReplacedFiles → ReplacedFiles → List ℕ → ℕ → Type 0
 IsOutputFor inputs (tasks.Answer question) form old new shown status =
     ShowsAnswer inputs (requested_by question) (save_by question) form old new shown status
 IsOutputFor inputs task form old new shown status = Shows inputs task form shown status × (new ≡ old)
@@ -89,7 +89,7 @@ IsBrokenOff inputs task form text status = ⊥
 -- The text to be written for the task, the status if the sink takes it all, and what was saved before and after: the task's output, with
 -- what is saved with it. Or else nothing is saved, and the text and the status are those of a fault that may come of the task; or the
 -- text is the output as far as it came, and the fault.
-abbrev pub IsOutcome : Inputs → Task → Form → Saved → Saved → List ℕ → ℕ → Type 0
+abbrev pub IsOutcome : Inputs → Task → Form → ReplacedFiles → ReplacedFiles → List ℕ → ℕ → Type 0
 IsOutcome inputs task form old new text status =
     IsOutputFor inputs task form old new text status
     ⊎ ((fault : RunFault) × IsFaultOf inputs task form fault × IsFailure form fault text status × (new ≡ old))
@@ -99,7 +99,7 @@ IsOutcome inputs task form old new text status =
 
 -- What is written for the arguments: the outcome of what they request; or if they are refused, the fault's line and its status, and nothing
 -- is saved.
-abbrev pub IsOutput : Inputs → List (String Global) → Saved → Saved → List ℕ → ℕ → Type 0
+abbrev pub IsOutput : Inputs → List (String Global) → ReplacedFiles → ReplacedFiles → List ℕ → ℕ → Type 0
 IsOutput inputs arguments old new text status =
     ((plan : Plan) × IsRequestedBy arguments plan × IsWithinRanges plan × IsOutcome inputs (task_of plan).0 (task_of plan).1 old new text status)
     ⊎ ((fault : RunFault) × IsArgumentsFault fault × (text ≡ fault_line fault) × (status ≡ fault_status fault) × (new ≡ old))
@@ -119,7 +119,7 @@ pub record Answers (IsWanted : List ℕ → ℕ → Type 0) (answer : ℕ) (old 
   pub answer_is : answer ≡ status_after sent status
 
 -- The output for the arguments; if they could not be obtained, that of a program out of memory, and nothing is saved.
-abbrev pub IsOutputOf : {E : Type 0} → Inputs → Result (Vec (String Global)) E → Saved → Saved → List ℕ → ℕ → Type 0
+abbrev pub IsOutputOf : {E : Type 0} → Inputs → Result (Vec (String Global)) E → ReplacedFiles → ReplacedFiles → List ℕ → ℕ → Type 0
 IsOutputOf inputs (Ok arguments) old new text status = IsOutput inputs arguments.items old new text status
 IsOutputOf inputs (Err fault) old new text status =
     (text ≡ fault_line runs.Memory) × (status ≡ fault_status runs.Memory) × (new ≡ old)

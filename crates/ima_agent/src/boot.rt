@@ -32,9 +32,9 @@ pub(crate) fn boot_for<F: AgentFiles>(
     before: &Option<String>,
     form: Form,
 ) -> Prepared
-    ensures shown { IfOk result (λ output. IsOutputFor (F.inputs files.old) (tasks.Boot log.now confirmed_by.now before.now) form (F.saved files.old)
-        (F.saved files.new) output.text.items output.status) }
-    ensures kept { OnErr result (F.saved files.new ≡ F.saved files.old) }
+    ensures shown { IfOk result (λ output. IsOutputFor (F.inputs files.old) (tasks.Boot log.now confirmed_by.now before.now) form (F.replaced files.old)
+        (F.replaced files.new) output.text.items output.status) }
+    ensures kept { OnErr result (F.replaced files.new ≡ F.replaced files.old) }
     ensures fault { IfErr result (IsFaultOf (F.inputs files.old) (tasks.Boot log.now confirmed_by.now before.now) form) }
 {
     let bytes = load_input(alloc, files, Some(log))?;
@@ -63,7 +63,7 @@ fn boot_output<F: AgentFiles>(
     ensures shown { IfOk result (λ output. ShowsBoot (F.inputs files.old) form confirmed_by.now (option_map (λ name. name.now) before.entry) log.now
         output.text.items output.status) }
     ensures fault { IfErr result (IsNoBootFor (F.inputs files.old) confirmed_by.now (option_map (λ name. name.now) before.entry) log.now) }
-    ensures saved { F.saved files.new ≡ F.saved files.old }
+    ensures replaced { F.replaced files.new ≡ F.replaced files.old }
 {
     let matched = matched_in(alloc, files, log, form, confirmed_by)?;
     let places = places_of(&matched.places);
@@ -92,7 +92,7 @@ fn append_compared<F: AgentFiles>(
         × (lines.new.items ≡ lines.old.items ++ text)) }
     ensures fault { IfErr result (λ fault. IsNoEarlierLog (F.inputs files.old) (option_map (λ name. name.now) before.entry) fault
         ⊎ (fault ≡ Memory)) }
-    ensures saved { F.saved files.new ≡ F.saved files.old }
+    ensures replaced { F.replaced files.new ≡ F.replaced files.old }
 {
     let Some(name) = before else {
         return Ok(());

@@ -27,7 +27,7 @@ pub(crate) fn events_for<F: AgentFiles, S: Sink>(
     form: Form,
     sink: &mut S,
 ) -> Sent
-    ensures { Streams form (IsOutcome (F.inputs files.old) (tasks.Events log.now requested confirmed_by.now) form (F.saved files.old) (F.saved files.new))
+    ensures { Streams form (IsOutcome (F.inputs files.old) (tasks.Events log.now requested confirmed_by.now) form (F.replaced files.old) (F.replaced files.new))
         (S.state sink.old) (S.state sink.new) result }
 {
     let bytes = match load_input(alloc, files, Some(log)) {
@@ -76,7 +76,7 @@ fn tell_log<F: AgentFiles, S: Sink>(
     sink: &mut S,
 ) -> Sent
     ensures streams { Streams form (ShowsToldOf (F.inputs files.old) form confirmed_by.now log.now) (S.state sink.old) (S.state sink.new) result }
-    ensures saved { F.saved files.new ≡ F.saved files.old }
+    ensures replaced { F.replaced files.new ≡ F.replaced files.old }
 {
     match matched_in(alloc, files, log, form, confirmed_by) {
         Ok(matched) => send_log(

@@ -48,7 +48,7 @@ pub(crate) fn matched_in<F: AgentFiles>(
     ensures known { IfOk result (λ _. IsKnownFor form log.now) }
     ensures fault { IfErr result (IsNotTold (F.inputs files.old) form confirmed_by.now log.now) }
     ensures inputs { F.inputs files.new ≡ F.inputs files.old }
-    ensures saved { F.saved files.new ≡ F.saved files.old }
+    ensures replaced { F.replaced files.new ≡ F.replaced files.old }
 {
     match (form, confirmed_by) {
         (_, ConfirmedBy::Expected(name)) => expected_in(alloc, files, log, name),
@@ -79,7 +79,7 @@ fn expected_in<F: AgentFiles>(
     ensures known { IfOk result (λ _. ReadsAsLog log.now) }
     ensures fault { IfErr result (AreNotExpected (F.inputs files.old) (Some (string_bytes name.now)) log.now) }
     ensures inputs { F.inputs files.new ≡ F.inputs files.old }
-    ensures saved { F.saved files.new ≡ F.saved files.old }
+    ensures replaced { F.replaced files.new ≡ F.replaced files.old }
 {
     let text = load_input(alloc, files, Some(name))?;
     let rows = read_expected(alloc, &text)?;

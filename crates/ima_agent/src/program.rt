@@ -64,7 +64,7 @@ pub fn exit_code<R: Threads + Wait + Sync, F: AgentFiles, S: Sink, P: Progress>(
     sink: &mut S,
     progress: &P,
 ) -> ExitCode
-    ensures { Answers (IsOutputOf (F.inputs files.old) arguments (F.saved files.old) (F.saved files.new)) (exit_status result) (S.state sink.old) (S.state sink.new) }
+    ensures { Answers (IsOutputOf (F.inputs files.old) arguments (F.replaced files.old) (F.replaced files.new)) (exit_status result) (S.state sink.old) (S.state sink.new) }
 {
     match arguments {
         Ok(arguments) => exits_with(run_with_progress(
@@ -115,7 +115,7 @@ pub fn run<R: Threads + Wait + Sync, F: AgentFiles, S: Sink>(
     files: &mut F,
     sink: &mut S,
 ) -> u8
-    ensures { Answers (IsOutput (F.inputs files.old) arguments.now (F.saved files.old) (F.saved files.new)) result (S.state sink.old) (S.state sink.new) }
+    ensures { Answers (IsOutput (F.inputs files.old) arguments.now (F.replaced files.old) (F.replaced files.new)) result (S.state sink.old) (S.state sink.new) }
 {
     run_with_progress(rt, alloc, arguments, files, sink, &NoProgress)
 }
@@ -130,7 +130,7 @@ pub fn run_with_progress<R: Threads + Wait + Sync, F: AgentFiles, S: Sink, P: Pr
     sink: &mut S,
     progress: &P,
 ) -> u8
-    ensures { Answers (IsOutput (F.inputs files.old) arguments.now (F.saved files.old) (F.saved files.new)) result (S.state sink.old) (S.state sink.new) }
+    ensures { Answers (IsOutput (F.inputs files.old) arguments.now (F.replaced files.old) (F.replaced files.new)) result (S.state sink.old) (S.state sink.new) }
 {
     match read_words(alloc, arguments) {
         Ok(plan) => {
@@ -162,7 +162,7 @@ fn run_task<R: Threads + Wait + Sync, F: AgentFiles, S: Sink, P: Progress>(
     progress: &P,
 ) -> u8
     requires within { IsWithin form task.now }
-    ensures { Answers (IsOutcome (F.inputs files.old) task.now form (F.saved files.old) (F.saved files.new)) result (S.state sink.old) (S.state sink.new) }
+    ensures { Answers (IsOutcome (F.inputs files.old) task.now form (F.replaced files.old) (F.replaced files.new)) result (S.state sink.old) (S.state sink.new) }
 {
     match perform(rt, alloc, task, form, files, sink, progress) {
         Ok(status) => {
@@ -205,7 +205,7 @@ fn perform<R: Threads + Wait + Sync, F: AgentFiles, S: Sink, P: Progress>(
     progress: &P,
 ) -> Sent
     requires within { IsWithin form task.now }
-    ensures { Streams form (IsOutcome (F.inputs files.old) task.now form (F.saved files.old) (F.saved files.new)) (S.state sink.old) (S.state sink.new) result }
+    ensures { Streams form (IsOutcome (F.inputs files.old) task.now form (F.replaced files.old) (F.replaced files.new)) (S.state sink.old) (S.state sink.new) result }
 {
     match task {
         Task::Registers => {
@@ -258,9 +258,9 @@ fn send_text<S: Sink>(text: &[u8], status: u8, sink: &mut S) -> Sent
 // The output of the answer to a question.
 fn answer_for<F: AgentFiles>(alloc: Global, question: &Query, form: Form, files: &mut F) -> Prepared
     requires { NamesKnown question.now }
-    ensures shown { IfOk result (λ output. IsOutputFor (F.inputs files.old) (tasks.Answer question.now) form (F.saved files.old) (F.saved files.new)
+    ensures shown { IfOk result (λ output. IsOutputFor (F.inputs files.old) (tasks.Answer question.now) form (F.replaced files.old) (F.replaced files.new)
         output.text.items output.status) }
-    ensures kept { OnErr result (F.saved files.new ≡ F.saved files.old) }
+    ensures kept { OnErr result (F.replaced files.new ≡ F.replaced files.old) }
     ensures fault { IfErr result (IsFaultOf (F.inputs files.old) (tasks.Answer question.now) form) }
 {
     let known = known_inputs(alloc, question)?;
@@ -283,9 +283,9 @@ fn measure_for<R: Threads + Wait + Sync, F: AgentFiles, P: Progress>(
     progress: &P,
 ) -> Prepared
     requires { IsWithinLimits form request.now }
-    ensures shown { IfOk result (λ output. IsOutputFor (F.inputs files.old) (tasks.Measure request.now) form (F.saved files.old) (F.saved files.new)
+    ensures shown { IfOk result (λ output. IsOutputFor (F.inputs files.old) (tasks.Measure request.now) form (F.replaced files.old) (F.replaced files.new)
         output.text.items output.status) }
-    ensures kept { OnErr result (F.saved files.new ≡ F.saved files.old) }
+    ensures kept { OnErr result (F.replaced files.new ≡ F.replaced files.old) }
     ensures fault { IfErr result (IsFaultOf (F.inputs files.old) (tasks.Measure request.now) form) }
 {
     let given = measure(rt, alloc, files, request, progress)?;

@@ -35,7 +35,7 @@ pub(crate) fn quoted_in<F: AgentFiles>(
     ensures known { IfOk result (λ _. ReadsAsLog log.now) }
     ensures fault { IfErr result (IsRefusalOn (F.inputs files.old) (Attests (attested_with (BytesOf log.now) quoting.now))) }
     ensures inputs { F.inputs files.new ≡ F.inputs files.old }
-    ensures saved { F.saved files.new ≡ F.saved files.old }
+    ensures replaced { F.replaced files.new ≡ F.replaced files.old }
 {
     let asked = attesting_by(Input::Bytes(log), quoting);
     let given = answer_request(alloc, files, Request::Attestation(asked))?;

@@ -25,9 +25,9 @@ use std::alloc::Global;
 
 /// The registers that differ from their reset values after the log in hexadecimal on standard input, in this form.
 pub(crate) fn shown_registers<F: AgentFiles>(alloc: Global, files: &mut F, form: Form) -> Prepared
-    ensures shown { IfOk result (λ output. IsOutputFor (F.inputs files.old) tasks.Registers form (F.saved files.old) (F.saved files.new)
+    ensures shown { IfOk result (λ output. IsOutputFor (F.inputs files.old) tasks.Registers form (F.replaced files.old) (F.replaced files.new)
         output.text.items output.status) }
-    ensures kept { OnErr result (F.saved files.new ≡ F.saved files.old) }
+    ensures kept { OnErr result (F.replaced files.new ≡ F.replaced files.old) }
     ensures fault { IfErr result (IsFaultOf (F.inputs files.old) tasks.Registers form) }
 {
     let text = load_input(alloc, files, None)?;
@@ -55,7 +55,7 @@ pub(crate) fn entries_for<F: AgentFiles, S: Sink>(
     form: Form,
     sink: &mut S,
 ) -> Sent
-    ensures { Streams form (IsOutcome (F.inputs files.old) (tasks.Entries list.now) form (F.saved files.old) (F.saved files.new))
+    ensures { Streams form (IsOutcome (F.inputs files.old) (tasks.Entries list.now) form (F.replaced files.old) (F.replaced files.new))
         (S.state sink.old) (S.state sink.new) result }
 {
     match form {
@@ -67,7 +67,7 @@ pub(crate) fn entries_for<F: AgentFiles, S: Sink>(
 // Sends as JSON the entries of the list in the file of this name while it is read; of a damaged one those before its fault.
 fn send_list<F: AgentFiles, S: Sink>(alloc: Global, files: &mut F, list: &str, sink: &mut S) -> Sent
     ensures streams { Streams Json (ShowsEntriesOf Json (F.inputs files.old) list.now) (S.state sink.old) (S.state sink.new) result }
-    ensures saved { F.saved files.new ≡ F.saved files.old }
+    ensures replaced { F.replaced files.new ≡ F.replaced files.old }
 {
     let Ok(mut source) = files.source(Some(list)) else {
         return Err(StreamFault::Run(not_read(alloc, list)));
@@ -84,7 +84,7 @@ fn send_sound_list<F: AgentFiles, S: Sink>(
     sink: &mut S,
 ) -> Sent
     ensures streams { Streams Text (ShowsSoundList (F.inputs files.old) list.now) (S.state sink.old) (S.state sink.new) result }
-    ensures saved { F.saved files.new ≡ F.saved files.old }
+    ensures replaced { F.replaced files.new ≡ F.replaced files.old }
 {
     if files.is_regular(list) {
         send_file(alloc, files, list, sink)
@@ -96,7 +96,7 @@ fn send_sound_list<F: AgentFiles, S: Sink>(
 // Sends as text the entries of the list in the file of this name, which is opened twice.
 fn send_file<F: AgentFiles, S: Sink>(alloc: Global, files: &mut F, list: &str, sink: &mut S) -> Sent
     ensures streams { Streams Text (ShowsSoundList (F.inputs files.old) list.now) (S.state sink.old) (S.state sink.new) result }
-    ensures saved { F.saved files.new ≡ F.saved files.old }
+    ensures replaced { F.replaced files.new ≡ F.replaced files.old }
 {
     let Ok(mut first) = files.source(Some(list)) else {
         return Err(StreamFault::Run(not_read(alloc, list)));
@@ -115,7 +115,7 @@ fn send_loaded<F: AgentFiles, S: Sink>(
     sink: &mut S,
 ) -> Sent
     ensures streams { Streams Text (ShowsSoundList (F.inputs files.old) list.now) (S.state sink.old) (S.state sink.new) result }
-    ensures saved { F.saved files.new ≡ F.saved files.old }
+    ensures replaced { F.replaced files.new ≡ F.replaced files.old }
 {
     match load_input(alloc, files, Some(list)) {
         Ok(bytes) => {

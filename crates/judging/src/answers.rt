@@ -36,7 +36,7 @@ pub fn answer_request<F: AgentFiles>(
     ensures answer { IfOk result (IsAnswer (F.inputs files.old) (requested_of request.entry)) }
     ensures fault { IfErr result (IsRefusal (F.inputs files.old) (requested_of request.entry)) }
     ensures inputs { F.inputs files.new ≡ F.inputs files.old }
-    ensures saved { F.saved files.new ≡ F.saved files.old }
+    ensures replaced { F.replaced files.new ≡ F.replaced files.old }
 {
     match request {
         Request::Comparison(request) => compare(alloc, files, request),
@@ -59,7 +59,7 @@ fn compare<F: AgentFiles>(alloc: Global, files: &mut F, request: Comparison<'_>)
     ensures answer { IfOk result (IsComparison (F.inputs files.old) (compared_of request.entry)) }
     ensures fault { IfErr result (IsNoComparison (F.inputs files.old) (compared_of request.entry)) }
     ensures inputs { F.inputs files.new ≡ F.inputs files.old }
-    ensures saved { F.saved files.new ≡ F.saved files.old }
+    ensures replaced { F.replaced files.new ≡ F.replaced files.old }
 {
     if takes_known(request) {
         compare_as_asked(alloc, files, request)
@@ -90,7 +90,7 @@ fn compare_as_asked<F: AgentFiles>(
     ensures answer { IfOk result (IsComparison (F.inputs files.old) (compared_of request.entry)) }
     ensures fault { IfErr result (IsNotCompared (F.inputs files.old) (compared_of request.entry)) }
     ensures inputs { F.inputs files.new ≡ F.inputs files.old }
-    ensures saved { F.saved files.new ≡ F.saved files.old }
+    ensures replaced { F.replaced files.new ≡ F.replaced files.old }
 {
     let requirement = required_in(alloc, request.required)?;
     let evidence = evidence_of(alloc, files, request, requirement)?;
@@ -147,7 +147,7 @@ fn evidence_of<'a, F: AgentFiles>(
     ensures evidence { IfOk result (λ evidence. IsEvidence (F.inputs files.old) (compared_of request.entry) (evidence_of evidence)) }
     ensures fault { IfErr result (HasNoEvidence (F.inputs files.old) (compared_of request.entry)) }
     ensures inputs { F.inputs files.new ≡ F.inputs files.old }
-    ensures saved { F.saved files.new ≡ F.saved files.old }
+    ensures replaced { F.replaced files.new ≡ F.replaced files.old }
 {
     let log = log_in(alloc, files, request.wanted)?;
     let text = load_at(alloc, files, request.expected)?;
@@ -176,7 +176,7 @@ fn log_in<'a, F: AgentFiles>(
         (λ place. Holds (F.inputs files.old) place (held_bytes log))) }
     ensures fault { IfErr result (λ fault. IsSomeAnd (log_of (judgement_of wanted.entry)) (λ place. IsInputFault (F.inputs files.old) place fault)) }
     ensures inputs { F.inputs files.new ≡ F.inputs files.old }
-    ensures saved { F.saved files.new ≡ F.saved files.old }
+    ensures replaced { F.replaced files.new ≡ F.replaced files.old }
 {
     match wanted {
         ReportKind::Verdict { log, .. } => load_at(alloc, files, log),
@@ -205,7 +205,7 @@ pub(crate) fn state_in<F: AgentFiles>(
     ensures fault { IfErr result (λ fault. IsSomeAnd (resume_of (judgement_of wanted.entry))
         (λ place. IsInputFault (F.inputs files.old) place fault ⊎ OfInput (F.inputs files.old) place (λ text. IsNoCheckpoint text fault))) }
     ensures inputs { F.inputs files.new ≡ F.inputs files.old }
-    ensures saved { F.saved files.new ≡ F.saved files.old }
+    ensures replaced { F.replaced files.new ≡ F.replaced files.old }
 {
     match wanted {
         ReportKind::Verdict {
@@ -232,7 +232,7 @@ impl Evidence<'_> {
     ) -> Finding
         ensures found { Finds (F.inputs files.old) (judgement_of request.entry.wanted) (location_of request.entry.list) (evidence_of self.now) result }
         ensures inputs { F.inputs files.new ≡ F.inputs files.old }
-        ensures saved { F.saved files.new ≡ F.saved files.old }
+        ensures replaced { F.replaced files.new ≡ F.replaced files.old }
     {
         match request.list {
             Input::Bytes(list) => self.find_from(alloc, &mut SliceSource::new(list), request),

@@ -41,7 +41,7 @@ pub(crate) fn attest<F: AgentFiles>(
     ensures answer { IfOk result (IsAttestation (F.inputs files.old) (attested_of request.entry)) }
     ensures fault { IfErr result (IsNoAttestation (F.inputs files.old) (attested_of request.entry)) }
     ensures inputs { F.inputs files.new ≡ F.inputs files.old }
-    ensures saved { F.saved files.new ≡ F.saved files.old }
+    ensures replaced { F.replaced files.new ≡ F.replaced files.old }
 {
     let required = required_by(alloc, request.required)?;
     let policy = Policy {
@@ -94,7 +94,7 @@ fn judge_by<F: AgentFiles>(
         → IsAttestation (F.inputs files.old) (attested_of request.entry) given) }
     ensures fault { IfErr result (IsNotJudgedBy (F.inputs files.old) (attested_of request.entry) (quote_of quote.now)) }
     ensures inputs { F.inputs files.new ≡ F.inputs files.old }
-    ensures saved { F.saved files.new ≡ F.saved files.old }
+    ensures replaced { F.replaced files.new ≡ F.replaced files.old }
 {
     let comparison = comparison_of(request);
     let log = load_at(alloc, files, request.log)?;
@@ -127,7 +127,7 @@ fn counted_in<F: AgentFiles>(
         found.0 found.1.items) }
     ensures fault { IfErr result (IsNotStated (F.inputs files.old) (option_map location_of input.entry)) }
     ensures inputs { F.inputs files.new ≡ F.inputs files.old }
-    ensures saved { F.saved files.new ≡ F.saved files.old }
+    ensures replaced { F.replaced files.new ≡ F.replaced files.old }
 {
     let Some(input) = input else {
         return Ok((ExpectedValues::NotGiven, Vec::new(alloc)));
@@ -149,7 +149,7 @@ fn state_by<F: AgentFiles>(
     ensures boot { IfOk result (λ state. IfSome state (IsOfQuote (quote_of quote.now))) }
     ensures fault { IfErr result (IsNoResumedState (F.inputs files.old) (quote_of quote.now) (resume_of (judgement_of wanted.entry))) }
     ensures inputs { F.inputs files.new ≡ F.inputs files.old }
-    ensures saved { F.saved files.new ≡ F.saved files.old }
+    ensures replaced { F.replaced files.new ≡ F.replaced files.old }
 {
     let state = state_in(alloc, files, wanted)?;
     if is_of_quote(state, quote) {

@@ -50,7 +50,7 @@ pub(crate) fn load_at<'a, F: AgentFiles>(
     ensures all { IfOk result (λ held. Holds (F.inputs files.old) (location_of input.entry) (held_bytes held)) }
     ensures fault { IfErr result (IsInputFault (F.inputs files.old) (location_of input.entry)) }
     ensures inputs { F.inputs files.new ≡ F.inputs files.old }
-    ensures saved { F.saved files.new ≡ F.saved files.old }
+    ensures replaced { F.replaced files.new ≡ F.replaced files.old }
 {
     match input {
         Input::Bytes(bytes) => Ok(Held::Bytes(bytes)),

@@ -22,7 +22,7 @@ pub(crate) fn told_of_key<F: AgentFiles>(
     ensures answer { IfOk result (IsAnswer (F.inputs files.old) (KeyOf (location_of area.entry) purpose part)) }
     ensures fault { IfErr result (IsRefusal (F.inputs files.old) (KeyOf (location_of area.entry) purpose part)) }
     ensures inputs { F.inputs files.new ≡ F.inputs files.old }
-    ensures saved { F.saved files.new ≡ F.saved files.old }
+    ensures replaced { F.replaced files.new ≡ F.replaced files.old }
 {
     let area = load_at(alloc, files, area)?;
     let report = report_on(alloc, area.bytes(), purpose)?;

@@ -19,7 +19,7 @@ pub(crate) fn known_in<F: AgentFiles>(
     ensures found { IfOk result (AreKnownFiles (F.inputs files.old) (map location_of inputs.now)) }
     ensures fault { IfErr result (IsFirstNotKnown (F.inputs files.old) (map location_of inputs.now)) }
     ensures inputs { F.inputs files.new ≡ F.inputs files.old }
-    ensures saved { F.saved files.new ≡ F.saved files.old }
+    ensures replaced { F.replaced files.new ≡ F.replaced files.old }
 {
     if inputs.is_empty() {
         return Ok(None);
@@ -42,7 +42,7 @@ fn add_text<F: AgentFiles>(
     ensures added { OnOk result (ListsAlso (F.inputs files.old) (location_of input.entry) listed.old listed.new) }
     ensures fault { IfErr result (IsTextRefused (F.inputs files.old) (location_of input.entry) file) }
     ensures inputs { F.inputs files.new ≡ F.inputs files.old }
-    ensures saved { F.saved files.new ≡ F.saved files.old }
+    ensures replaced { F.replaced files.new ≡ F.replaced files.old }
 {
     let text = load_at(alloc, files, input)?;
     match listed.add(text.bytes()) {

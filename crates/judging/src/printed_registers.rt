@@ -23,7 +23,7 @@ pub(crate) fn printed_registers<F: AgentFiles>(
     ensures fault { IfErr result (IsRefusal (F.inputs files.old)
         (ExpectedOf (location_of printed.entry) (option_map (λ text. text.now) registers.entry))) }
     ensures inputs { F.inputs files.new ≡ F.inputs files.old }
-    ensures saved { F.saved files.new ≡ F.saved files.old }
+    ensures replaced { F.replaced files.new ≡ F.replaced files.old }
 {
     let selection = selection_of(alloc, registers)?;
     let text = load_at(alloc, files, printed)?;

@@ -18,7 +18,7 @@ pub(crate) fn after_log<F: AgentFiles>(alloc: Global, files: &mut F, log: Input<
     ensures answer { IfOk result (IsAnswer (F.inputs files.old) (LogRegistersOf (location_of log.entry))) }
     ensures fault { IfErr result (IsRefusal (F.inputs files.old) (LogRegistersOf (location_of log.entry))) }
     ensures inputs { F.inputs files.new ≡ F.inputs files.old }
-    ensures saved { F.saved files.new ≡ F.saved files.old }
+    ensures replaced { F.replaced files.new ≡ F.replaced files.old }
 {
     let log = load_at(alloc, files, log)?;
     let view = LogView::new(log.bytes())?;
@@ -33,7 +33,7 @@ pub(crate) fn after_list<F: AgentFiles>(alloc: Global, files: &mut F, list: Inpu
     ensures answer { IfOk result (IsAnswer (F.inputs files.old) (ListRegistersOf (location_of list.entry))) }
     ensures fault { IfErr result (IsRefusal (F.inputs files.old) (ListRegistersOf (location_of list.entry))) }
     ensures inputs { F.inputs files.new ≡ F.inputs files.old }
-    ensures saved { F.saved files.new ≡ F.saved files.old }
+    ensures replaced { F.replaced files.new ≡ F.replaced files.old }
 {
     match list {
         Input::Bytes(bytes) => after_list_from(alloc, &mut SliceSource::new(bytes), list),

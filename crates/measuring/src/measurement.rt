@@ -41,7 +41,7 @@ pub fn measure<R: Threads + Wait + Sync, F: AgentFiles, P: FileProgress>(
     requires { vec_len request.now.files < 2 ^ 32 }
     ensures measured { IfOk result (IsMeasured (F.inputs files.old) request.now) }
     ensures fault { IfErr result (IsMeasuringFault (F.inputs files.old) request.now) }
-    ensures saved { F.saved files.new ≡ F.saved files.old }
+    ensures replaced { F.replaced files.new ≡ F.replaced files.old }
 {
     let bytes = load_input(alloc, files, Some(&request.log))?;
     let log = LogView::new(&bytes)?;
@@ -55,7 +55,7 @@ fn text_of<F: AgentFiles>(alloc: Global, files: &mut F, request: &Measurement) -
     ensures text { IfOk result (λ text. IsTextFor (F.inputs files.old) request.now text.items) }
     ensures fault { IfErr result (IsNamesFault (F.inputs files.old) request.now) }
     ensures inputs { F.inputs files.new ≡ F.inputs files.old }
-    ensures saved { F.saved files.new ≡ F.saved files.old }
+    ensures replaced { F.replaced files.new ≡ F.replaced files.old }
 {
     match &request.names {
         None => Ok(Vec::new(alloc)),

@@ -27,7 +27,7 @@ use Rattle.growing_lists.specs.declared.saved_state.SavedState.{SavedState}
 use Rattle.growing_lists.specs.CheckpointTexts.{checkpoint_text}
 use Rattle.agent_inputs.specs.declared.fault.RunFault.{RunFault}
 use Rattle.agent_inputs.specs.declared.fault.RunFault.TheVariants as runs
-use Rattle.agent_inputs.specs.Loading.{HasReplaced, Inputs, IsNotWritten, Saved}
+use Rattle.agent_inputs.specs.Loading.{HasReplaced, Inputs, IsNotWritten, ReplacedFiles}
 use Rattle.judging.specs.Answering.{IsAnswer, IsRefusal}
 use Rattle.judging.specs.Requests.{Requested}
 
@@ -74,12 +74,12 @@ pub record IsShown (inputs : Inputs) (request : Requested) (form : Form) (shown 
   pub next_is : next ≡ given.next
 
 -- The file of this name, if one is given, was replaced by the text of this checkpoint, if there is one, and no other was.
-abbrev pub HasSaved : Saved → Saved → Option (List ℕ) → Option SavedState → Type 0
+abbrev pub HasSaved : ReplacedFiles → ReplacedFiles → Option (List ℕ) → Option SavedState → Type 0
 HasSaved old new (Some name) (Some next) = HasReplaced old new (record { name = name; bytes = checkpoint_text next })
 HasSaved old new name next = new ≡ old
 
 -- The answer is shown. If all is well, the checkpoint of what it is on is saved, if a name is given for it; nothing else is.
-abbrev pub ShowsAnswer : Inputs → Requested → Option (List ℕ) → Form → Saved → Saved → List ℕ → ℕ → Type 0
+abbrev pub ShowsAnswer : Inputs → Requested → Option (List ℕ) → Form → ReplacedFiles → ReplacedFiles → List ℕ → ℕ → Type 0
 ShowsAnswer inputs request save form old new shown status =
     (next : Option SavedState) × IsShown inputs request form shown status next × HasSaved old new save next
 

@@ -65,8 +65,8 @@ pub fn output_for<F: AgentFiles>(
     form: Form,
 ) -> Result<Output, RunFault>
     ensures shown { IfOk result (λ output. ShowsAnswer (F.inputs files.old) (requested_of request.entry) (option_map (λ name. name.now) name.entry) form
-        (F.saved files.old) (F.saved files.new) output.text.items output.status) }
-    ensures kept { OnErr result (F.saved files.new ≡ F.saved files.old) }
+        (F.replaced files.old) (F.replaced files.new) output.text.items output.status) }
+    ensures kept { OnErr result (F.replaced files.new ≡ F.replaced files.old) }
     ensures fault { IfErr result (IsOutputFault (F.inputs files.old) (requested_of request.entry) (option_map (λ name. name.now) name.entry)) }
 {
     let given = answer_request(alloc, files, request)?;
@@ -82,8 +82,8 @@ fn save<F: AgentFiles>(
     name: Option<&str>,
     next: Option<SavedState>,
 ) -> Result<(), RunFault>
-    ensures saved { OnOk result (HasSaved (F.saved files.old) (F.saved files.new) (option_map (λ name. name.now) name.entry) next) }
-    ensures kept { OnErr result (F.saved files.new ≡ F.saved files.old) }
+    ensures saved { OnOk result (HasSaved (F.replaced files.old) (F.replaced files.new) (option_map (λ name. name.now) name.entry) next) }
+    ensures kept { OnErr result (F.replaced files.new ≡ F.replaced files.old) }
     ensures fault { IfErr result (IsNotSaved (option_map (λ name. name.now) name.entry) next) }
 {
     match (name, next) {

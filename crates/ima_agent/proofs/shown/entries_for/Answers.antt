@@ -6,12 +6,12 @@ pub returns-in-Text : goal.returns-in-Text
 returns-in-Text g c =
     rw c.in-Text.is
     (streams_so _ _ _ _ c.send_sound_list.result
-    (sound_outcome (g.F.Files.inputs c.args.files.now) c.args.list.now _ _ c.send_sound_list.ensures.saved)
+    (sound_outcome (g.F.Files.inputs c.args.files.now) c.args.list.now _ _ c.send_sound_list.ensures.replaced)
     (rw c.deref.ensures at c.send_sound_list.ensures.streams))
 
 pub returns-in-Json : goal.returns-in-Json
 returns-in-Json g c =
     rw c.in-Json.is
     (streams_so _ _ _ _ c.send_list.result
-    (entries_outcome (g.F.Files.inputs c.args.files.now) c.args.list.now _ _ c.send_list.ensures.saved)
+    (entries_outcome (g.F.Files.inputs c.args.files.now) c.args.list.now _ _ c.send_list.ensures.replaced)
     (rw c.deref-in-Json.ensures at c.send_list.ensures.streams))

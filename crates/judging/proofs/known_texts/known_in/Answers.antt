@@ -6,12 +6,12 @@ use Rattle.judging.proofs.KnownLaws.{all_listed, listed_more, listed_none, not_l
 use Rattle.judging.proofs.known_texts.known_in.Goals as goal
 
 pub loop-index-init : goal.loop-index-init
-loop-index-init g c = record { inputs = refl; saved = refl; listed = listed_none _ _ c.new-listed.result c.new-listed.ensures }
+loop-index-init g c = record { inputs = refl; replaced = refl; listed = listed_none _ _ c.new-listed.result c.new-listed.ensures }
 
 pub loop-index-preserved : goal.loop-index-preserved
 loop-index-preserved g c = record {
   inputs = c.in_ok-add_text.ensures.inputs ∙ c.loop-index.invariant.inputs;
-  saved = c.in_ok-add_text.ensures.saved ∙ c.loop-index.invariant.saved;
+  replaced = c.in_ok-add_text.ensures.replaced ∙ c.loop-index.invariant.replaced;
   listed = listed_more _ c.args.inputs.now c.loop-index.index _ (omega (arith, c.loop-index-test.true)) c.loop-index.listed c.add_text.new.listed
       c.loop-index.invariant.listed (rw c.loop-index.invariant.inputs at c.in_ok-add_text.ensures.added);
 }

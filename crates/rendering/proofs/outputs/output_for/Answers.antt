@@ -26,5 +26,5 @@ returns-clause-shown g c = (
     status_is = c.in_ok-output.ensures.status;
     next_is = refl;
   },
-  rw c.in_ok-given.ensures.saved at c.in_ok-save.ensures.saved,
+  rw c.in_ok-given.ensures.replaced at c.in_ok-save.ensures.saved,
 )
