@@ -20,7 +20,7 @@ use Rattle.event_lines.specs.ContentTexts.{text_or_hex}
 use Rattle.event_lines.proofs.ContentLaws.{content_plain}
 use Rattle.event_lines.proofs.CountLaws.{content_counted}
 use Rattle.boot_texts.specs.declared.difference_lines.ComparedBoot.{ComparedBoot}
-use Rattle.boot_texts.specs.declared.policies.ImaPolicy.TheVariants.{PolicyQuestion, Possible}
+use Rattle.boot_texts.specs.declared.policies.ImaPolicy.TheVariants.{Asked, Possible}
 use Rattle.boot_texts.specs.AnswerCells.{answered_digest, boot_variable_type, command_cell, digest_cell, image_cell, kind_cell, text_member, untold_cell, variable_cell, version_cell, word_cell}
 use Rattle.boot_texts.specs.Differences.{alike_cell, apart_cell, event_cell}
 use Rattle.boot_texts.specs.Policies.{policy_cell}
@@ -32,9 +32,9 @@ pub word_is_one : (name word : List ℕ) → IsOneLine (object_of (word_cell nam
 unfolding beside
 word_is_one name word = line_within 3 (object_of (word_cell name word).json) (omega arith) (tt, tt)
 
-pub asked_is_one : (number : ℕ) → IsCount number → IsOneLine (object_of (policy_cell (PolicyQuestion number)).json)
+pub asked_is_one : (number : ℕ) → IsCount number → IsOneLine (object_of (policy_cell (Asked number)).json)
 unfolding beside
-asked_is_one number count = line_within 3 (object_of (policy_cell (PolicyQuestion number)).json) (omega arith) (tt, ((number, count, refl), tt))
+asked_is_one number count = line_within 3 (object_of (policy_cell (Asked number)).json) (omega arith) (tt, ((number, count, refl), tt))
 
 pub possible_is_one : (number : ℕ) → IsCount number → IsOneLine (object_of (policy_cell (Possible number)).json)
 unfolding beside

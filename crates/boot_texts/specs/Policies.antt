@@ -87,7 +87,7 @@ IsAskingEvent asked matched events (Some number) = IsAsking asked matched events
 
 -- The answer: a text asks to measure files; else a text may ask for a policy; else it is unknown.
 abbrev pub IsImaPolicy : List Pcr → List LogEvent → ImaPolicy → Type 0
-IsImaPolicy matched events (policies.PolicyQuestion number) = IsAsking Measuring matched events number
+IsImaPolicy matched events (policies.Asked number) = IsAsking Measuring matched events number
 IsImaPolicy matched events (policies.Possible number) = NeitherAsks Measuring matched events × IsAsking Policy matched events number
 IsImaPolicy matched events policies.Unknown = NeitherAsks Measuring matched events × NeitherAsks Policy matched events
 
@@ -95,13 +95,13 @@ IsImaPolicy matched events policies.Unknown = NeitherAsks Measuring matched even
 
 -- What is asked, in one word.
 abbrev pub policy_word : ImaPolicy → List ℕ
-policy_word (policies.PolicyQuestion event) = codes "asked"
+policy_word (policies.Asked event) = codes "asked"
 policy_word (policies.Possible event) = codes "possible"
 policy_word policies.Unknown = codes "unknown"
 
 -- The number of the event that asks.
 abbrev pub policy_event : ImaPolicy → Option ℕ
-policy_event (policies.PolicyQuestion event) = Some event
+policy_event (policies.Asked event) = Some event
 policy_event (policies.Possible event) = Some event
 policy_event policies.Unknown = None
 

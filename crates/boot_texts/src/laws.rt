@@ -14,7 +14,7 @@ ghost use Rattle.boot_answers.specs.FirmwareVersion.{version_type};
 ghost use Rattle.cells.specs.Values.{IsCount, IsOneLine, object_of};
 ghost use Rattle.boot_texts.specs.AnswerCells.{command_cell, image_cell, text_member, untold_cell, variable_cell, version_cell, word_cell};
 ghost use Rattle.boot_texts.specs.declared.difference_lines.ComparedBoot.{ComparedBoot};
-ghost use Rattle.boot_texts.specs.declared.policies.ImaPolicy.TheVariants.{PolicyQuestion, Possible};
+ghost use Rattle.boot_texts.specs.declared.policies.ImaPolicy.TheVariants.{Asked, Possible};
 ghost use Rattle.boot_texts.specs.Differences.{alike_cell, apart_cell, event_cell};
 ghost use Rattle.boot_texts.specs.EachBank.{TellText, TellVariable};
 ghost use Rattle.boot_texts.specs.Policies.{policy_cell};
@@ -49,7 +49,7 @@ pub fn each_line_is_one_value()
     ensures untold { (register number : ℕ) → IsCount register → IsCount number
         → IsOneLine (object_of (untold_cell register (Some number)).json) }
     ensures unanswered { (register : ℕ) → IsCount register → IsOneLine (object_of (untold_cell register None).json) }
-    ensures asked { (number : ℕ) → IsCount number → IsOneLine (object_of (policy_cell (PolicyQuestion number)).json) }
+    ensures asked { (number : ℕ) → IsCount number → IsOneLine (object_of (policy_cell (Asked number)).json) }
     ensures possible { (number : ℕ) → IsCount number → IsOneLine (object_of (policy_cell (Possible number)).json) }
     ensures variable { (number : ℕ) (event : LogEvent) → IsCount number → AreBytes event.payload
         → IsOneLine (object_of (variable_cell number event).json) }

@@ -26,12 +26,12 @@ pub(crate) const STUB_REGISTER: u32 = 12;
 /// What the told texts ask of Linux's integrity measurement architecture (IMA), with the number of the first event that asks: of register 8, or
 /// else of register 12.
 ///
-/// Root can append texts to both registers, and can extend one that the boot loader left empty. So `PolicyQuestion` proves neither that Linux has a
+/// Root can append texts to both registers, and can extend one that the boot loader left empty. So `Asked` proves neither that Linux has a
 /// policy nor that it measures files. That no text asks proves nothing either: it is `Unknown`.
 #[derive(Clone, Copy, Debug, PartialEq, Eq)]
 pub enum ImaPolicy {
     /// To measure files.
-    PolicyQuestion(usize),
+    Asked(usize),
     /// A text may ask for a policy.
     Possible(usize),
     /// No told text asks.
@@ -89,7 +89,7 @@ fn ima_policy(alloc: Global, log: &LogView<'_>, matched: &[Pcr]) -> Result<ImaPo
 {
     let measuring = asking_event(alloc, PolicyQuestion::Measuring, log, matched)?;
     if let Some(number) = measuring {
-        return Ok(ImaPolicy::PolicyQuestion(number));
+        return Ok(ImaPolicy::Asked(number));
     }
     let policy = asking_event(alloc, PolicyQuestion::Policy, log, matched)?;
     match policy {
@@ -136,7 +136,7 @@ fn policy_word(policy: ImaPolicy) -> &'static str
     ensures { result.now ≡ policy_word policy }
 {
     match policy {
-        ImaPolicy::PolicyQuestion(_) => "asked",
+        ImaPolicy::Asked(_) => "asked",
         ImaPolicy::Possible(_) => "possible",
         ImaPolicy::Unknown => "unknown",
     }
@@ -147,7 +147,7 @@ fn policy_event(policy: ImaPolicy) -> Option<usize>
     ensures { result ≡ policy_event policy }
 {
     match policy {
-        ImaPolicy::PolicyQuestion(event) | ImaPolicy::Possible(event) => Some(event),
+        ImaPolicy::Asked(event) | ImaPolicy::Possible(event) => Some(event),
         ImaPolicy::Unknown => None,
     }
 }

@@ -2,7 +2,7 @@
 use Rattle.std.proofs.Common.{◌≡◌, ℕ, ◌+◌, ◌-◌, ◌≤◌, List, [], ◌++◌, length, Ok, Err, refl, sym, ap, subst, ◌∙◌, arith, length-append}
 use Rattle.byte_fields.proofs.Steps.{IsBytes, bind_ok, ok_is}
 use Rattle.byte_fields.proofs.FormatLaws.{Exact, takes, again, number64_exact, part_exact, followed_exact, mapped_exact, IsBytes-behind}
-use Rattle.event_data.specs.declared.content.Mismatch.TheVariants.{DataForm}
+use Rattle.event_data.specs.declared.content.Mismatch.TheVariants.{Form}
 use Rattle.event_data.specs.GptForms.{PartitionData, IsPartition}
 use Rattle.event_data.specs.GptReading.{EntryFields, entry, told_entry, partition_at}
 use Rattle.event_data.proofs.FormLaws.{AnyFault}
@@ -11,20 +11,20 @@ use Rattle.event_data.proofs.FixedSize.{Fixed, fixed_part, fixed_number64, fixed
 entry_exact : (size : ℕ) → Exact AnyFault (entry size)
 unfolding entry
 entry_exact size =
-    let number = number64_exact {P = AnyFault} DataForm tt in
+    let number = number64_exact {P = AnyFault} Form tt in
     mapped_exact (λ x is. refl)
-    (followed_exact (part_exact DataForm 16 tt) (λ kind. followed_exact (part_exact DataForm 16 tt) (λ guid.
+    (followed_exact (part_exact Form 16 tt) (λ kind. followed_exact (part_exact Form 16 tt) (λ guid.
     followed_exact number (λ first. followed_exact number (λ last. followed_exact number (λ attributes.
-    followed_exact (part_exact DataForm 72 tt) (λ name. part_exact DataForm (size - 128) tt)))))))
+    followed_exact (part_exact Form 72 tt) (λ name. part_exact Form (size - 128) tt)))))))
 
 entry_fixed : (size : ℕ) → Fixed (16 + (16 + (8 + (8 + (8 + (72 + (size - 128))))))) (entry size)
 unfolding entry
 entry_fixed size =
-    let number = fixed_number64 DataForm in
+    let number = fixed_number64 Form in
     fixed_mapped
-    (fixed_followed (fixed_part DataForm 16) (λ kind. fixed_followed (fixed_part DataForm 16) (λ guid.
+    (fixed_followed (fixed_part Form 16) (λ kind. fixed_followed (fixed_part Form 16) (λ guid.
     fixed_followed number (λ first. fixed_followed number (λ last. fixed_followed number (λ attributes.
-    fixed_followed (fixed_part DataForm 72) (λ name. fixed_part DataForm (size - 128))))))))
+    fixed_followed (fixed_part Form 72) (λ name. fixed_part Form (size - 128))))))))
 
 -- What an entry took: its bytes, and the rest.
 pub record EntryTaken (size : ℕ) (bytes : List ℕ) (x : PartitionData) (rest : List ℕ) : Type 0 where
@@ -119,6 +119,6 @@ entry_reached size bytes wide fits long =
     let read = reaches (entry_exact size) (entry_fixed size) bytes fits (omega (arith, wide, long)) in
     ((told_entry read.0.0, read.0.1), rw read.1 refl)
 
-pub no_entry : (size : ℕ) → partition_at size [] ≡ Err DataForm
+pub no_entry : (size : ℕ) → partition_at size [] ≡ Err Form
 unfolding entry
 no_entry size = refl

@@ -7,7 +7,7 @@ use Rattle.byte_fields.specs.Spelling.{number64}
 use Rattle.byte_fields.proofs.Steps.{IsBytes}
 use Rattle.byte_fields.proofs.FormatLaws.{Exact, number32_exact, number64_exact, part_exact, followed_exact, mapped_exact, whole_takes, whole_again}
 use Rattle.event_data.specs.declared.content.Mismatch.{Mismatch}
-use Rattle.event_data.specs.declared.content.Mismatch.TheVariants.{DataForm}
+use Rattle.event_data.specs.declared.content.Mismatch.TheVariants.{Form}
 use Rattle.event_data.specs.Forms.{VariableData, IsVariable, ImageData, IsImage, IsSeparator}
 use Rattle.event_data.specs.Reading.{variable, variable_in, image, image_in, separator_in}
 use Rattle.event_data.proofs.Finding.{Finds, whole_finds, some_is}
@@ -26,17 +26,17 @@ doubled size units e = omega (arith, e)
 variable_exact : Exact AnyFault variable
 unfolding variable
 variable_exact =
-    let number = number64_exact {P = AnyFault} DataForm tt in
+    let number = number64_exact {P = AnyFault} Form tt in
     mapped_exact (λ x is. ap (λ (n : ℕ). (x.0, (n, (length x.1.1.1.1, (x.1.1.1.0, x.1.1.1.1)))))
     (halved (length x.1.1.1.0) x.1.0 is.1.1.1.0)
     ∙ ap (λ (n : ℕ). (x.0, (x.1.0, (n, (x.1.1.1.0, x.1.1.1.1))))) is.1.1.1.1)
-    (followed_exact (part_exact DataForm 16 tt) (λ guid. followed_exact number (λ units. followed_exact number (λ size.
-    followed_exact (part_exact DataForm (2 * units) tt) (λ name. part_exact DataForm size tt)))))
+    (followed_exact (part_exact Form 16 tt) (λ guid. followed_exact number (λ units. followed_exact number (λ size.
+    followed_exact (part_exact Form (2 * units) tt) (λ name. part_exact Form size tt)))))
 
-pub variable_takes : (bytes : List ℕ) (v : VariableData) → IsBytes bytes → whole DataForm variable bytes ≡ Ok v → IsVariable bytes v
+pub variable_takes : (bytes : List ℕ) (v : VariableData) → IsBytes bytes → whole Form variable bytes ≡ Ok v → IsVariable bytes v
 unfolding variable
 variable_takes bytes v fits e =
-    let taken = whole_takes DataForm variable_exact bytes v fits e in
+    let taken = whole_takes Form variable_exact bytes v fits e in
     let is = taken.0.0 in
     record {
       units = length v.name / 2;
@@ -47,11 +47,11 @@ variable_takes bytes v fits e =
       spelled = taken.1;
     }
 
-pub variable_again : (bytes : List ℕ) (v : VariableData) → IsVariable bytes v → whole DataForm variable bytes ≡ Ok v
+pub variable_again : (bytes : List ℕ) (v : VariableData) → IsVariable bytes v → whole Form variable bytes ≡ Ok v
 unfolding variable
 variable_again bytes v is =
     let half = halved (length v.name) is.units is.name_size in
-    whole_again DataForm variable_exact bytes v
+    whole_again Form variable_exact bytes v
     ((is.guid_size, (rw half is.units_fit, (is.value_fits, (doubled (length v.name) is.units is.name_size, refl)))), refl)
     (is.spelled ∙ ap (λ (n : ℕ). v.guid ++ (number64 n ++ (number64 (length v.value) ++ (v.name ++ v.value)))) (sym half))
 
@@ -60,32 +60,32 @@ variable_again bytes v is =
 image_exact : Exact AnyFault image
 unfolding image
 image_exact =
-    let number = number64_exact {P = AnyFault} DataForm tt in
+    let number = number64_exact {P = AnyFault} Form tt in
     mapped_exact (λ x is. ap (λ (n : ℕ). (x.0, (x.1.0, (x.1.1.0, (n, x.1.1.1.1))))) is.1.1.1.1)
     (followed_exact number (λ location. followed_exact number (λ size. followed_exact number (λ link_address.
-    followed_exact number (λ count. part_exact DataForm count tt)))))
+    followed_exact number (λ count. part_exact Form count tt)))))
 
-pub image_takes : (bytes : List ℕ) (v : ImageData) → IsBytes bytes → whole DataForm image bytes ≡ Ok v → IsImage bytes v
+pub image_takes : (bytes : List ℕ) (v : ImageData) → IsBytes bytes → whole Form image bytes ≡ Ok v → IsImage bytes v
 unfolding image
 image_takes bytes v fits e =
-    let taken = whole_takes DataForm image_exact bytes v fits e in
+    let taken = whole_takes Form image_exact bytes v fits e in
     let is = taken.0.0 in
     record { location_fits = is.0; size_fits = is.1.0; link_address_fits = is.1.1.0; path_fits = is.1.1.1.0; spelled = taken.1 }
 
-pub image_again : (bytes : List ℕ) (v : ImageData) → IsImage bytes v → whole DataForm image bytes ≡ Ok v
+pub image_again : (bytes : List ℕ) (v : ImageData) → IsImage bytes v → whole Form image bytes ≡ Ok v
 unfolding image
 image_again bytes v is =
-    whole_again DataForm image_exact bytes v
+    whole_again Form image_exact bytes v
     ((is.location_fits, (is.size_fits, (is.link_address_fits, (is.path_fits, refl)))), refl) is.spelled
 
 pub variable_finds : (bytes : List ℕ) → IsBytes bytes → Finds (IsVariable bytes) (variable_in bytes)
-variable_finds bytes fits = whole_finds (whole DataForm variable bytes) (λ v e. variable_takes bytes v fits e) (variable_again bytes)
+variable_finds bytes fits = whole_finds (whole Form variable bytes) (λ v e. variable_takes bytes v fits e) (variable_again bytes)
 
 pub variable_only : (bytes : List ℕ) (v : VariableData) → IsVariable bytes v → variable_in bytes ≡ Some v
 variable_only bytes v is = ap result_ok (variable_again bytes v is)
 
 pub image_finds : (bytes : List ℕ) → IsBytes bytes → Finds (IsImage bytes) (image_in bytes)
-image_finds bytes fits = whole_finds (whole DataForm image bytes) (λ v e. image_takes bytes v fits e) (image_again bytes)
+image_finds bytes fits = whole_finds (whole Form image bytes) (λ v e. image_takes bytes v fits e) (image_again bytes)
 
 pub image_only : (bytes : List ℕ) (v : ImageData) → IsImage bytes v → image_in bytes ≡ Some v
 image_only bytes v is = ap result_ok (image_again bytes v is)
@@ -96,17 +96,17 @@ one_variable bytes v w is is_too = some_is v w (sym (variable_only bytes v is) �
 
 -- ---- a separator
 
-separator_exact : Exact AnyFault (number DataForm w32)
-separator_exact = number32_exact DataForm tt
+separator_exact : Exact AnyFault (number Form w32)
+separator_exact = number32_exact Form tt
 
-separator_again : (bytes : List ℕ) (v : ℕ) → IsSeparator bytes v → whole DataForm (number DataForm w32) bytes ≡ Ok v
-separator_again bytes v is = whole_again DataForm separator_exact bytes v is.fits is.spelled
+separator_again : (bytes : List ℕ) (v : ℕ) → IsSeparator bytes v → whole Form (number Form w32) bytes ≡ Ok v
+separator_again bytes v is = whole_again Form separator_exact bytes v is.fits is.spelled
 
 pub separator_only : (bytes : List ℕ) (v : ℕ) → IsSeparator bytes v → separator_in bytes ≡ Some v
 separator_only bytes v is = ap result_ok (separator_again bytes v is)
 
 pub separator_finds : (bytes : List ℕ) → IsBytes bytes → Finds (IsSeparator bytes) (separator_in bytes)
 separator_finds bytes fits =
-    whole_finds (whole DataForm (number DataForm w32) bytes)
-    (λ v e. let taken = whole_takes DataForm separator_exact bytes v fits e in record { fits = taken.0; spelled = taken.1 })
+    whole_finds (whole Form (number Form w32) bytes)
+    (λ v e. let taken = whole_takes Form separator_exact bytes v fits e in record { fits = taken.0; spelled = taken.1 })
     (separator_again bytes)

@@ -7,7 +7,7 @@ use Rattle.byte_fields.specs.Items.{AreItems}
 use Rattle.byte_fields.proofs.Steps.{IsBytes, bind_ok, test_ok, ok_is}
 use Rattle.byte_fields.proofs.FormatLaws.{Exact, takes, again, passes, number32_exact, number64_exact, part_exact, followed_exact, unless_exact, mapped_exact, IsBytes-behind}
 use Rattle.event_data.specs.declared.content.Mismatch.{Mismatch}
-use Rattle.event_data.specs.declared.content.Mismatch.TheVariants.{DataForm}
+use Rattle.event_data.specs.declared.content.Mismatch.TheVariants.{Form}
 use Rattle.event_data.specs.GptForms.{GptData, PartitionData, IsGpt, IsPartition}
 use Rattle.event_data.specs.GptReading.{TableFront, table_front, table_in, fitting, gpt_in, partition_at, then_more, partitions_within, partitions_in}
 use Rattle.byte_fields.specs.Spelling.{number32, number64}
@@ -108,10 +108,10 @@ front_exact : Exact AnyFault table_front
 unfolding table_front
 front_exact =
     mapped_exact (λ x is. refl)
-    (followed_exact (part_exact DataForm 48 tt) (λ places. followed_exact (part_exact DataForm 16 tt) (λ disk.
-    followed_exact (part_exact DataForm 12 tt) (λ array.
-    followed_exact (unless_exact _ DataForm tt (number32_exact {P = AnyFault} DataForm tt)) (λ size.
-    followed_exact (part_exact DataForm 4 tt) (λ check. number64_exact {P = AnyFault} DataForm tt))))))
+    (followed_exact (part_exact Form 48 tt) (λ places. followed_exact (part_exact Form 16 tt) (λ disk.
+    followed_exact (part_exact Form 12 tt) (λ array.
+    followed_exact (unless_exact _ Form tt (number32_exact {P = AnyFault} Form tt)) (λ size.
+    followed_exact (part_exact Form 4 tt) (λ check. number64_exact {P = AnyFault} Form tt))))))
 
 -- What follows the signature is this table.
 record IsTable (bytes : List ℕ) (gpt : GptData) : Type 0 where
@@ -126,7 +126,7 @@ record IsTable (bytes : List ℕ) (gpt : GptData) : Type 0 where
 
 front_wide : (front : TableFront) → table_front.Is front → 128 ≤ front.size
 unfolding table_front
-front_wide front is = ltb-false front.size 128 (passes _ DataForm front.size front.size is.0.1.1.1.0.1)
+front_wide front is = ltb-false front.size 128 (passes _ Form front.size front.size is.0.1.1.1.0.1)
 
 table_taken : (bytes : List ℕ) (front : TableFront) (entries : List ℕ) → IsBytes bytes → table_front.at bytes ≡ Ok (front, entries)
     → length entries ≡ front.count * front.size → IsTable bytes (record { disk = front.disk; partitions = partitions_in front.size entries })

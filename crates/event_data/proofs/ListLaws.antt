@@ -7,7 +7,7 @@ use Rattle.std.proofs.lemmas.List.{length-append, length-take, length-drop, take
 use Rattle.byte_fields.specs.Spelling.{number32}
 use Rattle.byte_fields.proofs.Steps.{IsBytes}
 use Rattle.byte_fields.proofs.FormatLaws.{Exact, again, passes, number32_exact, part_exact, followed_exact, unless_exact, mapped_exact, IsBytes-behind}
-use Rattle.event_data.specs.declared.content.Mismatch.TheVariants.{DataForm}
+use Rattle.event_data.specs.declared.content.Mismatch.TheVariants.{Form}
 use Rattle.event_data.specs.ValueForms.{ListData, IsSignatureList, SignatureData, IsSignatureOf, AreSignatures}
 use Rattle.event_data.specs.ValueReading.{signatures_of, signature, signature_list, signatures_in}
 use Rattle.event_data.proofs.FormLaws.{AnyFault}
@@ -23,15 +23,15 @@ list_size size header signatures header_size less h s = omega (arith, ltb-false 
 pub list_exact : Exact AnyFault signature_list
 unfolding signature_list
 list_exact =
-    let number = number32_exact {P = AnyFault} DataForm tt in
+    let number = number32_exact {P = AnyFault} Form tt in
     mapped_exact (λ x is.
     ap (λ (n : ℕ). (x.0, (n, (length x.1.1.1.1.0, x.1.1.1))))
-    (list_size x.1.0 (length x.1.1.1.1.0) (length x.1.1.1.1.1) x.1.1.0 (passes _ DataForm x.1.1.0 x.1.1.0 is.1.1.0.1) is.1.1.1.1.0 is.1.1.1.1.1)
+    (list_size x.1.0 (length x.1.1.1.1.0) (length x.1.1.1.1.1) x.1.1.0 (passes _ Form x.1.1.0 x.1.1.0 is.1.1.0.1) is.1.1.1.1.0 is.1.1.1.1.1)
     ∙ ap (λ (n : ℕ). (x.0, (x.1.0, (n, x.1.1.1)))) is.1.1.1.1.0)
-    (followed_exact (part_exact DataForm 16 tt) (λ kind. followed_exact number (λ size.
-    followed_exact (unless_exact _ DataForm tt number) (λ header_size.
-    followed_exact (unless_exact _ DataForm tt number) (λ each.
-    followed_exact (part_exact DataForm header_size tt) (λ header. part_exact DataForm (size - 28 - header_size) tt))))))
+    (followed_exact (part_exact Form 16 tt) (λ kind. followed_exact number (λ size.
+    followed_exact (unless_exact _ Form tt number) (λ header_size.
+    followed_exact (unless_exact _ Form tt number) (λ each.
+    followed_exact (part_exact Form header_size tt) (λ header. part_exact Form (size - 28 - header_size) tt))))))
 
 abbrev list_tail : ListData → List ℕ
 list_tail l =
@@ -61,7 +61,7 @@ pub list_into : (l : ListData) → signature_list.Is l → IsSignatureList (sign
 unfolding signature_list
 list_into l is =
     let each = l.signature_size in
-    let parts = or_parts (ltb each 16) _ (passes _ DataForm each each is.0.1.1.1.0.1) in
+    let parts = or_parts (ltb each 16) _ (passes _ Form each each is.0.1.1.1.0.1) in
     let filled = eqb-true ((28 + length l.header + length l.signatures - 28 - length l.header) % each) 0 (not_false _ parts.1) in
     record {
       count = length l.signatures / each;

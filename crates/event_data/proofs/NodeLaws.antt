@@ -6,7 +6,7 @@ use Rattle.byte_fields.specs.Items.{HasNoItem}
 use Rattle.byte_fields.proofs.Steps.{IsBytes, ok_not_err}
 use Rattle.byte_fields.proofs.FormatLaws.{Exact, takes, again, passes, number16_exact, byte_exact, part_exact, followed_exact, unless_exact, mapped_exact, IsBytes-behind}
 use Rattle.event_data.specs.declared.content.Mismatch.{Mismatch}
-use Rattle.event_data.specs.declared.content.Mismatch.TheVariants.{DataForm}
+use Rattle.event_data.specs.declared.content.Mismatch.TheVariants.{Form}
 use Rattle.event_data.specs.Forms.{NodeData, IsNode}
 use Rattle.event_data.specs.Reading.{node, and_more, nodes_within, nodes_in}
 use Rattle.event_data.proofs.FormLaws.{AnyFault}
@@ -17,11 +17,11 @@ whole_size size rest e s = omega (arith, ltb-false size 4 e, s)
 node_exact : Exact AnyFault node
 unfolding node
 node_exact =
-    let byte = byte_exact {P = AnyFault} DataForm tt in
+    let byte = byte_exact {P = AnyFault} Form tt in
     mapped_exact (λ x is. ap (λ (n : ℕ). (x.0, (x.1.0, (n, x.1.1.1))))
-    (whole_size x.1.1.0 (length x.1.1.1) (passes _ DataForm x.1.1.0 x.1.1.0 is.1.1.0.1) is.1.1.1))
+    (whole_size x.1.1.0 (length x.1.1.1) (passes _ Form x.1.1.0 x.1.1.0 is.1.1.0.1) is.1.1.1))
     (followed_exact byte (λ kind. followed_exact byte (λ subtype.
-    followed_exact (unless_exact _ DataForm tt (number16_exact {P = AnyFault} DataForm tt)) (λ size. part_exact DataForm (size - 4) tt))))
+    followed_exact (unless_exact _ Form tt (number16_exact {P = AnyFault} Form tt)) (λ size. part_exact Form (size - 4) tt))))
 
 -- What a node took: the bytes of the node, and the rest.
 pub record NodeTaken (bytes : List ℕ) (x : NodeData) (rest : List ℕ) : Type 0 where
@@ -65,14 +65,14 @@ same_more : (reading : Result (NodeData × List ℕ) Mismatch) (f g : List ℕ �
 same_more (Ok x) f g bytes same = ap (λ (m : List NodeData × List ℕ). (x.0 ∷ m.0, m.1)) (same x.0 x.1 refl)
 same_more (Err fault) f g bytes same = refl
 
-no_node : (fault : Mismatch) → node.at [] ≡ Err DataForm
+no_node : (fault : Mismatch) → node.at [] ≡ Err Form
 unfolding node
 no_node fault = refl
 
 nodes_none : (steps : ℕ) → nodes_within steps [] ≡ ([], [])
 unfolding nodes_within
 nodes_none zero = refl
-nodes_none (suc steps) = rw (no_node DataForm) refl
+nodes_none (suc steps) = rw (no_node Form) refl
 
 -- As many steps as bytes are enough: more change nothing.
 nodes_enough : (steps more : ℕ) (bytes : List ℕ) → IsBytes bytes → length bytes ≤ steps → length bytes ≤ more
@@ -90,7 +90,7 @@ nodes_enough (suc steps) (suc more) (b ∷ bytes) fits s m =
 pub nodes_more : (bytes : List ℕ) (x : NodeData) (rest : List ℕ) → IsBytes bytes → node.at bytes ≡ Ok (x, rest)
     → nodes_in bytes ≡ (x ∷ (nodes_in rest).0, (nodes_in rest).1)
 unfolding nodes_within
-nodes_more [] x rest fits e = let none = no_node DataForm in absurd cc
+nodes_more [] x rest fits e = let none = no_node Form in absurd cc
 nodes_more (b ∷ bytes) x rest fits e =
     let taken = node_takes (b ∷ bytes) x rest fits e in
     rw e (ap (λ (m : List NodeData × List ℕ). (x ∷ m.0, m.1))

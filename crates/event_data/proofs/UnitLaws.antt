@@ -6,7 +6,7 @@ use Rattle.byte_fields.specs.Formats.{Begins, IsRead}
 use Rattle.byte_fields.proofs.Steps.{ok_not_err}
 use Rattle.byte_fields.proofs.FormatLaws.{Exact}
 use Rattle.event_data.specs.declared.content.Mismatch.{Mismatch}
-use Rattle.event_data.specs.declared.content.Mismatch.TheVariants.{DataForm}
+use Rattle.event_data.specs.declared.content.Mismatch.TheVariants.{Form}
 use Rattle.event_data.specs.ValueForms.{are_units}
 use Rattle.event_data.specs.ValueReading.{behind, units_at, units}
 use Rattle.event_data.proofs.FormLaws.{AnyFault}
@@ -51,14 +51,14 @@ units_found (low ∷ high ∷ bytes) =
 read_is : (bytes : List ℕ) (reading : Result (List ℕ × List ℕ) Mismatch) → units_at bytes ≡ reading → Found bytes reading
     → IsRead units bytes reading
 read_is bytes (Ok x) e found = found
-read_is bytes (Err DataForm) e found =
-    (refl, λ text rest are parts. ok_not_err (text, rest) DataForm (sym (units_again text rest are) ∙ ap units_at (sym parts) ∙ e))
+read_is bytes (Err Form) e found =
+    (refl, λ text rest are parts. ok_not_err (text, rest) Form (sym (units_again text rest are) ∙ ap units_at (sym parts) ∙ e))
 
 given_is : (bytes : List ℕ) (reading own : Result (List ℕ × List ℕ) Mismatch) → units_at bytes ≡ own → Found bytes own
     → IsRead units bytes reading → own ≡ reading
 given_is bytes (Ok x) own e found is = sym e ∙ ap units_at is.parts ∙ units_again x.0 x.1 is.is
 given_is bytes (Err fault) (Ok x) e found fail = absurd (fail.1 x.0 x.1 found.is found.parts)
-given_is bytes (Err fault) (Err DataForm) e found fail = rw fail.0 refl
+given_is bytes (Err fault) (Err Form) e found fail = rw fail.0 refl
 
 pub units_exact : Exact AnyFault units
 units_exact = record {
@@ -145,7 +145,7 @@ way_passes bytes rest few other way =
     (way_goes_on bytes (get_or rest 0 0) (get_or rest 1 0) two.0 other (subst (IsOnWay bytes) two.1 way))
 
 -- No unit is left.
-pub way_fails : (bytes rest : List ℕ) → length rest < 2 → IsOnWay bytes rest → units_at bytes ≡ Err DataForm
+pub way_fails : (bytes rest : List ℕ) → length rest < 2 → IsOnWay bytes rest → units_at bytes ≡ Err Form
 unfolding units_at
 way_fails bytes [] few way = sym way.same
 way_fails bytes (low ∷ []) few way = sym way.same

@@ -7,7 +7,7 @@ use Rattle.byte_fields.specs.Spelling.{number16, number32}
 use Rattle.byte_fields.proofs.Steps.{IsBytes}
 use Rattle.byte_fields.proofs.FormatLaws.{Exact, takes, again, fault, number16_exact, number32_exact, part_exact, followed_exact, mapped_exact}
 use Rattle.event_data.specs.declared.content.Mismatch.{Mismatch}
-use Rattle.event_data.specs.declared.content.Mismatch.TheVariants.{DataForm}
+use Rattle.event_data.specs.declared.content.Mismatch.TheVariants.{Form}
 use Rattle.event_data.specs.ValueForms.{LoadOptionData, IsLoadOption, IsBootNumber, SignatureData, IsSignature}
 use Rattle.event_data.specs.ValueReading.{load_option, load_option_in, boot_number, numbers_in, signature, signature_in, with_more, taken_within}
 use Rattle.event_data.proofs.FormLaws.{AnyFault}
@@ -23,8 +23,8 @@ pub load_option_exact : Exact AnyFault load_option
 unfolding load_option
 load_option_exact =
     mapped_exact (λ x is. ap (λ (n : ℕ). (x.0, (n, (x.1.1.0, x.1.1.1)))) is.1.1.1)
-    (followed_exact (number32_exact {P = AnyFault} DataForm tt) (λ attributes. followed_exact (number16_exact {P = AnyFault} DataForm tt) (λ size.
-    followed_exact units_exact (λ description. part_exact DataForm size tt))))
+    (followed_exact (number32_exact {P = AnyFault} Form tt) (λ attributes. followed_exact (number16_exact {P = AnyFault} Form tt) (λ size.
+    followed_exact units_exact (λ description. part_exact Form size tt))))
 
 parts_joined : (a b text path more : List ℕ)
     → (a ++ (b ++ ((text ++ 0 ∷ 0 ∷ []) ++ path))) ++ more ≡ a ++ (b ++ (text ++ (0 ∷ 0 ∷ (path ++ more))))
@@ -68,7 +68,7 @@ load_option_again bytes o is =
 -- ---- a boot order
 
 pub boot_number_exact : Exact AnyFault boot_number
-boot_number_exact = number16_exact {P = AnyFault} DataForm tt
+boot_number_exact = number16_exact {P = AnyFault} Form tt
 
 pub some_number : (n : ℕ) → boot_number.Is n → 0 < length (boot_number.spell n)
 some_number n is = omega arith
@@ -109,7 +109,7 @@ numbers_rest bytes fits = numbers_rest_within (length bytes) bytes fits (omega a
 pub signature_exact : (size : ℕ) → Exact AnyFault (signature size)
 unfolding signature
 signature_exact size =
-    mapped_exact (λ x is. refl) (followed_exact (part_exact DataForm 16 tt) (λ owner. part_exact DataForm (size - 16) tt))
+    mapped_exact (λ x is. refl) (followed_exact (part_exact Form 16 tt) (λ owner. part_exact Form (size - 16) tt))
 
 pub some_signature : (size : ℕ) (s : SignatureData) → (signature size).Is s → 0 < length ((signature size).spell s)
 unfolding signature
@@ -122,16 +122,16 @@ abbrev pub signature_with_rest : Result (List ℕ × List ℕ) Mismatch → Opti
 signature_with_rest reading = result_ok (reading >>= λ x. Ok (record { owner = x.0; payload = x.1 }))
 
 signature_taken : (bytes : List ℕ) (s : SignatureData) (reading : Result (List ℕ × List ℕ) Mismatch) → IsBytes bytes
-    → part_at DataForm 16 bytes ≡ reading → signature_with_rest reading ≡ Some s → IsSignature bytes s
+    → part_at Form 16 bytes ≡ reading → signature_with_rest reading ≡ Some s → IsSignature bytes s
 signature_taken bytes s (Ok x) fits e same =
-    let taken = takes (part_exact {P = AnyFault} DataForm 16 tt) bytes x fits e in
+    let taken = takes (part_exact {P = AnyFault} Form 16 tt) bytes x fits e in
     subst (IsSignature bytes) (some_is (record { owner = x.0; payload = x.1 }) s same)
     (record { owner_size = taken.is; spelled = taken.parts })
 signature_taken bytes s (Err fault) fits e same = absurd cc
 
 pub signature_takes : (bytes : List ℕ) (s : SignatureData) → IsBytes bytes → signature_in bytes ≡ Some s → IsSignature bytes s
-signature_takes bytes s fits e = signature_taken bytes s (part_at DataForm 16 bytes) fits refl e
+signature_takes bytes s fits e = signature_taken bytes s (part_at Form 16 bytes) fits refl e
 
 pub signature_again : (bytes : List ℕ) (s : SignatureData) → IsSignature bytes s → signature_in bytes ≡ Some s
 signature_again bytes s is =
-    ap signature_with_rest (ap (part_at DataForm 16) is.spelled ∙ again (part_exact {P = AnyFault} DataForm 16 tt) s.owner s.payload is.owner_size)
+    ap signature_with_rest (ap (part_at Form 16) is.spelled ∙ again (part_exact {P = AnyFault} Form 16 tt) s.owner s.payload is.owner_size)

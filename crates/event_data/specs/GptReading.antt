@@ -5,7 +5,7 @@ use Rattle.std.specs.Int.{w32, w64}
 use Rattle.byte_fields.specs.Reading.{◌>>=◌}
 use Rattle.byte_fields.specs.Formats.{Format, number, part, ◌followed_by◌, unless, mapped}
 use Rattle.event_data.specs.declared.content.Mismatch.{Mismatch}
-use Rattle.event_data.specs.declared.content.Mismatch.TheVariants.{DataForm}
+use Rattle.event_data.specs.declared.content.Mismatch.TheVariants.{Form}
 use Rattle.event_data.specs.GptForms.{GptData, PartitionData, up_to_nul}
 use Rattle.event_data.specs.Results.{after_in}
 
@@ -33,13 +33,13 @@ entry size =
       beyond = x.1.1.1.1.1.1;
     })
     (λ e. (e.kind, (e.guid, (e.first, (e.last, (e.attributes, (e.name_field, e.beyond)))))))
-    (part DataForm 16
-    followed_by λ kind. part DataForm 16
-    followed_by λ guid. number DataForm w64
-    followed_by λ first. number DataForm w64
-    followed_by λ last. number DataForm w64
-    followed_by λ attributes. part DataForm 72
-    followed_by λ name_field. part DataForm (size - 128))
+    (part Form 16
+    followed_by λ kind. part Form 16
+    followed_by λ guid. number Form w64
+    followed_by λ first. number Form w64
+    followed_by λ last. number Form w64
+    followed_by λ attributes. part Form 72
+    followed_by λ name_field. part Form (size - 128))
 
 -- The partition of an entry.
 abbrev pub told_entry : EntryFields → PartitionData
@@ -92,12 +92,12 @@ table_front =
       count = x.1.1.1.1.1;
     })
     (λ t. (t.places, (t.disk, (t.array, (t.size, (t.check, t.count))))))
-    (part DataForm 48
-    followed_by λ places. part DataForm 16
-    followed_by λ disk. part DataForm 12
-    followed_by λ array. unless (λ size. nat_lt size 128) DataForm (number DataForm w32)
-    followed_by λ size. part DataForm 4
-    followed_by λ check. number DataForm w64)
+    (part Form 48
+    followed_by λ places. part Form 16
+    followed_by λ disk. part Form 12
+    followed_by λ array. unless (λ size. nat_lt size 128) Form (number Form w32)
+    followed_by λ size. part Form 4
+    followed_by λ check. number Form w64)
 
 -- The disk's GUID, the size of an entry, and the number of entries.
 abbrev pub front_at : List ℕ → Result ((List ℕ × (ℕ × ℕ)) × List ℕ) Mismatch
@@ -108,7 +108,7 @@ abbrev pub fitting : (List ℕ × (ℕ × ℕ)) × List ℕ → Result GptData M
 fitting x =
     if length x.1 == x.0.1.1 * x.0.1.0
     then Ok (record { disk = x.0.0; partitions = partitions_in x.0.1.0 x.1 })
-    else Err DataForm
+    else Err Form
 
 abbrev pub table_in : List ℕ → Result GptData Mismatch
 table_in bytes = front_at bytes >>= fitting

@@ -5,7 +5,7 @@ use Rattle.std.specs.Int.{w16, w32}
 use Rattle.byte_fields.specs.Reading.{◌>>=◌, part_at}
 use Rattle.byte_fields.specs.Formats.{Format, number, part, ◌followed_by◌, unless, mapped}
 use Rattle.event_data.specs.declared.content.Mismatch.{Mismatch}
-use Rattle.event_data.specs.declared.content.Mismatch.TheVariants.{DataForm}
+use Rattle.event_data.specs.declared.content.Mismatch.TheVariants.{Form}
 use Rattle.event_data.specs.ValueForms.{LoadOptionData, SignatureData, ListData, are_units}
 
 -- ---- units up to the first NUL unit
@@ -16,8 +16,8 @@ behind front reading = reading >>= λ x. Ok (front ++ x.0, x.1)
 
 -- The units before the first NUL unit, and what follows it.
 unfoldable pub units_at : List ℕ → Result (List ℕ × List ℕ) Mismatch
-units_at [] = Err DataForm
-units_at (low ∷ []) = Err DataForm
+units_at [] = Err Form
+units_at (low ∷ []) = Err Form
 units_at (low ∷ high ∷ bytes) =
     if low == 0 && high == 0 then Ok ([], bytes) else behind (low ∷ high ∷ []) (units_at bytes)
 
@@ -27,7 +27,7 @@ units = record {
   at = units_at;
   Is = λ text. are_units text ≡ true;
   spell = λ text. text ++ 0 ∷ 0 ∷ [];
-  Fails = λ bytes d. (d ≡ DataForm) × ((text rest : List ℕ) → are_units text ≡ true → bytes ≡ (text ++ 0 ∷ 0 ∷ []) ++ rest → ⊥);
+  Fails = λ bytes d. (d ≡ Form) × ((text rest : List ℕ) → are_units text ≡ true → bytes ≡ (text ++ 0 ∷ 0 ∷ []) ++ rest → ⊥);
 }
 
 -- ---- a load option
@@ -37,10 +37,10 @@ unfoldable pub load_option : Format LoadOptionData Mismatch
 load_option =
     mapped (λ x. record { attributes = x.0; description = x.1.1.0; path = x.1.1.1; optional_data = [] })
     (λ o. (o.attributes, (length o.path, (o.description, o.path))))
-    (number DataForm w32
-    followed_by λ attributes. number DataForm w16
+    (number Form w32
+    followed_by λ attributes. number Form w16
     followed_by λ size. units
-    followed_by λ description. part DataForm size)
+    followed_by λ description. part Form size)
 
 abbrev pub load_option_in : List ℕ → Option LoadOptionData
 load_option_in bytes = result_ok (load_option.at bytes >>= λ x. Ok (record x.0 { optional_data = x.1 }))
@@ -67,7 +67,7 @@ all_taken taken = if length taken.1 == 0 then Some taken.0 else None
 -- ---- a boot order
 
 abbrev pub boot_number : Format ℕ Mismatch
-boot_number = number DataForm w16
+boot_number = number Form w16
 
 -- The numbers at the front of the bytes, and what remains.
 abbrev pub numbers_in : List ℕ → List ℕ × List ℕ
@@ -79,12 +79,12 @@ numbers_in bytes = taken_in boot_number.at bytes
 unfoldable pub signature : ℕ → Format SignatureData Mismatch
 signature size =
     mapped (λ x. record { owner = x.0; payload = x.1 }) (λ s. (s.owner, s.payload))
-    (part DataForm 16
-    followed_by λ owner. part DataForm (size - 16))
+    (part Form 16
+    followed_by λ owner. part Form (size - 16))
 
 -- All of the bytes as a signature.
 abbrev pub signature_in : List ℕ → Option SignatureData
-signature_in bytes = result_ok (part_at DataForm 16 bytes >>= λ x. Ok (record { owner = x.0; payload = x.1 }))
+signature_in bytes = result_ok (part_at Form 16 bytes >>= λ x. Ok (record { owner = x.0; payload = x.1 }))
 
 -- The signatures of this size at the front of the bytes, and what remains.
 abbrev pub signatures_in : ℕ → List ℕ → List SignatureData × List ℕ
@@ -94,12 +94,12 @@ unfoldable pub signature_list : Format ListData Mismatch
 signature_list =
     mapped (λ x. record { kind = x.0; signature_size = x.1.1.1.0; header = x.1.1.1.1.0; signatures = x.1.1.1.1.1 })
     (λ l. (l.kind, (28 + length l.header + length l.signatures, (length l.header, (l.signature_size, (l.header, l.signatures))))))
-    (part DataForm 16
-    followed_by λ kind. number DataForm w32
-    followed_by λ size. unless (λ header_size. nat_lt size (28 + header_size)) DataForm (number DataForm w32)
-    followed_by λ header_size. unless (λ each. nat_lt each 16 || not ((size - 28 - header_size) % each == 0)) DataForm (number DataForm w32)
-    followed_by λ each. part DataForm header_size
-    followed_by λ header. part DataForm (size - 28 - header_size))
+    (part Form 16
+    followed_by λ kind. number Form w32
+    followed_by λ size. unless (λ header_size. nat_lt size (28 + header_size)) Form (number Form w32)
+    followed_by λ header_size. unless (λ each. nat_lt each 16 || not ((size - 28 - header_size) % each == 0)) Form (number Form w32)
+    followed_by λ each. part Form header_size
+    followed_by λ header. part Form (size - 28 - header_size))
 
 -- The lists at the front of the bytes, and what remains.
 abbrev pub lists_in : List ℕ → List ListData × List ℕ

@@ -24,8 +24,8 @@ pub struct Blob<'a> {
 fn place_at(bytes: &[u8]) -> Result<((u64, u64), &[u8]), Mismatch>
     ensures { Reads (λ x. (x.0, x.1.now)) result (place.at bytes.now) }
 {
-    let (base, rest) = u64_at(Mismatch::DataForm, bytes)?;
-    let (size, rest) = u64_at(Mismatch::DataForm, rest)?;
+    let (base, rest) = u64_at(Mismatch::Form, bytes)?;
+    let (size, rest) = u64_at(Mismatch::Form, rest)?;
     Ok(((base, size), rest))
 }
 
@@ -48,8 +48,8 @@ fn plain_blob_at(bytes: &[u8]) -> Result<(Blob<'_>, &[u8]), Mismatch>
 fn described_blob_at(bytes: &[u8]) -> Result<(Blob<'_>, &[u8]), Mismatch>
     ensures { Reads (λ x. (blob_of x.0, x.1.now)) result (described_blob.at bytes.now) }
 {
-    let (count, rest) = u8_at(Mismatch::DataForm, bytes)?;
-    let (description, rest) = part_at(Mismatch::DataForm, count as usize, rest)?;
+    let (count, rest) = u8_at(Mismatch::Form, bytes)?;
+    let (description, rest) = part_at(Mismatch::Form, count as usize, rest)?;
     let ((base, size), rest) = place_at(rest)?;
     let blob = Blob {
         description: Some(description),

@@ -176,5 +176,5 @@ pub fn event_content(kind: u32, bytes: &[u8]) -> EventContent<'_>
 /// Bytes do not have the form.
 #[derive(Clone, Copy)]
 pub(crate) enum Mismatch {
-    DataForm,
+    Form,
 }

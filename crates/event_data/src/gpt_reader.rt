@@ -19,15 +19,15 @@ fn front_at(bytes: &[u8]) -> Result<((&[u8], u32, u64), &[u8]), Mismatch>
     ensures disk_size { IfOk result (λ x. length x.0.0.now ≡ 16) }
     ensures wide { IfOk result (λ x. 128 ≤ x.0.1) }
 {
-    let (_, rest) = part_at(Mismatch::DataForm, 48, bytes)?;
-    let (disk, rest) = part_at(Mismatch::DataForm, 16, rest)?;
-    let (_, rest) = part_at(Mismatch::DataForm, 12, rest)?;
-    let (size, rest) = u32_at(Mismatch::DataForm, rest)?;
+    let (_, rest) = part_at(Mismatch::Form, 48, bytes)?;
+    let (disk, rest) = part_at(Mismatch::Form, 16, rest)?;
+    let (_, rest) = part_at(Mismatch::Form, 12, rest)?;
+    let (size, rest) = u32_at(Mismatch::Form, rest)?;
     if size < 128 {
-        return Err(Mismatch::DataForm);
+        return Err(Mismatch::Form);
     }
-    let (_, rest) = part_at(Mismatch::DataForm, 4, rest)?;
-    let (count, rest) = u64_at(Mismatch::DataForm, rest)?;
+    let (_, rest) = part_at(Mismatch::Form, 4, rest)?;
+    let (count, rest) = u64_at(Mismatch::Form, rest)?;
     Ok(((disk, size, count), rest))
 }
 
@@ -38,7 +38,7 @@ fn table_in(bytes: &[u8]) -> Result<Gpt<'_>, Mismatch>
     let ((disk, entry_size, count), entries) = front_at(bytes)?;
     match count.checked_mul(entry_size as u64) {
         Some(size) if size == entries.len() as u64 => Ok(Gpt::new(disk, entry_size, entries)),
-        _ => Err(Mismatch::DataForm),
+        _ => Err(Mismatch::Form),
     }
 }
 
@@ -60,13 +60,13 @@ pub(crate) fn entry_at(size: u32, bytes: &[u8]) -> Result<(Partition<'_>, &[u8])
     requires { 128 ≤ size }
     ensures { Reads (λ x. (partition_of x.0, x.1.now)) result (partition_at size bytes.now) }
 {
-    let (kind, rest) = part_at(Mismatch::DataForm, 16, bytes)?;
-    let (guid, rest) = part_at(Mismatch::DataForm, 16, rest)?;
-    let (first, rest) = u64_at(Mismatch::DataForm, rest)?;
-    let (last, rest) = u64_at(Mismatch::DataForm, rest)?;
-    let (attributes, rest) = u64_at(Mismatch::DataForm, rest)?;
-    let (name, rest) = part_at(Mismatch::DataForm, 72, rest)?;
-    let (_, rest) = part_at(Mismatch::DataForm, size as usize - 128, rest)?;
+    let (kind, rest) = part_at(Mismatch::Form, 16, bytes)?;
+    let (guid, rest) = part_at(Mismatch::Form, 16, rest)?;
+    let (first, rest) = u64_at(Mismatch::Form, rest)?;
+    let (last, rest) = u64_at(Mismatch::Form, rest)?;
+    let (attributes, rest) = u64_at(Mismatch::Form, rest)?;
+    let (name, rest) = part_at(Mismatch::Form, 72, rest)?;
+    let (_, rest) = part_at(Mismatch::Form, size as usize - 128, rest)?;
     let partition = Partition {
         kind,
         guid,

@@ -26,11 +26,11 @@ pub struct Image<'a> {
 fn image_at(bytes: &[u8]) -> Result<(Image<'_>, &[u8]), Mismatch>
     ensures { Reads (λ x. (image_of x.0, x.1.now)) result (image.at bytes.now) }
 {
-    let (location, rest) = u64_at(Mismatch::DataForm, bytes)?;
-    let (size, rest) = u64_at(Mismatch::DataForm, rest)?;
-    let (link_address, rest) = u64_at(Mismatch::DataForm, rest)?;
-    let (count, rest) = u64_at(Mismatch::DataForm, rest)?;
-    let (path, rest) = part_at(Mismatch::DataForm, count as usize, rest)?;
+    let (location, rest) = u64_at(Mismatch::Form, bytes)?;
+    let (size, rest) = u64_at(Mismatch::Form, rest)?;
+    let (link_address, rest) = u64_at(Mismatch::Form, rest)?;
+    let (count, rest) = u64_at(Mismatch::Form, rest)?;
+    let (path, rest) = part_at(Mismatch::Form, count as usize, rest)?;
     let image = Image {
         location,
         size,

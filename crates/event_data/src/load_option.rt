@@ -30,10 +30,10 @@ pub struct LoadOption<'a> {
 fn whole_load_option(bytes: &[u8]) -> Result<LoadOption<'_>, Mismatch>
     ensures { Reads (λ x. (record (load_option_of x) { optional_data = [] }, x.optional_data.now)) result (load_option.at bytes.now) }
 {
-    let (attributes, rest) = u32_at(Mismatch::DataForm, bytes)?;
-    let (size, rest) = u16_at(Mismatch::DataForm, rest)?;
+    let (attributes, rest) = u32_at(Mismatch::Form, bytes)?;
+    let (size, rest) = u16_at(Mismatch::Form, rest)?;
     let (description, rest) = units_at(rest)?;
-    let (path, optional_data) = part_at(Mismatch::DataForm, size as usize, rest)?;
+    let (path, optional_data) = part_at(Mismatch::Form, size as usize, rest)?;
     Ok(LoadOption {
         attributes,
         description,
@@ -82,7 +82,7 @@ impl<'a> BootOrder<'a> {
         ensures last { IfNone result (numbers_in (numbers_left self.old) ≡ ([], numbers_left self.old)) }
         ensures shorter { IfSome result (λ _. length (numbers_left self.new) < length (numbers_left self.old)) }
     {
-        match u16_at(Mismatch::DataForm, self.rest) {
+        match u16_at(Mismatch::Form, self.rest) {
             Ok((number, rest)) => {
                 self.rest = rest;
                 Some(number)

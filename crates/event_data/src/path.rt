@@ -27,13 +27,13 @@ pub struct PathNode<'a> {
 pub(crate) fn node_at(bytes: &[u8]) -> Result<(PathNode<'_>, &[u8]), Mismatch>
     ensures { Reads (λ x. (node_of x.0, x.1.now)) result (node.at bytes.now) }
 {
-    let (kind, rest) = u8_at(Mismatch::DataForm, bytes)?;
-    let (subtype, rest) = u8_at(Mismatch::DataForm, rest)?;
-    let (size, rest) = u16_at(Mismatch::DataForm, rest)?;
+    let (kind, rest) = u8_at(Mismatch::Form, bytes)?;
+    let (subtype, rest) = u8_at(Mismatch::Form, rest)?;
+    let (size, rest) = u16_at(Mismatch::Form, rest)?;
     if size < 4 {
-        return Err(Mismatch::DataForm);
+        return Err(Mismatch::Form);
     }
-    let (payload, rest) = part_at(Mismatch::DataForm, size as usize - 4, rest)?;
+    let (payload, rest) = part_at(Mismatch::Form, size as usize - 4, rest)?;
     let node = PathNode {
         kind,
         subtype,

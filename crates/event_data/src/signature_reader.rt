@@ -17,8 +17,8 @@ pub(crate) fn signature_at(size: usize, bytes: &[u8]) -> Result<(Signature<'_>, 
     requires { 16 ≤ size }
     ensures { Reads (λ x. (signature_of x.0, x.1.now)) result ((signature size).at bytes.now) }
 {
-    let (owner, rest) = part_at(Mismatch::DataForm, 16, bytes)?;
-    let (payload, rest) = part_at(Mismatch::DataForm, size - 16, rest)?;
+    let (owner, rest) = part_at(Mismatch::Form, 16, bytes)?;
+    let (payload, rest) = part_at(Mismatch::Form, size - 16, rest)?;
     Ok((Signature { owner, payload }, rest))
 }
 
@@ -28,7 +28,7 @@ pub fn read_signature(bytes: &[u8]) -> Option<Signature<'_>>
     ensures found { IfSome result (λ found. IsSignature bytes.now (signature_of found)) }
     ensures only { (value : SignatureData) → IsSignature bytes.now value → option_map signature_of result ≡ Some value }
 {
-    match part_at(Mismatch::DataForm, 16, bytes) {
+    match part_at(Mismatch::Form, 16, bytes) {
         Ok((owner, payload)) => Some(Signature { owner, payload }),
         Err(_) => None,
     }
@@ -39,19 +39,19 @@ pub fn read_signature(bytes: &[u8]) -> Option<Signature<'_>>
 pub(crate) fn list_at(bytes: &[u8]) -> Result<(SignatureList<'_>, &[u8]), Mismatch>
     ensures { Reads (λ x. (list_of x.0, x.1.now)) result (signature_list.at bytes.now) }
 {
-    let (kind, rest) = part_at(Mismatch::DataForm, 16, bytes)?;
-    let (size, rest) = u32_at(Mismatch::DataForm, rest)?;
-    let (header_size, rest) = u32_at(Mismatch::DataForm, rest)?;
+    let (kind, rest) = part_at(Mismatch::Form, 16, bytes)?;
+    let (size, rest) = u32_at(Mismatch::Form, rest)?;
+    let (header_size, rest) = u32_at(Mismatch::Form, rest)?;
     if (size as usize) < 28 + header_size as usize {
-        return Err(Mismatch::DataForm);
+        return Err(Mismatch::Form);
     }
-    let (signature_size, rest) = u32_at(Mismatch::DataForm, rest)?;
+    let (signature_size, rest) = u32_at(Mismatch::Form, rest)?;
     let left = size as usize - 28 - header_size as usize;
     if signature_size < 16 || left % signature_size as usize != 0 {
-        return Err(Mismatch::DataForm);
+        return Err(Mismatch::Form);
     }
-    let (header, rest) = part_at(Mismatch::DataForm, header_size as usize, rest)?;
-    let (signatures, rest) = part_at(Mismatch::DataForm, left, rest)?;
+    let (header, rest) = part_at(Mismatch::Form, header_size as usize, rest)?;
+    let (signatures, rest) = part_at(Mismatch::Form, left, rest)?;
     let list = SignatureList {
         kind,
         signature_size,

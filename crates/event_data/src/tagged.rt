@@ -22,8 +22,8 @@ pub struct Tagged<'a> {
 fn tagged_at(bytes: &[u8]) -> Result<(Tagged<'_>, &[u8]), Mismatch>
     ensures { Reads (λ x. (tagged_of x.0, x.1.now)) result (tagged.at bytes.now) }
 {
-    let (id, rest) = u32_at(Mismatch::DataForm, bytes)?;
-    let (payload, rest) = sized_at(Mismatch::DataForm, rest)?;
+    let (id, rest) = u32_at(Mismatch::Form, bytes)?;
+    let (payload, rest) = sized_at(Mismatch::Form, rest)?;
     Ok((Tagged { id, payload }, rest))
 }
 

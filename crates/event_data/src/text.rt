@@ -17,7 +17,7 @@ pub fn read_separator(bytes: &[u8]) -> Option<u32>
     ensures found { IfSome result (IsSeparator bytes.now) }
     ensures only { (value : ℕ) → IsSeparator bytes.now value → result ≡ Some value }
 {
-    match u32_at(Mismatch::DataForm, bytes) {
+    match u32_at(Mismatch::Form, bytes) {
         Ok((value, rest)) if rest.is_empty() => Some(value),
         _ => None,
     }
@@ -105,7 +105,7 @@ pub(crate) fn units_at(bytes: &[u8]) -> Result<(&[u8], &[u8]), Mismatch>
         }
         rest = after;
     }
-    Err(Mismatch::DataForm)
+    Err(Mismatch::Form)
 }
 
 // What follows the first unit, where there is one that is not NUL.

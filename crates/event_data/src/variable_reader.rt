@@ -4,7 +4,7 @@ ghost use Rattle.std.specs.Prelude.{◌≡◌, ◌*◌, Some, IfSome, option_map
 ghost use Rattle.byte_fields.specs.Reading.{Reads, part_at};
 ghost use Rattle.event_data.specs.Forms.{IsVariable, VariableData, variable_of};
 ghost use Rattle.event_data.specs.Reading.{variable, variable_in};
-ghost use Rattle.event_data.specs.declared.content.Mismatch.TheVariants.{DataForm};
+ghost use Rattle.event_data.specs.declared.content.Mismatch.TheVariants.{Form};
 
 use crate::content::Mismatch;
 use crate::variable::Variable;
@@ -12,12 +12,12 @@ use byte_fields::{part_at, u64_at};
 
 // Reads `units` units of two bytes. Returns them and the remaining bytes.
 fn units_at(units: u64, bytes: &[u8]) -> Result<(&[u8], &[u8]), Mismatch>
-    ensures { Reads (λ x. (x.0.now, x.1.now)) result (part_at DataForm (2 * units) bytes.now) }
+    ensures { Reads (λ x. (x.0.now, x.1.now)) result (part_at Form (2 * units) bytes.now) }
 {
     if units > (bytes.len() / 2) as u64 {
-        return Err(Mismatch::DataForm);
+        return Err(Mismatch::Form);
     }
-    part_at(Mismatch::DataForm, 2 * units as usize, bytes)
+    part_at(Mismatch::Form, 2 * units as usize, bytes)
 }
 
 // Reads the variable at the front of the bytes. Returns it and the remaining bytes.
@@ -25,11 +25,11 @@ fn units_at(units: u64, bytes: &[u8]) -> Result<(&[u8], &[u8]), Mismatch>
 fn variable_at(bytes: &[u8]) -> Result<(Variable<'_>, &[u8]), Mismatch>
     ensures { Reads (λ x. (variable_of x.0, x.1.now)) result (variable.at bytes.now) }
 {
-    let (guid, rest) = part_at(Mismatch::DataForm, 16, bytes)?;
-    let (units, rest) = u64_at(Mismatch::DataForm, rest)?;
-    let (size, rest) = u64_at(Mismatch::DataForm, rest)?;
+    let (guid, rest) = part_at(Mismatch::Form, 16, bytes)?;
+    let (units, rest) = u64_at(Mismatch::Form, rest)?;
+    let (size, rest) = u64_at(Mismatch::Form, rest)?;
     let (name, rest) = units_at(units, rest)?;
-    let (value, rest) = part_at(Mismatch::DataForm, size as usize, rest)?;
+    let (value, rest) = part_at(Mismatch::Form, size as usize, rest)?;
     Ok((Variable { guid, name, value }, rest))
 }
 
