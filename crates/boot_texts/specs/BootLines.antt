@@ -18,19 +18,19 @@ use Rattle.boot_texts.specs.AnswerCells.{secure_boot_cell, untold_cell, version_
 use Rattle.boot_texts.specs.Policies.{IsImaPolicy, policy_cell}
 use Rattle.boot_texts.specs.Telling.{Tells, ToldOf}
 
--- The text is what the events tell of the subject, if this register is answered for; else it is the other.
-abbrev pub AreSubjectLines : BootQuestion → ℕ → List ℕ → Form → List Pcr → List LogEvent → List ℕ → Type 0
-AreSubjectLines subject register other form matched events text =
-    Chosen (is_answered matched register events) (Tells (ToldOf subject form matched) 1 events text) (text ≡ other)
+-- The text has the lines of the events for the question, if this register is answered for; otherwise it is the other.
+abbrev pub AreQuestionLines : BootQuestion → ℕ → List ℕ → Form → List Pcr → List LogEvent → List ℕ → Type 0
+AreQuestionLines question register other form matched events text =
+    Chosen (is_answered matched register events) (Tells (ToldOf question form matched) 1 events text) (text ≡ other)
 
 abbrev pub AreImageLines : Form → List Pcr → List LogEvent → List ℕ → Type 0
-AreImageLines form = AreSubjectLines Images image_register (rendered form (word_cell (codes "image") (codes "unknown"))) form
+AreImageLines form = AreQuestionLines Images image_register (rendered form (word_cell (codes "image") (codes "unknown"))) form
 
 abbrev pub AreCommandLines : ℕ → Form → List Pcr → List LogEvent → List ℕ → Type 0
-AreCommandLines register form = AreSubjectLines (Commands register) register (rendered form (untold_cell register None)) form
+AreCommandLines register form = AreQuestionLines (Commands register) register (rendered form (untold_cell register None)) form
 
 abbrev pub AreVariableLines : Form → List Pcr → List LogEvent → List ℕ → Type 0
-AreVariableLines form = AreSubjectLines Variables settings_register (rendered form (word_cell (codes "boot_variable") (codes "unknown"))) form
+AreVariableLines form = AreQuestionLines Variables settings_register (rendered form (word_cell (codes "boot_variable") (codes "unknown"))) form
 
 -- The lines of all answers, in this order, of a log with these events, and the registers that match.
 pub record AreBootLines (form : Form) (matched : List Pcr) (events : List LogEvent) (text : List ℕ) : Type 0 where

@@ -16,22 +16,22 @@ use cells::{Form, Written, append};
 use measured_data::Pcr;
 use std::alloc::{AllocError, Global};
 
-/// Appends what the events of the log tell of the subject, up to the first after which nothing is told.
+/// Appends the lines of the events of the log for the question, up to the first after which nothing is told.
 pub(crate) fn append_each(
     alloc: Global,
     form: Form,
     log: &LogView<'_>,
     matched: &[Pcr],
-    subject: BootQuestion,
+    question: BootQuestion,
     lines: &mut Vec<u8>,
 ) -> Written
     ensures { OnOk result ((table : List DeclaredAlgorithm) (events : List LogEvent) → IsLog (log_bytes log.now) table events
-        → (text : List ℕ) × Tells (ToldOf subject form matched.now) 1 events text × (lines.new.items ≡ lines.old.items ++ text)) }
+        → (text : List ℕ) × Tells (ToldOf question form matched.now) 1 events text × (lines.new.items ≡ lines.old.items ++ text)) }
 {
     let mut events = log.events();
     while let Some(event) = events.next_event() {
         let number = events.count();
-        let goes_on = append_told(alloc, form, matched, subject, number, &event, lines)?;
+        let goes_on = append_told(alloc, form, matched, question, number, &event, lines)?;
         if !goes_on {
             return Ok(());
         }
@@ -39,20 +39,20 @@ pub(crate) fn append_each(
     Ok(())
 }
 
-// Appends what the event with this number tells of the subject, and returns whether those after it are looked at.
+// Appends the line of the event with this number for the question, if it has one, and returns whether those after it are looked at.
 fn append_told(
     alloc: Global,
     form: Form,
     matched: &[Pcr],
-    subject: BootQuestion,
+    question: BootQuestion,
     number: usize,
     event: &Event<'_>,
     lines: &mut Vec<u8>,
 ) -> Result<bool, AllocError>
-    ensures { IfOk result (λ goes. (text : List ℕ) × ToldOf subject form matched.now number (log_event_of event.now) goes text
+    ensures { IfOk result (λ goes. (text : List ℕ) × ToldOf question form matched.now number (log_event_of event.now) goes text
         × (lines.new.items ≡ lines.old.items ++ text)) }
 {
-    match subject {
+    match question {
         BootQuestion::Images => {
             append_if_image(alloc, form, matched, number, event, lines)?;
             Ok(true)
