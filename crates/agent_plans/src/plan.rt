@@ -51,7 +51,7 @@ pub enum Scope {
     Prefix,
 }
 
-/// What is judged, with what only it is of.
+/// Which comparison it is, with the inputs and options that only it has.
 #[derive(Drop)]
 pub enum ComparisonKind {
     /// A log, a list and expected registers.
@@ -77,7 +77,7 @@ pub enum ComparisonKind {
 /// What is asked of a list and expected registers.
 #[derive(Drop)]
 pub struct ComparisonOptions {
-    /// What is judged.
+    /// Which comparison it is.
     pub kind: ComparisonKind,
     /// The name of the measurement list, binary; with a checkpoint, of what follows it.
     pub list: String,

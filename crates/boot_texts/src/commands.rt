@@ -110,7 +110,7 @@ fn show_claimed(kind: &str, out: &mut CellWriter) -> Written
     out.end()
 }
 
-/// The line of a register after whose texts none is told.
+/// The line of a register whose commands are unknown: all of them, or those from an event on.
 #[derive(Drop)]
 pub(crate) struct UnknownCommandLine {
     /// The register.

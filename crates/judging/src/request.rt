@@ -1,4 +1,4 @@
-//! What is asked of a log and a list, and the answer, before it is written.
+//! Requests on logs, lists, quotes, printed PCR values and keys, and their answers before they are written.
 
 ghost use Rattle.std.specs.Prelude.{◌≡◌, None, if◌then◌else◌, option_map};
 ghost use Rattle.boot_verdict.specs.Verdicts.{verdict_of};
@@ -18,7 +18,7 @@ use pcr_banks::Banks;
 use pcr_values::Expected;
 use tpm_keys::{KeyPart, KeyReport, Purpose};
 
-/// What the answer is, with what only it is of.
+/// Which report on a list is wanted, with the inputs and options that only it has.
 #[derive(Clone, Copy)]
 pub enum ReportKind<'a> {
     /// The verdict on a log, a list and expected registers.
@@ -50,10 +50,10 @@ pub enum Required<'a> {
     These(&'a [u8]),
 }
 
-/// What a list is compared with, and what of it is wanted.
+/// A request to compare a list with expected registers.
 #[derive(Clone, Copy)]
 pub struct Comparison<'a> {
-    /// What the answer is.
+    /// Which report is wanted.
     pub wanted: ReportKind<'a>,
     /// The measurement list; with a checkpoint, what follows it.
     pub list: Input<'a>,
@@ -65,7 +65,7 @@ pub struct Comparison<'a> {
     pub known: &'a [Input<'a>],
 }
 
-/// What a log and a list are judged by, where the TPM has quoted registers.
+/// A request for the report on a log and a list by a quote, with what the quote must be.
 #[derive(Clone, Copy)]
 pub struct AttestRequest<'a> {
     /// The firmware event log.
@@ -162,7 +162,7 @@ pub struct Registers {
     pub now: Banks,
 }
 
-/// What a verdict is on, before it is answered.
+/// The report on a list or on its confirmed prefix, before it is an answer.
 #[derive(Drop)]
 pub(crate) enum ScopedReport {
     /// All of a list.

@@ -70,7 +70,7 @@ pub fn request_of<'a>(question: &'a Query, known: &'a [Input<'a>]) -> Request<'a
     }
 }
 
-// What is judged by a quote.
+// The request for the report by a quote that these options ask for, with these texts of known files.
 fn attesting_of<'a>(attest: &'a AttestOptions, known: &'a [Input<'a>]) -> AttestRequest<'a>
     ensures asked { map location_of known.now ≡ files_of attest.now.known → attested_of result ≡ attested_by attest.now }
     ensures given { attested_of result ≡ record (attested_by attest.now) { known = map location_of known.now } }
@@ -84,7 +84,7 @@ fn attesting_of<'a>(attest: &'a AttestOptions, known: &'a [Input<'a>]) -> Attest
     }
 }
 
-/// What is judged by a quote of this log, and of a whole list.
+/// The request for the report by a quote on this log and a whole list.
 pub fn attesting_by<'a>(log: Input<'a>, quoting: &'a Quoting) -> AttestRequest<'a>
     ensures { attested_of result ≡ attested_with (location_of log.entry) quoting.now }
 {
@@ -113,7 +113,7 @@ fn file_of(name: &Option<String>) -> Option<Input<'_>>
     }
 }
 
-// What is compared.
+// The request for the comparison that these options ask for, with these texts of known files.
 fn comparison_of<'a>(judge: &'a ComparisonOptions, known: &'a [Input<'a>]) -> Comparison<'a>
     ensures asked { map location_of known.now ≡ files_of judge.now.known → compared_of result ≡ compared_by judge.now }
     ensures given { compared_of result ≡ record (compared_by judge.now) { known = map location_of known.now } }
@@ -127,7 +127,7 @@ fn comparison_of<'a>(judge: &'a ComparisonOptions, known: &'a [Input<'a>]) -> Co
     }
 }
 
-// What the answer is to be.
+// Which report the comparison is to give.
 fn wanted_of(kind: &ComparisonKind) -> ReportKind<'_>
     ensures { judgement_of result ≡ judgement_by kind.now }
 {
