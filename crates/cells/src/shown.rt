@@ -25,7 +25,7 @@ pub fn render<T: Shown>(alloc: Global, form: Form, shown: &T) -> Result<Vec<u8>,
     ensures bytes { IfOk result (λ bytes. bytes.items ≡ rendered form (T.cell_of shown.now)) }
     ensures utf8 { IfOk result (λ bytes. form ≡ Json → IsUtf8 bytes.items) }
 {
-    let mut out = CellWriter::new(alloc, form);
+    let mut out = CellWriter::new(alloc, form)?;
     show_object(alloc, shown, &mut out)?;
     out.into_bytes()
 }

@@ -16,6 +16,9 @@ use std::alloc::{AllocError, Global};
 /// What a call gives that writes: it fails only if memory runs out.
 pub type Written = Result<(), AllocError>;
 
+// The bytes that hold most lines of an event or of a result, so that none of them is moved as it grows.
+const LINE_ROOM: usize = 1024;
+
 /// In which form a result is shown.
 #[derive(Clone, Copy, Debug, PartialEq, Eq)]
 pub enum Form {
@@ -35,14 +38,15 @@ pub enum CellWriter {
 }
 
 impl CellWriter {
-    /// A writer that holds nothing yet.
-    pub fn new(alloc: Global, form: Form) -> CellWriter
-        ensures { HasShown form result nothing }
+    /// A writer that holds nothing yet, and has room for a line. Fails only if memory runs out.
+    pub fn new(alloc: Global, form: Form) -> Result<CellWriter, AllocError>
+        ensures { IfOk result (λ out. HasShown form out nothing) }
     {
-        match form {
-            Form::Text => CellWriter::Text(Vec::new(alloc)),
-            Form::Json => CellWriter::Json(Writer::new(Vec::new(alloc))),
-        }
+        let room = Vec::with_capacity(alloc, LINE_ROOM)?;
+        Ok(match form {
+            Form::Text => CellWriter::Text(room),
+            Form::Json => CellWriter::Json(Writer::new(room)),
+        })
     }
 
     /// What was written; JSON as one line, in UTF-8. Fails only if memory runs out.
