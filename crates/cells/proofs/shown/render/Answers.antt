@@ -4,6 +4,6 @@ use Rattle.cells.proofs.shown.render.Goals as goal
 pub returns : goal.returns
 returns g c =
     record {
-      bytes = all_rendered (λ bytes. bytes.items) c.args.form _ _ _ c.into_bytes.result c.new-out.ensures c.in_ok-show_object.ensures c.into_bytes.ensures.bytes;
-      utf8 = all_utf8 (λ bytes. bytes.items) c.args.form _ _ _ c.into_bytes.result c.new-out.ensures c.in_ok-show_object.ensures c.into_bytes.ensures.utf8;
+      bytes = all_rendered (λ bytes. bytes.items) c.args.form _ _ _ c.into_bytes.result c.in_ok-out.ensures c.in_ok-show_object.ensures c.into_bytes.ensures.bytes;
+      utf8 = all_utf8 (λ bytes. bytes.items) c.args.form _ _ _ c.into_bytes.result c.in_ok-out.ensures c.in_ok-show_object.ensures c.into_bytes.ensures.utf8;
     }
