@@ -10,7 +10,7 @@ use Rattle.byte_streams.proofs.SourceLaws.{Consumes-kept, Consumes-none, Consume
 use Rattle.boot_verdict.specs.ListSources.{failures_after_list}
 use Rattle.boot_verdict.specs.declared.verifier.VerifyFault.{VerifyFault}
 use Rattle.boot_verdict.specs.declared.verifier.VerifyFault.TheVariants as verdicts
-use Rattle.agent_inputs.specs.declared.loader.LoadFault.TheVariants.{TooLong}
+use Rattle.agent_inputs.specs.declared.files.LoadFault.TheVariants.{TooLong}
 use Rattle.agent_inputs.specs.Loading.{Drains, HasFailed, LosesMoreThan, failures_after_load, fault_of_reading}
 
 -- A source lost these bytes so far, and has not failed.

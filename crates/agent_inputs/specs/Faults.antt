@@ -3,8 +3,8 @@ use Rattle.std.specs.Prelude.{◌≡◌, ℕ, ◌⊎◌, List, Option, Some, Non
 use Rattle.pcr_values.specs.declared.expected.ExpectFault.{ExpectFault}
 use Rattle.pcr_values.specs.declared.expected.ExpectFault.TheVariants as expects
 use Rattle.pcr_values.specs.ExpectFaults.{expect_fault_line, expect_fault_number}
-use Rattle.agent_plans.specs.declared.fault.ArgumentsFault.{ArgumentsFault}
-use Rattle.agent_plans.specs.declared.fault.ArgumentsFault.TheVariants as arguments
+use Rattle.agent_plans.specs.declared.plan.ArgumentsFault.{ArgumentsFault}
+use Rattle.agent_plans.specs.declared.plan.ArgumentsFault.TheVariants as arguments
 use Rattle.boot_log.specs.declared.fault.LogFault.{LogFault}
 use Rattle.boot_log.specs.declared.fault.LogFault.TheVariants as logs
 use Rattle.boot_log.specs.Faults.{log_fault_event, log_fault_number}

@@ -5,8 +5,8 @@ use Rattle.std.specs.Global.{Global}
 use Rattle.byte_streams.specs.declared.piece_reader.ReadFault.{ReadFault}
 use Rattle.byte_streams.specs.declared.piece_reader.ReadFault.TheVariants as reads
 use Rattle.byte_streams.specs.Streams.{LosesPrefix, SourceState, failures_after}
-use Rattle.agent_inputs.specs.declared.loader.LoadFault.{LoadFault}
-use Rattle.agent_inputs.specs.declared.loader.LoadFault.TheVariants.{TooLong, Source, Memory}
+use Rattle.agent_inputs.specs.declared.files.LoadFault.{LoadFault}
+use Rattle.agent_inputs.specs.declared.files.LoadFault.TheVariants.{TooLong, Source, Memory}
 use Rattle.agent_inputs.specs.declared.fault.RunFault.{RunFault}
 use Rattle.agent_inputs.specs.declared.fault.RunFault.TheVariants as runs
 use Rattle.pcr_banks.specs.declared.alg.Alg.{Alg}

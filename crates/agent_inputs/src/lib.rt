@@ -3,15 +3,13 @@
 
 mod fault;
 mod files;
-mod loader;
 mod source_hash;
 mod system;
 
 pub use fault::{FaultHead, FaultKind, NotResumed, RunFault};
-pub use files::{AgentFiles, Files, SharedFiles};
-pub use loader::{
-    INPUT_LIMIT, LoadFault, load, load_input, not_read, not_utf8, not_written, read_through,
-    too_long,
+pub use files::{
+    AgentFiles, Files, INPUT_LIMIT, LoadFault, SharedFiles, load, load_input, not_read, not_utf8,
+    not_written, read_through, too_long,
 };
 pub use source_hash::hash_from;
 pub use system::{OpenInput, ReadSource, SystemFiles, WriteSink, is_regular};

@@ -3,7 +3,7 @@
 ghost use Rattle.std.specs.Prelude.{◌<◌, length, IfOk, IfSome, IsErrOf};
 ghost use Rattle.agent_inputs.specs.Loading.{IsHashOfAll, Drains};
 
-use crate::loader::LoadFault;
+use crate::files::LoadFault;
 use byte_streams::Source;
 use pcr_banks::{Alg, Digest, Hasher};
 use std::alloc::Global;

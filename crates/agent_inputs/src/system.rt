@@ -6,8 +6,7 @@ ghost use Rattle.byte_streams.specs.Streams.{failures_after};
 ghost use Rattle.agent_inputs.specs.Loading.{GivesAll, HasFailed, unknown};
 ghost use Rattle.agent_inputs.specs.System.{reader_of, writer_of, read_source_state, write_sink_state, runtime_of, is_file, remaining_bytes};
 
-use crate::files::{AgentFiles, Files, SharedFiles};
-use crate::loader::LoadFault;
+use crate::files::{AgentFiles, Files, LoadFault, SharedFiles};
 use crate::source_hash::hash_from;
 use arrayvec::ArrayString;
 use byte_streams::{Failed, Sink, Source};

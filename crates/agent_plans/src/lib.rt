@@ -1,12 +1,10 @@
 //! What the program can be asked to do: tasks, the forms of their results, and the plans that request them.
 #![tactic(auto)]
 
-mod fault;
 mod plan;
 
 pub use cells::Form;
-pub use fault::ArgumentsFault;
 pub use plan::{
-    AttestOptions, ComparisonKind, ComparisonOptions, ConfirmedBy, DataShown, Measurement, NameEnd,
-    Names, Plan, Print, Query, Quoting, Scope, Task,
+    ArgumentsFault, AttestOptions, ComparisonKind, ComparisonOptions, ConfirmedBy, DataShown,
+    Measurement, NameEnd, Names, Plan, Print, Query, Quoting, Scope, Task,
 };

@@ -1,14 +1,17 @@
-//! What the program's arguments request.
+//! What the program's arguments request, or why they were refused.
 
 ghost use Rattle.std.specs.Prelude.{◌≡◌};
-ghost use Rattle.agent_plans.specs.Plans.{IsOneOf, task_of};
 ghost use Rattle.cells.specs.declared.writer.Form.TheVariants.{Text};
+ghost use Rattle.agent_plans.specs.Plans.{IsOneOf, task_of};
 ghost use Rattle.agent_plans.specs.declared.plan.Query.TheVariants as queries;
 ghost use Rattle.agent_plans.specs.declared.plan.Task.TheVariants as tasks;
+ghost use Rattle.agent_plans.specs.declared.plan.ArgumentsFault.TheVariants.{Memory};
 
 use cells::Form;
 use ima_list::Template;
 use pcr_banks::Alg;
+use std::alloc::{AllocError, AllocFailed};
+use thiserror::Error;
 use tpm_keys::{KeyPart, Purpose};
 
 /// What a measurement prints.
@@ -418,5 +421,32 @@ fn comparison_plan(judge: ComparisonOptions) -> Plan
             };
             Plan::Task(Task::Answer(Query::Comparison(judge)), Form::Text)
         }
+    }
+}
+
+/// Why the arguments were refused.
+#[derive(Clone, Copy, Debug, PartialEq, Eq, Error)]
+pub enum ArgumentsFault {
+    /// 1: the arguments are not those of a command.
+    #[error("the arguments are not those of a command")]
+    Usage,
+    /// Out of memory.
+    #[error("out of memory")]
+    Memory,
+}
+
+impl From<AllocError> for ArgumentsFault {
+    ghost from_gives = { λ _ fault. fault ≡ Memory };
+
+    fn from(_refused: AllocError) -> Self {
+        ArgumentsFault::Memory
+    }
+}
+
+impl<T: Drop> From<AllocFailed<T>> for ArgumentsFault {
+    ghost from_gives = { λ _ fault. fault ≡ Memory };
+
+    fn from(_refused: AllocFailed<T>) -> Self {
+        ArgumentsFault::Memory
     }
 }

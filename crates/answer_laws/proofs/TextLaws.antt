@@ -13,9 +13,9 @@ use Rattle.event_data.specs.Forms.{CommandData, IsWideText}
 use Rattle.event_data.specs.Results.{command_in, wide_text_in}
 use Rattle.event_data.proofs.CommandLaws.{command_finds}
 use Rattle.event_data.proofs.TextLaws.{wide_text_finds}
-use Rattle.measured_data.specs.declared.part.Part.{Part}
-use Rattle.measured_data.specs.declared.part.Part.TheVariants as parts
-use Rattle.measured_data.specs.declared.pcr.Pcr.{Pcr}
+use Rattle.measured_data.specs.declared.measured.Part.{Part}
+use Rattle.measured_data.specs.declared.measured.Part.TheVariants as parts
+use Rattle.measured_data.specs.declared.confirmed.Pcr.{Pcr}
 use Rattle.measured_data.specs.Confirming.{IsConfirmed}
 use Rattle.measured_data.specs.Measuring.{IsFirstPart, IsMeasured}
 use Rattle.boot_answers.specs.Commands.{CommandSaid, grub, text_by, wide}

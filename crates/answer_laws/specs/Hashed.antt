@@ -6,7 +6,7 @@ use Rattle.pcr_banks.specs.Registers.{extended_by_all, reset_value}
 use Rattle.binding_laws.specs.BankBinding.{Collision, ExtendsBreakHash}
 use Rattle.boot_log.specs.Replaying.{digests_for, firmware_value, startup_locality}
 use Rattle.boot_log.specs.Spelling.{LogEvent}
-use Rattle.measured_data.specs.declared.part.Part.TheVariants.{Whole}
+use Rattle.measured_data.specs.declared.measured.Part.TheVariants.{Whole}
 use Rattle.measured_data.specs.Measuring.{IsMeasured}
 use Rattle.boot_answers.specs.Extending.{extended_events}
 

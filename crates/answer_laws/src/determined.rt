@@ -3,7 +3,7 @@
 ghost use Rattle.std.specs.Prelude.{◌≡◌, List, Option};
 ghost use Rattle.boot_log.specs.Spelling.{LogEvent};
 ghost use Rattle.event_data.specs.EventForms.{Content};
-ghost use Rattle.measured_data.specs.declared.pcr.Pcr.{Pcr};
+ghost use Rattle.measured_data.specs.declared.confirmed.Pcr.{Pcr};
 ghost use Rattle.boot_answers.specs.declared.secure_boot_state.SecureBoot.{SecureBoot};
 ghost use Rattle.boot_answers.specs.FirmwareVersion.{IsFirmwareVersion, IsOfVersion};
 ghost use Rattle.boot_answers.specs.SecureBoot.{IsSecureBoot};

@@ -16,11 +16,11 @@ use Rattle.ima_list.specs.declared.fault.ListFault.TheVariants as lists
 use Rattle.ima_list.specs.declared.list_replay.ReplayFault.TheVariants as replays
 use Rattle.boot_verdict.specs.declared.isolation.Stray.{Stray}
 use Rattle.boot_verdict.specs.declared.isolation.Strays.{Strays}
-use Rattle.boot_verdict.specs.declared.positions.Located.{Located}
-use Rattle.boot_verdict.specs.declared.positions.Position.{Position}
-use Rattle.boot_verdict.specs.declared.positions.Position.TheVariants as positions
-use Rattle.boot_verdict.specs.declared.prefix_report.Unconfirmed.{Unconfirmed}
-use Rattle.boot_verdict.specs.declared.prefix_report.Unconfirmed.TheVariants as faults
+use Rattle.boot_verdict.specs.declared.steps.Located.{Located}
+use Rattle.boot_verdict.specs.declared.steps.Position.{Position}
+use Rattle.boot_verdict.specs.declared.steps.Position.TheVariants as positions
+use Rattle.boot_verdict.specs.declared.report.Unconfirmed.{Unconfirmed}
+use Rattle.boot_verdict.specs.declared.report.Unconfirmed.TheVariants as faults
 use Rattle.boot_verdict.specs.declared.report.Row.{Row}
 use Rattle.boot_verdict.specs.declared.report.State.{State}
 use Rattle.boot_verdict.specs.declared.report.State.TheVariants.{Match, Differ, Absent}

@@ -7,8 +7,8 @@ use Rattle.pcr_banks.specs.declared.banks.Banks.{Banks}
 use Rattle.pcr_values.specs.declared.expected.Expected.{Expected}
 use Rattle.pcr_values.specs.declared.selection.BankRange.{BankRange}
 use Rattle.boot_verdict.specs.declared.isolation.Strays.{Strays}
-use Rattle.boot_verdict.specs.declared.positions.Located.{Located}
-use Rattle.boot_verdict.specs.declared.prefix_report.Unconfirmed.{Unconfirmed}
+use Rattle.boot_verdict.specs.declared.steps.Located.{Located}
+use Rattle.boot_verdict.specs.declared.report.Unconfirmed.{Unconfirmed}
 use Rattle.boot_verdict.specs.Isolation.{are_none}
 use Rattle.boot_verdict.specs.ListVerdicts.{ListVerdict}
 use Rattle.boot_verdict.specs.Verdicts.{Verdict}

@@ -10,9 +10,9 @@ use Rattle.pcr_banks.specs.Registers.{value_at}
 use Rattle.pcr_values.specs.declared.expected.Expected.{Expected}
 use Rattle.pcr_values.specs.RegisterTexts.{change_line, differs, every_register, register_line, registers_text}
 use Rattle.pcr_values.specs.WrittenTexts.{expected_text}
-use Rattle.boot_verdict.specs.declared.positions.Located.{Located}
-use Rattle.boot_verdict.specs.declared.positions.Position.{Position}
-use Rattle.boot_verdict.specs.declared.positions.Position.TheVariants as positions
+use Rattle.boot_verdict.specs.declared.steps.Located.{Located}
+use Rattle.boot_verdict.specs.declared.steps.Position.{Position}
+use Rattle.boot_verdict.specs.declared.steps.Position.TheVariants as positions
 use Rattle.boot_verdict.specs.declared.report.State.{State}
 use Rattle.boot_verdict.specs.declared.report.State.TheVariants.{Match, Differ, Absent}
 use Rattle.boot_verdict.specs.Positions.{all_found}

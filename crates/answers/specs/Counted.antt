@@ -2,8 +2,8 @@
 use Rattle.std.specs.Prelude.{IfSome, ⊤}
 use Rattle.std.specs.List.{AllByRecursion}
 use Rattle.boot_verdict.specs.declared.isolation.Strays.{Strays}
-use Rattle.boot_verdict.specs.declared.positions.Position.{Position}
-use Rattle.boot_verdict.specs.declared.positions.Position.TheVariants.{Event, Entry}
+use Rattle.boot_verdict.specs.declared.steps.Position.{Position}
+use Rattle.boot_verdict.specs.declared.steps.Position.TheVariants.{Event, Entry}
 use Rattle.boot_verdict.specs.Words.{unconfirmed_entry}
 use Rattle.tpm_quotes.specs.declared.quote.Clock.{Clock}
 use Rattle.attestations.specs.declared.report.Whole.{Whole}

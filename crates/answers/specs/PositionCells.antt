@@ -1,9 +1,9 @@
 -- The cells of positions, where registers first have their expected values.
 use Rattle.std.specs.Prelude.{ℕ, Bool, true, false, List, codes, Option, None, Some}
 use Rattle.pcr_values.specs.declared.selection.BankRange.{BankRange}
-use Rattle.boot_verdict.specs.declared.positions.Located.{Located}
-use Rattle.boot_verdict.specs.declared.positions.Position.{Position}
-use Rattle.boot_verdict.specs.declared.positions.Position.TheVariants.{Reset, Event, Entry, Nowhere, Absent}
+use Rattle.boot_verdict.specs.declared.steps.Located.{Located}
+use Rattle.boot_verdict.specs.declared.steps.Position.{Position}
+use Rattle.boot_verdict.specs.declared.steps.Position.TheVariants.{Reset, Event, Entry, Nowhere, Absent}
 use Rattle.boot_verdict.specs.Positions.{all_found}
 use Rattle.boot_verdict.specs.Requirements.{required_found}
 use Rattle.cells.specs.Values.{Member}

@@ -5,7 +5,7 @@ use Rattle.json.specs.Json.{Json}
 use Rattle.pcr_values.specs.declared.selection.BankRange.{BankRange}
 use Rattle.boot_verdict.specs.declared.isolation.Stray.{Stray}
 use Rattle.boot_verdict.specs.declared.isolation.Strays.{Strays}
-use Rattle.boot_verdict.specs.declared.prefix_report.Unconfirmed.{Unconfirmed}
+use Rattle.boot_verdict.specs.declared.report.Unconfirmed.{Unconfirmed}
 use Rattle.boot_verdict.specs.declared.report.Aggregate.{Aggregate}
 use Rattle.boot_verdict.specs.declared.report.Row.{Row}
 use Rattle.boot_verdict.specs.declared.report.State.{State}

@@ -1,7 +1,7 @@
 //! The positions where registers first have their expected values.
 
 ghost use Rattle.std.specs.Prelude.{◌≡◌, option_copied};
-ghost use Rattle.boot_verdict.specs.declared.positions.Position.TheVariants.{Reset};
+ghost use Rattle.boot_verdict.specs.declared.steps.Position.TheVariants.{Reset};
 ghost use Rattle.cells.specs.Cells.{ShowsMembers};
 ghost use Rattle.answers.specs.PositionCells.{finds, found_cell, found_text, numbered_cell, position_cell, positions_cell};
 

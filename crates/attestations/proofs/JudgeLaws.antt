@@ -28,12 +28,12 @@ use Rattle.boot_verdict.specs.declared.verifier.VerifyFault.TheVariants as verdi
 use Rattle.boot_verdict.specs.Verdicts.{IsVerifyFault, aggregate_of, is_good, pcr_after_log_and_list, recorded_aggregate}
 use Rattle.tpm_quotes.specs.Spelling.{BankSelection, IsQuote, TpmQuote, all_registers, selects}
 use Rattle.tpm_quotes.specs.Quoting.{confirms}
-use Rattle.attestations.specs.declared.cause.Cause.TheVariants.{BadAggregate, Differs}
+use Rattle.attestations.specs.declared.attested.Cause.TheVariants.{BadAggregate, Differs}
 use Rattle.attestations.specs.declared.policy.PolicyFault.{PolicyFault}
 use Rattle.attestations.specs.declared.policy.PolicyFault.TheVariants.{ShortNonce, NotRequired, OnlySha1}
-use Rattle.attestations.specs.declared.refusal.QuoteRefusal.{QuoteRefusal}
-use Rattle.attestations.specs.declared.refusal.QuoteRefusal.TheVariants as refusals
-use Rattle.attestations.specs.declared.refusal.QuoteRefusal.TheVariants.{OtherNonce, NotSelected}
+use Rattle.attestations.specs.declared.policy.QuoteRefusal.{QuoteRefusal}
+use Rattle.attestations.specs.declared.policy.QuoteRefusal.TheVariants as refusals
+use Rattle.attestations.specs.declared.policy.QuoteRefusal.TheVariants.{OtherNonce, NotSelected}
 use Rattle.boot_verdict.specs.Isolation.{first_extending, first_stray}
 use Rattle.attestations.specs.Policies.{AreSound, Terms, first_unnamed, first_unselected, first_weak, is_named, is_named_beside_sha1, policy_fault, unselected_in}
 use Rattle.attestations.specs.Judging.{Attestation, attestation_on, cause_against, cause_in_extends, cause_in_registers, quote_refusal}

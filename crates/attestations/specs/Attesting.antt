@@ -18,9 +18,9 @@ use Rattle.tpm_quotes.specs.Reading.{quote_fault}
 use Rattle.tpm_quotes.specs.Quoting.{confirms}
 use Rattle.attestations.specs.declared.attested.AttestFault.{AttestFault}
 use Rattle.attestations.specs.declared.attested.AttestFault.TheVariants as faults
-use Rattle.attestations.specs.declared.cause.Cause.{Cause}
-use Rattle.attestations.specs.declared.refusal.QuoteRefusal.{QuoteRefusal}
-use Rattle.attestations.specs.declared.refusal.QuoteRefusal.TheVariants as refusals
+use Rattle.attestations.specs.declared.attested.Cause.{Cause}
+use Rattle.attestations.specs.declared.policy.QuoteRefusal.{QuoteRefusal}
+use Rattle.attestations.specs.declared.policy.QuoteRefusal.TheVariants as refusals
 use Rattle.boot_verdict.specs.Isolation.{IsListApart, IsLogApart}
 use Rattle.attestations.specs.Judging.{Attestation, attestation_on, cause_against, quote_refusal}
 use Rattle.attestations.specs.Policies.{AreSound, Terms, policy_fault}

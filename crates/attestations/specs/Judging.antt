@@ -10,10 +10,10 @@ use Rattle.tpm_quotes.specs.Spelling.{TpmQuote, quote_of}
 use Rattle.tpm_quotes.specs.Quoting.{confirms}
 use Rattle.tpm_quotes.specs.Faults.{quote_fault_number}
 use Rattle.attestations.specs.declared.attested.AttestedLog.{AttestedLog}
-use Rattle.attestations.specs.declared.cause.Cause.{Cause}
-use Rattle.attestations.specs.declared.cause.Cause.TheVariants.{LogExtends, ListExtends, BadAggregate, Differs}
-use Rattle.attestations.specs.declared.refusal.QuoteRefusal.{QuoteRefusal}
-use Rattle.attestations.specs.declared.refusal.QuoteRefusal.TheVariants.{Message, OtherNonce, NotSelected}
+use Rattle.attestations.specs.declared.attested.Cause.{Cause}
+use Rattle.attestations.specs.declared.attested.Cause.TheVariants.{LogExtends, ListExtends, BadAggregate, Differs}
+use Rattle.attestations.specs.declared.policy.QuoteRefusal.{QuoteRefusal}
+use Rattle.attestations.specs.declared.policy.QuoteRefusal.TheVariants.{Message, OtherNonce, NotSelected}
 use Rattle.boot_verdict.specs.Isolation.{first_extending, first_stray}
 use Rattle.attestations.specs.Policies.{Terms, first_unselected}
 

@@ -2,8 +2,8 @@
 use Rattle.std.specs.Prelude.{ℕ, List, map}
 use Rattle.tpm_quotes.specs.declared.quote.Clock.{Clock}
 use Rattle.tpm_quotes.specs.Spelling.{BankSelection, TpmQuote}
-use Rattle.attestations.specs.declared.quoted.Quoted.{Quoted}
-use Rattle.attestations.specs.declared.quoted.Selected.{Selected}
+use Rattle.attestations.specs.declared.report.Quoted.{Quoted}
+use Rattle.attestations.specs.declared.report.Selected.{Selected}
 
 -- What a quote states, but for its nonce and its digest.
 pub record Stated : Type 0 where

@@ -1,6 +1,7 @@
-//! The judgement.
+//! The judgement, and why log and list are not what the quote is of.
 
 ghost use Rattle.std.specs.Prelude.{◌≡◌, List, ℕ, None, Ok, IsOk, IfOk, IfErr};
+ghost use Rattle.tpm_quotes.specs.Spelling.{IsQuote, TpmQuote, quote_of};
 ghost use Rattle.boot_log.specs.declared.header.DeclaredAlgorithm.{DeclaredAlgorithm};
 ghost use Rattle.boot_log.specs.LogViews.{log_bytes};
 ghost use Rattle.boot_log.specs.Replaying.{IsFirmware};
@@ -10,19 +11,41 @@ ghost use Rattle.ima_list.specs.Replaying.{AreGenuine};
 ghost use Rattle.ima_list.specs.Spelling.{IsReading};
 ghost use Rattle.boot_verdict.specs.Checkpoints.{IsCheckpoint};
 ghost use Rattle.boot_verdict.specs.Verdicts.{fault_of_log};
-ghost use Rattle.tpm_quotes.specs.Spelling.{IsQuote, TpmQuote, quote_of};
 ghost use Rattle.attestations.specs.declared.attested.AttestFault.TheVariants.{Boot, Quote as NotTaken};
 ghost use Rattle.attestations.specs.Policies.{policy_fault, terms_of};
 ghost use Rattle.attestations.specs.Judging.{attestation_of, attestation_on, cause_against, cause_in_extends, cause_in_registers, quote_refusal};
 ghost use Rattle.attestations.specs.Attesting.{IsAttested, IsAttestFault};
 
-use crate::cause::Cause;
-use crate::policy::{Policy, PolicyFault};
-use crate::refusal::{QuoteRefusal, quote_for};
+use crate::policy::{Policy, PolicyFault, QuoteRefusal, quote_for};
 use boot_log::{LogFault, LogView};
 use boot_verdict::{Checkpoint, VerifyFault, aggregate_of, first_extending};
 use thiserror::Error;
 use tpm_quotes::Quote;
+
+/// Why log and list are not what the quote is of: the first of these that holds.
+#[derive(Clone, Copy, Debug, PartialEq, Eq, Error)]
+pub enum Cause {
+    /// An event of the log extends the list's register: the first one.
+    #[error("event {event}: it extends register 10")]
+    LogExtends {
+        /// The event's number, counted from 1.
+        event: usize,
+    },
+    /// An entry of the list extends another register: the first one.
+    #[error("entry {entry}: it extends register {register}")]
+    ListExtends {
+        /// The entry's number, counted from 0.
+        entry: usize,
+        /// The register.
+        register: u32,
+    },
+    /// The list does not record the boot aggregate of the log's registers.
+    #[error("the list does not record the log's boot aggregate")]
+    BadAggregate,
+    /// The quote is of other values than those to which log and list replay.
+    #[error("the quote is of other values than those to which log and list replay")]
+    Differs,
+}
 
 /// What is known of a log and a list that a quote confirms.
 ///

@@ -4,17 +4,11 @@
 #![tactic(auto)]
 
 mod attested;
-mod cause;
 mod expected;
 mod policy;
-mod quoted;
-mod refusal;
 mod report;
 
-pub use attested::{AttestFault, AttestedLog, attest};
-pub use cause::Cause;
+pub use attested::{AttestFault, AttestedLog, Cause, attest};
 pub use expected::{ExpectedValues, keep_confirmed};
-pub use policy::{LEAST_NONCE, Policy, PolicyFault};
-pub use quoted::{Quoted, Selected};
-pub use refusal::{QuoteRefusal, quote_for};
-pub use report::{AttestReport, Whole};
+pub use policy::{LEAST_NONCE, Policy, PolicyFault, QuoteRefusal, quote_for};
+pub use report::{AttestReport, Quoted, Selected, Whole};

@@ -1,11 +1,95 @@
-//! The report on a log and a list by a quote.
+//! The report on a log and a list by a quote, and what it keeps of the quote.
 
-ghost use Rattle.std.specs.Prelude.{◌≡◌};
+ghost use Rattle.std.specs.Prelude.{◌≡◌, IfOk, map};
+ghost use Rattle.tpm_quotes.specs.Spelling.{is_selected, quote_of, selection_of, selects_one};
+ghost use Rattle.attestations.specs.Quoted.{bank_selection_of, stated_by, stated_of};
 ghost use Rattle.attestations.specs.Reports.{attest_verdict_of, is_attested};
 
 use crate::expected::ExpectedValues;
-use crate::quoted::Quoted;
 use boot_verdict::{Report, Unconfirmed};
+use pcr_banks::Alg;
+use std::alloc::{AllocError, Global};
+use tpm_quotes::{Clock, Quote, QuotedSelection};
+
+/// The registers of a bank that a quote selects: as [`QuotedSelection`], but with bits of its own.
+#[derive(Drop)]
+pub struct Selected {
+    /// The bank.
+    pub alg: Alg,
+    /// A bit for each register, from the lowest bit of the first byte on.
+    pub bits: Vec<u8>,
+}
+
+impl Selected {
+    // The selection as a quote has it, with these bits.
+    fn selection(&self) -> QuotedSelection<'_>
+        ensures { result.bits.now ≡ self.now.bits.items }
+    {
+        QuotedSelection {
+            alg: self.alg,
+            bits: &self.bits,
+        }
+    }
+
+    /// Whether the register is selected.
+    pub fn selects(&self, register: u32) -> bool
+        ensures { result ≡ is_selected self.now.bits.items register }
+    {
+        self.selection().selects(register)
+    }
+
+    /// Whether any register is selected.
+    pub fn selects_one(&self) -> bool
+        ensures { result ≡ selects_one (bank_selection_of self.now) }
+    {
+        self.selection().selects_one()
+    }
+}
+
+/// What a quote states, but for its nonce and its digest: no part of it is borrowed from the message. It is at most four selections with at
+/// most 255 bytes each, and a name of at most 65535 bytes.
+#[derive(Drop)]
+pub struct Quoted {
+    /// Which registers it selects, bank by bank.
+    pub selections: Vec<Selected>,
+    /// The qualified name of the key that signs it.
+    pub signer: Vec<u8>,
+    /// The TPM's clock, and its counts of resets and restarts.
+    pub clock: Clock,
+    /// The version of the TPM's firmware, as its maker numbers it.
+    pub firmware: u64,
+}
+
+impl Quoted {
+    /// What this quote states. Fails only if memory runs out.
+    pub fn of(alloc: Global, quote: &Quote<'_>) -> Result<Quoted, AllocError>
+        ensures { IfOk result (λ quoted. stated_of quoted ≡ stated_by (quote_of quote.now)) }
+    {
+        Ok(Quoted {
+            selections: selected_of(alloc, quote.selections())?,
+            signer: Vec::from_slice(alloc, quote.signer)?,
+            clock: quote.clock,
+            firmware: quote.firmware,
+        })
+    }
+}
+
+// The selections, with bits of their own.
+fn selected_of(
+    alloc: Global,
+    selections: &[QuotedSelection<'_>],
+) -> Result<Vec<Selected>, AllocError>
+    ensures { IfOk result (λ selected. map bank_selection_of selected.items ≡ map selection_of selections.now) }
+{
+    let mut selected = Vec::new(alloc);
+    for selection in selections {
+        selected.push(Selected {
+            alg: selection.alg,
+            bits: Vec::from_slice(alloc, selection.bits)?,
+        })?;
+    }
+    Ok(selected)
+}
 
 /// A list of which a report is on a prefix.
 #[derive(Clone, Copy)]

@@ -10,8 +10,8 @@ use Rattle.pcr_banks.specs.Registers.{extended_by_all, extended_value, reset_val
 use Rattle.pcr_banks.specs.Sets.{digest_in}
 use Rattle.boot_log.specs.Replaying.{digests_for, firmware_value, is_extended_into, startup_locality}
 use Rattle.boot_log.specs.Spelling.{LogEvent, no_action}
-use Rattle.measured_data.specs.declared.part.Part.{Part}
-use Rattle.measured_data.specs.declared.pcr.Pcr.{Pcr}
+use Rattle.measured_data.specs.declared.measured.Part.{Part}
+use Rattle.measured_data.specs.declared.confirmed.Pcr.{Pcr}
 use Rattle.measured_data.specs.Confirming.{IsConfirmed}
 use Rattle.measured_data.specs.Measuring.{IsMeasured}
 use Rattle.binding_laws.specs.LogBinding.{LogsBreakHash}

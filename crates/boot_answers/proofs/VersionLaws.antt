@@ -4,7 +4,7 @@ use Rattle.pcr_banks.specs.declared.alg.Alg.{Alg}
 use Rattle.boot_log.specs.Spelling.{LogEvent}
 use Rattle.event_data.specs.EventForms.{Content, Says}
 use Rattle.event_data.proofs.ContentLaws.{says_once}
-use Rattle.measured_data.specs.declared.pcr.Pcr.{Pcr}
+use Rattle.measured_data.specs.declared.confirmed.Pcr.{Pcr}
 use Rattle.boot_answers.specs.Extending.{IsAnswering, extended_events}
 use Rattle.boot_answers.specs.FirmwareVersion.{IsFirmwareVersion, IsOfVersion, IsVersion, TellsVersion, firmware_register, version_type}
 use Rattle.boot_answers.specs.parts.FirmwareVersion.{AllAgree, TellsAny}

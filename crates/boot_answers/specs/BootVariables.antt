@@ -9,7 +9,7 @@ use Rattle.std.specs.Prelude.{◌⊎◌}
 use Rattle.pcr_banks.specs.declared.alg.Alg.{Alg}
 use Rattle.boot_log.specs.Spelling.{LogEvent}
 use Rattle.event_data.specs.Forms.{IsVariable, VariableData}
-use Rattle.measured_data.specs.declared.part.Part.TheVariants.{Value, Whole}
+use Rattle.measured_data.specs.declared.measured.Part.TheVariants.{Value, Whole}
 use Rattle.measured_data.specs.Measuring.{IsMeasured}
 
 -- All of the event's data is measured, or its value.

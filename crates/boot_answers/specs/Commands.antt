@@ -9,9 +9,9 @@ use Rattle.pcr_banks.specs.declared.alg.Alg.{Alg}
 use Rattle.boot_log.specs.Spelling.{LogEvent}
 use Rattle.event_data.specs.Forms.{CommandData, IsCommand, IsWideText, command_of}
 use Rattle.event_data.specs.Results.{command_in, wide_text_in}
-use Rattle.measured_data.specs.declared.part.Part.{Part}
-use Rattle.measured_data.specs.declared.part.Part.TheVariants as parts
-use Rattle.measured_data.specs.declared.pcr.Pcr.{Pcr}
+use Rattle.measured_data.specs.declared.measured.Part.{Part}
+use Rattle.measured_data.specs.declared.measured.Part.TheVariants as parts
+use Rattle.measured_data.specs.declared.confirmed.Pcr.{Pcr}
 use Rattle.measured_data.specs.Confirming.{confirmed_part}
 use Rattle.measured_data.specs.Measuring.{IsMeasured}
 use Rattle.boot_answers.specs.declared.commands.CommandText.{CommandText}

@@ -9,8 +9,8 @@ use Rattle.pcr_banks.specs.declared.alg.Alg.{Alg}
 use Rattle.boot_log.specs.Spelling.{LogEvent}
 use Rattle.event_data.specs.EventForms.{Content, Says, unknown}
 use Rattle.event_data.specs.Forms.{IsSeparator}
-use Rattle.measured_data.specs.declared.part.Part.TheVariants.{Whole}
-use Rattle.measured_data.specs.declared.pcr.Pcr.{Pcr}
+use Rattle.measured_data.specs.declared.measured.Part.TheVariants.{Whole}
+use Rattle.measured_data.specs.declared.confirmed.Pcr.{Pcr}
 use Rattle.measured_data.specs.Measuring.{IsMeasured}
 use Rattle.boot_answers.specs.Extending.{IsAnswering, extended_events}
 

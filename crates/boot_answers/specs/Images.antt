@@ -10,7 +10,7 @@ use Rattle.pcr_banks.specs.declared.alg.Alg.{Alg}
 use Rattle.boot_log.specs.Replaying.{is_extended_into}
 use Rattle.boot_log.specs.Spelling.{LogEvent}
 use Rattle.event_data.specs.Forms.{IsSeparator, IsText}
-use Rattle.measured_data.specs.declared.part.Part.TheVariants.{Whole}
+use Rattle.measured_data.specs.declared.measured.Part.TheVariants.{Whole}
 use Rattle.measured_data.specs.Measuring.{IsMeasured}
 
 -- The register of the images that the firmware starts.

@@ -37,29 +37,21 @@
 #![tactic(auto)]
 
 mod alike_events;
-mod banks;
-mod boot_variables;
 mod commands;
 mod differences;
-mod ima_measuring;
-mod ima_policy;
-mod images;
+mod firmware_events;
+mod ima_options;
 mod register_events;
 mod secure_boot_state;
-mod separators;
-mod variables;
 mod versions;
-mod wholes;
 
 pub use alike_events::{Common, MOST_COMPARED, common_events};
-pub use banks::is_answering;
-pub use boot_variables::{SETTINGS_REGISTER, boot_variable};
 pub use commands::{COMMAND_REGISTERS, CommandText, told_text};
 pub use differences::first_difference;
-pub use ima_measuring::asks_to_measure;
-pub use ima_policy::may_set_ima_policy;
-pub use images::{image_digest, may_be_image};
-pub use register_events::RegisterEvents;
+pub use firmware_events::{
+    SETTINGS_REGISTER, boot_variable, image_digest, may_be_image, may_be_separator,
+};
+pub use ima_options::{asks_to_measure, may_set_ima_policy};
+pub use register_events::{RegisterEvents, is_answering};
 pub use secure_boot_state::{SecureBoot, secure_boot};
-pub use separators::may_be_separator;
 pub use versions::firmware_version;

@@ -8,9 +8,7 @@ ghost use Rattle.event_data.specs.EventForms.{content_of};
 ghost use Rattle.boot_answers.specs.FirmwareVersion.{IsFirmwareVersion, IsOfVersion, IsSeparatorData, IsVersion, TellsVersion};
 ghost use Rattle.boot_answers.specs.parts.FirmwareVersion.{Agrees, AllAgree, TellsAny};
 
-use crate::banks::{answering_bank, is_answering};
-use crate::register_events::RegisterEvents;
-use crate::wholes::is_whole;
+use crate::register_events::{RegisterEvents, answering_bank, is_answering, is_whole};
 use boot_log::{Event, LogView};
 use event_data::{EventContent, event_content, read_separator};
 use measured_data::Pcr;

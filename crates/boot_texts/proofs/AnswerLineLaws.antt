@@ -9,7 +9,7 @@ use Rattle.pcr_banks.specs.Sets.{digest_in}
 use Rattle.boot_log.specs.Spelling.{LogEvent}
 use Rattle.event_data.specs.ContentReading.{content_in}
 use Rattle.event_texts.specs.WideTexts.{wide_text}
-use Rattle.measured_data.specs.declared.pcr.Pcr.{Pcr}
+use Rattle.measured_data.specs.declared.confirmed.Pcr.{Pcr}
 use Rattle.boot_answers.specs.Commands.{CommandSaid, grub, wide}
 use Rattle.boot_answers.specs.FirmwareVersion.{version_type}
 use Rattle.cells.proofs.LineLaws.{ArePlain, IsPlain, line_within, members_joined}

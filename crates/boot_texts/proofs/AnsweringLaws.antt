@@ -2,7 +2,7 @@
 use Rattle.std.proofs.Common.{◌≡◌, List, ℕ, Bool, true, false, refl, sym}
 use Rattle.std.specs.Prelude.{◌↔◌, IsTrue}
 use Rattle.pcr_banks.specs.declared.alg.Alg.{Alg}
-use Rattle.measured_data.specs.declared.pcr.Pcr.{Pcr}
+use Rattle.measured_data.specs.declared.confirmed.Pcr.{Pcr}
 use Rattle.measured_data.specs.Confirming.{counts}
 use Rattle.measured_data.proofs.ConfirmedLaws.{counts_told}
 use Rattle.boot_answers.specs.Extending.{IsAnswering}

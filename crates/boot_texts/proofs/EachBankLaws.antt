@@ -16,9 +16,9 @@ use Rattle.event_data.proofs.CommandLaws.{command_finds}
 use Rattle.event_data.proofs.Finding.{Finds}
 use Rattle.event_data.proofs.FormLaws.{variable_finds}
 use Rattle.event_data.proofs.TextLaws.{wide_text_finds}
-use Rattle.measured_data.specs.declared.part.Part.{Part}
-use Rattle.measured_data.specs.declared.part.Part.TheVariants as parts
-use Rattle.measured_data.specs.declared.pcr.Pcr.{Pcr}
+use Rattle.measured_data.specs.declared.measured.Part.{Part}
+use Rattle.measured_data.specs.declared.measured.Part.TheVariants as parts
+use Rattle.measured_data.specs.declared.confirmed.Pcr.{Pcr}
 use Rattle.measured_data.specs.Confirming.{IsConfirmed, counts}
 use Rattle.measured_data.specs.Measuring.{IsFirstPart, is_measured, settings_register}
 use Rattle.measured_data.proofs.MeasuredLaws.{measured_told}

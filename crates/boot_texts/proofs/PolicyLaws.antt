@@ -3,11 +3,11 @@ use Rattle.std.proofs.Common.{◌≡◌, ℕ, true, List, ◌∷◌, ◌++◌, O
 use Rattle.std.specs.List.{AllByRecursion}
 use Rattle.boot_log.specs.Replaying.{is_extended_into}
 use Rattle.boot_log.specs.Spelling.{LogEvent}
-use Rattle.measured_data.specs.declared.pcr.Pcr.{Pcr}
+use Rattle.measured_data.specs.declared.confirmed.Pcr.{Pcr}
 use Rattle.boot_answers.specs.Commands.{CommandSaid, told_text}
 use Rattle.boot_answers.specs.Extending.{extended_events}
 use Rattle.boot_answers.proofs.EventLaws.{no_end, one_end, own_and_later}
-use Rattle.boot_texts.specs.declared.policy_question.PolicyQuestion.{PolicyQuestion}
+use Rattle.boot_texts.specs.declared.policies.PolicyQuestion.{PolicyQuestion}
 use Rattle.boot_texts.specs.Policies.{Asks, IsAskingEvent, IsAskingIn, IsFirstAsking, NoneAsks, Passes, read_text}
 
 some_is : {A : Type 0} (x y : A) → Some x ≡ Some y → x ≡ y

@@ -8,7 +8,7 @@ use Rattle.pcr_banks.specs.Sets.{digest_in}
 use Rattle.boot_log.specs.Spelling.{LogEvent}
 use Rattle.event_data.specs.ContentReading.{content_in}
 use Rattle.event_data.specs.EventForms.{Content}
-use Rattle.measured_data.specs.declared.pcr.Pcr.{Pcr}
+use Rattle.measured_data.specs.declared.confirmed.Pcr.{Pcr}
 use Rattle.measured_data.specs.Confirming.{counts}
 use Rattle.boot_answers.specs.declared.secure_boot_state.SecureBoot.{SecureBoot}
 use Rattle.boot_answers.specs.declared.secure_boot_state.SecureBoot.TheVariants.{On, Off, Unknown}

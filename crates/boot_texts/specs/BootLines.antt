@@ -2,7 +2,7 @@
 use Rattle.std.specs.Prelude.{◌≡◌, ℕ, List, ◌++◌, codes, Option, None}
 use Rattle.boot_log.specs.Spelling.{LogEvent}
 use Rattle.event_data.specs.EventForms.{Content}
-use Rattle.measured_data.specs.declared.pcr.Pcr.{Pcr}
+use Rattle.measured_data.specs.declared.confirmed.Pcr.{Pcr}
 use Rattle.measured_data.specs.Measuring.{settings_register}
 use Rattle.boot_answers.specs.declared.secure_boot_state.SecureBoot.{SecureBoot}
 use Rattle.boot_answers.specs.FirmwareVersion.{IsFirmwareVersion, IsOfVersion}
@@ -10,8 +10,8 @@ use Rattle.boot_answers.specs.Images.{image_register}
 use Rattle.boot_answers.specs.SecureBoot.{IsSecureBoot}
 use Rattle.cells.specs.declared.writer.Form.{Form}
 use Rattle.boot_texts.specs.declared.policies.ImaPolicy.{ImaPolicy}
-use Rattle.boot_texts.specs.declared.boot_question.BootQuestion.{BootQuestion}
-use Rattle.boot_texts.specs.declared.boot_question.BootQuestion.TheVariants.{Images, Commands, Variables}
+use Rattle.boot_texts.specs.declared.event_walk.BootQuestion.{BootQuestion}
+use Rattle.boot_texts.specs.declared.event_walk.BootQuestion.TheVariants.{Images, Commands, Variables}
 use Rattle.boot_texts.specs.Answering.{Chosen, is_answered}
 use Rattle.cells.specs.Cells.{rendered}
 use Rattle.boot_texts.specs.AnswerCells.{secure_boot_cell, untold_cell, version_cell, word_cell}

@@ -8,15 +8,15 @@ use Rattle.std.specs.Str.{is_utf8}
 use Rattle.boot_log.specs.Replaying.{is_extended_into}
 use Rattle.boot_log.specs.Spelling.{LogEvent}
 use Rattle.event_texts.specs.WideTexts.{wide_text}
-use Rattle.measured_data.specs.declared.pcr.Pcr.{Pcr}
+use Rattle.measured_data.specs.declared.confirmed.Pcr.{Pcr}
 use Rattle.boot_answers.specs.Commands.{CommandSaid, grub, told_text, wide}
 use Rattle.boot_answers.specs.Extending.{extended_events}
 use Rattle.boot_answers.specs.ImaMeasuring.{AsksToMeasure}
 use Rattle.boot_answers.specs.ImaPolicy.{MaySetImaPolicy}
 use Rattle.cells.specs.Cells.{Cell, if_some, in_order, number, text, word}
 use Rattle.cells.specs.Values.{Member}
-use Rattle.boot_texts.specs.declared.policy_question.PolicyQuestion.{PolicyQuestion}
-use Rattle.boot_texts.specs.declared.policy_question.PolicyQuestion.TheVariants.{Measuring, Policy}
+use Rattle.boot_texts.specs.declared.policies.PolicyQuestion.{PolicyQuestion}
+use Rattle.boot_texts.specs.declared.policies.PolicyQuestion.TheVariants.{Measuring, Policy}
 use Rattle.boot_texts.specs.declared.policies.ImaPolicy.{ImaPolicy}
 use Rattle.boot_texts.specs.declared.policies.ImaPolicy.TheVariants as policies
 

@@ -6,21 +6,21 @@ use Rattle.pcr_banks.specs.declared.alg.Alg.{Alg}
 use Rattle.pcr_banks.specs.Hashing.{all_algs}
 use Rattle.boot_log.specs.Replaying.{is_extended_into}
 use Rattle.boot_log.specs.Spelling.{LogEvent}
-use Rattle.event_data.specs.declared.value.ValueForm.{ValueForm}
-use Rattle.event_data.specs.declared.value.ValueForm.TheVariants as forms
+use Rattle.event_data.specs.declared.value_reader.ValueForm.{ValueForm}
+use Rattle.event_data.specs.declared.value_reader.ValueForm.TheVariants as forms
 use Rattle.event_data.specs.Forms.{VariableData}
 use Rattle.event_data.specs.Reading.{variable_in}
 use Rattle.event_data.specs.Values.{value_form}
-use Rattle.measured_data.specs.declared.part.Part.TheVariants.{Value, Whole}
-use Rattle.measured_data.specs.declared.pcr.Pcr.{Pcr}
+use Rattle.measured_data.specs.declared.measured.Part.TheVariants.{Value, Whole}
+use Rattle.measured_data.specs.declared.confirmed.Pcr.{Pcr}
 use Rattle.measured_data.specs.Confirming.{counts}
 use Rattle.measured_data.specs.Measuring.{is_measured, settings_register}
 use Rattle.boot_answers.specs.Commands.{CommandSaid, told_text}
 use Rattle.boot_answers.specs.Images.{MayBeImage, image_register}
 use Rattle.boot_answers.specs.Separators.{MayBeSeparator}
 use Rattle.cells.specs.declared.writer.Form.{Form}
-use Rattle.boot_texts.specs.declared.boot_question.BootQuestion.{BootQuestion}
-use Rattle.boot_texts.specs.declared.boot_question.BootQuestion.TheVariants.{Images, Commands, Variables}
+use Rattle.boot_texts.specs.declared.event_walk.BootQuestion.{BootQuestion}
+use Rattle.boot_texts.specs.declared.event_walk.BootQuestion.TheVariants.{Images, Commands, Variables}
 use Rattle.cells.specs.Cells.{rendered}
 use Rattle.boot_texts.specs.AnswerCells.{command_cell, image_cell, untold_cell, variable_cell}
 

@@ -10,9 +10,8 @@ ghost use Rattle.boot_texts.specs.AnswerCells.{secure_boot_cell, state_word, ver
 ghost use Rattle.boot_texts.specs.BootLines.{AreBootLines, AreCommandLines, AreImageLines, AreVariableLines};
 
 use crate::answering_banks::is_answered;
-use crate::boot_question::BootQuestion;
 use crate::commands::UnknownCommandLine;
-use crate::event_walk::append_each;
+use crate::event_walk::{BootQuestion, append_each};
 use crate::images::IMAGE_REGISTER;
 use crate::policies::{GRUB_REGISTER, STUB_REGISTER, append_policy};
 use boot_answers::{SETTINGS_REGISTER, SecureBoot, firmware_version, secure_boot};

@@ -6,7 +6,6 @@ ghost use Rattle.boot_log.specs.LogViews.{log_bytes};
 ghost use Rattle.boot_log.specs.Spelling.{IsLog, LogEvent, log_event_of};
 ghost use Rattle.boot_texts.specs.Telling.{Tells, TellsCommand, ToldOf};
 
-use crate::boot_question::BootQuestion;
 use crate::commands::{CommandLine, UnknownCommandLine};
 use crate::images::append_if_image;
 use crate::variables::append_if_variable;
@@ -15,6 +14,17 @@ use boot_log::{Event, LogView};
 use cells::{Form, Written, append};
 use measured_data::Pcr;
 use std::alloc::{AllocError, Global};
+
+/// What is asked of each event of a log.
+#[derive(Clone, Copy)]
+pub(crate) enum BootQuestion {
+    /// The images that the firmware started.
+    Images,
+    /// The texts that boot loaders measured into this register.
+    Commands(u32),
+    /// The variables that say what the firmware was to start.
+    Variables,
+}
 
 /// Appends the lines of the events of the log for the question, up to the first after which nothing is told.
 pub(crate) fn append_each(

@@ -6,7 +6,6 @@
 
 mod answering_banks;
 mod boot_lines;
-mod boot_question;
 mod commands;
 mod difference_lines;
 mod differences;
@@ -14,8 +13,6 @@ mod event_walk;
 mod images;
 pub mod laws;
 mod policies;
-mod policy_question;
-mod policy_scan;
 mod variables;
 
 pub use boot_lines::append_boot;

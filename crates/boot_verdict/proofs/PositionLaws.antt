@@ -16,10 +16,10 @@ use Rattle.boot_log.specs.declared.header.DeclaredAlgorithm.{DeclaredAlgorithm}
 use Rattle.boot_log.specs.Spelling.{LogEvent, IsLog, algs_in}
 use Rattle.boot_log.specs.Replaying.{startup_locality}
 use Rattle.ima_list.specs.ListEntry.{ListEntry}
-use Rattle.boot_verdict.specs.declared.positions.Located.{Located}
-use Rattle.boot_verdict.specs.declared.positions.Position.{Position}
-use Rattle.boot_verdict.specs.declared.positions.Position.TheVariants.{Reset, Event, Entry, Nowhere, Absent}
-use Rattle.boot_verdict.specs.declared.positions.RowTracker.{RowTracker}
+use Rattle.boot_verdict.specs.declared.steps.Located.{Located}
+use Rattle.boot_verdict.specs.declared.steps.Position.{Position}
+use Rattle.boot_verdict.specs.declared.steps.Position.TheVariants.{Reset, Event, Entry, Nowhere, Absent}
+use Rattle.boot_verdict.specs.declared.steps.RowTracker.{RowTracker}
 use Rattle.boot_verdict.specs.declared.report.State.TheVariants as states
 use Rattle.boot_verdict.specs.declared.list_replay.ListReplay.{ListReplay}
 use Rattle.boot_verdict.specs.Positions.{AreLocated, first_position, is_found, is_reached, located_on, pcr_after, position_after, position_of_prefix, position_on, reached_after}

@@ -18,7 +18,7 @@ use Rattle.boot_log.proofs.ListLaws.{find_map}
 use Rattle.ima_list.specs.ListEntry.{ListEntry}
 use Rattle.ima_list.specs.Digesting.{bank_digest}
 use Rattle.ima_list.specs.Replaying.{IsReplayed, digests_of}
-use Rattle.boot_verdict.specs.declared.positions.Position.TheVariants.{Event, Entry}
+use Rattle.boot_verdict.specs.declared.steps.Position.TheVariants.{Event, Entry}
 use Rattle.boot_verdict.specs.Positions.{position_after}
 use Rattle.boot_verdict.specs.Steps.{Step, OfEvent, OfEntry, digest_of_step, entries_as_steps, events_as_steps, prefixes, least_prefix, stepped, steps_of, value_after}
 use Rattle.boot_verdict.specs.Tracking.{AreAfter, BanksAfter, register_of}

@@ -10,9 +10,9 @@ use Rattle.boot_log.specs.Spelling.{LogEvent, IsLog, algs_in}
 use Rattle.ima_list.specs.ListEntry.{ListEntry}
 use Rattle.ima_list.specs.Spelling.{IsReading}
 use Rattle.ima_list.specs.Replaying.{AreGenuine}
-use Rattle.boot_verdict.specs.declared.positions.Located.{Located}
-use Rattle.boot_verdict.specs.declared.positions.Position.{Position}
-use Rattle.boot_verdict.specs.declared.positions.Position.TheVariants.{Reset, Event, Entry, Nowhere, Absent}
+use Rattle.boot_verdict.specs.declared.steps.Located.{Located}
+use Rattle.boot_verdict.specs.declared.steps.Position.{Position}
+use Rattle.boot_verdict.specs.declared.steps.Position.TheVariants.{Reset, Event, Entry, Nowhere, Absent}
 use Rattle.boot_verdict.specs.ListSources.{CameWhole}
 use Rattle.boot_verdict.specs.Steps.{Step, least_prefix, pcr_at_reset, stepped, steps_of, value_after}
 use Rattle.boot_verdict.specs.Verdicts.{is_value}

@@ -7,7 +7,7 @@ use Rattle.pcr_values.specs.declared.expected.Expected.{Expected}
 use Rattle.pcr_values.specs.declared.selection.BankRange.{BankRange}
 use Rattle.pcr_values.specs.RegisterTexts.{all_registers}
 use Rattle.pcr_values.specs.Selections.{IsFirstWrong, SpellsRanges, are_of_banks, names}
-use Rattle.boot_verdict.specs.declared.positions.Located.{Located}
+use Rattle.boot_verdict.specs.declared.steps.Located.{Located}
 use Rattle.boot_verdict.specs.declared.report.Row.{Row}
 use Rattle.boot_verdict.specs.declared.report.State.TheVariants.{Match}
 use Rattle.boot_verdict.specs.Isolation.{are_none, list_register}

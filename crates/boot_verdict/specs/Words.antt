@@ -1,8 +1,8 @@
 -- Words that texts and JSON have in common.
 use Rattle.std.specs.Prelude.{ℕ, List, [], ◌++◌, codes, decimal, Option, Some, None}
 use Rattle.ima_list.specs.ListFaults.{list_fault_number, list_fault_entry, replay_fault_number, replay_fault_entry}
-use Rattle.boot_verdict.specs.declared.prefix_report.Unconfirmed.{Unconfirmed}
-use Rattle.boot_verdict.specs.declared.prefix_report.Unconfirmed.TheVariants as faults
+use Rattle.boot_verdict.specs.declared.report.Unconfirmed.{Unconfirmed}
+use Rattle.boot_verdict.specs.declared.report.Unconfirmed.TheVariants as faults
 use Rattle.boot_verdict.specs.declared.report.Aggregate.{Aggregate}
 use Rattle.boot_verdict.specs.declared.report.Aggregate.TheVariants.{Good, Wrong, NoBank, Missing}
 

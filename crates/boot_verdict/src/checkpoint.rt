@@ -1,4 +1,4 @@
-//! Where a verification stopped, and how it goes on.
+//! Where a verification stopped, how it goes on, and why it does not.
 
 ghost use Rattle.std.specs.Prelude.{◌≡◌, ◌+◌, ◌^◌, ◌<◌, ℕ, is_some, List, [], length, Ok, IsOk, IfOk, IfErr, IsErrOf};
 ghost use Rattle.byte_streams.specs.Streams.{LosesPrefix};
@@ -10,14 +10,17 @@ ghost use Rattle.boot_verdict.specs.Tracking.{BanksAfter};
 ghost use Rattle.boot_verdict.specs.ListReplays.{AreTracked, ReplaysAll};
 ghost use Rattle.boot_verdict.specs.Verdicts.{ReadsAsLog, IsVerifyFault};
 ghost use Rattle.boot_verdict.specs.Checkpoints.{GoesOn, IsCheckpoint, IsMoreFault, WatchesOn, most_after};
+ghost use Rattle.boot_verdict.specs.declared.checkpoint.CheckpointFault.TheVariants.{Memory};
 
 use crate::isolation::Stray;
 use crate::list_replay::ListReplay;
 use crate::steps::Tracker;
 use crate::verifier::VerifyFault;
+use boot_log::LogFault;
 use byte_streams::Source;
 use pcr_banks::{Banks, Digest};
-use std::alloc::Global;
+use std::alloc::{AllocError, Global};
+use thiserror::Error;
 
 /// The most bytes that a list may have.
 const MOST_BYTES: u64 = (1 << 63) - 1;
@@ -139,4 +142,37 @@ impl Checkpoint {
         let _entries = self.entries;
         limit.min(MOST_BYTES.saturating_sub(known))
     }
+}
+
+/// Why a text is not read as a checkpoint.
+#[derive(Clone, Copy, Debug, PartialEq, Eq, Error)]
+pub enum CheckpointFault {
+    /// The text begins as that of a checkpoint does, but has another version.
+    #[error("the checkpoint is of another version")]
+    Version,
+    /// It is not the text of a checkpoint, or it was damaged.
+    #[error("the text is not a whole checkpoint, as it was saved")]
+    Damaged,
+    /// Out of memory.
+    #[error("out of memory")]
+    Memory,
+}
+
+impl From<AllocError> for CheckpointFault {
+    ghost from_gives = { λ _ fault. fault ≡ Memory };
+
+    fn from(_refused: AllocError) -> CheckpointFault {
+        CheckpointFault::Memory
+    }
+}
+
+/// Why a session does not go on from a checkpoint.
+#[derive(Clone, Copy, Debug, PartialEq, Eq, Error)]
+pub enum ResumeFault {
+    /// The log is invalid.
+    #[error("the log is invalid: {0}")]
+    Log(LogFault),
+    /// The checkpoint is of another boot: the log leaves other registers than those before its list.
+    #[error("the checkpoint is of another boot: the log's registers are not those it began from")]
+    OtherBoot,
 }

@@ -8,7 +8,7 @@ ghost use Rattle.pcr_values.specs.declared.selection.BankRange.{BankRange};
 ghost use Rattle.pcr_values.specs.Selections.{SpellsRanges, names};
 ghost use Rattle.boot_log.specs.Spelling.{LogEvent};
 ghost use Rattle.ima_list.specs.ListEntry.{ListEntry};
-ghost use Rattle.boot_verdict.specs.declared.positions.Position.TheVariants.{Nowhere};
+ghost use Rattle.boot_verdict.specs.declared.steps.Position.TheVariants.{Nowhere};
 ghost use Rattle.boot_verdict.specs.declared.report.State.TheVariants.{Match};
 ghost use Rattle.boot_verdict.specs.Positions.{is_found, pcr_after, position_after, position_on, reached_after};
 ghost use Rattle.boot_verdict.specs.Isolation.{IsListApart, IsLogApart, list_register};

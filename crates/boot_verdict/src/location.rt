@@ -20,8 +20,7 @@ ghost use Rattle.boot_verdict.specs.Verdicts.{ReadsAsLog, IsVerifyFault, IsVerif
 ghost use Rattle.boot_verdict.specs.parts.LogPositions.{IsTracked, position_at_reset, row_at_reset};
 
 use crate::list_replay::ListReplay;
-use crate::positions::{Located, Position, RowTracker};
-use crate::steps::{Step, Tracker};
+use crate::steps::{Located, Position, RowTracker, Step, Tracker};
 use crate::verifier::VerifyFault;
 use boot_log::{LogEvents, LogView};
 use byte_streams::Source;

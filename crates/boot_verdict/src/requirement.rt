@@ -8,8 +8,8 @@ ghost use Rattle.pcr_values.specs.Selections.{BeginsWithBankRange, names};
 ghost use Rattle.boot_verdict.specs.Requirements.{IsRequirementText, IsWithoutPcr10, IsWrong, bind_list, is_complete, is_complete_in, is_missing, is_of, states};
 
 use crate::isolation::LIST_REGISTER;
-use crate::positions::Located;
 use crate::report::Row;
+use crate::steps::Located;
 use pcr_banks::{Alg, REGISTERS};
 use pcr_values::{Expected, Selection, SelectionFault};
 use std::alloc::Global;

@@ -7,10 +7,8 @@
 
 mod memory;
 mod piece_reader;
-mod senders;
 mod streams;
 
 pub use memory::{SliceSource, VecSink};
 pub use piece_reader::{PieceReader, ReadFault, remove_prefix};
-pub use senders::{send, send_pieces};
-pub use streams::{Failed, Sink, Source};
+pub use streams::{Failed, Sink, Source, send, send_pieces};

@@ -1,7 +1,7 @@
-//! The traits of sinks and sources.
+//! The traits of sinks and sources, and writers that send all of their bytes.
 
-ghost use Rattle.std.specs.Prelude.{◌≤◌, length, IfOk};
-ghost use Rattle.byte_streams.specs.Streams.{SinkState, SourceState, Takes, Gives};
+ghost use Rattle.std.specs.Prelude.{◌≤◌, length, IfOk, flat_map};
+ghost use Rattle.byte_streams.specs.Streams.{SinkState, SourceState, Takes, Gives, Sends};
 
 use thiserror::Error;
 
@@ -35,4 +35,26 @@ pub trait Source {
     fn read(&mut self, buffer: &mut [u8]) -> Result<usize, Failed>
         ensures within { IfOk result (λ n. n ≤ length buffer.old) }
         ensures gives { Gives (state self.old) (state self.new) result buffer.new };
+}
+
+/// Writes all bytes, in as many writes as the sink needs. After `Err` the sink has taken a prefix of them.
+pub fn send<S: Sink>(bytes: &[u8], sink: &mut S) -> Result<(), Failed>
+    ensures { Sends (S.state sink.old) (S.state sink.new) result bytes.now }
+{
+    let mut rest = bytes;
+    while !rest.is_empty() {
+        let count = sink.write(rest)?;
+        rest = &rest[count..];
+    }
+    Ok(())
+}
+
+/// Writes all pieces in order. After `Err` the sink has taken a prefix of the pieces joined.
+pub fn send_pieces<S: Sink>(pieces: &[&[u8]], sink: &mut S) -> Result<(), Failed>
+    ensures { Sends (S.state sink.old) (S.state sink.new) result (flat_map (λ piece. piece.now) pieces.now) }
+{
+    for piece in pieces {
+        send(piece, sink)?;
+    }
+    Ok(())
 }

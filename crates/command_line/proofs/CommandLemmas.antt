@@ -9,7 +9,7 @@ use Rattle.clap.proofs.SimpleLemmas.{plain_fields}
 use Rattle.command_line.specs.parts.Commands.{IsArgument, IsCommand, app_of_row, with_argument_row, with_row}
 use Rattle.command_line.specs.declared.command_table.ArgumentRow.{ArgumentRow}
 use Rattle.command_line.specs.declared.command_table.CommandRow.{CommandRow}
-use Rattle.command_line.specs.declared.commands.KnownNames.{KnownNames}
+use Rattle.command_line.specs.declared.command_table.KnownNames.{KnownNames}
 
 pub one_rule_more : (rule : Rule) (old new : Command) (arg : Arg) → IsArgument rule arg → AddsArg old arg new
     → app_of new ≡ with_rule (app_of old) rule

@@ -12,7 +12,7 @@ ghost use Rattle.agent_plans.specs.declared.plan.Plan.TheVariants as plans;
 ghost use Rattle.agent_plans.specs.declared.plan.Query.TheVariants as queries;
 ghost use Rattle.agent_plans.specs.declared.plan.Task.TheVariants.{Version};
 
-use crate::commands::{KnownNames, all_commands};
+use crate::command_table::{KnownNames, all_commands};
 use crate::values::{
     attest_of, boot_of, events_of, flag_of, key_of, known_of, measurement_of, name_of,
     text_if_given,

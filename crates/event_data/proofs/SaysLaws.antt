@@ -3,8 +3,8 @@ use Rattle.std.proofs.Common.{◌≡◌, ℕ, ◌%◌, Bool, true, false, cond, 
 use Rattle.std.specs.Option.{option_map_or}
 use Rattle.std.proofs.lemmas.Bool.{ne_eqb}
 use Rattle.byte_fields.proofs.Steps.{IsBytes}
-use Rattle.event_data.specs.declared.value.ValueForm.{ValueForm}
-use Rattle.event_data.specs.declared.value.ValueForm.TheVariants as forms
+use Rattle.event_data.specs.declared.value_reader.ValueForm.{ValueForm}
+use Rattle.event_data.specs.declared.value_reader.ValueForm.TheVariants as forms
 use Rattle.event_data.specs.Forms.{VariableData}
 use Rattle.event_data.specs.ValueForms.{LoadOptionData, SignatureData, ListData, IsLoadOption, IsBootNumber, IsBootOrder, IsSignature, IsSignatureList, AreSignatureLists}
 use Rattle.event_data.specs.ValueReading.{load_option_in, numbers_in, signature_in, lists_in, all_taken}

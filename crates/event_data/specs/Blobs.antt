@@ -3,8 +3,8 @@
 -- numbers are little endian.
 use Rattle.std.specs.Prelude.{◌≡◌, ℕ, ◌^◌, ◌<◌, List, [], ◌∷◌, ◌++◌, length, codes, Option, Some, None, option_map}
 use Rattle.byte_fields.specs.Spelling.{number32, number64, sized32}
-use Rattle.event_data.specs.declared.blob.Blob.{Blob}
-use Rattle.event_data.specs.declared.tagged.Tagged.{Tagged}
+use Rattle.event_data.specs.declared.short_forms.Blob.{Blob}
+use Rattle.event_data.specs.declared.short_forms.Tagged.{Tagged}
 
 -- ---- a blob
 

@@ -7,7 +7,7 @@ use Rattle.byte_fields.specs.Spelling.{number16, number32, number64}
 use Rattle.event_data.specs.declared.command.Command.{Command}
 use Rattle.event_data.specs.declared.command.CommandKind.{CommandKind}
 use Rattle.event_data.specs.declared.command.CommandKind.TheVariants.{Grub, Kernel, Module}
-use Rattle.event_data.specs.declared.image.Image.{Image}
+use Rattle.event_data.specs.declared.short_forms.Image.{Image}
 use Rattle.event_data.specs.declared.variable.Variable.{Variable}
 
 -- ---- separators and texts

@@ -1,6 +1,6 @@
 -- What contracts see of what a value says.
-use Rattle.event_data.specs.declared.value.ValueContent.{ValueContent}
-use Rattle.event_data.specs.declared.value.ValueContent.TheVariants as values
+use Rattle.event_data.specs.declared.value_reader.ValueContent.{ValueContent}
+use Rattle.event_data.specs.declared.value_reader.ValueContent.TheVariants as values
 use Rattle.event_data.specs.ValueReading.{numbers_in, lists_in}
 use Rattle.event_data.specs.ValueViews.{load_option_of, signature_of}
 use Rattle.event_data.specs.ValueRests.{numbers_left, lists_left}

@@ -1,8 +1,8 @@
 -- What is left of values whose parts are lent.
 use Rattle.std.specs.Prelude.{ℕ, List}
 use Rattle.event_data.specs.declared.load_option.BootOrder.{BootOrder}
-use Rattle.event_data.specs.declared.signature.Signatures.{Signatures}
-use Rattle.event_data.specs.declared.signature_list.SignatureLists.{SignatureLists}
+use Rattle.event_data.specs.declared.variable.Signatures.{Signatures}
+use Rattle.event_data.specs.declared.variable.SignatureLists.{SignatureLists}
 
 -- The bytes of the numbers that were not lent yet.
 abbrev pub numbers_left : BootOrder → List ℕ

@@ -1,7 +1,7 @@
 -- What contracts see of the values of variables, and of what is lent of them.
 use Rattle.event_data.specs.declared.load_option.LoadOption.{LoadOption}
-use Rattle.event_data.specs.declared.signature.Signature.{Signature}
-use Rattle.event_data.specs.declared.signature_list.SignatureList.{SignatureList}
+use Rattle.event_data.specs.declared.variable.Signature.{Signature}
+use Rattle.event_data.specs.declared.variable.SignatureList.{SignatureList}
 use Rattle.event_data.specs.ValueForms.{LoadOptionData, SignatureData, ListData}
 
 abbrev pub load_option_of : LoadOption → LoadOptionData

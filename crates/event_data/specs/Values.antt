@@ -1,8 +1,8 @@
 -- What the value of a UEFI variable says, by the variable's vendor and name.
 use Rattle.std.specs.Prelude.{◌≡◌, ℕ, ◌⊎◌, Bool, true, false, not, ◌&&◌, ◌||◌, ◌==◌, nat_lt, if◌then◌else◌, List, [], ◌∷◌, length, take, drop, codes, flat_map, bytes_eq}
 use Rattle.std.specs.Option.{option_map_or}
-use Rattle.event_data.specs.declared.value.ValueForm.{ValueForm}
-use Rattle.event_data.specs.declared.value.ValueForm.TheVariants as forms
+use Rattle.event_data.specs.declared.value_reader.ValueForm.{ValueForm}
+use Rattle.event_data.specs.declared.value_reader.ValueForm.TheVariants as forms
 use Rattle.event_data.specs.Forms.{VariableData}
 use Rattle.event_data.specs.ValueForms.{LoadOptionData, SignatureData, ListData, IsLoadOption, IsBootOrder, IsSignature, AreSignatureLists}
 use Rattle.event_data.specs.ValueReading.{load_option_in, numbers_in, signature_in, lists_in, all_taken}

@@ -4,17 +4,16 @@ ghost use Rattle.std.specs.Prelude.{◌≡◌, option_map};
 ghost use Rattle.event_data.specs.EventForms.{form_of, Says, content_of};
 ghost use Rattle.event_data.specs.ContentReading.{content_in, form_content, loader_content, post_code_content, text_content, version_content};
 
-use crate::blob::{Blob, read_described_blob, read_plain_blob};
 use crate::command::{Command, read_command};
 use crate::gpt::Gpt;
 use crate::gpt_reader::read_gpt;
-use crate::guid::{Guid, read_guid};
-use crate::image::{Image, read_image};
-use crate::locality::read_locality;
-use crate::tagged::{Tagged, read_tagged};
+use crate::short_forms::{
+    Blob, Guid, Image, Tagged, read_described_blob, read_guid, read_image, read_locality,
+    read_plain_blob, read_tagged,
+};
 use crate::text::{read_separator, read_text, read_wide_text};
+use crate::value_reader::read_variable;
 use crate::variable::Variable;
-use crate::variable_reader::read_variable;
 
 /// A form of an event's data.
 #[derive(Clone, Copy)]

@@ -1,17 +1,140 @@
-//! The form of a variable's value, by vendor and name, and the reader of values.
+//! The readers of variables, of the signatures in them and of their values: the form of a value, by vendor and name, and what it says.
 
-ghost use Rattle.std.specs.Prelude.{◌≡◌, ◌&&◌, bytes_eq, length, ◌==◌, ◌⊎◌};
-ghost use Rattle.event_data.specs.Forms.{variable_of};
+ghost use Rattle.std.specs.Prelude.{◌≡◌, ◌*◌, Some, IfSome, option_map, ◌≤◌, [], length, ◌&&◌, bytes_eq, ◌==◌, ◌⊎◌};
+ghost use Rattle.byte_fields.specs.Reading.{Reads, part_at};
+ghost use Rattle.event_data.specs.Forms.{IsVariable, VariableData, variable_of};
+ghost use Rattle.event_data.specs.Reading.{variable, variable_in};
+ghost use Rattle.event_data.specs.declared.content.Mismatch.TheVariants.{Form};
+ghost use Rattle.event_data.specs.ValueForms.{IsSignature, SignatureData};
+ghost use Rattle.event_data.specs.ValueReading.{signature, signature_in, signature_list, lists_in};
+ghost use Rattle.event_data.specs.ValueViews.{signature_of, list_of};
 ghost use Rattle.event_data.specs.Values.{are_digits, is_authority, is_digit, is_flag, is_lists, is_load_option, is_option_name, is_order, value_form, SaysValue, ValueSays, ValueSaysIn, says_in, unknown, value_in};
-ghost use Rattle.event_data.specs.declared.value.ValueForm.TheVariants.{Lists, Order};
+ghost use Rattle.event_data.specs.declared.value_reader.ValueForm.TheVariants.{Lists, Order};
 ghost use Rattle.event_data.specs.ValueContents.{says_of};
-ghost use Rattle.event_data.specs.ValueReading.{lists_in};
 
-use crate::load_option::{BootOrder, read_load_option};
-use crate::signature_list::SignatureLists;
-use crate::signature_reader::read_signature;
-use crate::value::{ValueContent, ValueForm};
-use crate::variable::Variable;
+use crate::content::Mismatch;
+use crate::load_option::{BootOrder, LoadOption, read_load_option};
+use crate::variable::{Signature, SignatureList, SignatureLists, Variable};
+use byte_fields::{part_at, u32_at, u64_at};
+
+/// A form of a variable's value.
+#[derive(Clone, Copy)]
+pub enum ValueForm {
+    /// One byte.
+    Flag,
+    /// Numbers of load options.
+    Order,
+    /// A load option.
+    LoadOption,
+    /// Lists of signatures.
+    Lists,
+    /// One signature.
+    Signature,
+    /// No form that is known here.
+    Other,
+}
+
+/// What the value of a UEFI variable says.
+#[derive(Clone, Copy)]
+pub enum ValueContent<'a> {
+    /// A setting: 1 where it is on, 0 where it is off.
+    Flag(u8),
+    /// The numbers of load options, in the order in which they are tried.
+    Order(BootOrder<'a>),
+    /// A load option.
+    LoadOption(LoadOption<'a>),
+    /// Lists of signatures; none where the variable is empty.
+    Lists(SignatureLists<'a>),
+    /// The signature that allowed an image.
+    Signature(Signature<'a>),
+    /// A value of no form that is known for the variable.
+    Unknown,
+}
+
+// Reads `units` units of two bytes. Returns them and the remaining bytes.
+fn units_at(units: u64, bytes: &[u8]) -> Result<(&[u8], &[u8]), Mismatch>
+    ensures { Reads (λ x. (x.0.now, x.1.now)) result (part_at Form (2 * units) bytes.now) }
+{
+    if units > (bytes.len() / 2) as u64 {
+        return Err(Mismatch::Form);
+    }
+    part_at(Mismatch::Form, 2 * units as usize, bytes)
+}
+
+// Reads the variable at the front of the bytes. Returns it and the remaining bytes.
+#[tactic(auto, unfolding(crate::specs::Reading::variable))]
+fn variable_at(bytes: &[u8]) -> Result<(Variable<'_>, &[u8]), Mismatch>
+    ensures { Reads (λ x. (variable_of x.0, x.1.now)) result (variable.at bytes.now) }
+{
+    let (guid, rest) = part_at(Mismatch::Form, 16, bytes)?;
+    let (units, rest) = u64_at(Mismatch::Form, rest)?;
+    let (size, rest) = u64_at(Mismatch::Form, rest)?;
+    let (name, rest) = units_at(units, rest)?;
+    let (value, rest) = part_at(Mismatch::Form, size as usize, rest)?;
+    Ok((Variable { guid, name, value }, rest))
+}
+
+/// The variable that the bytes are; `None` where they are none.
+pub fn read_variable(bytes: &[u8]) -> Option<Variable<'_>>
+    ensures value { option_map variable_of result ≡ variable_in bytes.now }
+    ensures found { IfSome result (λ found. IsVariable bytes.now (variable_of found)) }
+    ensures only { (value : VariableData) → IsVariable bytes.now value → option_map variable_of result ≡ Some value }
+{
+    match variable_at(bytes) {
+        Ok((variable, rest)) if rest.is_empty() => Some(variable),
+        _ => None,
+    }
+}
+
+/// Reads the signature of this size at the front of the bytes. Returns it and the remaining bytes.
+#[tactic(auto, unfolding(crate::specs::ValueReading::signature))]
+pub(crate) fn signature_at(size: usize, bytes: &[u8]) -> Result<(Signature<'_>, &[u8]), Mismatch>
+    requires { 16 ≤ size }
+    ensures { Reads (λ x. (signature_of x.0, x.1.now)) result ((signature size).at bytes.now) }
+{
+    let (owner, rest) = part_at(Mismatch::Form, 16, bytes)?;
+    let (payload, rest) = part_at(Mismatch::Form, size - 16, rest)?;
+    Ok((Signature { owner, payload }, rest))
+}
+
+/// The signature that the bytes are: an owner's GUID, and then its data; `None` where they are fewer than 16.
+pub fn read_signature(bytes: &[u8]) -> Option<Signature<'_>>
+    ensures value { option_map signature_of result ≡ signature_in bytes.now }
+    ensures found { IfSome result (λ found. IsSignature bytes.now (signature_of found)) }
+    ensures only { (value : SignatureData) → IsSignature bytes.now value → option_map signature_of result ≡ Some value }
+{
+    match part_at(Mismatch::Form, 16, bytes) {
+        Ok((owner, payload)) => Some(Signature { owner, payload }),
+        Err(_) => None,
+    }
+}
+
+/// Reads the list at the front of the bytes. Returns it and the remaining bytes.
+#[tactic(auto, unfolding(crate::specs::ValueReading::signature_list))]
+pub(crate) fn list_at(bytes: &[u8]) -> Result<(SignatureList<'_>, &[u8]), Mismatch>
+    ensures { Reads (λ x. (list_of x.0, x.1.now)) result (signature_list.at bytes.now) }
+{
+    let (kind, rest) = part_at(Mismatch::Form, 16, bytes)?;
+    let (size, rest) = u32_at(Mismatch::Form, rest)?;
+    let (header_size, rest) = u32_at(Mismatch::Form, rest)?;
+    if (size as usize) < 28 + header_size as usize {
+        return Err(Mismatch::Form);
+    }
+    let (signature_size, rest) = u32_at(Mismatch::Form, rest)?;
+    let left = size as usize - 28 - header_size as usize;
+    if signature_size < 16 || left % signature_size as usize != 0 {
+        return Err(Mismatch::Form);
+    }
+    let (header, rest) = part_at(Mismatch::Form, header_size as usize, rest)?;
+    let (signatures, rest) = part_at(Mismatch::Form, left, rest)?;
+    let list = SignatureList {
+        kind,
+        signature_size,
+        header,
+        signatures,
+    };
+    Ok((list, rest))
+}
 
 // 8be4df61-93ca-11d2-aa0d-00e098032b8c.
 const GLOBAL: [u8; 16] = [

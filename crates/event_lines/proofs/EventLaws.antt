@@ -12,8 +12,8 @@ use Rattle.boot_log.specs.EventTypes.{event_type_name}
 use Rattle.boot_log.specs.declared.header.DeclaredAlgorithm.{DeclaredAlgorithm}
 use Rattle.boot_log.specs.Spelling.{IsRow, IsSpecification, LogEvent, SpecificationData}
 use Rattle.event_data.specs.ContentReading.{content_in}
-use Rattle.measured_data.specs.declared.part.Part.{Part}
-use Rattle.measured_data.specs.declared.pcr.Pcr.{Pcr}
+use Rattle.measured_data.specs.declared.measured.Part.{Part}
+use Rattle.measured_data.specs.declared.confirmed.Pcr.{Pcr}
 use Rattle.measured_data.specs.Confirming.{confirmed_part}
 use Rattle.measured_data.specs.Measuring.{measured_part}
 use Rattle.cells.specs.Cells.{beside, each, if_some, list_at, object, object_at}

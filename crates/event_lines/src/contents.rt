@@ -1,28 +1,75 @@
-//! What an event's data says.
+//! What an event's data says, with tables of partitions, and writers of members with texts that need memory: texts in UTF-16, GUIDs, device paths
+//! and addresses.
 
-ghost use Rattle.std.specs.Prelude.{◌≡◌, [], ◌∷◌, ◌++◌, codes, option_map, OnOk};
+ghost use Rattle.std.specs.Prelude.{[], ◌∷◌, ◌≡◌, ◌++◌, codes, option_map, OnOk, map};
 ghost use Rattle.event_data.specs.Blobs.{blob_of, tagged_of};
 ghost use Rattle.event_data.specs.ContentReading.{content_in};
 ghost use Rattle.event_data.specs.EventForms.{content_of};
 ghost use Rattle.event_data.specs.Forms.{command_of, image_of};
 ghost use Rattle.event_data.specs.Results.{text_in};
-ghost use Rattle.event_lines.specs.ContentTexts.{text_or_hex};
-ghost use Rattle.event_lines.specs.ContentJson.{blob_json, command_json, command_word, content_json, content_members, description_members, image_json, tagged_json};
-ghost use Rattle.event_lines.specs.SteeringTexts.{unsteered, value_cell};
+ghost use Rattle.event_data.specs.Entries.{partition_of};
+ghost use Rattle.event_data.specs.Gpts.{gpt_of};
+ghost use Rattle.cells.specs.Writing.{WritesMembers, WritesValue, WritesItems};
 ghost use Rattle.cells.specs.Cells.{ShowsMembers};
 ghost use Rattle.cells.specs.Values.{line_of};
-ghost use Rattle.cells.specs.Writing.{WritesMembers, WritesValue};
+ghost use Rattle.event_lines.specs.ContentTexts.{address_json, guid_json, path_member, wide_member, text_or_hex};
+ghost use Rattle.event_lines.specs.ContentJson.{blob_json, command_json, command_word, content_json, content_members, description_members, image_json, tagged_json, gpt_json, partition_json};
+ghost use Rattle.event_lines.specs.SteeringTexts.{unsteered, value_cell};
 
-use crate::content_texts::{write_address, write_guid, write_path, write_wide};
-use crate::partitions::write_gpt;
 use crate::steering::append_embedded;
 use crate::values::write_variable;
 use cells::{CellWriter, Written, write_flag, write_hex, write_number, write_shown, write_text};
 use event_data::{
-    Blob, Command, CommandKind, EventContent, Image, Tagged, event_content, read_text,
+    Blob, Command, CommandKind, EventContent, Gpt, Image, Partition, Tagged, event_content,
+    read_text,
 };
+use event_texts::{guid_text, hex_number, path_text, wide_text};
 use json::Writer;
 use std::alloc::Global;
+
+/// Writes a member with a text in UTF-16, or under the other name the bytes in hexadecimal, where they are none. Fails only if memory
+/// runs out.
+pub fn write_wide(
+    alloc: Global,
+    name: &str,
+    hex_name: &str,
+    bytes: &[u8],
+    writer: &mut Writer,
+) -> Written
+    ensures { WritesMembers result writer.old writer.new (wide_member name.now hex_name.now bytes.now ∷ []) }
+{
+    match wide_text(alloc, bytes)? {
+        Some(text) => write_text(name, &text, writer),
+        None => write_hex(alloc, hex_name, bytes, writer),
+    }
+}
+
+/// Writes the member `path` with the text of a device path, or `path_hex` with the bytes in hexadecimal, where they are none. Fails only if memory
+/// runs out.
+pub(crate) fn write_path(alloc: Global, bytes: &[u8], writer: &mut Writer) -> Written
+    ensures { WritesMembers result writer.old writer.new (path_member bytes.now ∷ []) }
+{
+    match path_text(alloc, bytes)? {
+        Some(text) => write_text("path", &text, writer),
+        None => write_hex(alloc, "path_hex", bytes, writer),
+    }
+}
+
+/// Writes a member with a GUID. Fails only if memory runs out.
+pub(crate) fn write_guid(alloc: Global, name: &str, guid: &[u8], writer: &mut Writer) -> Written
+    ensures { WritesMembers result writer.old writer.new ((name.now, guid_json guid.now) ∷ []) }
+{
+    let text = guid_text(alloc, guid)?;
+    write_text(name, &text, writer)
+}
+
+// Writes a member with a number of 64 bits, in hexadecimal. Fails only if memory runs out.
+fn write_address(alloc: Global, name: &str, value: u64, writer: &mut Writer) -> Written
+    ensures { WritesMembers result writer.old writer.new ((name.now, address_json value) ∷ []) }
+{
+    let text = hex_number(alloc, value)?;
+    write_text(name, &text, writer)
+}
 
 /// Shows what the data of an event of this type says: in JSON as the member of this name, an object with one member, which is named by the data's
 /// form, as [`crate::append_event`] has it under `content`; in text, after these words, as a line of JSON in which no character steers what
@@ -184,4 +231,43 @@ fn write_payload(alloc: Global, payload: &[u8], writer: &mut Writer) -> Written
         Some(text) => write_text("text", text, writer),
         None => write_hex(alloc, "data", payload, writer),
     }
+}
+
+// Writes the member of a disk's table of partitions.
+fn write_gpt(alloc: Global, gpt: &Gpt<'_>, writer: &mut Writer) -> Written
+    ensures { WritesMembers result writer.old writer.new ((codes "gpt", gpt_json (gpt_of gpt.now)) ∷ []) }
+{
+    writer.key("gpt")?;
+    writer.begin_object()?;
+    write_guid(alloc, "disk", gpt.disk, writer)?;
+    writer.key("partitions")?;
+    writer.begin_array()?;
+    write_partitions(alloc, gpt, writer)?;
+    writer.end_array()?;
+    writer.end_object()?;
+    Ok(())
+}
+
+fn write_partitions(alloc: Global, gpt: &Gpt<'_>, writer: &mut Writer) -> Written
+    ensures { WritesItems result writer.old writer.new (map partition_json (gpt_of gpt.now).partitions) }
+{
+    let mut left = gpt.partitions();
+    while let Some(partition) = left.next_partition() {
+        write_partition(alloc, &partition, writer)?;
+    }
+    Ok(())
+}
+
+fn write_partition(alloc: Global, partition: &Partition<'_>, writer: &mut Writer) -> Written
+    ensures { WritesValue result writer.old writer.new (partition_json (partition_of partition.now)) }
+{
+    writer.begin_object()?;
+    write_guid(alloc, "type", partition.kind, writer)?;
+    write_guid(alloc, "guid", partition.guid, writer)?;
+    write_address(alloc, "first", partition.first, writer)?;
+    write_address(alloc, "last", partition.last, writer)?;
+    write_address(alloc, "attributes", partition.attributes, writer)?;
+    write_wide(alloc, "name", "name_hex", partition.name, writer)?;
+    writer.end_object()?;
+    Ok(())
 }

@@ -7,7 +7,7 @@ ghost use Rattle.hex.specs.Hex.{IsBytes};
 ghost use Rattle.boot_log.specs.declared.header.DeclaredAlgorithm.{DeclaredAlgorithm};
 ghost use Rattle.boot_log.specs.Spelling.{IsRow, IsSpecification, LogEvent, SpecificationData};
 ghost use Rattle.event_data.specs.ContentReading.{content_in};
-ghost use Rattle.measured_data.specs.declared.pcr.Pcr.{Pcr};
+ghost use Rattle.measured_data.specs.declared.confirmed.Pcr.{Pcr};
 ghost use Rattle.json.specs.Find.{get};
 ghost use Rattle.cells.specs.Values.{IsCount, IsOneLine};
 ghost use Rattle.event_lines.specs.ContentJson.{content_json};

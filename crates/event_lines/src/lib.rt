@@ -5,19 +5,16 @@
 //! is read. Plain lines ([`write_events`]) take no memory that is not given back.
 #![tactic(auto)]
 
-mod content_texts;
 mod contents;
 mod event_lines;
 mod events;
 pub mod laws;
 mod marks;
-mod partitions;
 mod plain_events;
 mod steering;
 mod values;
 
-pub use content_texts::write_wide;
-pub use contents::{command_word, show_content, show_form};
+pub use contents::{command_word, show_content, show_form, write_wide};
 pub use event_lines::{EventsFault, send_events};
 pub use events::{append_event, append_header};
 pub use plain_events::{write_declared, write_event_head, write_events};

@@ -11,7 +11,7 @@ ghost use Rattle.event_lines.specs.ValueJson.{list_json, load_option_json, optio
 ghost use Rattle.event_lines.specs.VariableJson.{variable_json};
 ghost use Rattle.cells.specs.Writing.{WritesItems, WritesMembers, WritesValue};
 
-use crate::content_texts::{write_guid, write_path, write_wide};
+use crate::contents::{write_guid, write_path, write_wide};
 use cells::{Written, write_hex, write_number};
 use event_data::{
     BootOrder, LoadOption, Signature, SignatureList, SignatureLists, ValueContent, Variable,

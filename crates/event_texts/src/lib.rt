@@ -4,8 +4,6 @@
 mod bytes;
 mod node_row;
 mod paths;
-mod wide_texts;
 
-pub use bytes::{guid_text, hex_number};
+pub use bytes::{guid_text, hex_number, wide_text};
 pub use paths::path_text;
-pub use wide_texts::wide_text;

@@ -7,8 +7,8 @@ ghost use Rattle.event_data.specs.PathNodes.{node_of};
 ghost use Rattle.event_texts.specs.NodeRows.{row_of, row_text};
 ghost use Rattle.event_texts.specs.PathTexts.{file_text, is_end, is_uri_byte, node_text, path_text, told_text, uri_text};
 
+use crate::bytes::wide_text;
 use crate::node_row::{push_fields, row_of};
-use crate::wide_texts::wide_text;
 use event_data::{DevicePath, PathNode};
 use std::alloc::{AllocError, Global};
 

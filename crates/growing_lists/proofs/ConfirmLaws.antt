@@ -9,8 +9,8 @@ use Rattle.ima_list.specs.Digesting.{IsGenuine}
 use Rattle.ima_list.specs.Replaying.{AreGenuine}
 use Rattle.boot_verdict.specs.declared.checkpoint.Checkpoint.{Checkpoint}
 use Rattle.growing_lists.specs.declared.confirmation.Search.{Search}
-use Rattle.boot_verdict.specs.declared.prefix_report.Unconfirmed.{Unconfirmed}
-use Rattle.boot_verdict.specs.declared.prefix_report.Unconfirmed.TheVariants as unconfirmed
+use Rattle.boot_verdict.specs.declared.report.Unconfirmed.{Unconfirmed}
+use Rattle.boot_verdict.specs.declared.report.Unconfirmed.TheVariants as unconfirmed
 use Rattle.growing_lists.specs.declared.session.Session.{Session}
 use Rattle.boot_verdict.specs.Checkpoints.{IsMoreFault}
 use Rattle.boot_verdict.specs.ListReplays.{AreTracked, IsReplayedOrForged}

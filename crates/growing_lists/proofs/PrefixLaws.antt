@@ -23,13 +23,13 @@ use Rattle.ima_list.specs.Digesting.{IsGenuine}
 use Rattle.ima_list.specs.Replaying.{AreGenuine, digests_of}
 use Rattle.ima_list.proofs.PieceLaws.{reading_to_the_end}
 use Rattle.boot_verdict.specs.declared.checkpoint.Checkpoint.{Checkpoint}
-use Rattle.boot_verdict.specs.declared.prefix_report.Unconfirmed.{Unconfirmed}
-use Rattle.boot_verdict.specs.declared.prefix_report.Unconfirmed.TheVariants as unconfirmed
+use Rattle.boot_verdict.specs.declared.report.Unconfirmed.{Unconfirmed}
+use Rattle.boot_verdict.specs.declared.report.Unconfirmed.TheVariants as unconfirmed
 use Rattle.growing_lists.specs.declared.confirmation.Confirming.{Confirming}
 use Rattle.growing_lists.specs.declared.confirmation.Prefix.{Prefix}
 use Rattle.boot_verdict.specs.declared.list_replay.ListReplay.{ListReplay}
-use Rattle.boot_verdict.specs.declared.positions.Position.{Position}
-use Rattle.boot_verdict.specs.declared.positions.Position.TheVariants.{Reset, Event, Entry, Nowhere, Absent}
+use Rattle.boot_verdict.specs.declared.steps.Position.{Position}
+use Rattle.boot_verdict.specs.declared.steps.Position.TheVariants.{Reset, Event, Entry, Nowhere, Absent}
 use Rattle.boot_verdict.specs.Checkpoints.{IsCheckpoint, IsMoreFault}
 use Rattle.boot_verdict.specs.declared.isolation.Stray.{Stray}
 use Rattle.boot_verdict.specs.Isolation.{first_stray, stray_from}

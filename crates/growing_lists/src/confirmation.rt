@@ -6,7 +6,7 @@ ghost use Rattle.pcr_banks.specs.declared.sets.AlgSet.{AlgSet};
 ghost use Rattle.pcr_banks.specs.Digests.{alg_of, bytes_of};
 ghost use Rattle.boot_log.specs.Replaying.{IsFirmware};
 ghost use Rattle.boot_log.specs.Spelling.{LogEvent};
-ghost use Rattle.boot_verdict.specs.declared.prefix_report.Unconfirmed.{Unconfirmed};
+ghost use Rattle.boot_verdict.specs.declared.report.Unconfirmed.{Unconfirmed};
 ghost use Rattle.boot_verdict.specs.Checkpoints.{IsCheckpoint, IsMoreFault, most_after};
 ghost use Rattle.boot_verdict.specs.ListSources.{failures_after_list};
 ghost use Rattle.boot_verdict.specs.Verdicts.{aggregate_of, is_good};

@@ -5,9 +5,9 @@ use Rattle.pcr_banks.specs.Hashing.{all_algs}
 use Rattle.pcr_values.specs.declared.expected.Expected.{Expected}
 use Rattle.pcr_values.specs.declared.selection.BankRange.{BankRange}
 use Rattle.boot_verdict.specs.declared.isolation.Strays.{Strays}
-use Rattle.boot_verdict.specs.declared.positions.Located.{Located}
-use Rattle.boot_verdict.specs.declared.positions.Position.{Position}
-use Rattle.boot_verdict.specs.declared.positions.Position.TheVariants as places
+use Rattle.boot_verdict.specs.declared.steps.Located.{Located}
+use Rattle.boot_verdict.specs.declared.steps.Position.{Position}
+use Rattle.boot_verdict.specs.declared.steps.Position.TheVariants as places
 use Rattle.boot_verdict.specs.declared.report.Report.{Report}
 use Rattle.boot_verdict.specs.declared.report.Row.{Row}
 use Rattle.boot_verdict.specs.declared.report.State.{State}
@@ -17,14 +17,12 @@ use Rattle.boot_verdict.specs.Requirements.{is_missing}
 use Rattle.tpm_quotes.specs.Spelling.{all_registers}
 use Rattle.attestations.specs.declared.report.AttestReport.{AttestReport}
 use Rattle.agent_inputs.specs.Loading.{Inputs}
-use Rattle.agent_plans.specs.declared.plan.Scope.{Scope}
-use Rattle.agent_plans.specs.declared.plan.Scope.TheVariants.{Whole, Prefix}
 use Rattle.judging.specs.declared.request.Answer.{Answer}
 use Rattle.judging.specs.declared.request.Answered.{Answered}
 use Rattle.known_files.specs.declared.unknown.Unknown.{Unknown}
 use Rattle.agent_inputs.specs.declared.fault.RunFault.{RunFault}
 use Rattle.judging.specs.Answering.{IsAnswer, IsRefusal}
-use Rattle.judging.specs.Requests.{AttestRequested, Attests, Compares, Judgement, Requested, VerdictOf}
+use Rattle.judging.specs.Requests.{Requested, on_prefix}
 use Rattle.judging.specs.declared.request.Answer.TheVariants as answers
 use Rattle.hints.specs.declared.reasons.Causes.{Causes}
 use Rattle.hints.specs.declared.reasons.Grown.{Grown}
@@ -178,21 +176,6 @@ IsSeen inputs request causes =
 abbrev pub IsNotSeen : Inputs → Requested → Type 0
 IsNotSeen inputs request =
     ((given : Answered) × IsAnswer inputs request given × (given.is_success ≡ true)) ⊎ ((fault : RunFault) × IsRefusal inputs request fault)
-
--- The same asked of the shortest prefix that matches, where it is asked of a whole list.
-abbrev pub compared_on_prefix : Judgement → Option Judgement
-compared_on_prefix (VerdictOf log Whole resume) = Some (VerdictOf log Prefix resume)
-compared_on_prefix judgement = None
-
-abbrev pub attested_on_prefix : AttestRequested → Scope → Option Requested
-attested_on_prefix asked Whole = Some (Attests (record asked { scope = Prefix }))
-attested_on_prefix asked Prefix = None
-
-abbrev pub on_prefix : Requested → Option Requested
-on_prefix (Compares request) =
-    option_map (λ judgement. Compares (record request { judgement = judgement })) (compared_on_prefix request.judgement)
-on_prefix (Attests asked) = attested_on_prefix asked asked.scope
-on_prefix request = None
 
 -- All is well with a prefix of the list, which has so many of its entries.
 abbrev pub IsGrown : Inputs → Requested → Grown → Type 0

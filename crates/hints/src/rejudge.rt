@@ -1,11 +1,11 @@
 //! A second look at inputs that differ or are refused, for what a person may do next. The output is written before, and so is the status decided.
 
-ghost use Rattle.std.specs.Prelude.{◌≡◌, [], true, string_bytes, option_map, IfOk, IfSome, IfNone};
+ghost use Rattle.std.specs.Prelude.{◌≡◌, [], true, string_bytes, IfOk, IfSome, IfNone};
 ghost use Rattle.std.specs.List.{list_all};
 ghost use Rattle.agent_inputs.specs.Loading.{unknown};
 ghost use Rattle.judging.specs.Requests.{requested_of};
 ghost use Rattle.hints.specs.Escaping.{is_shown};
-ghost use Rattle.hints.specs.Hints.{IsGrown, IsNotGrown, IsNotSeen, IsSeen, on_prefix};
+ghost use Rattle.hints.specs.Hints.{IsGrown, IsNotGrown, IsNotSeen, IsSeen};
 ghost use Rattle.hints.specs.Saying.{TellsMistake, TellsNext, TellsOf};
 
 use crate::hints::{hint_on, hints_on};
@@ -15,8 +15,8 @@ use crate::reread::{FilesAgain, head_of};
 use crate::task_inputs::refused_input;
 use crate::wrong_input::mistake_in;
 use agent_inputs::{AgentFiles, RunFault};
-use agent_plans::{Scope, Task};
-use judging::{AttestRequest, Comparison, ReportKind, Request, answer_request};
+use agent_plans::Task;
+use judging::{Request, answer_request, on_prefix};
 use questions::{Failure, known_inputs, request_of};
 use std::alloc::{AllocError, Global};
 use std::rt::Files as FileSystem;
@@ -101,47 +101,6 @@ fn grown_seen<F: AgentFiles>(alloc: Global, files: &mut F, request: Request<'_>)
     match answer_request(alloc, files, request) {
         Ok(given) if given.is_success => grown_by(&given),
         Ok(_) | Err(_) => None,
-    }
-}
-
-// The same of the shortest prefix that matches, if it is asked of a whole list.
-fn on_prefix(request: Request<'_>) -> Option<Request<'_>>
-    ensures { option_map requested_of result ≡ on_prefix (requested_of request.entry) }
-{
-    match request {
-        Request::Comparison(
-            Comparison {
-                wanted: ReportKind::Verdict {
-                    log,
-                    scope: Scope::Whole,
-                    resume,
-                },
-                list,
-                expected,
-                required,
-                known,
-            },
-        ) => Some(Request::Comparison(Comparison {
-            wanted: ReportKind::Verdict {
-                log,
-                scope: Scope::Prefix,
-                resume,
-            },
-            list,
-            expected,
-            required,
-            known,
-        })),
-        Request::Attestation(
-            asked @ AttestRequest {
-                scope: Scope::Whole,
-                ..
-            },
-        ) => Some(Request::Attestation(AttestRequest {
-            scope: Scope::Prefix,
-            ..asked
-        })),
-        _ => None,
     }
 }
 

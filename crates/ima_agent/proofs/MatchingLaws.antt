@@ -21,7 +21,7 @@ use Rattle.pcr_banks.specs.Registers.{value_at}
 use Rattle.boot_verdict.specs.Verdicts.{ReadsAsLog, is_value, pcr_after_log}
 use Rattle.cells.specs.declared.writer.Form.{Form}
 use Rattle.cells.specs.declared.writer.Form.TheVariants.{Json, Text}
-use Rattle.measured_data.specs.declared.pcr.Pcr.{Pcr}
+use Rattle.measured_data.specs.declared.confirmed.Pcr.{Pcr}
 use Rattle.ima_agent.specs.Matching.{HasExpected, IsKnownFor, IsMatched, Values, counts, has_value, is_refuted, matched_places, place_of, refutes}
 
 -- ---- one row more

@@ -24,7 +24,7 @@ use Rattle.ima_agent.specs.declared.streams.StreamFault.TheVariants as streams
 use Rattle.rendering.specs.FaultTexts.{IsFailure}
 use Rattle.questions.specs.Questions.{known_by}
 use Rattle.ima_agent.specs.Program.{Answers, IsFaultOf, IsOutcome, IsOutputFor, SendsOutput, SendsText, Streams, status_after}
-use Rattle.measured_data.specs.declared.pcr.Pcr.{Pcr}
+use Rattle.measured_data.specs.declared.confirmed.Pcr.{Pcr}
 use Rattle.ima_agent.specs.Matching.{AreMatched, IsKnownFor}
 use Rattle.ima_list.specs.ListEntry.{ListEntry}
 use Rattle.ima_list.specs.Lines.{line_of}

@@ -8,8 +8,8 @@ use Rattle.std.proofs.lemmas.List.Folds.{flat_map-map}
 use Rattle.std.proofs.lemmas.Grind.{flat_map-append}
 use Rattle.pcr_banks.specs.declared.alg.Alg.{Alg}
 use Rattle.tpm_quotes.specs.Spelling.{BankSelection, all_registers}
-use Rattle.measured_data.specs.declared.pcr.Pcr.{Pcr}
-use Rattle.attestations.specs.declared.quoted.Selected.{Selected}
+use Rattle.measured_data.specs.declared.confirmed.Pcr.{Pcr}
+use Rattle.attestations.specs.declared.report.Selected.{Selected}
 use Rattle.attestations.specs.Quoted.{bank_selection_of}
 use Rattle.ima_agent.specs.Matching.{is_of_log, places_in, quoted_places}
 

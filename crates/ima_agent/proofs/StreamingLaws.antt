@@ -22,7 +22,7 @@ use Rattle.event_lines.specs.declared.event_lines.EventsFault.TheVariants as eve
 use Rattle.entry_lines.specs.ListLines.{entry_line, last_line}
 use Rattle.entry_lines.specs.SentEntries.{AreAllIn, SendsEntries, as_sent}
 use Rattle.event_lines.specs.SentEvents.{SendsEvents, SendsLines}
-use Rattle.measured_data.specs.declared.pcr.Pcr.{Pcr}
+use Rattle.measured_data.specs.declared.confirmed.Pcr.{Pcr}
 use Rattle.cells.specs.declared.writer.Form.{Form}
 use Rattle.cells.specs.declared.writer.Form.TheVariants.{Json, Text}
 use Rattle.agent_inputs.specs.declared.fault.RunFault.{RunFault}

@@ -18,7 +18,7 @@ use Rattle.boot_verdict.specs.Isolation.{list_register}
 use Rattle.boot_verdict.specs.Verdicts.{is_value, ReadsAsLog, pcr_after_log}
 use Rattle.cells.specs.declared.writer.Form.{Form}
 use Rattle.cells.specs.declared.writer.Form.TheVariants as told
-use Rattle.measured_data.specs.declared.pcr.Pcr.{Pcr}
+use Rattle.measured_data.specs.declared.confirmed.Pcr.{Pcr}
 use Rattle.agent_plans.specs.declared.plan.ConfirmedBy.{ConfirmedBy}
 use Rattle.agent_plans.specs.declared.plan.ConfirmedBy.TheVariants as confirmed
 use Rattle.judging.specs.declared.request.Answer.{Answer}

@@ -2,7 +2,7 @@
 use Rattle.std.specs.Prelude.{◌≡◌, ◌⊎◌, ℕ, List, [], ◌++◌, Option, None, Some}
 use Rattle.boot_log.specs.declared.header.DeclaredAlgorithm.{DeclaredAlgorithm}
 use Rattle.boot_log.specs.Spelling.{IsLog, LogEvent}
-use Rattle.measured_data.specs.declared.pcr.Pcr.{Pcr}
+use Rattle.measured_data.specs.declared.confirmed.Pcr.{Pcr}
 use Rattle.boot_texts.specs.BootLines.{AreBootLines}
 use Rattle.boot_texts.specs.Differences.{AreDifferenceLines}
 use Rattle.agent_plans.specs.declared.plan.ConfirmedBy.{ConfirmedBy}

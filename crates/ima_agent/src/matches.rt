@@ -8,7 +8,7 @@ ghost use Rattle.boot_log.specs.declared.header.DeclaredAlgorithm.{DeclaredAlgor
 ghost use Rattle.boot_log.specs.LogViews.{log_bytes};
 ghost use Rattle.boot_log.specs.Spelling.{LogEvent, IsLog, algs_in};
 ghost use Rattle.pcr_banks.specs.Registers.{value_at};
-ghost use Rattle.measured_data.specs.declared.pcr.Pcr.{Pcr};
+ghost use Rattle.measured_data.specs.declared.confirmed.Pcr.{Pcr};
 ghost use Rattle.ima_agent.specs.Showing.{IsLogFaultOf};
 ghost use Rattle.ima_agent.specs.Matching.{AreMatched, AreNotExpected, IsKnownFor, IsMatched, IsNotTold, counts, has_value, is_refuted, matched_among, matched_places, place_of, refutes};
 

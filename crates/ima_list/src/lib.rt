@@ -5,7 +5,6 @@
 #![tactic(auto)]
 
 mod aggregate;
-mod entries_in;
 mod entry;
 mod entry_hashes;
 mod entry_reader;
@@ -21,14 +20,12 @@ mod line;
 mod list_reader;
 mod list_replay;
 mod payload;
-mod slices;
 mod template;
 
 pub use aggregate::{BOOT_AGGREGATE_PATH, boot_aggregate};
 pub use byte_streams::{Failed, Sink, SliceSource, Source, VecSink, send, send_pieces};
-pub use entries_in::Entries;
 pub use entry::Entry;
-pub use entry_reader::read_list;
+pub use entry_reader::{Entries, read_list};
 pub use entry_ref::EntryRef;
 pub use entry_writer::{send_entry, write_entry};
 pub use fault::ListFault;

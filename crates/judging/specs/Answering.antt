@@ -25,7 +25,7 @@ use Rattle.boot_verdict.specs.ListVerdicts.{IsListVerdict, list_verdict_of, list
 use Rattle.boot_verdict.specs.Positions.{AreLocated, all_found}
 use Rattle.boot_verdict.specs.Requirements.{is_complete, IsRequirementText, required_found, required_matches}
 use Rattle.boot_verdict.specs.Verdicts.{IsForged, ReadsAsLog, IsVerdict, verdict_of, verdict_on, Verdict, matches}
-use Rattle.boot_verdict.specs.declared.prefix_report.PrefixReport.{PrefixReport}
+use Rattle.boot_verdict.specs.declared.report.PrefixReport.{PrefixReport}
 use Rattle.known_files.specs.declared.fault.KnownFault.{KnownFault}
 use Rattle.known_files.specs.declared.known.KnownFiles.{KnownFiles}
 use Rattle.known_files.specs.declared.listed.ListedFiles.{ListedFiles}
@@ -39,7 +39,7 @@ use Rattle.tpm_quotes.specs.Spelling.{IsQuote, TpmQuote, quote_of}
 use Rattle.attestations.specs.declared.expected.ExpectedValues.{ExpectedValues}
 use Rattle.attestations.specs.declared.expected.ExpectedValues.TheVariants.{NotGiven}
 use Rattle.attestations.specs.declared.report.AttestReport.{AttestReport}
-use Rattle.attestations.specs.declared.refusal.QuoteRefusal.{QuoteRefusal}
+use Rattle.attestations.specs.declared.policy.QuoteRefusal.{QuoteRefusal}
 use Rattle.attestations.specs.Attesting.{IsQuoteRefusal}
 use Rattle.attestations.specs.Confirming.{confirmed_by, expected_values}
 use Rattle.attestations.specs.Judging.{quote_refusal}

@@ -1,8 +1,9 @@
 -- What is asked for: what is judged, and what the answer says of it.
 use Rattle.std.specs.Prelude.{ℕ, Bool, true, false, List, [], ◌∷◌, Option, None, Some, map, option_map}
-use Rattle.agent_plans.specs.declared.plan.Scope.{Scope}
 use Rattle.tpm_keys.specs.declared.kinds.KeyPart.{KeyPart}
 use Rattle.tpm_keys.specs.declared.kinds.Purpose.{Purpose}
+use Rattle.agent_plans.specs.declared.plan.Scope.{Scope}
+use Rattle.agent_plans.specs.declared.plan.Scope.TheVariants.{Whole, Prefix}
 use Rattle.judging.specs.Inputs.{Where, FileOf, BytesOf}
 use Rattle.judging.specs.declared.inputs.Input.{Input}
 use Rattle.judging.specs.declared.inputs.Input.TheVariants as inputs
@@ -137,3 +138,18 @@ requested_of (requests.LogRegisters log) = LogRegistersOf (location_of log)
 requested_of (requests.ListRegisters list) = ListRegistersOf (location_of list)
 requested_of (requests.Expected printed registers) = ExpectedOf (location_of printed) (option_map (λ text. text.now) registers)
 requested_of (requests.Key area purpose part) = KeyOf (location_of area) purpose part
+
+-- What asks the same of the shortest prefix of the list that matches, where it is asked of a whole list.
+abbrev pub compared_on_prefix : Judgement → Option Judgement
+compared_on_prefix (VerdictOf log Whole resume) = Some (VerdictOf log Prefix resume)
+compared_on_prefix judgement = None
+
+abbrev pub attested_on_prefix : AttestRequested → Scope → Option Requested
+attested_on_prefix asked Whole = Some (Attests (record asked { scope = Prefix }))
+attested_on_prefix asked Prefix = None
+
+abbrev pub on_prefix : Requested → Option Requested
+on_prefix (Compares request) =
+    option_map (λ judgement. Compares (record request { judgement = judgement })) (compared_on_prefix request.judgement)
+on_prefix (Attests asked) = attested_on_prefix asked asked.scope
+on_prefix request = None

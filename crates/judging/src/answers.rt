@@ -6,9 +6,8 @@ ghost use Rattle.judging.specs.Requests.{ListVerdictOf, requested_of, compared_o
 ghost use Rattle.judging.specs.Inputs.{Holds, IsInputFault, OfInput};
 
 use crate::attesting::attest;
-use crate::inputs::{Held, Input, limit_of, load_at, refusal};
+use crate::inputs::{Held, Input, known_in, limit_of, load_at, refusal};
 use crate::keys::told_of_key;
-use crate::known_texts::known_in;
 use crate::printed_registers::printed_registers;
 use crate::registers::{after_list, after_log};
 use crate::request::{

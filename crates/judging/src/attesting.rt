@@ -5,7 +5,7 @@ ghost use Rattle.pcr_values.specs.declared.selection.BankRange.{BankRange};
 ghost use Rattle.pcr_values.specs.Selections.{BeginsWithBankRange};
 ghost use Rattle.boot_verdict.specs.Requirements.{IsRequirementText};
 ghost use Rattle.tpm_quotes.specs.Spelling.{IsQuote, quote_of};
-ghost use Rattle.attestations.specs.declared.refusal.QuoteRefusal.{QuoteRefusal};
+ghost use Rattle.attestations.specs.declared.policy.QuoteRefusal.{QuoteRefusal};
 ghost use Rattle.attestations.specs.Attesting.{IsQuoteRefusal};
 ghost use Rattle.attestations.specs.Judging.{quote_refusal};
 ghost use Rattle.attestations.specs.Policies.{terms_of};
@@ -15,8 +15,7 @@ ghost use Rattle.judging.specs.Answering.{AreCounted, AreTaken, IsAskedFor, IsAt
 ghost use Rattle.judging.specs.Requests.{VerdictOf, attested_of, judgement_of, location_of, resume_of};
 
 use crate::answers::{Evidence, checkpoint_of, state_in};
-use crate::inputs::{Input, load_at};
-use crate::known_texts::known_in;
+use crate::inputs::{Input, known_in, load_at};
 use crate::request::{
     Answering, AttestRequest, Comparison, ReportKind, Required, ScopedReport, answered_with,
 };

@@ -5,7 +5,6 @@ mod answers;
 mod attesting;
 mod inputs;
 mod keys;
-mod known_texts;
 mod printed_registers;
 mod registers;
 mod request;
@@ -15,4 +14,5 @@ pub use answers::answer_request;
 pub use inputs::Input;
 pub use request::{
     Answer, Answered, AttestRequest, Comparison, Registers, ReportKind, Request, Required,
+    on_prefix,
 };

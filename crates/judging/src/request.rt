@@ -3,7 +3,7 @@
 ghost use Rattle.std.specs.Prelude.{◌≡◌, None, if◌then◌else◌, option_map};
 ghost use Rattle.boot_verdict.specs.Verdicts.{verdict_of};
 ghost use Rattle.judging.specs.Answering.{alone, is_good, is_match, is_success, state_after};
-ghost use Rattle.judging.specs.Requests.{requires_of};
+ghost use Rattle.judging.specs.Requests.{requires_of, requested_of, on_prefix};
 
 use crate::inputs::Input;
 use agent_inputs::RunFault;
@@ -285,5 +285,46 @@ fn is_match(required: Required<'_>, report: &Report) -> bool
     match required {
         Required::Nothing => report.matches(),
         Required::Any | Required::These(_) => report.matches() && !report.rows.is_empty(),
+    }
+}
+
+/// What asks the same of the shortest prefix of the list that matches; `None` where it is not asked of a whole list.
+pub fn on_prefix(request: Request<'_>) -> Option<Request<'_>>
+    ensures { option_map requested_of result ≡ on_prefix (requested_of request.entry) }
+{
+    match request {
+        Request::Comparison(
+            Comparison {
+                wanted: ReportKind::Verdict {
+                    log,
+                    scope: Scope::Whole,
+                    resume,
+                },
+                list,
+                expected,
+                required,
+                known,
+            },
+        ) => Some(Request::Comparison(Comparison {
+            wanted: ReportKind::Verdict {
+                log,
+                scope: Scope::Prefix,
+                resume,
+            },
+            list,
+            expected,
+            required,
+            known,
+        })),
+        Request::Attestation(
+            asked @ AttestRequest {
+                scope: Scope::Whole,
+                ..
+            },
+        ) => Some(Request::Attestation(AttestRequest {
+            scope: Scope::Prefix,
+            ..asked
+        })),
+        _ => None,
     }
 }

@@ -14,7 +14,7 @@ use Rattle.ima_list.specs.Replaying.{AreGenuine, IsReplayed}
 use Rattle.ima_list.specs.Spelling.{IsReading, list_spelling}
 use Rattle.ima_list.proofs.ListLaws.{written_reading}
 use Rattle.boot_verdict.specs.declared.checkpoint.Checkpoint.{Checkpoint}
-use Rattle.boot_verdict.specs.declared.prefix_report.PrefixReport.{PrefixReport}
+use Rattle.boot_verdict.specs.declared.report.PrefixReport.{PrefixReport}
 use Rattle.boot_verdict.specs.declared.report.Report.{Report}
 use Rattle.boot_verdict.specs.Isolation.{are_none, first_extending, first_stray}
 use Rattle.boot_verdict.specs.Verdicts.{IsVerdict, Verdict, aggregate_of, is_good, pcr_after_log_and_list, recorded_aggregate, verdict_of, verdict_on}

@@ -8,7 +8,7 @@ use Rattle.std.specs.List.{AllByRecursion}
 use Rattle.ima_list.specs.ListEntry.{ListEntry}
 use Rattle.ima_list.specs.Spelling.{BeginsWith}
 use Rattle.boot_verdict.specs.declared.checkpoint.Checkpoint.{Checkpoint}
-use Rattle.boot_verdict.specs.declared.prefix_report.PrefixReport.{PrefixReport}
+use Rattle.boot_verdict.specs.declared.report.PrefixReport.{PrefixReport}
 use Rattle.boot_verdict.specs.declared.report.Report.{Report}
 use Rattle.boot_verdict.specs.ListVerdicts.{ListVerdict}
 use Rattle.boot_verdict.specs.Verdicts.{Verdict, verdict_of}

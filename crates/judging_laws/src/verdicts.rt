@@ -2,7 +2,7 @@
 
 ghost use Rattle.std.specs.Prelude.{◌≡◌, ◌&&◌, List, None, Some};
 ghost use Rattle.pcr_values.specs.declared.selection.BankRange.{BankRange};
-ghost use Rattle.boot_verdict.specs.declared.prefix_report.PrefixReport.{PrefixReport};
+ghost use Rattle.boot_verdict.specs.declared.report.PrefixReport.{PrefixReport};
 ghost use Rattle.boot_verdict.specs.declared.report.Report.{Report as ReportData};
 ghost use Rattle.boot_verdict.specs.Requirements.{required_matches};
 ghost use Rattle.boot_verdict.specs.Verdicts.{matches, verdict_of};

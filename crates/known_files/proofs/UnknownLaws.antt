@@ -6,8 +6,8 @@ use Rattle.std.specs.List.{filter}
 use Rattle.std.proofs.lemmas.Bool.{cases_lt, le-leb, le-ltb, lt-leb, lt-ltb}
 use Rattle.std.proofs.lemmas.List.Elements.{filter-append}
 use Rattle.ima_list.specs.ListEntry.{ListEntry}
-use Rattle.boot_verdict.specs.declared.positions.Position.{Position}
-use Rattle.boot_verdict.specs.declared.positions.Position.TheVariants.{Absent, Entry, Event, Nowhere, Reset}
+use Rattle.boot_verdict.specs.declared.steps.Position.{Position}
+use Rattle.boot_verdict.specs.declared.steps.Position.TheVariants.{Absent, Entry, Event, Nowhere, Reset}
 use Rattle.boot_verdict.specs.ListReplays.{AreTracked}
 use Rattle.boot_verdict.specs.Positions.{position_after}
 use Rattle.boot_verdict.specs.Steps.{OfEntry, OfEvent, Step, entries_as_steps}

@@ -12,8 +12,8 @@ use Rattle.pcr_banks.specs.declared.alg.Alg.TheVariants.{Sha1}
 use Rattle.pcr_banks.specs.Hashing.{all_algs, same_alg}
 use Rattle.pcr_banks.proofs.AlgLaws.{every_passes, list_has, list_passes, same_alg_here, same_alg_is, some_passes}
 use Rattle.boot_log.specs.Spelling.{LogEvent}
-use Rattle.measured_data.specs.declared.part.Part.{Part}
-use Rattle.measured_data.specs.declared.pcr.Pcr.{Pcr}
+use Rattle.measured_data.specs.declared.measured.Part.{Part}
+use Rattle.measured_data.specs.declared.confirmed.Pcr.{Pcr}
 use Rattle.measured_data.specs.Measuring.{has_digest_of, is_measured, part_in}
 use Rattle.measured_data.specs.Confirming.{IsConfirmed, counts, has_pcr, is_confirmed}
 use Rattle.byte_fields.specs.Spelling.{IsBytes}

@@ -9,7 +9,7 @@ use Rattle.pcr_banks.specs.declared.alg.Alg.{Alg}
 use Rattle.pcr_banks.specs.Hashing.{hash_of}
 use Rattle.pcr_banks.specs.Sets.{digest_in}
 use Rattle.boot_log.specs.Spelling.{LogEvent, no_action}
-use Rattle.measured_data.specs.declared.part.Part.{Part}
+use Rattle.measured_data.specs.declared.measured.Part.{Part}
 use Rattle.measured_data.specs.Measuring.{IsMeasured, has_digest_of, is_measured, part_in}
 use Rattle.byte_fields.specs.Spelling.{IsBytes}
 use Rattle.measured_data.proofs.PartLaws.{part_told}

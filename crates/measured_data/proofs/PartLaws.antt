@@ -10,8 +10,8 @@ use Rattle.event_data.specs.Reading.{variable_in}
 use Rattle.event_data.specs.Results.{command_in}
 use Rattle.event_data.proofs.CommandLaws.{command_finds}
 use Rattle.event_data.proofs.FormLaws.{variable_finds}
-use Rattle.measured_data.specs.declared.part.Part.{Part}
-use Rattle.measured_data.specs.declared.part.Part.TheVariants.{Whole, Value, Command}
+use Rattle.measured_data.specs.declared.measured.Part.{Part}
+use Rattle.measured_data.specs.declared.measured.Part.TheVariants.{Whole, Value, Command}
 use Rattle.measured_data.specs.Measuring.{IsFirstPart, IsPart, all_parts, order_of, part_in}
 
 -- ---- a part is what the function gives

@@ -5,8 +5,8 @@ use Rattle.pcr_banks.specs.declared.alg.Alg.{Alg}
 use Rattle.pcr_banks.specs.declared.alg.Alg.TheVariants.{Sha1}
 use Rattle.pcr_banks.specs.Hashing.{all_algs, same_alg}
 use Rattle.boot_log.specs.Spelling.{LogEvent}
-use Rattle.measured_data.specs.declared.part.Part.{Part}
-use Rattle.measured_data.specs.declared.pcr.Pcr.{Pcr}
+use Rattle.measured_data.specs.declared.measured.Part.{Part}
+use Rattle.measured_data.specs.declared.confirmed.Pcr.{Pcr}
 use Rattle.measured_data.specs.Measuring.{IsMeasured, all_parts, is_measured}
 
 -- The event's register is among those that match in some bank other than SHA-1, of which collisions are made in practice; and this part of

@@ -11,8 +11,8 @@ use Rattle.boot_log.specs.Spelling.{LogEvent, no_action}
 use Rattle.event_data.specs.Forms.{CommandData, IsCommand, VariableData, IsVariable}
 use Rattle.event_data.specs.Reading.{variable_in}
 use Rattle.event_data.specs.Results.{command_in}
-use Rattle.measured_data.specs.declared.part.Part.{Part}
-use Rattle.measured_data.specs.declared.part.Part.TheVariants.{Whole, Value, Command}
+use Rattle.measured_data.specs.declared.measured.Part.{Part}
+use Rattle.measured_data.specs.declared.measured.Part.TheVariants.{Whole, Value, Command}
 
 -- ---- parts
 

@@ -7,11 +7,18 @@ ghost use Rattle.boot_log.specs.Spelling.{log_event_of};
 ghost use Rattle.measured_data.specs.Measuring.{IsFirstPart, has_digest_of};
 ghost use Rattle.measured_data.specs.Confirming.{IsConfirmed, confirmed_part, counts, has_pcr, is_confirmed};
 
-use crate::measured::{has_digest_of, part_of};
-use crate::part::Part;
-use crate::pcr::Pcr;
+use crate::measured::{Part, has_digest_of, part_of};
 use boot_log::Event;
 use pcr_banks::Alg;
+
+/// A register of a bank.
+#[derive(Clone, Copy, Debug, PartialEq, Eq)]
+pub struct Pcr {
+    /// The bank.
+    pub alg: Alg,
+    /// The register, 0 to 23. A greater number names no register.
+    pub register: u32,
+}
 
 // Whether the bank's register is among the places.
 fn has_pcr(places: &[Pcr], alg: Alg, register: u32) -> bool

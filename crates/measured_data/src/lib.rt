@@ -7,11 +7,7 @@
 mod confirmed;
 mod laws;
 mod measured;
-mod part;
-mod pcr;
 
-pub use confirmed::confirmed_part;
+pub use confirmed::{Pcr, confirmed_part};
 pub use laws::parts_are_the_first;
-pub use measured::{is_measured, measured_part};
-pub use part::Part;
-pub use pcr::Pcr;
+pub use measured::{Part, is_measured, measured_part};

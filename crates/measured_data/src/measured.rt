@@ -1,14 +1,24 @@
-//! Whether a part of an event's data is what its digest is the hash of.
+//! The parts of an event's data, and whether one is what the event's digest is the hash of.
 
 ghost use Rattle.std.specs.Prelude.{◌≡◌, ◌↔◌, IsTrue, option_map};
 ghost use Rattle.byte_fields.specs.Spelling.{IsBytes};
 ghost use Rattle.boot_log.specs.Spelling.{log_event_of};
 ghost use Rattle.measured_data.specs.Measuring.{IsFirstPart, IsMeasured, has_digest_of, is_measured, measured_part, part_in};
 
-use crate::part::Part;
 use boot_log::Event;
 use event_data::{read_command, read_variable};
 use pcr_banks::{Alg, hash};
+
+/// A part of an event's data, of which its digest may be the hash.
+#[derive(Clone, Copy, Debug, PartialEq, Eq)]
+pub enum Part {
+    /// All of the data.
+    Whole,
+    /// Of a UEFI variable in register 1 the value, without GUID and name (PC Client Platform Firmware Profile, EV_EFI_VARIABLE_BOOT).
+    Value,
+    /// Of a command of GRUB in register 8 the text, without the prefix that tells its kind and the NUL at its end (GRUB's own rule).
+    Command,
+}
 
 /// The register of the firmware's settings, into which the values of variables are extended without their names.
 const SETTINGS_REGISTER: u32 = 1;

@@ -4,7 +4,7 @@ use Rattle.std.specs.Str.Parse.{AllDigits}
 use Rattle.std.proofs.lemmas.Fmt.{decimal_is_IsNumeral, decimal_injective}
 use Rattle.std.proofs.lemmas.Str.Parse.{digit_from_value}
 use Rattle.pcr_banks.specs.Registers.{register_count}
-use Rattle.pcr_values.specs.declared.register_range.RegisterRange.{RegisterRange}
+use Rattle.pcr_values.specs.declared.selection.RegisterRange.{RegisterRange}
 use Rattle.pcr_values.specs.RegisterRanges.{IsNumberedRange, IsRangeText}
 use Rattle.pcr_values.specs.parts.RangeEnds.{AreEnds}
 use Rattle.pcr_values.proofs.ExpectedLaws.{Lacks, lacks_from, not_lacked, one_cut}

@@ -8,7 +8,7 @@ use Rattle.std.proofs.lemmas.List.{length-drop}
 use Rattle.pcr_banks.specs.declared.alg.Alg.{Alg}
 use Rattle.pcr_banks.specs.Hashing.{name_of}
 use Rattle.pcr_banks.proofs.AlgLaws.{every_alg, same_name_is}
-use Rattle.pcr_values.specs.declared.register_range.RegisterRange.{RegisterRange}
+use Rattle.pcr_values.specs.declared.selection.RegisterRange.{RegisterRange}
 use Rattle.pcr_values.specs.declared.selection.BankRange.{BankRange}
 use Rattle.pcr_values.specs.RegisterRanges.{IsRangeText}
 use Rattle.pcr_values.specs.Selections.{AreBankRanges, BeginsWithBankRange, IsBankRangeText, IsFirstWrong, IsNamedRange, SpellsRanges, bank_after, is_separator, parts_length, split_at_separators}

@@ -1,7 +1,7 @@
 -- Ranges of registers, and how a text spells them.
 use Rattle.std.specs.Prelude.{◌≡◌, ◌⊎◌, ℕ, ◌<◌, ◌≤◌, ◌&&◌, nat_le, Bool, List, ◌++◌, codes, decimal}
 use Rattle.pcr_banks.specs.Registers.{register_count}
-use Rattle.pcr_values.specs.declared.register_range.RegisterRange.{RegisterRange}
+use Rattle.pcr_values.specs.declared.selection.RegisterRange.{RegisterRange}
 
 -- Whether the register is one of the range: neither below its first nor above its last.
 abbrev pub is_within : RegisterRange → ℕ → Bool

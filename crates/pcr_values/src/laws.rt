@@ -2,7 +2,7 @@
 
 ghost use Rattle.std.specs.Prelude.{◌≡◌, ℕ, List};
 ghost use Rattle.pcr_values.specs.declared.expected.Expected.{Expected};
-ghost use Rattle.pcr_values.specs.declared.register_range.RegisterRange.{RegisterRange};
+ghost use Rattle.pcr_values.specs.declared.selection.RegisterRange.{RegisterRange};
 ghost use Rattle.pcr_values.specs.declared.selection.BankRange.{BankRange};
 ghost use Rattle.pcr_values.specs.ExpectedTexts.{IsExpectedText};
 ghost use Rattle.pcr_values.specs.PrintedTexts.{IsPrintedText};

@@ -7,16 +7,13 @@ mod expected;
 pub mod laws;
 mod pcr_read;
 mod printed;
-mod register_range;
 mod selection;
-mod stated;
 mod text_lines;
 mod texts;
 
 pub use all_registers::{ALL_REGISTERS, register_numbered};
 pub use expected::{ExpectFault, Expected, read_expected, register_on};
 pub use printed::read_printed;
-pub use register_range::RegisterRange;
-pub use selection::{BankRange, Selection, SelectionFault};
+pub use selection::{BankRange, RegisterRange, Selection, SelectionFault};
 pub use text_lines::{after_prefix, split_once};
 pub use texts::{digits_of, write_change, write_expected, write_registers};

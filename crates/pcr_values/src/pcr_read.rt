@@ -7,8 +7,7 @@ ghost use Rattle.pcr_banks.specs.Registers.{register_count};
 ghost use Rattle.pcr_values.specs.declared.expected.Expected.{Expected};
 ghost use Rattle.pcr_values.specs.PcrReadTexts.{IsBankLine, IsValueLine, Position, Says, is_name_byte, two_columns};
 
-use crate::expected::Expected;
-use crate::stated::LinePosition;
+use crate::expected::{Expected, LinePosition};
 use crate::text_lines::{after_prefix, before_suffix, register_named};
 use pcr_banks::{Alg, Digest};
 

@@ -9,9 +9,8 @@ ghost use Rattle.pcr_values.specs.declared.printed.PrintedPart.{PrintedPart};
 ghost use Rattle.pcr_values.specs.declared.printed.PrintedPart.TheVariants.{Quoted};
 ghost use Rattle.pcr_values.specs.PrintedTexts.{HasPrintedFault, IsPrintedText, IsQuoteOutput, IsSignatureLine, MayEnd, PrintedPosition, Prints, PrintsRegister, Turns};
 
-use crate::expected::{ExpectFault, Expected};
+use crate::expected::{ExpectFault, Expected, LinePosition, read_lines};
 use crate::pcr_read::InBank;
-use crate::stated::{LinePosition, read_lines};
 use crate::text_lines::after_prefix;
 use std::alloc::Global;
 

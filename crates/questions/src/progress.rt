@@ -1,8 +1,74 @@
 //! Who is told of the progress of a measurement, and of failures.
 
-use crate::failures::Failure;
+ghost use Rattle.std.specs.Prelude.{◌≡◌};
+ghost use Rattle.questions.specs.Failures.{is_asked_for, is_explained, is_said};
+
+use agent_inputs::RunFault;
+use agent_plans::{Query, Task};
 use measuring::FileProgress;
 use std::alloc::Global;
+use std::io;
+
+/// What came of a run that failed, or of an answer that something differs.
+#[derive(Clone, Copy)]
+pub enum Failure<'a> {
+    /// The line of a fault of a task.
+    Fault {
+        /// The fault.
+        fault: &'a RunFault,
+        /// What was to be done.
+        task: &'a Task,
+    },
+    /// The line of a fault: the arguments are refused.
+    Refused {
+        /// The fault.
+        fault: &'a RunFault,
+        /// The program's arguments, without its name.
+        arguments: &'a [String],
+    },
+    /// The line of a program that is out of memory: its arguments could not be obtained, for this reason.
+    Arguments {
+        /// The reason.
+        reason: &'a io::Error,
+    },
+    /// The answer to a task: something differs.
+    Differs {
+        /// What was to be done.
+        task: &'a Task,
+    },
+    /// A part of the output, or nothing.
+    Output,
+}
+
+impl Failure<'_> {
+    /// Whether it is said: standard error is a terminal, or the arguments ask for it.
+    pub fn is_said(self, is_terminal: bool) -> bool
+        ensures { result ≡ is_said is_terminal self.entry }
+    {
+        is_terminal || self.is_asked_for()
+    }
+
+    // Whether the arguments ask for it.
+    fn is_asked_for(self) -> bool
+        ensures { result ≡ is_asked_for self.entry }
+    {
+        match self {
+            Failure::Fault { task, .. } | Failure::Differs { task } => is_explained(task),
+            Failure::Refused { .. } | Failure::Arguments { .. } | Failure::Output => false,
+        }
+    }
+}
+
+// Whether a task asks to say what to do next.
+fn is_explained(task: &Task) -> bool
+    ensures { result ≡ is_explained task.now }
+{
+    match task {
+        Task::Answer(Query::Comparison(judge)) => judge.explained,
+        Task::Answer(Query::Attestation(attest)) => attest.explained,
+        _ => false,
+    }
+}
 
 /// Receives the progress of a measurement, and why the run failed or something differs.
 pub trait Progress: FileProgress {

@@ -4,7 +4,7 @@ use Rattle.pcr_banks.specs.declared.alg.Alg.{Alg}
 use Rattle.boot_log.specs.Spelling.{LogEvent}
 use Rattle.boot_answers.specs.declared.secure_boot_state.SecureBoot.{SecureBoot}
 use Rattle.boot_answers.specs.declared.secure_boot_state.SecureBoot.TheVariants.{On, Off, Unknown}
-use Rattle.measured_data.specs.declared.pcr.Pcr.{Pcr}
+use Rattle.measured_data.specs.declared.confirmed.Pcr.{Pcr}
 use Rattle.boot_answers.specs.Extending.{IsAnswering}
 use Rattle.boot_answers.specs.SecureBoot.{IsBefore, IsTelling, TellsSecureBoot, policy_register}
 

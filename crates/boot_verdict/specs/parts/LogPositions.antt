@@ -6,10 +6,10 @@ use Rattle.pcr_banks.specs.Registers.{IsReset, value_at}
 use Rattle.pcr_values.specs.declared.expected.Expected.{Expected}
 use Rattle.boot_log.specs.Spelling.{LogEvent}
 use Rattle.boot_log.specs.Replaying.{startup_locality}
-use Rattle.boot_verdict.specs.declared.positions.Located.{Located}
-use Rattle.boot_verdict.specs.declared.positions.Position.{Position}
-use Rattle.boot_verdict.specs.declared.positions.Position.TheVariants.{Reset, Nowhere, Absent}
-use Rattle.boot_verdict.specs.declared.positions.RowTracker.{RowTracker}
+use Rattle.boot_verdict.specs.declared.steps.Located.{Located}
+use Rattle.boot_verdict.specs.declared.steps.Position.{Position}
+use Rattle.boot_verdict.specs.declared.steps.Position.TheVariants.{Reset, Nowhere, Absent}
+use Rattle.boot_verdict.specs.declared.steps.RowTracker.{RowTracker}
 use Rattle.boot_verdict.specs.Verdicts.{is_value}
 use Rattle.boot_verdict.specs.Steps.{events_as_steps}
 use Rattle.boot_verdict.specs.parts.RowTrackers.{IsRowTrackerAfter}

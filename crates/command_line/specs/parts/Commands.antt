@@ -13,7 +13,7 @@ use Rattle.command_line.specs.declared.command_table.ArgumentForm.{ArgumentForm}
 use Rattle.command_line.specs.declared.command_table.ArgumentForm.TheVariants.{Required, Omittable, Repeated, Flag, FlagBeside, ShortFlagBeside, RequiredOption, Optional, OptionalBeside, Several, Defaulted}
 use Rattle.command_line.specs.declared.command_table.Values.{Values}
 use Rattle.command_line.specs.declared.command_table.Values.TheVariants.{Algs, Templates, Parsed}
-use Rattle.command_line.specs.declared.commands.KnownNames.{KnownNames}
+use Rattle.command_line.specs.declared.command_table.KnownNames.{KnownNames}
 
 -- The argument has this rule, and belongs to its command alone.
 pub record IsArgument (rule : Rule) (arg : Arg) : Type 0 where

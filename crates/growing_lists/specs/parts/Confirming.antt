@@ -8,8 +8,8 @@ use Rattle.tpm_quotes.specs.Quoting.{Values}
 use Rattle.growing_lists.specs.declared.confirmation.Goal.{Goal}
 use Rattle.growing_lists.specs.declared.confirmation.Confirming.{Confirming}
 use Rattle.growing_lists.specs.declared.confirmation.Prefix.{Prefix}
-use Rattle.boot_verdict.specs.declared.positions.Position.{Position}
-use Rattle.boot_verdict.specs.declared.positions.Position.TheVariants.{Reset, Event, Entry, Nowhere, Absent}
+use Rattle.boot_verdict.specs.declared.steps.Position.{Position}
+use Rattle.boot_verdict.specs.declared.steps.Position.TheVariants.{Reset, Event, Entry, Nowhere, Absent}
 use Rattle.boot_verdict.specs.Positions.{position_after}
 use Rattle.boot_verdict.specs.Steps.{Step, OfEvent, OfEntry, least_prefix, value_after}
 use Rattle.boot_verdict.specs.Tracking.{AreAfter}

@@ -1,4 +1,4 @@
-use Rattle.boot_verdict.specs.declared.positions.RowTracker.{RowTracker}
+use Rattle.boot_verdict.specs.declared.steps.RowTracker.{RowTracker}
 use Rattle.std.proofs.Common.{length}
 use Rattle.boot_verdict.proofs.PositionLaws.{tracker_none}
 use Rattle.boot_verdict.proofs.location.track_log.Goals as goal

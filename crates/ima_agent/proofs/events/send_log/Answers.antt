@@ -1,6 +1,6 @@
 use Rattle.std.proofs.Common.{Bor, List, Option}
 use Rattle.std.specs.Prelude.{option_map}
-use Rattle.measured_data.specs.declared.pcr.Pcr.{Pcr}
+use Rattle.measured_data.specs.declared.confirmed.Pcr.{Pcr}
 use Rattle.ima_agent.proofs.StreamingLaws.{events_cut, events_run_out, events_shown, events_to_fault}
 use Rattle.ima_agent.proofs.events.send_log.Goals as goal
 

@@ -1,6 +1,6 @@
 use Rattle.std.proofs.Common.{Vec, Global, inl, inr}
 use Rattle.std.specs.Prelude.{option_map}
-use Rattle.measured_data.specs.declared.pcr.Pcr.{Pcr}
+use Rattle.measured_data.specs.declared.confirmed.Pcr.{Pcr}
 use Rattle.ima_agent.proofs.StreamingLaws.{none_said, streams_so}
 use Rattle.ima_agent.proofs.events.tell_log.Goals as goal
 

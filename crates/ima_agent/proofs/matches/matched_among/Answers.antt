@@ -1,6 +1,6 @@
 use Rattle.std.proofs.Common.{List, [], ◌∷◌, ◌++◌, ◌∙◌, ap, sym, take, take_all}
 use Rattle.pcr_banks.specs.Registers.{value_at}
-use Rattle.measured_data.specs.declared.pcr.Pcr.{Pcr}
+use Rattle.measured_data.specs.declared.confirmed.Pcr.{Pcr}
 use Rattle.ima_agent.specs.Matching.{counts, matched_among}
 use Rattle.ima_agent.proofs.MatchingLaws.{matched_more, unmatched_more}
 use Rattle.ima_agent.proofs.matches.matched_among.Goals.{then-counts+in_ok-push, else-counts}

@@ -1,5 +1,5 @@
 use Rattle.std.proofs.Common.{◌≡◌, List, ◌∷◌, [], ◌++◌, ◌∙◌, ap, sym, arith, append_assoc}
-use Rattle.measured_data.specs.declared.pcr.Pcr.{Pcr}
+use Rattle.measured_data.specs.declared.confirmed.Pcr.{Pcr}
 use Rattle.attestations.specs.Quoted.{bank_selection_of}
 use Rattle.ima_agent.proofs.QuotedLaws.{all_below, below, below_same, below_taken, place_at}
 use Rattle.ima_agent.proofs.quoted.push_places.Goals.{then-is_of_log+in_ok-push, else-is_of_log}

@@ -1,5 +1,5 @@
 use Rattle.std.proofs.Common.{List, ◌++◌, ◌∙◌, ap, sym, get_or, take_all}
-use Rattle.measured_data.specs.declared.pcr.Pcr.{Pcr}
+use Rattle.measured_data.specs.declared.confirmed.Pcr.{Pcr}
 use Rattle.attestations.specs.Quoted.{bank_selection_of}
 use Rattle.ima_agent.specs.Matching.{places_in}
 use Rattle.ima_agent.proofs.QuotedLaws.{one_bank_more, places_are, places_of}

@@ -1,4 +1,0 @@
-use Rattle.boot_texts.proofs.policy_scan.asks.Goals as goal
-
-pub returns-in-Wide : goal.returns-in-Wide
-returns-in-Wide c = rw c.in-Wide.is c.asks_wide.ensures
