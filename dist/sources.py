@@ -5,7 +5,7 @@ dist/sources.py list CRATE: the crate and those that it stands on, the lowest fi
 dist/sources.py digest CRATE [BUILT] [--tree TREE]: a SHA-256 over the kit's version, HANDLES, these lines, and the name and bytes of each
 file of these crates in TREE (this tree, if not said); and over the bytes of the file BUILT, if there is one.
 
-What `rt` makes, and the edits that the prover must refuse, are no sources. Dates of files say nothing here."""
+What `rt` makes, and the mutants that the prover must refuse, are no sources. Dates of files say nothing here."""
 
 import argparse
 import hashlib
@@ -16,7 +16,7 @@ import sys
 from pathlib import Path
 
 ROOT = Path(__file__).resolve().parent.parent
-NO_SOURCES = {"out", "further-edits"}
+NO_SOURCES = {"out", "mutants"}
 
 
 def kit_version():

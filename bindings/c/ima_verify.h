@@ -365,7 +365,7 @@ ima_verify_replay(const struct ima_verify_evidence *evidence, enum ima_verify_fo
  * Without bytes in `state`, the list is that from its beginning. Else `state` is a checkpoint that an earlier call
  * gave, and the list has the bytes after what that checkpoint is of. The verdict is on the whole list, and faults
  * number its entries from the first. If no register is expected, the verdict is `differ`. With `prefix` the report
- * is on the confirmed front, if there is one: the list's shortest front, no shorter than what the checkpoint is of,
+ * is on the confirmed prefix, if there is one: the list's shortest prefix, no shorter than what the checkpoint is of,
  * whose entries are genuine, and with which the boot aggregate is good, each expected register has its value and none
  * of `require` is missing. What comes after it is not refused, and the report says how many entries it has.
  *
@@ -373,7 +373,7 @@ ima_verify_replay(const struct ima_verify_evidence *evidence, enum ima_verify_fo
  * known files than those of the calls before, begin anew, without a checkpoint: entries that it covers may be unknown
  * now.
  *
- * After IMA_VERIFY_DONE `next` has the checkpoint of what the report is on, the whole list or the confirmed front:
+ * After IMA_VERIFY_DONE `next` has the checkpoint of what the report is on, the whole list or the confirmed prefix:
  * less than IMA_VERIFY_CHECKPOINT_ROOM bytes. If one of both outputs has too little room, the function returns
  * IMA_VERIFY_TOO_SHORT, tells both sizes, and writes to neither. With any other result there is no checkpoint: its size
  * is 0, and the bytes of `next` stay as they were. Keep the checkpoint that you have until a call has given the next
@@ -414,7 +414,7 @@ ima_verify_more(const struct ima_verify_evidence *evidence, struct ima_verify_by
  * of the values to which log and list replay, the boot aggregate is good, no event of the log extends register 10, each
  * entry of the list names it, no entry is unknown, and the signature was checked, else IMA_VERIFY_DIFFERS; the text is
  * the report. The verdict covers the registers that the quote selects, and the report names them. With `prefix` it is
- * on the confirmed front, if there is one: the shortest after which the registers are those of the quote.
+ * on the confirmed prefix, if there is one: the shortest after which the registers are those of the quote.
  *
  * This function verifies no signature: the caller does, before the call. A key that is not restricted, or
  * that was imported into the TPM, also signs messages that no TPM made: ima_verify_key refuses both.

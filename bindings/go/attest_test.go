@@ -326,7 +326,7 @@ func TestVerdictsOnRegistersTellNoBoot(t *testing.T) {
 }
 
 func TestAttestationsWithOtherCheckpointsAreNone(t *testing.T) {
-	front := strings.Replace(attested, `"entries":3`, `"entries":5,"confirmed":3`, 1)
+	onPrefix := strings.Replace(attested, `"entries":3`, `"entries":5,"confirmed":3`, 1)
 	for _, c := range []struct {
 		result   int32
 		text     string
@@ -337,9 +337,9 @@ func TestAttestationsWithOtherCheckpointsAreNone(t *testing.T) {
 	}{
 		{done, attested, stateText, 300, false, true}, {done, attested, "", 300, false, false}, {done, attested, "x", 300, false, false},
 		{done, attested, stateText, 299, false, false}, {done, attested, stateText, 301, false, false},
-		{done, attested, stateText, 300, true, false}, {done, front, stateText, 300, false, false}, {done, front, stateText, 300, true, true},
-		{done, front, stateText, 400, true, true}, {done, front, stateText, 299, true, false},
-		{done, strings.Replace(front, `"confirmed":3`, `"confirmed":4`, 1), stateText, 300, true, false},
+		{done, attested, stateText, 300, true, false}, {done, onPrefix, stateText, 300, false, false}, {done, onPrefix, stateText, 300, true, true},
+		{done, onPrefix, stateText, 400, true, true}, {done, onPrefix, stateText, 299, true, false},
+		{done, strings.Replace(onPrefix, `"confirmed":3`, `"confirmed":4`, 1), stateText, 300, true, false},
 	} {
 		given := of(c.result, c.text)
 		given.next = []byte(c.next)

@@ -352,7 +352,7 @@ func TestEntryOfAnotherRegisterIsNoMatchAndNoState(t *testing.T) {
 		}
 	}
 	before := session(t, bootLog, tenthAfter(40), "sha256:0-10", Prefix())
-	checkFront(t, more(t, before, list), 99, 40, nil)
+	checkPrefix(t, more(t, before, list), 99, 40, nil)
 }
 
 func TestEventOfRegister10IsNoMatchAndNoState(t *testing.T) {
@@ -365,7 +365,7 @@ func TestEventOfRegister10IsNoMatchAndNoState(t *testing.T) {
 	}
 }
 
-func checkFront(t *testing.T, verdict Verdict, entries, confirmed int, unconfirmed *Unconfirmed) {
+func checkPrefix(t *testing.T, verdict Verdict, entries, confirmed int, unconfirmed *Unconfirmed) {
 	t.Helper()
 	equal(t, []interface{}{verdict.Matches, verdict.Entries, verdict.Confirmed, verdict.Unconfirmed},
 		[]interface{}{true, uint64(entries), uint64(confirmed), unconfirmed})
@@ -374,30 +374,30 @@ func checkFront(t *testing.T, verdict Verdict, entries, confirmed int, unconfirm
 	}
 }
 
-func TestFrontThatTheRegistersConfirm(t *testing.T) {
+func TestPrefixThatTheRegistersConfirm(t *testing.T) {
 	for _, count := range []int{1, 2, 50, 97, 98, 99} {
 		s := session(t, bootLog, tenthAfter(count), "sha256:0-10", Prefix())
-		checkFront(t, more(t, s, bootList), 99, count, nil)
+		checkPrefix(t, more(t, s, bootList), 99, count, nil)
 		equal(t, []interface{}{s.State(), s.Offset()}, []interface{}{stateAfter(t, count), uint64(ends[count])})
 	}
 	// (without register 10 nothing speaks for more than the boot aggregate)
 	without := bootTPM[:bytes.Index(bootTPM, []byte("sha256 10 "))]
-	checkFront(t, more(t, session(t, bootLog, without, NothingRequired, Prefix()), bootList), 99, 1, nil)
+	checkPrefix(t, more(t, session(t, bootLog, without, NothingRequired, Prefix()), bootList), 99, 1, nil)
 }
 
-func TestSessionGoesOnFromTheFront(t *testing.T) {
+func TestSessionGoesOnFromThePrefix(t *testing.T) {
 	s := session(t, bootLog, tenthAfter(97), NothingRequired, Prefix())
-	checkFront(t, more(t, s, bootList), 99, 97, nil)
+	checkPrefix(t, more(t, s, bootList), 99, 97, nil)
 	later := session(t, bootLog, bootTPM, NothingRequired, Prefix(), Resume(s.State()))
 	for k := 0; k < 2; k++ {
-		checkFront(t, more(t, later, longer[later.Offset():]), 100, 99, nil)
+		checkPrefix(t, more(t, later, longer[later.Offset():]), 100, 99, nil)
 		equal(t, later.Offset(), uint64(len(bootList)))
 	}
 	early := session(t, bootLog, tenthAfter(50), NothingRequired, Prefix(), Resume(stateAfter(t, 97)))
 	equal(t, []interface{}{more(t, early, bootList[ends[97]:]).Matches, early.Offset()}, []interface{}{false, uint64(ends[97])})
 }
 
-func TestDamageAfterTheFrontIsTold(t *testing.T) {
+func TestDamageAfterThePrefixIsTold(t *testing.T) {
 	for _, damage := range []struct {
 		list    []byte
 		entries int
@@ -413,7 +413,7 @@ func TestDamageAfterTheFrontIsTold(t *testing.T) {
 		for _, cut := range []int{0, 1, 50, 97} {
 			s := session(t, bootLog, tenthAfter(97), "sha256:10", append(resumed(t, cut), Prefix())...)
 			wanted := Unconfirmed{"unconfirmed: " + fault.Line, fault.Kind, fault.Number, fault.Place}
-			checkFront(t, more(t, s, damage.list[ends[cut]:]), damage.entries, 97, &wanted)
+			checkPrefix(t, more(t, s, damage.list[ends[cut]:]), damage.entries, 97, &wanted)
 			equal(t, s.State(), stateAfter(t, 97))
 		}
 		fault.Line = "refused: " + fault.Line
@@ -425,7 +425,7 @@ func TestDamageAfterTheFrontIsTold(t *testing.T) {
 	}
 }
 
-func TestListWithoutAFrontIsAsWithoutPrefix(t *testing.T) {
+func TestListWithoutAConfirmedPrefixIsAsWithoutTheOption(t *testing.T) {
 	nowhere := []byte("sha256 10 " + strings.Repeat("1", 64))
 	for _, options := range [][]Option{nil, {Prefix()}} {
 		s := session(t, bootLog, nowhere, NothingRequired, options...)
@@ -513,11 +513,11 @@ const (
 )
 
 var (
-	front              = strings.Replace(report, `"entries":3,`, `"entries":5,"confirmed":3,`, 1)
+	onPrefix           = strings.Replace(report, `"entries":3,`, `"entries":5,"confirmed":3,`, 1)
 	differingOnNothing = strings.NewReplacer(matchingRow, "", `"verdict":"match"`, `"verdict":"differ"`).Replace(report)
 
-	frontAndReplay = strings.Replace(front, `"confirmed":3,`, `"confirmed":3,`+replayMember, 1)
-	frontAndList   = strings.Replace(front, `"confirmed":3,`, `"confirmed":3,`+listMember, 1)
+	prefixAndReplay = strings.Replace(onPrefix, `"confirmed":3,`, `"confirmed":3,`+replayMember, 1)
+	prefixAndList   = strings.Replace(onPrefix, `"confirmed":3,`, `"confirmed":3,`+listMember, 1)
 )
 
 // The state that goes with a status: only a match has one.
@@ -539,12 +539,12 @@ func (s *Session) given(size int, status int32, state, text string, sizes ...uin
 }
 
 // There is no verdict, and the session stays as it was, also if it has been used.
-func sessionError(t *testing.T, status int32, state, text string, hasFront bool, sizes ...uint64) error {
+func sessionError(t *testing.T, status int32, state, text string, hasPrefix bool, sizes ...uint64) error {
 	t.Helper()
 	var err error
 	for _, options := range [][]Option{nil, {Resume([]byte(stateText))}} {
 		s := session(t, nil, nil, NothingRequired, options...)
-		s.prefix = hasFront
+		s.prefix = hasPrefix
 		before := s.reached
 		var verdict Verdict
 		verdict, err = s.given(300-int(before.bytes), status, state, text, sizes...)
@@ -560,18 +560,18 @@ func TestRightAnswersToSessionsAreRead(t *testing.T) {
 	for _, right := range []struct {
 		status    int32
 		text      string
-		hasFront  bool
+		hasPrefix bool
 		confirmed uint64
 		fault     *Unconfirmed
 	}{
-		{done, report, false, 0, nil}, {differs, differing, false, 0, nil}, {differs, differing, true, 0, nil}, {done, front, true, 3, nil},
+		{done, report, false, 0, nil}, {differs, differing, false, 0, nil}, {differs, differing, true, 0, nil}, {done, onPrefix, true, 3, nil},
 		{differs, differingOnNothing, false, 0, nil}, {differs, differingOnNothing, true, 0, nil},
-		{done, frontAndReplay, true, 3, &Unconfirmed{"unconfirmed: replay fault 1 at entry 4", KindReplay, 1, 4}},
-		{done, frontAndList, true, 3, &Unconfirmed{"unconfirmed: list fault 1 at entry 5", KindList, 1, 5}},
+		{done, prefixAndReplay, true, 3, &Unconfirmed{"unconfirmed: replay fault 1 at entry 4", KindReplay, 1, 4}},
+		{done, prefixAndList, true, 3, &Unconfirmed{"unconfirmed: list fault 1 at entry 5", KindList, 1, 5}},
 		{done, strings.Replace(report, `"entries":3,`, `"entries":3,"confirmed":3,`, 1), true, 3, nil},
 	} {
 		s, state, offset := session(t, nil, nil, NothingRequired), stateOf(right.status), uint64(300)
-		s.prefix = right.hasFront
+		s.prefix = right.hasPrefix
 		if right.status != done {
 			offset = 0
 		}
@@ -582,9 +582,9 @@ func TestRightAnswersToSessionsAreRead(t *testing.T) {
 	}
 }
 
-func TestFrontThatCannotBeIsNone(t *testing.T) {
+func TestPrefixThatCannotBeIsNone(t *testing.T) {
 	read := func(status int32, text string) error { return sessionError(t, status, stateOf(status), text, true) }
-	checkChanges(t, read, done, front, [][2]string{
+	checkChanges(t, read, done, onPrefix, [][2]string{
 		{matchingRow, ``},
 		{`"confirmed":3`, `"confirmed":6`}, {`"confirmed":3`, `"confirmed":0`}, {`"confirmed":3`, `"confirmed":-3`},
 		{`"confirmed":3`, `"confirmed":3.5`}, {`"confirmed":3`, `"confirmed":"3"`}, {`"confirmed":3`, `"confirmed":true`},
@@ -592,8 +592,8 @@ func TestFrontThatCannotBeIsNone(t *testing.T) {
 		{`"confirmed":3,`, replayMember}, {`"entries":5`, `"entries":2`}, {`"verdict":"match"`, `"verdict":"differ"`}, {`"good"`, `"wrong"`},
 		{wanted + `"state":"match"`, `"state":"missing"`},
 	})
-	checkUnexpected(t, read(differs, front), front)
-	checkUnexpected(t, read(done, report), report) // (a whole list that matches has a front, too)
+	checkUnexpected(t, read(differs, onPrefix), onPrefix)
+	checkUnexpected(t, read(done, report), report) // (a whole list that matches has a prefix, too)
 	for _, told := range []string{`"confirmed":3,`, `"confirmed":3,` + replayMember, replayMember, `"confirmed":null,`, `"unconfirmed":null,`} {
 		for _, entries := range []string{`"entries":3,`, `"entries":5,`} {
 			text := strings.Replace(differing, `"entries":3,`, entries+told, 1)
@@ -602,16 +602,16 @@ func TestFrontThatCannotBeIsNone(t *testing.T) {
 			checkUnexpected(t, readVerdict(differs, text), text)
 		}
 	}
-	for _, text := range []string{front, frontAndReplay, strings.Replace(report, `"entries":3,`, `"entries":3,"confirmed":3,`, 1)} {
+	for _, text := range []string{onPrefix, prefixAndReplay, strings.Replace(report, `"entries":3,`, `"entries":3,"confirmed":3,`, 1)} {
 		checkUnexpected(t, sessionError(t, done, stateText, text, false), text)
 		checkUnexpected(t, readVerdict(done, text), text)
 	}
 }
 
-func TestFrontWithAStrayIsNoMatch(t *testing.T) {
+func TestPrefixWithAStrayIsNoMatch(t *testing.T) {
 	read := func(status int32, text string) error { return sessionError(t, status, stateOf(status), text, true) }
 	for _, strays := range []string{strayEntry, strayEvent, strayEvent + "," + strayEntry} {
-		for _, text := range []string{front, frontAndReplay} {
+		for _, text := range []string{onPrefix, prefixAndReplay} {
 			text := strayed(text, strays)
 			v, err := session(t, nil, nil, NothingRequired, Prefix()).given(300, differs, "", text)
 			equal(t, []interface{}{v.Matches, v.Confirmed, v.Unconfirmed != nil, err}, []interface{}{false, uint64(3), strings.Contains(text, "replay"), nil})
@@ -623,16 +623,16 @@ func TestFrontWithAStrayIsNoMatch(t *testing.T) {
 			checkUnexpected(t, readVerdict(differs, text), text)
 		}
 		whole := strayed(report, strays)
-		checkUnexpected(t, read(differs, whole), whole) // (all registers match, so there is a front)
+		checkUnexpected(t, read(differs, whole), whole) // (all registers match, so there is a prefix)
 		v, err := session(t, nil, nil, NothingRequired).given(300, differs, "", whole)
 		equal(t, []interface{}{v.Matches, v.Extends != nil, err}, []interface{}{false, true, nil})
 	}
-	checkChanges(t, read, differs, strayed(front, strayEntry), [][2]string{{`"entry":2,`, `"entry":3,`}}) // (an entry after the front)
+	checkChanges(t, read, differs, strayed(onPrefix, strayEntry), [][2]string{{`"entry":2,`, `"entry":3,`}}) // (an entry after the prefix)
 }
 
-func TestFaultAfterTheFrontThatCannotBeIsNone(t *testing.T) {
+func TestFaultAfterThePrefixThatCannotBeIsNone(t *testing.T) {
 	read := func(status int32, text string) error { return sessionError(t, status, stateText, text, true) }
-	checkChanges(t, read, done, frontAndReplay, [][2]string{
+	checkChanges(t, read, done, prefixAndReplay, [][2]string{
 		{`"entry":4`, `"entry":3`}, {`y 4"`, `y 3"`}, {`"entry":4,`, ``}, {`"number":1`, `"number":2`}, {`"number":1`, `"number":"1"`},
 		{`"number":1,`, ``}, {`"kind":"replay"`, `"kind":"list"`}, {`"kind":"replay",`, ``}, {`unconfirmed: `, `refused: `},
 		{`unconfirmed: `, ``}, {`unconfirmed: `, `Unconfirmed: `}, {`unconfirmed: `, `unconfirmed: refused: `}, {` 1 at`, ` 01 at`}, {`"message"`, `"line"`},
@@ -645,7 +645,7 @@ func TestFaultAfterTheFrontThatCannotBeIsNone(t *testing.T) {
 		{replayMember, `"unconfirmed":{"kind":"command_line","message":"unconfirmed: command line"},`},
 		{replayMember, `"unconfirmed":{"kind":"memory","message":"failed: memory"},`},
 	})
-	checkChanges(t, read, done, frontAndList, [][2]string{{`"entries":5`, `"entries":6`}, {`"entries":5`, `"entries":4`}})
+	checkChanges(t, read, done, prefixAndList, [][2]string{{`"entries":5`, `"entries":6`}, {`"entries":5`, `"entries":4`}})
 }
 
 func TestStateThatIsNotThatOfTheReportIsNone(t *testing.T) {
@@ -655,17 +655,17 @@ func TestStateThatIsNotThatOfTheReportIsNone(t *testing.T) {
 	} {
 		state := strings.Replace(stateText, change[0], change[1], 1)
 		checkUnexpected(t, sessionError(t, done, state, report, false), report)
-		checkUnexpected(t, sessionError(t, done, state, front, true), front)
+		checkUnexpected(t, sessionError(t, done, state, onPrefix, true), onPrefix)
 	}
 	for _, state := range []string{stateText, "x", "\n"} { // (only a match has one)
 		checkUnexpected(t, sessionError(t, differs, state, differing, false), differing)
 		checkUnexpected(t, sessionError(t, differs, state, differing, true), differing)
 	}
-	none := strings.Replace(front, `"confirmed":3`, `"confirmed":0`, 1)
+	none := strings.Replace(onPrefix, `"confirmed":3`, `"confirmed":0`, 1)
 	for _, wrong := range []struct {
 		text, old, new string
 		size           int
-	}{{report, "300", "2", 2}, {front, "300", "2", 2}, {none, "entries 3", "entries 0", 300}} { // (fewer bytes than entries; no entry)
+	}{{report, "300", "2", 2}, {onPrefix, "300", "2", 2}, {none, "entries 3", "entries 0", 300}} { // (fewer bytes than entries; no entry)
 		s := session(t, nil, nil, NothingRequired)
 		s.prefix = wrong.text != report
 		_, err := s.given(wrong.size, done, strings.Replace(stateText, wrong.old, wrong.new, 1), wrong.text)
@@ -674,14 +674,14 @@ func TestStateThatIsNotThatOfTheReportIsNone(t *testing.T) {
 	less := strings.Replace(stateText, "300", "299", 1)
 	checkUnexpected(t, sessionError(t, done, less, report, false), report)
 	s := session(t, nil, nil, NothingRequired, Prefix())
-	verdict, err := s.given(300, done, less, front) // (the front's end may be anywhere)
+	verdict, err := s.given(300, done, less, onPrefix) // (the prefix's end may be anywhere)
 	equal(t, []interface{}{verdict.Confirmed, err, s.Offset()}, []interface{}{uint64(3), nil, uint64(299)})
-	_, err = session(t, nil, nil, NothingRequired, Prefix(), Resume([]byte(stateText))).given(0, done, less, front)
-	checkUnexpected(t, err, front)
+	_, err = session(t, nil, nil, NothingRequired, Prefix(), Resume([]byte(stateText))).given(0, done, less, onPrefix)
+	checkUnexpected(t, err, onPrefix)
 	later := strings.NewReplacer("entries 3", "entries 4", "300", "400").Replace(stateText)
-	for _, text := range []string{report, front} {
+	for _, text := range []string{report, onPrefix} {
 		s := session(t, nil, nil, NothingRequired, Resume([]byte(later)))
-		s.prefix = text == front
+		s.prefix = text == onPrefix
 		_, err := s.given(0, done, strings.Replace(stateText, "300", "400", 1), text)
 		checkUnexpected(t, err, text)
 	}
@@ -690,10 +690,10 @@ func TestStateThatIsNotThatOfTheReportIsNone(t *testing.T) {
 }
 
 func TestReportToASessionOnNoRegistersIsNoMatch(t *testing.T) {
-	for text, hasFront := range map[string]bool{report: false, front: true} {
+	for text, hasPrefix := range map[string]bool{report: false, onPrefix: true} {
 		nothing := strings.Replace(text, matchingRow, "", 1)
 		for _, status := range []int32{done, differs} {
-			checkUnexpected(t, sessionError(t, status, stateOf(status), nothing, hasFront), nothing)
+			checkUnexpected(t, sessionError(t, status, stateOf(status), nothing, hasPrefix), nothing)
 		}
 	}
 	checkUnexpected(t, sessionError(t, done, stateText, differingOnNothing, false), differingOnNothing)

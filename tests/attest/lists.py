@@ -32,7 +32,7 @@ class EntriesInLog(LenientTests):
         ended = self.call(["ima-agent", "verify", str(forged.log), str(forged.list), str(expected)])
         self.check("the registers match a log with entries of the list", (ended.status, ended.last), (0, "verdict match"))
         self.check_differ("a log with entries of the list", self.attest(forged), EXTENDS_TEN, OF_QUOTE)
-        self.check_differ("with the front of the list", self.attest(forged, prefix=True), EXTENDS_TEN, OF_QUOTE)
+        self.check_differ("with the prefix of the list", self.attest(forged, prefix=True), EXTENDS_TEN, OF_QUOTE)
         self.check_differ("from standard input", self.attest_from(forged.log, replace(forged, log="/dev/stdin")), EXTENDS_TEN, OF_QUOTE)
         one = self.put("one.log", moved(self.entries, 1)[0])
         self.check_differ("a log with one entry, of a list that has it too", self.attest(honest, log=one), EXTENDS_TEN)
@@ -112,13 +112,13 @@ class OddLists(LenientTests):
             for other in (executable(name, 11), Entry(11, SHA1.hash(b""), name, b"")):
                 check_other(f"an entry of register 11 with an odd name: {other.template} {name}", [*entries, other])
         later, eleven = executable(b"/bin/later"), executable(b"/bin/later", 11)
-        check_other("an entry of register 11 in the front", [*entries[:1], eleven, *entries[1:], later], prefix=True)
-        self.check_match("an entry of register 11 after the front", attested([*entries, eleven, later], prefix=True))
+        check_other("an entry of register 11 in the prefix", [*entries[:1], eleven, *entries[1:], later], prefix=True)
+        self.check_match("an entry of register 11 after the prefix", attested([*entries, eleven, later], prefix=True))
         forged = later._replace(template_digest=SHA1.hash(b""))
-        self.check_match("damage after the front", attested([*entries, later, forged, later], end=b"\n", prefix=True))
+        self.check_match("damage after the prefix", attested([*entries, later, forged, later], end=b"\n", prefix=True))
         said = self.said_on_terminal(Evidence(quote=quote, list=self.folder / "others.list", prefix=True))
-        self.check("damage after the front says nothing on a terminal", said, (0, ""))
-        title = "damage, and before it an entry of register 11, after the front"
+        self.check("damage after the prefix says nothing on a terminal", said, (0, ""))
+        title = "damage, and before it an entry of register 11, after the prefix"
         self.check_match(title, attested([*entries, forged, eleven], end=b"\n", prefix=True))
 
     def test_many_entries(self):

@@ -120,7 +120,7 @@ class Samples(AttestTests):
         self.check("the verdict is the last line, and what to do next is said beside it", (ended.output.splitlines()[-1], ended.errors),
                    ("verdict differ", said))
         ended = self.attest(list=longer, prefix=True)
-        self.check_match("a list that went on after the quote, by its front", ended)
+        self.check_match("a list that went on after the quote, by its prefix", ended)
         self.check("how much of it is confirmed", "\nconfirmed 99 of 100 entries\n" in ended.output)
         forged = self.put("forged.list", LIST + LIST[-LAST_ENTRY:-1] + b"\1")
         ended = self.attest(list=forged, prefix=True)

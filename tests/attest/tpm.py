@@ -291,7 +291,7 @@ class Machine(MachineTests):
         self.has([*ENTRIES, ENTRIES[-1]])
         self.check_differ("the list went on", self.verdict_on_quote("the list went on"))
         ended = self.attest(self.sent, prefix=True)
-        self.check_match("the list went on: its front", ended)
+        self.check_match("the list went on: its prefix", ended)
         self.check("the list went on: how much of it is confirmed", "\nconfirmed 99 of 100 entries\n" in ended.output)
         self.extend("the register has it, too", ENTRIES[-1:])
         self.check_differ("the register went on, and the quote is old", self.verdict())

@@ -666,7 +666,7 @@ static void check_quoted_sessions(const struct given *sample) {
     given = *sample;
     given.prefix = true;
     given.evidence.list = (struct ima_verify_bytes){longer, list.size + LAST};
-    check(saved_by(attest_more, &given, front, "a front").size == by_quote.size && has_checkpoint(by_quote), "attest_more", "a front");
+    check(saved_by(attest_more, &given, front, "a prefix").size == by_quote.size && has_checkpoint(by_quote), "attest_more", "a prefix");
 
     /* (expected registers tell no boot) */
     struct ima_verify_bytes by_registers = saved_by(more, sample, compared, "the sample");
@@ -906,7 +906,7 @@ static void check_stack(const struct given *sample, size_t stack) {
         check_deep(function, sample, form, stack, "the sample");
         check_deep(function, WITH(evidence.require, ima_verify_text("sha1:0-23,sha256:0-23,sha384:0-23,sha512:0-23")), form, stack,
                    "all registers");
-        check_deep(function, WITH(prefix, true), form, stack, "the confirmed front");
+        check_deep(function, WITH(prefix, true), form, stack, "the confirmed prefix");
         given = knowing(sample);
         check_deep(function, &given, form, stack, "known files");
         check_deep(function, WITH(origin, IMA_VERIFY_OF_LIST), form, stack, "of the list");

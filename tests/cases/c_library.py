@@ -304,7 +304,7 @@ class Call(Knowing):
 @dataclass(frozen=True)
 class More(Knowing):
     """A call of the function for a list that grows: files of known digests; the files of log, list and expected registers, what is required,
-    whether a front is asked for, the file to go on from and the one to save, and whether JSON is asked for."""
+    whether a prefix is asked for, the file to go on from and the one to save, and whether JSON is asked for."""
 
     known: tuple
     files: list

@@ -60,7 +60,7 @@ from reference.hints import (  # noqa: E402
 )
 from reference.known_files import read_known  # noqa: E402
 from reference.log import Log, read_log  # noqa: E402
-from reference.measurement_list import BOOT_AGGREGATE, IMA_NG, entry_of, read_front  # noqa: E402
+from reference.measurement_list import BOOT_AGGREGATE, IMA_NG, entry_of, read_prefix  # noqa: E402
 from reference.quotes import read_quote  # noqa: E402
 from reference.registers import SHA256  # noqa: E402
 from reference.texts import read_requirement  # noqa: E402
@@ -663,7 +663,7 @@ def make_samples(folder):
     (folder / "longer.list").write_bytes(listed + listed[-95:])
     (folder / "shorter.list").write_bytes(listed[:-95])
     (folder / "end.list").write_bytes(listed[-95:])
-    registers, first = read_log((folder / "firmware.log").read_bytes()).registers(), read_front(listed, 0)[0][0]
+    registers, first = read_log((folder / "firmware.log").read_bytes()).registers(), read_prefix(listed, 0)[0][0]
     joined = b"".join(registers.value(SHA256, register) for register in OLD_REGISTERS)
     of_eight = entry_of(IMA_NG, SHA256, SHA256.hash(joined), BOOT_AGGREGATE)
     (folder / "eight.list").write_bytes(of_eight.spelling() + listed[len(first.spelling()):])

@@ -105,7 +105,7 @@ NO_KNOWN, KNOWN_IS_NOT_GIVEN = b"", False
 NO_STATE, SHA1_IS_NOT_TAKEN, IS_SIGNED, OF_WHOLE = b"", False, True, False
 ENTRIES = Call("entries", [], None, AS_TEXT, False)
 DAMAGES = {
-    "fronts": (lambda data: range(len(data) + 1), lambda data, place: data[:place]),
+    "prefixes": (lambda data: range(len(data) + 1), lambda data, place: data[:place]),
     "one bit turned": (lambda data: range(len(data)), lambda data, place: data[:place] + bytes([data[place] ^ 1]) + data[place + 1 :]),
 }
 

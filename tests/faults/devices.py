@@ -128,7 +128,7 @@ def is_read_before(text, wanted, words):
 
 
 def is_cut(found, wanted, _name, run):
-    """Whether an answer is a front of the one wanted, and no more. (Why an input is refused may be explained then, too.)"""
+    """Whether an answer is a prefix of the one wanted, and no more. (Why an input is refused may be explained then, too.)"""
     status, text, errors = found
     is_due = errors == b"" or is_explained(run.command) and errors == wanted[2]
     return status == FAILED and is_due and text != wanted[1] and wanted[1].startswith(text)

@@ -143,7 +143,7 @@ def same(found, wanted):
 
 
 def checkpoint_of(boot, entries):
-    """The checkpoint of the front of a list that has so many entries, by the reference."""
+    """The checkpoint of the prefix of a list that has so many entries, by the reference."""
     return before_a_list(read_log(boot.log).registers()).following(boot.entries[:entries])
 
 
@@ -182,25 +182,25 @@ def cut_twice(room, boot, places):
 
 
 def cut_within(room, boot, place):
-    """The list cut anywhere, by a machine whose registers have the entries that came whole: the front that these confirm is saved, and the
+    """The list cut anywhere, by a machine whose registers have the entries that came whole: the prefix that these confirm is saved, and the
     list gone on with from there."""
-    return front_saved(room, boot, boot.list[:place], boot.entries_in(place))
+    return prefix_saved(room, boot, boot.list[:place], boot.entries_in(place))
 
 
-def front_saved(room, boot, data, entries):
-    """A list of which registers confirm the front of so many entries: its checkpoint is saved, and gone on from with the boot's list."""
+def prefix_saved(room, boot, data, entries):
+    """A list of which registers confirm the prefix of so many entries: its checkpoint is saved, and gone on from with the boot's list."""
     room.put(log=boot.log, whole=boot.list, first=data, then=boot.expected[entries], expected=boot.expected[-1])
     whole = room.answer("log", "whole", "expected")
     room.restore(None)
     if not begun(room, boot, len(data), "--prefix", "log", "first", "then"):
-        return 2, b"no front is confirmed"
+        return 2, b"no prefix is confirmed"
     size = int(room.saved().split(b"\nbytes ")[1].partition(b"\n")[0])
     room.put(rest=boot.list[size:])
     return same(room.answer("--resume", SAVED, "log", "rest", "expected"), whole)
 
 
-def front(room, boot, entries, forged, start):
-    """The front of so many entries, which registers confirm, of a list of which one is forged, from a checkpoint or from the beginning."""
+def prefix(room, boot, entries, forged, start):
+    """The prefix of so many entries, which registers confirm, of a list of which one is forged, from a checkpoint or from the beginning."""
     data = boot.list if forged is None else boot.forged(forged)
     size = boot.ends[start]
     room.put(log=boot.log, first=boot.list[:size], rest=data[size:], before=boot.expected[start], then=boot.expected[entries])
@@ -307,26 +307,26 @@ def trials():
     yield "two banks, in two parts", [(cut, banks, banks.list, end, options) for end in banks.ends for options in OPTIONS]
     yield "one entry forged, in two parts", [
         (cut, small, small.forged(forged), end, []) for forged in places[:-1] for end in small.ends]
-    yield "one entry forged, and a front", [
-        (front, small, entries, forged, start) for forged in (None, *places[:-1]) for entries in places for start in places]
+    yield "one entry forged, and a prefix", [
+        (prefix, small, entries, forged, start) for forged in (None, *places[:-1]) for entries in places for start in places]
     yield "list that ends in a fault, in two parts", [
         (cut, small, data, end, options) for data in broken(small) for end in small.ends[:-1] for options in ([], ["--prefix"])]
-    yield "front of a list that goes on or is damaged", [
-        (front_saved, small, data, entries) for entries in places for data in (small.list, *broken(small), *map(small.forged, places[entries:-1]))]
+    yield "prefix of a list that goes on or is damaged", [
+        (prefix_saved, small, data, entries) for entries in places for data in (small.list, *broken(small), *map(small.forged, places[entries:-1]))]
     yield "list without its boot aggregate, or with it late", [(cut, late, late.list, end, []) for end in late.ends]
     yield "real list, in two parts at each entry", [(cut, real, real.list, end, OPTIONS[end % 4]) for end in real.ends]
     yield "real list, within an entry", [(cut_within, real, place) for place in range(0, len(real.list), ODD_BYTES)]
     yield "real list, in three parts", [(cut_twice, real, drawn.sample(real.ends, 2)) for _ in range(50)]
     yield "real list, one entry forged, in two parts", [
         (cut, real, real.forged(drawn.randrange(len(real.entries))), drawn.choice(real.ends), []) for _ in range(50)]
-    yield "real list, one entry forged, and a front", [
-        (front, real, drawn.randrange(100), drawn.randrange(99), drawn.randrange(30)) for _ in range(50)]
+    yield "real list, one entry forged, and a prefix", [
+        (prefix, real, drawn.randrange(100), drawn.randrange(99), drawn.randrange(30)) for _ in range(50)]
     whole = Boot(b"".join(boots.WHOLE.events), read_list(b"".join(boots.WHOLE.entries)))
     yield "list in two parts, by quotes", [
         (quoted_in_parts, whole, end, counts, options) for end in whole.ends for counts in LATER_COUNTS for options in ([], ["--prefix"], ["--json"])]
     yield "boots that are changed at random, by a quote, with expected registers", [(with_expected, seed) for seed in range(RANDOM_BOOTS)]
     yield "checkpoint, one bit turned", [(in_place, small, turned(text, place), True) for place in range(len(text))]
-    yield "checkpoint, fronts", [(in_place, small, text[:size], True) for size in some_of(len(text))]
+    yield "checkpoint, prefixes", [(in_place, small, text[:size], True) for size in some_of(len(text))]
     yield "checkpoint, one bit turned, under a right hash", [
         (in_place, small, sealed(turned(text, place))) for place in some_of(text.rindex(b"sha256 "))]
     yield "checkpoint of another boot", [(in_place, boot, text, True) for boot in (banks, real)]

@@ -2,7 +2,7 @@
  *
  *     library FUNCTION RESULT TEXT ROOM NEXT NEXT_ROOM INPUT..
  *
- * FUNCTION is the name of a function without ima_verify_. After it can stand :json for that form, :prefix if the confirmed front is asked
+ * FUNCTION is the name of a function without ima_verify_. After it can stand :json for that form, :prefix if the confirmed prefix is asked
  * for, :list for the registers of a list, :signed if a quote's signature was checked, and :endorsement for a key of that purpose. INPUT are
  * its files, and ROOM is the size of its buffer. RESULT and the file TEXT are the answer that it has with ample memory, and the file NEXT is
  * the checkpoint that it gives in a buffer of NEXT_ROOM bytes; a function that gives none has no such buffer. In the Nth turn the Nth
@@ -263,7 +263,7 @@ static struct room room_of(size_t size) {
     return (struct room){buffer, {buffer + MARGIN, size, SIZE_MAX, {UINT32_MAX, UINT32_MAX, 0}}};
 }
 
-/* Whether a text is at the front of a buffer, if it is `written`, and all other bytes are as before. */
+/* Whether a text is at the start of a buffer, if it is `written`, and all other bytes are as before. */
 static bool has_text(struct ima_verify_bytes text, const struct room *room, bool written) {
     size_t size = written ? text.size : 0;
     if (room->output.size != text.size || memcmp(room->buffer + MARGIN, text.data, size) != 0)
@@ -313,7 +313,7 @@ static struct answer memory_answer(const char *function) {
     return (struct answer){IMA_VERIFY_OUT_OF_MEMORY, ima_verify_text(line), {&nothing, 0}};
 }
 
-/* Whether an answer is given as the header says: each text at the front of its buffer and all other bytes as before; or, if a
+/* Whether an answer is given as the header says: each text at the start of its buffer and all other bytes as before; or, if a
  * buffer is too short for its text, all bytes as before. */
 static bool is_given(const char *function, struct answer answer, enum ima_verify_result result, const struct room *next,
                      const struct room *out) {
@@ -346,7 +346,7 @@ static bool begins_with(const uint8_t *at, const uint8_t *end, const char *word)
     return (size_t)(end - at) >= strlen(word) && memcmp(at, word, strlen(word)) == 0;
 }
 
-/* The line at the front of a text, or nothing. (A path may have line feeds; all entries of the sample are of register 10.) */
+/* The line at the start of a text, or nothing. (A path may have line feeds; all entries of the sample are of register 10.) */
 static struct ima_verify_bytes line_of(struct ima_verify_bytes text) {
     const uint8_t *at = text.data, *end = text.data + text.size;
     while (at < end)

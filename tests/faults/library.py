@@ -36,7 +36,7 @@ OPTIONS = {"verdict": "--require", "locate": "--require", "replay": "--require",
 NOT_ATTESTED, QUOTE_REFUSED = 4, b"refused: quote fault"
 DIFFERS, REFUSED = 1, 2
 # The first 97 entries of the sample's list, and the first three.
-FRONT_BYTES, THREE_ENTRIES_BYTES = 11731, 292
+PREFIX_BYTES, THREE_ENTRIES_BYTES = 11731, 292
 FEW_LINES = 8
 # What the library takes where the program has no `--require`.
 NONE_REQUIRED = b"none"
@@ -144,10 +144,10 @@ def made_files(folder, program):
         "early log": log[:300],
         "first entries": listed[:THREE_ENTRIES_BYTES],
         "early list": listed[: THREE_ENTRIES_BYTES - 1],
-        "front": listed[:FRONT_BYTES],
-        "rest": listed[FRONT_BYTES:],
-        "rest and more": listed[FRONT_BYTES:] + listed[-95:],
-        "cut rest": listed[FRONT_BYTES:-1],
+        "prefix": listed[:PREFIX_BYTES],
+        "rest": listed[PREFIX_BYTES:],
+        "rest and more": listed[PREFIX_BYTES:] + listed[-95:],
+        "cut rest": listed[PREFIX_BYTES:-1],
         "last entry": listed[-95:],
         "expected": expected,
         "firmware's": b"".join(expected.splitlines(True)[:10]),
@@ -185,7 +185,7 @@ def made_files(folder, program):
         files[name] = folder / f"input-{number}"
         files[name].write_bytes(content)
     files["checkpoint"] = folder / "checkpoint"
-    words = [program, "verify", f"--save={files['checkpoint']}", files["log"], files["front"], files["firmware's"]]
+    words = [program, "verify", f"--save={files['checkpoint']}", files["log"], files["prefix"], files["firmware's"]]
     subprocess.run(words, stdout=subprocess.DEVNULL, timeout=SECONDS, check=True)
     files["damaged"], files["other version"] = folder / "damaged", folder / "other-version"
     text = files["checkpoint"].read_bytes()

@@ -89,9 +89,9 @@ class Boot:
     def expected(self, count):
         return inputs.expected_text(inputs.expected_after(self.read_log, self.entries[:count]))
 
-    def with_other_register(self, front, count):
+    def with_other_register(self, start, count):
         """A list whose entries are of another register than IMA's after the first ones, and the registers that it makes."""
-        entries = self.entries[:front] + [entry._replace(register=11) for entry in self.entries[front:count]]
+        entries = self.entries[:start] + [entry._replace(register=11) for entry in self.entries[start:count]]
         return list_spelling(entries), inputs.expected_text(inputs.expected_after(self.read_log, entries))
 
 

@@ -5,11 +5,11 @@ from typing import NamedTuple
 from .checkpoint import Checkpoint, before_a_list, read_checkpoint
 from .faults import USAGE, CheckpointFault, quote_fault
 from .log import read_log
-from .measurement_list import IMA_REGISTER, read_front, read_list
+from .measurement_list import IMA_REGISTER, read_list, read_prefix
 from .quotes import Quote, QuoteFault, read_quote
 from .registers import ALGORITHMS, REGISTERS, SHA1
 from .texts import read_expected, read_requirement
-from .verdict import Report, boot_aggregate_state, confirmed_front, front_report, report_at, strays_in
+from .verdict import Report, boot_aggregate_state, confirmed_prefix, prefix_report, report_at, strays_in
 
 LEAST_NONCE = 16
 
@@ -187,19 +187,19 @@ def read_state(text, quote):
     return start
 
 
-def is_confirmed(front, quote):
-    """Whether the boot aggregate of a front is good, and the quote is of the registers after it."""
-    return boot_aggregate_state(front.before, front.stated) == "good" and quote.is_of(front.after.value)
+def is_confirmed(prefix, quote):
+    """Whether the boot aggregate of a prefix is good, and the quote is of the registers after it."""
+    return boot_aggregate_state(prefix.before, prefix.stated) == "good" and quote.is_of(prefix.after.value)
 
 
 def quoted_report(boot, start, entries, fault, quote, is_signed, prefix, stated):
-    """The report by a quote on what a list has from a checkpoint on: entries, and the fault that ends them, or None. It is on the shortest front
+    """The report by a quote on what a list has from a checkpoint on: entries, and the fault that ends them, or None. It is on the shortest prefix
     that the quote confirms, if that is sought and there is one; else on the whole list, or its fault is raised. What extends a register that
     is not its own is told by the report."""
     is_stated, rows = stated
-    end = confirmed_front(start, entries, lambda front: is_confirmed(front, quote)) if prefix else None
+    end = confirmed_prefix(start, entries, lambda part: is_confirmed(part, quote)) if prefix else None
     if end:
-        report = front_report(boot, end, start, entries, fault, rows)
+        report = prefix_report(boot, end, start, entries, fault, rows)
     elif fault:
         raise fault
     else:
@@ -222,4 +222,4 @@ def attest_report(log, measurements, message, nonce, require, takes_sha1=False, 
     start = start or before_a_list(before)
     if start.before.banks != before.banks:
         raise CheckpointFault.OTHER_BOOT.fault()
-    return quoted_report(boot, start, *read_front(measurements, start.entries), quote, is_signed, prefix, stated)
+    return quoted_report(boot, start, *read_prefix(measurements, start.entries), quote, is_signed, prefix, stated)

@@ -244,7 +244,7 @@ def first_difference(bank, events, others):
 
 def differing(bank, events, others):
     """The events of both but those of a longest common subsequence of the first that are compared. Of several it is the one that is found from
-    the front, where an event of the log is passed over rather than one of the other log."""
+    the start, where an event of the log is passed over rather than one of the other log."""
     digests, other_digests = ([event.digests.get(bank.identifier) for _, event in each[:MOST_COMPARED]] for each in (events, others))
     common, other_common = set(), set()
     lengths = lengths_left(digests, other_digests)

@@ -20,7 +20,7 @@ class Fault(Exception):
         return {"kind": self.kind, **numbered, **self.place, "message": line}
 
     def unconfirmed(self):
-        """The same, where it is told of what comes after the confirmed front."""
+        """The same, where it is told of what comes after the confirmed prefix."""
         return self.members(f"unconfirmed: {self.line.removeprefix('refused: ')}")
 
 

@@ -6,11 +6,11 @@ from typing import NamedTuple
 
 from .command_line import read_words
 from .faults import Fault
-from .measurement_list import IMA_REGISTER, read_front, stated_boot_aggregate
+from .measurement_list import IMA_REGISTER, read_prefix, stated_boot_aggregate
 from .program import (
     MOST_BYTES,
     Inputs,
-    judged_front,
+    judged_prefix,
     known_by,
     list_of,
     read_boot,
@@ -22,7 +22,7 @@ from .known_files import unknown_entries
 from .log import read_log
 from .registers import SHA1
 from .texts import read_expected
-from .verdict import front_that_matches, list_report, places, strays_in
+from .verdict import list_report, places, prefix_that_matches, strays_in
 
 MOST_LINES = 3
 HEAD = 4096
@@ -82,7 +82,7 @@ def first_of(unknown):
 
 def records_old(inputs, log, listed):
     """Whether the first entry of the list, or of what follows a checkpoint, records the hash of PCRs 0 to 7 after the log."""
-    stated, registers = stated_boot_aggregate(read_front(inputs.load(listed), 0)[0]), log.registers()
+    stated, registers = stated_boot_aggregate(read_prefix(inputs.load(listed), 0)[0]), log.registers()
     if stated is None or stated[0] not in registers.banks:
         return False
     algorithm, digest = stated
@@ -93,8 +93,8 @@ def seen_by_verify(inputs, values, log, listed, expected):
     required = required_by(values)
     log, expected = inputs.load(log), read_expected(inputs.load(expected))
     log, known, start, entries, fault = read_boot(inputs, values, log, listed)
-    front = front_that_matches(log, start, entries, expected, required) if values["--prefix"] else None
-    end, report = judged_front(log, start, entries, fault, front, expected, required)
+    prefix = prefix_that_matches(log, start, entries, expected, required) if values["--prefix"] else None
+    end, report = judged_prefix(log, start, entries, fault, prefix, expected, required)
     report = report.looked_at(unknown_up_to(end, known, start, entries))
     seen = Seen(end.entries, report.rows, report.missing or [], strays_in(log.events, end.stray), first_of(report.unknown),
                 report.counts["boot_aggregate"], is_bare=not expected, is_old=records_old(inputs, log, listed))
@@ -127,7 +127,7 @@ SEEN_BY = {"verify": seen_by_verify, "attest": seen_by_attest, "locate": seen_by
 
 
 def grown(inputs, asked):
-    """Of how many entries of how many the values are, if all is well with a front of a list that was judged as a whole; or None."""
+    """Of how many entries of how many the values are, if all is well with a prefix of a list that was judged as a whole; or None."""
     if asked.command not in ("verify", "attest") or asked.values["--prefix"]:
         return None
     try:

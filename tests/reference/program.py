@@ -28,7 +28,7 @@ from .faults import (
 from .json_texts import json_lines
 from .keys import read_key
 from .known_files import read_known, unknown_entries
-from .log import read_log, read_log_front
+from .log import read_log, read_log_prefix
 from .measured_data import matching_registers
 from .measurement_list import (
     BOOT_AGGREGATE,
@@ -39,12 +39,12 @@ from .measurement_list import (
     entry_values,
     list_spelling,
     list_text,
-    read_front,
+    read_prefix,
     replay,
 )
 from .registers import ALGORITHMS, BY_NAME, SHA1, Registers, registers_value
 from .texts import read_expected, read_hexadecimal, read_names, read_printed, read_requirement, read_selection
-from .verdict import front_report, front_that_matches, list_report, places, report_at
+from .verdict import list_report, places, prefix_report, prefix_that_matches, report_at
 
 MOST_BYTES = 64 << 20
 LONGEST_PATH = 4095
@@ -145,13 +145,13 @@ def whole(data, fault):
 
 def list_of(data, fault):
     """The entries of a list that is read as its bytes come."""
-    return whole(*front_of(data, fault))
+    return whole(*prefix_of(data, fault))
 
 
-def front_of(data, fault, first=0):
+def prefix_of(data, fault, first=0):
     """The entries before the first fault of such a list, and that, or None, where the first entry has this number; or the fault that ended
     its bytes, if that is the first. Only a cut entry is told after it."""
-    entries, found = read_front(data, first)
+    entries, found = read_prefix(data, first)
     if fault and (found is None or found.number == ListFault.TRUNCATED):
         raise fault
     return entries, found
@@ -193,7 +193,7 @@ def confirming_registers(inputs, values, log):
 def events_command(inputs, values, log):
     data = inputs.load(log)
     matching, status = confirming_registers(inputs, values, data)
-    log, fault = read_log_front(data)
+    log, fault = read_log_prefix(data)
     if fault and not values["--json"]:
         raise fault
     shown = log.values(matching) if log and values["--json"] else []
@@ -216,7 +216,7 @@ def show_command(inputs, values, listed):
     data, fault = inputs.opened(listed)()
     if not values["--json"]:
         whole(data, fault)
-    entries, found = read_front(data)
+    entries, found = read_prefix(data)
     if found and not (fault and found.number == ListFault.TRUNCATED):
         fault = found
     if fault and not values["--json"]:
@@ -281,7 +281,7 @@ def read_boot(inputs, values, log, listed, read_state=read_checkpoint):
     start = start or before_a_list(before)
     if start.before.banks != before.banks:
         raise CheckpointFault.OTHER_BOOT.fault()
-    return log, known, start, *front_of(*read(), start.entries)
+    return log, known, start, *prefix_of(*read(), start.entries)
 
 
 def unknown_up_to(end, known, start, entries):
@@ -289,10 +289,10 @@ def unknown_up_to(end, known, start, entries):
     return unknown_entries(known, entries[: end.entries - start.entries], start.entries)
 
 
-def judged_front(log, start, entries, fault, front, expected, required=None):
-    """The checkpoint that is reported on, and the report: on a front of the list, or where that is None on the whole."""
-    if front:
-        return front, front_report(log, front, start, entries, fault, expected, required)
+def judged_prefix(log, start, entries, fault, prefix, expected, required=None):
+    """The checkpoint that is reported on, and the report: on a prefix of the list, or where that is None on the whole."""
+    if prefix:
+        return prefix, prefix_report(log, prefix, start, entries, fault, expected, required)
     end = start.following(whole(entries, fault))
     return end, report_at(log, end, expected, required)
 
@@ -308,8 +308,8 @@ def verify_command(inputs, values, log, listed, expected):
     log = inputs.load(log)
     expected = read_expected(inputs.load(expected))
     log, known, start, entries, fault = read_boot(inputs, values, log, listed)
-    front = front_that_matches(log, start, entries, expected, required) if values["--prefix"] else None
-    end, report = judged_front(log, start, entries, fault, front, expected, required)
+    prefix = prefix_that_matches(log, start, entries, expected, required) if values["--prefix"] else None
+    end, report = judged_prefix(log, start, entries, fault, prefix, expected, required)
     report = report.looked_at(unknown_up_to(end, known, start, entries))
     if is_growing(values):
         report = report._replace(matches=report.matches and bool(expected))

@@ -70,42 +70,42 @@ def verdict_report(log, entries, expected, required=None):
 
 
 def report_at(log, end, expected, required=None, entries=None, told=None):
-    """The report on the list of a checkpoint; of a confirmed front, how many entries the whole list has, and what else is told."""
+    """The report on the list of a checkpoint; of a confirmed prefix, how many entries the whole list has, and what else is told."""
     aggregate = boot_aggregate_state(end.before, end.stated)
     counts = {"events": len(log.events), "locality": log.locality, "entries": end.entries if entries is None else entries}
     counts |= {**(told or {}), "boot_aggregate": aggregate}
     return report(counts, end.after, expected, required, aggregate == "good", strays_in(log.events, end.stray))
 
 
-def confirmed_front(start, entries, is_sought):
-    """The checkpoint of the shortest front that is sought, of those that a checkpoint and entries after it have; or None ('The confirmed
+def confirmed_prefix(start, entries, is_sought):
+    """The checkpoint of the shortest prefix that is sought, of those that a checkpoint and entries after it have; or None ('The confirmed
     prefix')."""
-    front = start
+    prefix = start
     for entry in entries:
-        if is_sought(front):
-            return front
+        if is_sought(prefix):
+            return prefix
         if not entry.is_genuine:
             return None
-        front = front.following([entry])
-    return front if is_sought(front) else None
+        prefix = prefix.following([entry])
+    return prefix if is_sought(prefix) else None
 
 
-def front_that_matches(log, start, entries, expected, required=None):
-    """The shortest front on which the verdict is `match`, with nothing required missing; or None, also where no register is expected. What
+def prefix_that_matches(log, start, entries, expected, required=None):
+    """The shortest prefix on which the verdict is `match`, with nothing required missing; or None, also where no register is expected. What
     extends a register that is not its own is told by the report."""
     if not expected or missing_rows(expected, required):
         return None
-    return confirmed_front(start, entries, lambda front: report_at(log, front, expected).matches)
+    return confirmed_prefix(start, entries, lambda prefix: report_at(log, prefix, expected).matches)
 
 
-def front_report(log, front, start, entries, fault, expected, required=None):
-    """The report on a confirmed front of the list that a checkpoint and entries after it have, and that a fault may end."""
+def prefix_report(log, prefix, start, entries, fault, expected, required=None):
+    """The report on a confirmed prefix of the list that a checkpoint and entries after it have, and that a fault may end."""
     try:
         start.following(entries)
     except Fault as found:
         fault = fault or found
-    told = {"confirmed": front.entries, **({"unconfirmed": fault.unconfirmed()} if fault else {})}
-    return report_at(log, front, expected, required, start.entries + len(entries), told)
+    told = {"confirmed": prefix.entries, **({"unconfirmed": fault.unconfirmed()} if fault else {})}
+    return report_at(log, prefix, expected, required, start.entries + len(entries), told)
 
 
 def list_report(entries, expected, required=None):

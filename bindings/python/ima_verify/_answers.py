@@ -92,7 +92,7 @@ def read_report(result: int, text: bytes, judges_known: bool = False) -> Report:
 
 
 def read_more(
-    result: int, text: bytes, state: bytes, start: Checkpoint, size: int, judges_known: bool, has_front: bool
+    result: int, text: bytes, state: bytes, start: Checkpoint, size: int, judges_known: bool, has_prefix: bool
 ) -> Tuple[Verdict, Checkpoint]:
     """The verdict that a report states on a list that has more bytes after a checkpoint, so many, and the next checkpoint.
 
@@ -100,7 +100,7 @@ def read_more(
     before."""
     with _reading(result, text):
         verdict = _verdict_of(result, text, _looked_from(start, judges_known), may_match_nothing=False)
-        _require((verdict.confirmed is not None) == (has_front and _has_all_values(verdict)))
+        _require((verdict.confirmed is not None) == (has_prefix and _has_all_values(verdict)))
         return verdict, _reached_by(verdict, state, start, size)
 
 
@@ -141,19 +141,19 @@ def read_list_verdict(result: int, text: bytes, judges_known: bool = False) -> L
 
 
 def read_attestation(
-    result: int, text: bytes, state: bytes, signature_checked: bool, start: Checkpoint, size: int, judges_known: bool, has_front: bool
+    result: int, text: bytes, state: bytes, signature_checked: bool, start: Checkpoint, size: int, judges_known: bool, has_prefix: bool
 ) -> Tuple[Attestation, Checkpoint]:
     """The verdict by a quote that a report states, where the caller has checked the signature, or has not; and the next checkpoint, as of
     `read_more`."""
     with _reading(result, text):
         report = _object_of(text)
         aggregate, events, entries = BootAggregate(report["boot_aggregate"]), _number(report, "events"), _number(report, "entries")
-        confirmed, unconfirmed = _front_of(report, entries)
+        confirmed, unconfirmed = _prefix_of(report, entries)
         covered, first = entries if confirmed is None else confirmed, _looked_from(start, judges_known)
         extends, unknown = _strays_of(report, events, covered), _unknown_of(report, first, covered)
         quote_matches = report["quote"] == "match"
         is_confirmed = quote_matches and aggregate is BootAggregate.GOOD
-        _require((confirmed is not None) == (has_front and is_confirmed))
+        _require((confirmed is not None) == (has_prefix and is_confirmed))
         is_attested = is_confirmed and not extends and not unknown
         matches = is_attested and signature_checked
         verdict = ("match" if is_attested else "differ") if signature_checked else "signature not checked"
@@ -243,7 +243,7 @@ def _verdict_of(result: int, text: bytes, first: Optional[int], may_match_nothin
     report = _object_of(text)
     aggregate, rows = BootAggregate(report["boot_aggregate"]), _rows_of(report)
     events, locality, entries = _number(report, "events"), _number(report, "locality", 255), _number(report, "entries")
-    confirmed, unconfirmed = _front_of(report, entries)
+    confirmed, unconfirmed = _prefix_of(report, entries)
     covered = entries if confirmed is None else confirmed
     extends, unknown = _strays_of(report, events, covered), _unknown_of(report, first, covered)
     is_good = aggregate is BootAggregate.GOOD and (bool(rows) or may_match_nothing) and not extends and not unknown
@@ -294,7 +294,7 @@ def _unknown_of(report: Object, first: Optional[int], entries: int) -> Tuple[int
     return unknown
 
 
-def _front_of(report: Object, entries: int) -> Tuple[Optional[int], Optional[Unconfirmed]]:
+def _prefix_of(report: Object, entries: int) -> Tuple[Optional[int], Optional[Unconfirmed]]:
     """How many of all entries are confirmed, at least the first, and what is wrong with those after them."""
     if "confirmed" not in report:
         _require("unconfirmed" not in report)

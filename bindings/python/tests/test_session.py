@@ -43,10 +43,10 @@ MATCHING = b'"expected":"' + 64 * b"e" + b'","state":"match"'
 REPORT = (b'{"events":1,"locality":0,"entries":3,"boot_aggregate":"good",'
           b'"registers":[{"bank":"sha256","register":10,"expected":"' + 64 * b"e" + b'","state":"match"}],"verdict":"match"}\n')
 DIFFERING = REPORT.replace(b'"match"}\n', b'"differ"}\n').replace(b'"good"', b'"wrong"')
-FRONT = REPORT.replace(b'"entries":3,', b'"entries":5,"confirmed":3,')
+PREFIX = REPORT.replace(b'"entries":3,', b'"entries":5,"confirmed":3,')
 TOLD = (b'"confirmed":3,"unconfirmed":{"kind":"replay","number":1,"entry":4,"message":"unconfirmed: replay fault 1 at entry 4"},')
-FRONT_WITH_FAULT = FRONT.replace(b'"confirmed":3,', TOLD)
-FRONT_OF_CUT_LIST = FRONT.replace(b'"confirmed":3,', TOLD.replace(b"replay", b"list").replace(b'"entry":4', b'"entry":5').replace(b"y 4", b"y 5"))
+PREFIX_WITH_FAULT = PREFIX.replace(b'"confirmed":3,', TOLD)
+PREFIX_OF_CUT_LIST = PREFIX.replace(b'"confirmed":3,', TOLD.replace(b"replay", b"list").replace(b'"entry":4', b'"entry":5').replace(b"y 4", b"y 5"))
 FAULT = b'{"fault":{"kind":"checkpoint","number":3,"message":"refused: checkpoint fault 3"}}\n'
 NONE = _library.NO_PLACE
 
@@ -177,8 +177,8 @@ class Growing(Refusing):
         for cut in CUTS[1:]:
             verdict = Session(LOG, EXPECTED, require=NOTHING, state=None).more(LIST[ENDS[cut]:])
             self.assertEqual((verdict.matches, verdict.boot_aggregate), (False, BootAggregate.MISSING))
-            front = Session(LOG, EXPECTED, require=NOTHING, prefix=True).more(LIST[ENDS[cut]:])
-            self.assertEqual((front.matches, front.confirmed), (False, None))
+            on_prefix = Session(LOG, EXPECTED, require=NOTHING, prefix=True).more(LIST[ENDS[cut]:])
+            self.assertEqual((on_prefix.matches, on_prefix.confirmed), (False, None))
 
     def test_what_came_before_is_not_taken_twice(self):
         for cut in CUTS[1:]:
@@ -313,35 +313,35 @@ class Required(Refusing):
                 self.assertEqual(session.state, state)
 
 
-class Front(Refusing):
+class Prefix(Refusing):
     """Lists that go on after the registers were read."""
 
-    def check_front(self, verdict, entries, confirmed, unconfirmed=None):
+    def check_prefix(self, verdict, entries, confirmed, unconfirmed=None):
         self.assertEqual((verdict.matches, verdict.entries, verdict.confirmed, verdict.unconfirmed), (True, entries, confirmed, unconfirmed))
         self.assertEqual({row.state for row in verdict.rows}, {State.MATCH})
 
-    def test_front_that_the_registers_confirm(self):
+    def test_prefix_that_the_registers_confirm(self):
         for count in (1, 2, 50, 97, 98, 99):
             session = Session(LOG, tenth_after(count), require="sha256:0-10", prefix=True)
-            self.check_front(session.more(LIST), 99, count)
+            self.check_prefix(session.more(LIST), 99, count)
             self.assertEqual((session.offset, session.state), (ENDS[count], state_after(count)))
 
-    def test_front_is_the_shortest(self):
+    def test_prefix_is_the_shortest(self):
         # (without register 10 nothing speaks for more than the boot aggregate)
         without = b"".join(EXPECTED.splitlines(True)[:10])
         session = Session(LOG, without, require=NOTHING, prefix=True)
-        self.check_front(session.more(LIST), 99, 1)
+        self.check_prefix(session.more(LIST), 99, 1)
 
-    def test_session_goes_on_from_the_front(self):
+    def test_session_goes_on_from_the_prefix(self):
         session = Session(LOG, tenth_after(97), require=NOTHING, prefix=True)
-        self.check_front(session.more(LIST), 99, 97)
+        self.check_prefix(session.more(LIST), 99, 97)
         later = Session(LOG, EXPECTED, require=NOTHING, prefix=True, state=session.state)
-        self.check_front(later.more(LONGER[session.offset:]), 100, 99)
+        self.check_prefix(later.more(LONGER[session.offset:]), 100, 99)
         self.assertEqual(later.offset, len(LIST))
-        self.check_front(later.more(LONGER[later.offset:]), 100, 99)
+        self.check_prefix(later.more(LONGER[later.offset:]), 100, 99)
         self.assertEqual(later.offset, len(LIST))
 
-    def test_damage_after_the_front_is_told(self):
+    def test_damage_after_the_prefix_is_told(self):
         data = tenth_after(97)
         for listed, entries, kind, number, place in (
             (changed(98), 99, Kind.REPLAY, 1, 98), (changed(97), 99, Kind.REPLAY, 1, 97), (LIST[:-1], 98, Kind.LIST, 1, 98),
@@ -351,12 +351,12 @@ class Front(Refusing):
             self.assertEqual(fault.message, f"unconfirmed: {kind.value} fault {number} at entry {place}")
             for cut in (0, 1, 50, 97):
                 session = Session(LOG, data, require="sha256:10", prefix=True, state=state_after(cut) if cut else None)
-                self.check_front(session.more(listed[ENDS[cut]:]), entries, 97, fault)
+                self.check_prefix(session.more(listed[ENDS[cut]:]), entries, 97, fault)
                 self.assertEqual((session.offset, session.state), (ENDS[97], state_after(97)))
             line = fault.message.replace("unconfirmed", "refused")
             self.check_refused(Session(LOG, data, require="sha256:10"), listed, kind, number, place, line)
 
-    def test_list_without_a_front_is_as_without_prefix(self):
+    def test_list_without_a_confirmed_prefix_is_as_without_the_option(self):
         for prefix in (False, True):
             session = Session(LOG, f"sha256 10 {64 * '1'}", require=NOTHING, prefix=prefix)
             self.check_refused(session, changed(5), Kind.REPLAY, 1, 5, "refused: replay fault 1 at entry 5")
@@ -365,11 +365,11 @@ class Front(Refusing):
             self.assertEqual((verdict.matches, verdict.entries, verdict.confirmed, verdict.unconfirmed), (False, 99, None, None))
             self.assertIsNone(session.state)
 
-    def test_front_never_has_fewer_entries_than_the_state(self):
+    def test_prefix_never_has_fewer_entries_than_the_state(self):
         session = Session(LOG, tenth_after(50), require=NOTHING, prefix=True, state=state_after(97))
         self.assertEqual((bool(session.more(LIST[ENDS[97]:])), session.offset), (False, ENDS[97]))
 
-    def test_fault_within_the_front_is_refused(self):
+    def test_fault_within_the_prefix_is_refused(self):
         for place in (0, 5, 96):
             line = f"refused: replay fault 1 at entry {place}"
             self.check_refused(Session(LOG, tenth_after(97), require=NOTHING, prefix=True), changed(place), Kind.REPLAY, 1, place, line)
@@ -415,7 +415,7 @@ class Apart(Refusing):
                 self.assertEqual((verdict.matches, verdict.extends), (not found, found))
                 self.assertEqual((verdict.confirmed, session.offset), (99 if prefix else None, 0 if found else len(LIST)))
 
-    def test_front_before_the_entry_is_confirmed(self):
+    def test_prefix_before_the_entry_is_confirmed(self):
         session = Session(LOG, tenth_after(40), require="sha256:0-10", prefix=True)
         verdict = session.more(list_spelling(self.STRAYING))
         self.assertEqual((verdict.matches, verdict.confirmed, verdict.extends), (True, 40, ()))
@@ -438,7 +438,7 @@ class Page(unittest.TestCase):
         self.assertEqual(self.judge(tenth_after(60), wanted[1], lambda start: changed(61)[start:])[:2], (True, state_after(60)))
         self.assertEqual(self.judge(EXPECTED, wanted[1], lambda start: LIST[start:ENDS[98]])[:2], (False, wanted[1]))
 
-    def test_front_that_is_not_apart_from_the_log_is_no_state(self):
+    def test_prefix_that_is_not_apart_from_the_log_is_no_state(self):
         listed = list_spelling(Apart.STRAYING)
         for state in (None, state_after(30)):
             self.assertEqual(self.judge(Apart.AFTER_60, state, lambda start: listed[start:])[:2], (False, state))
@@ -610,11 +610,11 @@ class Quoted(Refusing):
     def test_answers_that_cannot_be_are_none(self):
         report = ima_verify.attest(LOG, LIST, MESSAGE, **self.GIVEN).json.encode() + b"\n"
         state = self.quoted_state()
-        front = report.replace(b'"entries":99', b'"entries":99,"confirmed":99')
+        on_prefix = report.replace(b'"entries":99', b'"entries":99,"confirmed":99')
         for prefix, status, text, given, size in (
             (False, 0, report, b"", 0), (False, 0, report, b"x", 0), (False, 0, report, self.quoted_state(98), 0), (False, 0, report, state, 1),
-            (False, 0, report, state, -1), (True, 0, report, state, 0), (False, 0, front, state, 0), (False, 1, report, b"", 0),
-            (True, 0, front.replace(b'"confirmed":99', b'"confirmed":100'), state, 0),
+            (False, 0, report, state, -1), (True, 0, report, state, 0), (False, 0, on_prefix, state, 0), (False, 1, report, b"", 0),
+            (True, 0, on_prefix.replace(b'"confirmed":99', b'"confirmed":100'), state, 0),
             (False, 1, report.replace(b'"quote":"match"', b'"quote":"differ"').replace(b'"verdict":"match"', b'"verdict":"differ"'), state, 0),
         ):
             with fake.library(attest=lambda call: (call.give_state(given), call.give(status, text))[1]):
@@ -684,21 +684,21 @@ def answering(result, state, text, sizes=(None, None), fault=fake.NO_FAULT):
 class Answers(unittest.TestCase):
     """What a library may answer a session, and what not."""
 
-    def check_right(self, status, text, has_front, *wanted):
+    def check_right(self, status, text, has_prefix, *wanted):
         with answering(status, b"" if status else STATE, text):
-            session = Session(b"", b"", require=NOTHING, prefix=has_front)
+            session = Session(b"", b"", require=NOTHING, prefix=has_prefix)
             verdict = session.more(300 * b"x")
         self.assertEqual((verdict.matches, verdict.entries, verdict.confirmed, verdict.unconfirmed), wanted)
         self.assertEqual((session.state, session.offset), (None, 0) if status else (STATE, 300))
 
-    def check_wrong(self, status, text, has_front=False, state=None, size=300, needed=(None, None), error=ima_verify.LibraryError,
+    def check_wrong(self, status, text, has_prefix=False, state=None, size=300, needed=(None, None), error=ima_verify.LibraryError,
                     fault=fake.NO_FAULT):
         """There is no verdict, and the session stays as it was, also if it has been used."""
         if state is None:
             state = b"" if status else STATE  # (as it has to be)
         for earlier in (None, STATE):
             with answering(status, state, text, needed, fault):
-                session = Session(b"", b"", require=NOTHING, prefix=has_front, state=earlier)
+                session = Session(b"", b"", require=NOTHING, prefix=has_prefix, state=earlier)
                 with self.assertRaises(error, msg=f"{status} {text!r} {state!r}"):
                     session.more((size - (300 if earlier else 0)) * b"x")
             self.assertEqual((session.state, session.offset), (earlier, 300 if earlier else 0))
@@ -707,14 +707,14 @@ class Answers(unittest.TestCase):
         self.check_right(0, REPORT, False, True, 3, None, None)
         self.check_right(1, DIFFERING, False, False, 3, None, None)
         self.check_right(1, DIFFERING, True, False, 3, None, None)
-        self.check_right(0, FRONT, True, True, 5, 3, None)
+        self.check_right(0, PREFIX, True, True, 5, 3, None)
         fault = Unconfirmed(Kind.REPLAY, 1, 4)
         self.assertEqual(fault.message, "unconfirmed: replay fault 1 at entry 4")
-        self.check_right(0, FRONT_WITH_FAULT, True, True, 5, 3, fault)
+        self.check_right(0, PREFIX_WITH_FAULT, True, True, 5, 3, fault)
         fault = Unconfirmed(Kind.LIST, 1, 5)
-        self.check_right(0, FRONT_OF_CUT_LIST, True, True, 5, 3, fault)
+        self.check_right(0, PREFIX_OF_CUT_LIST, True, True, 5, 3, fault)
 
-    def test_front_that_cannot_be_is_none(self):
+    def test_prefix_that_cannot_be_is_none(self):
         for old, new in (
             (b'"confirmed":3', b'"confirmed":6'), (b'"confirmed":3', b'"confirmed":0'), (b'"confirmed":3', b'"confirmed":-3'),
             (b'"confirmed":3', b'"confirmed":3.0'), (b'"confirmed":3', b'"confirmed":"3"'), (b'"confirmed":3', b'"confirmed":true'),
@@ -723,18 +723,18 @@ class Answers(unittest.TestCase):
             (b'"entries":5', b'"entries":2'), (b'"verdict":"match"', b'"verdict":"differ"'), (b'"good"', b'"wrong"'),
             (MATCHING, b'"state":"missing"'),
         ):
-            self.assertIn(old, FRONT)
-            self.check_wrong(0, FRONT.replace(old, new, 1), True)
-        self.check_wrong(1, FRONT, True)
-        # A report of a whole list that matches has a front, too.
+            self.assertIn(old, PREFIX)
+            self.check_wrong(0, PREFIX.replace(old, new, 1), True)
+        self.check_wrong(1, PREFIX, True)
+        # A report of a whole list that matches has a prefix, too.
         self.check_wrong(0, REPORT, True)
         self.check_right(0, REPORT.replace(b'"entries":3,', b'"entries":3,"confirmed":3,'), True, True, 3, 3, None)
 
-    def test_front_with_a_stray_is_no_match(self):
+    def test_prefix_with_a_stray_is_no_match(self):
         for strays in (b'{"entry":2,"register":11}', b'{"event":1,"register":10}', b'{"event":1,"register":10},{"entry":0,"register":0}'):
             extends = b'"extends":[%b],"verdict":"differ"' % strays
-            for front, fault in ((FRONT, None), (FRONT_WITH_FAULT, Unconfirmed(Kind.REPLAY, 1, 4))):
-                text = front.replace(b'"verdict":"match"', extends)
+            for on_prefix, fault in ((PREFIX, None), (PREFIX_WITH_FAULT, Unconfirmed(Kind.REPLAY, 1, 4))):
+                text = on_prefix.replace(b'"verdict":"match"', extends)
                 self.check_right(1, text, True, False, 5, 3, fault)
                 self.check_wrong(0, text, True)
                 self.check_wrong(1, text, False)
@@ -745,45 +745,45 @@ class Answers(unittest.TestCase):
                         self.check_wrong(1, text.replace(old, new), True)
             whole = REPORT.replace(b'"verdict":"match"', extends)
             self.check_right(1, whole, False, False, 3, None, None)
-            self.check_wrong(1, whole, True)  # (all registers match, so there is a front)
+            self.check_wrong(1, whole, True)  # (all registers match, so there is a prefix)
             self.check_right(1, whole.replace(b'"good"', b'"wrong"'), True, False, 3, None, None)
 
-    def test_differing_report_has_no_front(self):
+    def test_differing_report_has_no_prefix(self):
         for told in (b'"confirmed":3,', TOLD, TOLD[len(b'"confirmed":3,'):], b'"confirmed":null,', b'"unconfirmed":null,'):
-            for has_front in (False, True):
-                self.check_wrong(1, DIFFERING.replace(b'"entries":3,', b'"entries":5,' + told), has_front)
-                self.check_wrong(1, DIFFERING.replace(b'"entries":3,', b'"entries":3,' + told), has_front)
+            for has_prefix in (False, True):
+                self.check_wrong(1, DIFFERING.replace(b'"entries":3,', b'"entries":5,' + told), has_prefix)
+                self.check_wrong(1, DIFFERING.replace(b'"entries":3,', b'"entries":3,' + told), has_prefix)
 
-    def test_front_that_was_not_asked_for_is_none(self):
-        for text in (FRONT, FRONT_WITH_FAULT, REPORT.replace(b'"entries":3,', b'"entries":3,"confirmed":3,')):
+    def test_prefix_that_was_not_asked_for_is_none(self):
+        for text in (PREFIX, PREFIX_WITH_FAULT, REPORT.replace(b'"entries":3,', b'"entries":3,"confirmed":3,')):
             self.check_wrong(0, text, False)
             self.assertRaises(ima_verify.LibraryError, _answers.read_verdict, 0, text)
 
-    def test_fault_after_the_front_that_cannot_be_is_none(self):
+    def test_fault_after_the_prefix_that_cannot_be_is_none(self):
         for text, old, new in (
-            (FRONT_WITH_FAULT, b'"entry":4', b'"entry":3'), (FRONT_WITH_FAULT, b"y 4", b"y 3"), (FRONT_WITH_FAULT, b'"entry":4,', b""),
-            (FRONT_WITH_FAULT, b'"number":1', b'"number":2'), (FRONT_WITH_FAULT, b'"number":1', b'"number":"1"'),
-            (FRONT_WITH_FAULT, b'"number":1,', b""), (FRONT_WITH_FAULT, b'"kind":"replay"', b'"kind":"list"'),
-            (FRONT_WITH_FAULT, b'"kind":"replay",', b""), (FRONT_WITH_FAULT, b"unconfirmed: ", b"refused: "),
-            (FRONT_WITH_FAULT, b"unconfirmed: ", b""), (FRONT_WITH_FAULT, b"unconfirmed: ", b"Unconfirmed: "),
-            (FRONT_WITH_FAULT, b" 1 at", b" 01 at"), (FRONT_WITH_FAULT, b'"message"', b'"line"'),
-            (FRONT_WITH_FAULT, b'"entries":5', b'"entries":4'), (FRONT_WITH_FAULT, b'"entry":4', b'"event":4'),
-            (FRONT_OF_CUT_LIST, b'"entries":5', b'"entries":6'), (FRONT_OF_CUT_LIST, b'"entries":5', b'"entries":4'),
+            (PREFIX_WITH_FAULT, b'"entry":4', b'"entry":3'), (PREFIX_WITH_FAULT, b"y 4", b"y 3"), (PREFIX_WITH_FAULT, b'"entry":4,', b""),
+            (PREFIX_WITH_FAULT, b'"number":1', b'"number":2'), (PREFIX_WITH_FAULT, b'"number":1', b'"number":"1"'),
+            (PREFIX_WITH_FAULT, b'"number":1,', b""), (PREFIX_WITH_FAULT, b'"kind":"replay"', b'"kind":"list"'),
+            (PREFIX_WITH_FAULT, b'"kind":"replay",', b""), (PREFIX_WITH_FAULT, b"unconfirmed: ", b"refused: "),
+            (PREFIX_WITH_FAULT, b"unconfirmed: ", b""), (PREFIX_WITH_FAULT, b"unconfirmed: ", b"Unconfirmed: "),
+            (PREFIX_WITH_FAULT, b" 1 at", b" 01 at"), (PREFIX_WITH_FAULT, b'"message"', b'"line"'),
+            (PREFIX_WITH_FAULT, b'"entries":5', b'"entries":4'), (PREFIX_WITH_FAULT, b'"entry":4', b'"event":4'),
+            (PREFIX_OF_CUT_LIST, b'"entries":5', b'"entries":6'), (PREFIX_OF_CUT_LIST, b'"entries":5', b'"entries":4'),
         ):
             self.assertIn(old, text)
             self.check_wrong(0, text.replace(old, new, 1), True)
-        # Of a replay fault the entry is one after the front; no other fault is told.
-        early = FRONT_WITH_FAULT.replace(b'"entry":4', b'"entry":2').replace(b"y 4", b"y 2")
+        # Of a replay fault the entry is one after the prefix; no other fault is told.
+        early = PREFIX_WITH_FAULT.replace(b'"entry":4', b'"entry":2').replace(b"y 4", b"y 2")
         self.check_wrong(0, early, True)
-        self.check_wrong(0, FRONT_WITH_FAULT.replace(b'"number":1', b'"number":4294967296').replace(b" 1 at", b" 4294967296 at"), True)
+        self.check_wrong(0, PREFIX_WITH_FAULT.replace(b'"number":1', b'"number":4294967296').replace(b" 1 at", b" 4294967296 at"), True)
         for members in (
             b'"kind":"checkpoint","number":3,"message":"unconfirmed: checkpoint fault 3"',
             b'"kind":"log","number":1,"event":4,"message":"unconfirmed: log fault 1 at event 4"',
             b'"kind":"command_line","message":"unconfirmed: command line"', b'"kind":"memory","message":"failed: memory"', b"",
         ):
-            self.check_wrong(0, FRONT.replace(b'"confirmed":3,', b'"confirmed":3,"unconfirmed":{%b},' % members), True)
+            self.check_wrong(0, PREFIX.replace(b'"confirmed":3,', b'"confirmed":3,"unconfirmed":{%b},' % members), True)
         for value in (b"null", b"[]", b'"unconfirmed: replay fault 1 at entry 4"', b"true"):
-            self.check_wrong(0, FRONT.replace(b'"confirmed":3,', b'"confirmed":3,"unconfirmed":%b,' % value), True)
+            self.check_wrong(0, PREFIX.replace(b'"confirmed":3,', b'"confirmed":3,"unconfirmed":%b,' % value), True)
 
     def test_state_that_is_not_that_of_the_report_is_none(self):
         for state in (
@@ -792,13 +792,13 @@ class Answers(unittest.TestCase):
             STATE.replace(b"bytes 300\n", b""),
         ):
             self.check_wrong(0, REPORT, state=state)
-            self.check_wrong(0, FRONT, True, state=state)
+            self.check_wrong(0, PREFIX, True, state=state)
         for state in (STATE, STATE[:-1], b"x", b"\n"):  # (only a match has one)
             self.check_wrong(1, DIFFERING, state=state)
             self.check_wrong(1, DIFFERING, True, state=state)
         for text, state, size in (
-            (REPORT, STATE.replace(b"300", b"2"), 2), (FRONT, STATE.replace(b"300", b"2"), 2),  # (fewer bytes than entries)
-            (FRONT.replace(b'"confirmed":3', b'"confirmed":0'), STATE.replace(b"entries 3", b"entries 0"), 300),
+            (REPORT, STATE.replace(b"300", b"2"), 2), (PREFIX, STATE.replace(b"300", b"2"), 2),  # (fewer bytes than entries)
+            (PREFIX.replace(b'"confirmed":3', b'"confirmed":0'), STATE.replace(b"entries 3", b"entries 0"), 300),
         ):
             with answering(0, state, text):
                 session = Session(b"", b"", require=NOTHING, prefix=text is not REPORT)
@@ -806,28 +806,28 @@ class Answers(unittest.TestCase):
             self.assertIsNone(session.state)
         less = STATE.replace(b"bytes 300", b"bytes 299")
         self.check_wrong(0, REPORT, state=less)
-        with answering(0, less, FRONT):  # (the front's end may be anywhere)
+        with answering(0, less, PREFIX):  # (the prefix's end may be anywhere)
             session = Session(b"", b"", require=NOTHING, prefix=True)
             self.assertEqual((session.more(300 * b"x").confirmed, session.offset), (3, 299))
             self.assertRaises(ima_verify.LibraryError, Session(b"", b"", require=NOTHING, prefix=True, state=STATE).more, b"")
 
     def test_report_on_fewer_entries_than_the_state_has_is_none(self):
         later = STATE.replace(b"entries 3", b"entries 4").replace(b"300", b"400")
-        for status, text, has_front in ((0, REPORT, False), (1, DIFFERING, False), (0, FRONT, True)):
+        for status, text, has_prefix in ((0, REPORT, False), (1, DIFFERING, False), (0, PREFIX, True)):
             with answering(status, b"" if status else STATE.replace(b"300", b"400"), text):
-                session = Session(b"", b"", require=NOTHING, prefix=has_front, state=later)
+                session = Session(b"", b"", require=NOTHING, prefix=has_prefix, state=later)
                 self.assertRaises(ima_verify.LibraryError, session.more, b"")
             self.assertEqual(session.state, later)
 
     def test_report_of_no_registers_is_no_match(self):
         row = b'{"bank":"sha256","register":10,"expected":"' + 64 * b"e" + b'","state":"match"}'
-        for text, has_front in ((REPORT, False), (FRONT, True)):
-            self.check_wrong(0, text.replace(row, b""), has_front)
-            self.check_wrong(1, text.replace(row, b""), has_front)
+        for text, has_prefix in ((REPORT, False), (PREFIX, True)):
+            self.check_wrong(0, text.replace(row, b""), has_prefix)
+            self.check_wrong(1, text.replace(row, b""), has_prefix)
         differing = REPORT.replace(row, b"").replace(b'"verdict":"match"', b'"verdict":"differ"')
-        for has_front in (False, True):
-            self.check_wrong(0, differing, has_front)
-            self.check_right(1, differing, has_front, False, 3, None, None)
+        for has_prefix in (False, True):
+            self.check_wrong(0, differing, has_prefix)
+            self.check_right(1, differing, has_prefix, False, 3, None, None)
 
     def test_what_is_required_crosses_as_it_is(self):
         for given, crosses in ((NOTHING, b"none"), ("sha256:0-10", b"sha256:0-10"), ("x", b"x"), ("\u00e4", b"\xc3\xa4"), (" ", b" ")):

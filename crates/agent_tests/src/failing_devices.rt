@@ -2,7 +2,7 @@
 
 use crate::commands::{COMMANDS, Command, FAULTS, FILES};
 use crate::devices::{PieceFiles, answered, arguments_of};
-use hints::hint;
+use hints::hint_on_failure;
 use ima_agent::{Failure, FileProgress, NoProgress, Progress, exit_code, run, run_with_progress};
 use std::alloc::Global;
 use std::io::{Error, ErrorKind};
@@ -148,7 +148,7 @@ impl<R: FileSystem + Sync> Progress for SecondLook<'_, R> {
     fn waits(&self) {}
 
     fn explain(&self, alloc: Global, failure: Failure<'_>) {
-        if let Ok(text) = hint(self.runtime, alloc, failure) {
+        if let Ok(text) = hint_on_failure(self.runtime, alloc, failure) {
             if !text.is_empty() {
                 self.has_hint.store(true, Ordering::SeqCst);
             }

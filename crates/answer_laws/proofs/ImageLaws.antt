@@ -17,36 +17,36 @@ and_none true c e = e
 and_none false c e = refl
 
 -- A NUL among bytes.
-nul_among : (front back : List ℕ) → has_no_nul (front ++ 0 ∷ back) ≡ false
+nul_among : (prefix back : List ℕ) → has_no_nul (prefix ++ 0 ∷ back) ≡ false
 nul_among [] back = refl
-nul_among (x ∷ front) back = and_none (not (eqb x 0)) (has_no_nul (front ++ 0 ∷ back)) (nul_among front back)
+nul_among (x ∷ prefix) back = and_none (not (eqb x 0)) (has_no_nul (prefix ++ 0 ∷ back)) (nul_among prefix back)
 
-not_nothing : (front back : List ℕ) (x : ℕ) → [] ≡ front ++ x ∷ back → ⊥
+not_nothing : (prefix back : List ℕ) (x : ℕ) → [] ≡ prefix ++ x ∷ back → ⊥
 not_nothing [] back x e = absurd cc
-not_nothing (y ∷ front) back x e = absurd cc
+not_nothing (y ∷ prefix) back x e = absurd cc
 
 -- A NUL that is not the last byte is among those before the last.
-nul_before : (text front back : List ℕ) (next : ℕ) → text ++ 0 ∷ [] ≡ front ++ 0 ∷ next ∷ back → has_no_nul text ≡ false
+nul_before : (text prefix back : List ℕ) (next : ℕ) → text ++ 0 ∷ [] ≡ prefix ++ 0 ∷ next ∷ back → has_no_nul text ≡ false
 nul_before [] [] back next e = absurd cc
-nul_before [] (y ∷ front) back next e =
-    let tails : [] ≡ front ++ 0 ∷ next ∷ back = cc in
-    absurd (not_nothing front (next ∷ back) 0 tails)
+nul_before [] (y ∷ prefix) back next e =
+    let tails : [] ≡ prefix ++ 0 ∷ next ∷ back = cc in
+    absurd (not_nothing prefix (next ∷ back) 0 tails)
 nul_before (x ∷ text) [] back next e =
     let head : x ≡ 0 = cc in
     rw head refl
-nul_before (x ∷ text) (y ∷ front) back next e =
-    let tails : text ++ 0 ∷ [] ≡ front ++ 0 ∷ next ∷ back = cc in
-    and_none (not (eqb x 0)) (has_no_nul text) (nul_before text front back next tails)
+nul_before (x ∷ text) (y ∷ prefix) back next e =
+    let tails : text ++ 0 ∷ [] ≡ prefix ++ 0 ∷ next ∷ back = cc in
+    and_none (not (eqb x 0)) (has_no_nul text) (nul_before text prefix back next tails)
 
 apart : (b : Bool) → b ≡ true → b ≡ false → ⊥
 apart b first second = absurd cc
 
-no_text : (bytes text front back : List ℕ) → bytes ≡ front ++ 0 ∷ 0 ∷ back → has_no_nul text ≡ true
+no_text : (bytes text prefix back : List ℕ) → bytes ≡ prefix ++ 0 ∷ 0 ∷ back → has_no_nul text ≡ true
     → (bytes ≡ text) ⊎ (bytes ≡ text ++ 0 ∷ []) → ⊥
-no_text bytes text front back parts none (inl spelled) =
-    apart (has_no_nul text) none (ap has_no_nul (sym spelled ∙ parts) ∙ nul_among front (0 ∷ back))
-no_text bytes text front back parts none (inr spelled) =
-    apart (has_no_nul text) none (nul_before text front back 0 (sym spelled ∙ parts))
+no_text bytes text prefix back parts none (inl spelled) =
+    apart (has_no_nul text) none (ap has_no_nul (sym spelled ∙ parts) ∙ nul_among prefix (0 ∷ back))
+no_text bytes text prefix back parts none (inr spelled) =
+    apart (has_no_nul text) none (nul_before text prefix back 0 (sym spelled ∙ parts))
 
 separator_size : (value : ℕ) → length (number32 value) ≡ 4
 separator_size value = refl
@@ -56,8 +56,8 @@ no_separator_or_text : (image : List ℕ) → IsImageBytes image
 no_separator_or_text image is (inl separator) =
     absurd (omega (arith, is.longer, ap (λ (l : List ℕ). length l) separator.1.spelled, separator_size separator.0))
 no_separator_or_text image is (inr text) =
-    no_text image text.0 (is.front ++ 0x50 ∷ 0x45 ∷ []) is.back
-    (is.signature ∙ sym (append_assoc is.front (0x50 ∷ 0x45 ∷ []) (0 ∷ 0 ∷ is.back))) text.1.no_nul text.1.spelled
+    no_text image text.0 (is.prefix ++ 0x50 ∷ 0x45 ∷ []) is.back
+    (is.signature ∙ sym (append_assoc is.prefix (0x50 ∷ 0x45 ∷ []) (0 ∷ 0 ∷ is.back))) text.1.no_nul text.1.spelled
 
 some_is : {A : Type 0} (x y : A) → Some x ≡ Some y → x ≡ y
 some_is x y e = cc

@@ -30,13 +30,13 @@ others_of alg [] all = tt
 others_of alg (event ∷ events) all =
     (record { no_separator = all.0.no_separator; no_variable = all.0.other }, others_of alg events all.1)
 
-no_front : (front back : List (List ℕ)) → [] ≡ front ++ back → front ≡ []
-no_front [] back e = refl
-no_front (x ∷ front) back e = absurd cc
+no_prefix : (prefix back : List (List ℕ)) → [] ≡ prefix ++ back → prefix ≡ []
+no_prefix [] back e = refl
+no_prefix (x ∷ prefix) back e = absurd cc
 
-not_nothing : (front back : List (List ℕ)) (x : List ℕ) → front ++ x ∷ back ≡ [] → ⊥
+not_nothing : (prefix back : List (List ℕ)) (x : List ℕ) → prefix ++ x ∷ back ≡ [] → ⊥
 not_nothing [] back x e = absurd cc
-not_nothing (y ∷ front) back x e = absurd cc
+not_nothing (y ∷ prefix) back x e = absurd cc
 
 data_last : (events : List LogEvent) (event : LogEvent) (more : List (List ℕ))
     → data_of (events ++ event ∷ []) ++ more ≡ data_of events ++ event.payload ∷ more
@@ -55,24 +55,24 @@ first_of alg events value hashed more tells found = record {
 }
 
 -- Where all others are followed by one element, a list that is their start and has what is no other ends with this element.
-ends_there : (others : List (List ℕ)) (last : List ℕ) (front back more : List (List ℕ)) (bytes : List ℕ) → AllByRecursion IsOther others
-    → (IsOther bytes → ⊥) → others ++ last ∷ [] ≡ (front ++ bytes ∷ back) ++ more → front ++ bytes ∷ back ≡ others ++ last ∷ []
+ends_there : (others : List (List ℕ)) (last : List ℕ) (prefix back more : List (List ℕ)) (bytes : List ℕ) → AllByRecursion IsOther others
+    → (IsOther bytes → ⊥) → others ++ last ∷ [] ≡ (prefix ++ bytes ∷ back) ++ more → prefix ++ bytes ∷ back ≡ others ++ last ∷ []
 ends_there [] last [] back more bytes all decides e =
     let tails : [] ≡ back ++ more = cc in
     let heads : bytes ≡ last = cc in
-    ap (λ (l : List (List ℕ)). bytes ∷ l) (no_front back more tails) ∙ ap (λ (x : List ℕ). x ∷ []) heads
-ends_there [] last (first ∷ front) back more bytes all decides e =
-    let tails : [] ≡ (front ++ bytes ∷ back) ++ more = cc in
-    let none : front ++ bytes ∷ back ≡ [] = no_front (front ++ bytes ∷ back) more tails in
-    absurd (not_nothing front back bytes none)
+    ap (λ (l : List (List ℕ)). bytes ∷ l) (no_prefix back more tails) ∙ ap (λ (x : List ℕ). x ∷ []) heads
+ends_there [] last (first ∷ prefix) back more bytes all decides e =
+    let tails : [] ≡ (prefix ++ bytes ∷ back) ++ more = cc in
+    let none : prefix ++ bytes ∷ back ≡ [] = no_prefix (prefix ++ bytes ∷ back) more tails in
+    absurd (not_nothing prefix back bytes none)
 ends_there (other ∷ others) last [] back more bytes all decides e =
     let heads : other ≡ bytes = cc in
     absurd (decides (subst IsOther heads all.0))
-ends_there (other ∷ others) last (first ∷ front) back more bytes all decides e =
+ends_there (other ∷ others) last (first ∷ prefix) back more bytes all decides e =
     let heads : first ≡ other = cc in
-    let tails : others ++ last ∷ [] ≡ (front ++ bytes ∷ back) ++ more = cc in
-    ap (λ (x : List ℕ). x ∷ (front ++ bytes ∷ back)) heads
-    ∙ ap (λ (l : List (List ℕ)). other ∷ l) (ends_there others last front back more bytes all.1 decides tails)
+    let tails : others ++ last ∷ [] ≡ (prefix ++ bytes ∷ back) ++ more = cc in
+    ap (λ (x : List ℕ). x ∷ (prefix ++ bytes ∷ back)) heads
+    ∙ ap (λ (l : List (List ℕ)). other ∷ l) (ends_there others last prefix back more bytes all.1 decides tails)
 
 pub first_alike : (alg : Alg) (events : List LogEvent) (value : ℕ) (hashed : List (List ℕ)) (tells : TellsSecureBoot alg events value)
     → HashedDecision hashed → StartAlike hashed (data_of (tells.before ++ tells.event ∷ [])) → HashedFirst hashed value
@@ -88,11 +88,11 @@ first_alike alg events value hashed tells decision (inr found) =
 
 -- ---- two logs
 
-pub two_logs : (alg : Alg) (before after front back : List LogEvent) (event another : LogEvent) (value other : ℕ)
-    → digests_of alg (before ++ event ∷ after) ≡ digests_of alg (front ++ another ∷ back)
+pub two_logs : (alg : Alg) (before after prefix back : List LogEvent) (event another : LogEvent) (value other : ℕ)
+    → digests_of alg (before ++ event ∷ after) ≡ digests_of alg (prefix ++ another ∷ back)
     → AllByRecursion (IsBefore alg) before → IsTelling alg event value
-    → AllByRecursion (IsBefore alg) front → IsTelling alg another other
-    → (value ≡ other) ⊎ Collision alg (IsDataAmong (before ++ event ∷ after)) (IsDataAmong (front ++ another ∷ back))
+    → AllByRecursion (IsBefore alg) prefix → IsTelling alg another other
+    → (value ≡ other) ⊎ Collision alg (IsDataAmong (before ++ event ∷ after)) (IsDataAmong (prefix ++ another ∷ back))
 two_logs alg [] after [] back event another value other same all telling all_too telling_too =
     let lists = sym (first_digest alg event after telling.measured) ∙ same ∙ first_digest alg another back telling_too.measured in
     let heads : hash_of alg event.payload ≡ hash_of alg another.payload = cc in
@@ -101,11 +101,11 @@ two_logs alg [] after [] back event another value other same all telling all_too
       | inl equal ↦ inl (one_value event.payload value other telling.variable (rw equal telling_too.variable))
       | inr collide ↦ inr collide
     ]
-two_logs alg [] after (first ∷ front) back event another value other same all telling all_too telling_too =
-    let lists = sym (first_digest alg event after telling.measured) ∙ same ∙ first_digest alg first (front ++ another ∷ back) all_too.0.measured in
+two_logs alg [] after (first ∷ prefix) back event another value other same all telling all_too telling_too =
+    let lists = sym (first_digest alg event after telling.measured) ∙ same ∙ first_digest alg first (prefix ++ another ∷ back) all_too.0.measured in
     let heads : hash_of alg event.payload ≡ hash_of alg first.payload = cc in
-    elim (same_or_collide alg (IsDataAmong (event ∷ after)) (IsDataAmong (first ∷ (front ++ another ∷ back))) event.payload first.payload
-    ([], event, after, refl, refl) ([], first, front ++ another ∷ back, refl, refl) heads) [
+    elim (same_or_collide alg (IsDataAmong (event ∷ after)) (IsDataAmong (first ∷ (prefix ++ another ∷ back))) event.payload first.payload
+    ([], event, after, refl, refl) ([], first, prefix ++ another ∷ back, refl, refl) heads) [
       | inl equal ↦ absurd (all_too.0.other (value ∷ []) (rw (sym equal) telling.variable))
       | inr collide ↦ inr collide
     ]
@@ -117,15 +117,15 @@ two_logs alg (first ∷ before) after [] back event another value other same all
       | inl equal ↦ absurd (all.0.other (other ∷ []) (rw equal telling_too.variable))
       | inr collide ↦ inr collide
     ]
-two_logs alg (first ∷ before) after (second ∷ front) back event another value other same all telling all_too telling_too =
+two_logs alg (first ∷ before) after (second ∷ prefix) back event another value other same all telling all_too telling_too =
     let lists = sym (first_digest alg first (before ++ event ∷ after) all.0.measured) ∙ same
-    ∙ first_digest alg second (front ++ another ∷ back) all_too.0.measured in
-    let tails : digests_of alg (before ++ event ∷ after) ≡ digests_of alg (front ++ another ∷ back) = cc in
-    elim (two_logs alg before after front back event another value other tails all.1 telling all_too.1 telling_too) [
+    ∙ first_digest alg second (prefix ++ another ∷ back) all_too.0.measured in
+    let tails : digests_of alg (before ++ event ∷ after) ≡ digests_of alg (prefix ++ another ∷ back) = cc in
+    elim (two_logs alg before after prefix back event another value other tails all.1 telling all_too.1 telling_too) [
       | inl equal ↦ inl equal
-      | inr collide ↦ inr (collision_of alg (IsDataAmong (before ++ event ∷ after)) (IsDataAmong (front ++ another ∷ back))
-          (IsDataAmong (first ∷ (before ++ event ∷ after))) (IsDataAmong (second ∷ (front ++ another ∷ back)))
-          (data_more first (before ++ event ∷ after)) (data_more second (front ++ another ∷ back)) collide)
+      | inr collide ↦ inr (collision_of alg (IsDataAmong (before ++ event ∷ after)) (IsDataAmong (prefix ++ another ∷ back))
+          (IsDataAmong (first ∷ (before ++ event ∷ after))) (IsDataAmong (second ∷ (prefix ++ another ∷ back)))
+          (data_more first (before ++ event ∷ after)) (data_more second (prefix ++ another ∷ back)) collide)
     ]
 
 -- ---- by values of the register

@@ -89,7 +89,7 @@ was_hashed alg register locality events digests text tells has same =
           own_and_later register tells.before before tells.after events tells.event tells.extended refl tells.parts in
           inl (record {
             bytes = has.bytes;
-            front = digests_of alg before;
+            prefix = digests_of alg before;
             back = digests_of alg after;
             is_text = has.is_text;
             parts = both.1 ∙ digests_are alg register events ∙ ap (digests_of alg) own ∙ joined_digests alg before (tells.event ∷ after)

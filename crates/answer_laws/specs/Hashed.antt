@@ -31,12 +31,12 @@ data_of events = map (λ event. event.payload) events
 
 -- One of these byte strings.
 abbrev pub IsAmong : List (List ℕ) → List ℕ → Type 0
-IsAmong all bytes = (front : List (List ℕ)) × (back : List (List ℕ)) × (all ≡ front ++ bytes ∷ back)
+IsAmong all bytes = (prefix : List (List ℕ)) × (back : List (List ℕ)) × (all ≡ prefix ++ bytes ∷ back)
 
 -- The data of one of these events.
 abbrev pub IsDataAmong : List LogEvent → List ℕ → Type 0
 IsDataAmong events bytes =
-    (front : List LogEvent) × (event : LogEvent) × (back : List LogEvent) × (events ≡ front ++ event ∷ back) × (bytes ≡ event.payload)
+    (prefix : List LogEvent) × (event : LogEvent) × (back : List LogEvent) × (events ≡ prefix ++ event ∷ back) × (bytes ≡ event.payload)
 
 -- Data that the machine hashed collides with other data that the log shows for the register; or the extends of the two break the hash.
 abbrev pub HashIsBroken : Alg → ℕ → ℕ → List (List ℕ) → List (List ℕ) → List LogEvent → Type 0

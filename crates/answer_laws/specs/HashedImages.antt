@@ -4,7 +4,7 @@ use Rattle.std.specs.Prelude.{◌≡◌, ℕ, ◌<◌, List, ◌∷◌, ◌++◌
 -- What is hashed of a PE image has its signature, `PE` and two NULs (Microsoft, 'PE Format', section 'Signature (Image Only)'; 'Windows
 -- Authenticode Portable Executable Signature Format').
 pub record IsImageBytes (bytes : List ℕ) : Type 0 where
-  pub front : List ℕ
+  pub prefix : List ℕ
   pub back : List ℕ
-  pub signature : bytes ≡ front ++ 0x50 ∷ 0x45 ∷ 0 ∷ 0 ∷ back
+  pub signature : bytes ≡ prefix ++ 0x50 ∷ 0x45 ∷ 0 ∷ 0 ∷ back
   pub longer : 4 < length bytes

@@ -36,10 +36,10 @@ IsHashedText (wide text) bytes = IsWideText bytes text
 -- One of the digests is the hash of the text.
 pub record HasHashOf (alg : Alg) (text : CommandSaid) (digests : List (List ℕ)) : Type 0 where
   pub bytes : List ℕ
-  pub front : List (List ℕ)
+  pub prefix : List (List ℕ)
   pub back : List (List ℕ)
   pub is_text : IsHashedText text bytes
-  pub parts : digests ≡ front ++ hash_of alg bytes ∷ back
+  pub parts : digests ≡ prefix ++ hash_of alg bytes ∷ back
 
 -- The machine's extends and the log's break the hash.
 abbrev pub ExtendsBreak : Alg → ℕ → ℕ → List (List ℕ) → List LogEvent → Type 0

@@ -12,7 +12,7 @@ use Rattle.attestations.specs.declared.expected.ExpectedValues.TheVariants as va
 use Rattle.attestations.specs.declared.report.Whole.{Whole}
 use Rattle.attestations.specs.Quoted.{Stated}
 use Rattle.attestations.specs.Reports.{AttestVerdict, is_attested}
-use Rattle.known_files.specs.declared.unknown.Unknown.{Unknown}
+use Rattle.known_files.specs.declared.unknown.UnknownFiles.{UnknownFiles}
 use Rattle.known_files.specs.Unknown.{has_no_unknown}
 use Rattle.cells.specs.Values.{IsCount, IsOneLine, items_of, members_of, object_of}
 use Rattle.cells.specs.Cells.{beside, each, if_some, item_number, list_at, object, object_at, when}
@@ -97,7 +97,7 @@ unfolding beside
 conclusion_plain true is_match = (tt, (tt, tt))
 conclusion_plain false is_match = (tt, (tt, tt))
 
-pub attestation_line : (unknown : Option Unknown) (report : AttestVerdict) → IsCountedClock report.quoted.clock → IsCount report.quoted.firmware
+pub attestation_line : (unknown : Option UnknownFiles) (report : AttestVerdict) → IsCountedClock report.quoted.clock → IsCount report.quoted.firmware
     → IsCount report.verdict.events → IsCount report.verdict.locality → IsCount report.verdict.entries
     → IfSome report.prefix IsCountedWhole → AreCounted report.verdict.strays → IfSome unknown IsCountedUnknown
     → AllByRecursion (λ row. IsCount row.expected.register) report.verdict.rows → IsOneLine (object_of (attestation_cell unknown report).json)
@@ -135,7 +135,7 @@ unfolding beside
 conclusion_other true is_match = (refl, (refl, tt))
 conclusion_other false is_match = (refl, (refl, tt))
 
-pub attestation_lacks : (unknown : Option Unknown) (report : AttestVerdict)
+pub attestation_lacks : (unknown : Option UnknownFiles) (report : AttestVerdict)
     → get (codes "fault") (object_of (attestation_cell unknown report).json) ≡ None
 unfolding beside each list_at object_at
 attestation_lacks unknown report =

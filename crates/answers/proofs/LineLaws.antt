@@ -29,7 +29,7 @@ use Rattle.boot_verdict.specs.ListVerdicts.{ListVerdict}
 use Rattle.boot_verdict.specs.Requirements.{is_missing}
 use Rattle.boot_verdict.specs.Verdicts.{Verdict}
 use Rattle.boot_verdict.specs.Words.{unconfirmed_entry, unconfirmed_number}
-use Rattle.known_files.specs.declared.unknown.Unknown.{Unknown}
+use Rattle.known_files.specs.declared.unknown.UnknownFiles.{UnknownFiles}
 use Rattle.cells.specs.Values.{IsCount, IsOneLine, Member, items_of, number_json, object_of}
 use Rattle.cells.specs.Cells.{Cell, beside, each, if_some, list_at, nothing, number_member, object, object_at, when}
 use Rattle.cells.proofs.LineLaws.{ArePlain, ItemsArePlain, members_joined, one_line, values_joined}
@@ -185,7 +185,7 @@ required_strays : (required : Option (List BankRange)) (strays : Strays) → Are
 required_strays None strays fits = tt
 required_strays (Some ranges) strays fits = strays_plain strays fits
 
-pub unknown_plain : (unknown : Option Unknown) → IfSome unknown IsCountedUnknown → ArePlain (if_some unknown unknown_cell).json 2
+pub unknown_plain : (unknown : Option UnknownFiles) → IfSome unknown IsCountedUnknown → ArePlain (if_some unknown unknown_cell).json 2
 unfolding beside each list_at
 unknown_plain None fits = tt
 unknown_plain (Some unknown) fits = (
@@ -193,7 +193,7 @@ unknown_plain (Some unknown) fits = (
   (each_plain 1 IsCount (λ n. number_json n ∷ []) (λ n is. ((n, is, refl), tt)) unknown.numbers.items fits.1, tt),
 )
 
-outcome_plain : (required : Option (List BankRange)) (unknown : Option Unknown) (is_match : Bool) (verdict : Verdict) → AreCounted verdict.strays
+outcome_plain : (required : Option (List BankRange)) (unknown : Option UnknownFiles) (is_match : Bool) (verdict : Verdict) → AreCounted verdict.strays
     → IfSome unknown IsCountedUnknown → AllByRecursion (λ row. IsCount row.expected.register) verdict.rows
     → ArePlain (outcome_cell required unknown is_match verdict).json 2
 unfolding beside
@@ -207,7 +207,7 @@ outcome_plain required unknown is_match verdict strays counted rows =
 
 -- ---- reports
 
-pub report_line : (required : Option (List BankRange)) (unknown : Option Unknown) (is_match : Bool) (verdict : Verdict)
+pub report_line : (required : Option (List BankRange)) (unknown : Option UnknownFiles) (is_match : Bool) (verdict : Verdict)
     → IsCount verdict.events → IsCount verdict.locality → IsCount verdict.entries → AreCounted verdict.strays
     → IfSome unknown IsCountedUnknown → AllByRecursion (λ row. IsCount row.expected.register) verdict.rows
     → IsOneLine (object_of (report_cell required unknown is_match verdict).json)
@@ -247,7 +247,7 @@ unconfirmed_plain (Some fault) fits = (
   tt,
 )
 
-pub prefix_line : (required : Option (List BankRange)) (unknown : Option Unknown) (prefix : Verdict) (entries : ℕ) (unconfirmed : Option Unconfirmed)
+pub prefix_line : (required : Option (List BankRange)) (unknown : Option UnknownFiles) (prefix : Verdict) (entries : ℕ) (unconfirmed : Option Unconfirmed)
     → IsCount prefix.events → IsCount prefix.locality → IsCount prefix.entries → IsCount entries
     → IfSome unconfirmed (λ fault. IfSome (unconfirmed_entry fault) IsCount) → AreCounted prefix.strays
     → IfSome unknown IsCountedUnknown → AllByRecursion (λ row. IsCount row.expected.register) prefix.rows
@@ -261,7 +261,7 @@ prefix_line required unknown prefix entries unconfirmed events locality confirme
       ((prefix.locality, locality, refl), ((entries, all, refl), ((prefix.entries, confirmed, refl), told))),
     )
 
-pub list_report_line : (required : Option (List BankRange)) (unknown : Option Unknown) (verdict : ListVerdict)
+pub list_report_line : (required : Option (List BankRange)) (unknown : Option UnknownFiles) (verdict : ListVerdict)
     → IsCount verdict.entries → AreCounted verdict.strays
     → IfSome unknown IsCountedUnknown → AllByRecursion (λ row. IsCount row.expected.register) verdict.rows
     → IsOneLine (object_of (list_report_cell required unknown verdict).json)

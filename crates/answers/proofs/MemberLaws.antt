@@ -12,7 +12,7 @@ use Rattle.boot_verdict.specs.declared.report.Unconfirmed.{Unconfirmed}
 use Rattle.boot_verdict.specs.Isolation.{are_none}
 use Rattle.boot_verdict.specs.ListVerdicts.{ListVerdict}
 use Rattle.boot_verdict.specs.Verdicts.{Verdict}
-use Rattle.known_files.specs.declared.unknown.Unknown.{Unknown}
+use Rattle.known_files.specs.declared.unknown.UnknownFiles.{UnknownFiles}
 use Rattle.cells.specs.Values.{members_of, object_of}
 use Rattle.cells.specs.Cells.{Cell, beside, if_some, list_at, nothing, object_at}
 use Rattle.cells.proofs.FaultMemberLaws.{AreOther, lacks, others_joined}
@@ -39,7 +39,7 @@ required_strays : (required : Option (List BankRange)) (strays : Strays) → Are
 required_strays None strays = tt
 required_strays (Some ranges) strays = strays_other strays
 
-pub unknown_other : (unknown : Option Unknown) → AreOther (members_of (if_some unknown unknown_cell).json)
+pub unknown_other : (unknown : Option UnknownFiles) → AreOther (members_of (if_some unknown unknown_cell).json)
 unfolding beside list_at
 unknown_other None = tt
 unknown_other (Some unknown) = (refl, (refl, tt))
@@ -49,7 +49,7 @@ unfolding beside object_at
 unconfirmed_other None = tt
 unconfirmed_other (Some fault) = (refl, tt)
 
-outcome_other : (required : Option (List BankRange)) (unknown : Option Unknown) (is_match : Bool) (verdict : Verdict)
+outcome_other : (required : Option (List BankRange)) (unknown : Option UnknownFiles) (is_match : Bool) (verdict : Verdict)
     → AreOther (members_of (outcome_cell required unknown is_match verdict).json)
 unfolding beside list_at
 outcome_other required unknown is_match verdict =
@@ -64,12 +64,12 @@ outcome_other required unknown is_match verdict =
 
 -- ---- answers
 
-pub report_lacks : (required : Option (List BankRange)) (unknown : Option Unknown) (is_match : Bool) (verdict : Verdict)
+pub report_lacks : (required : Option (List BankRange)) (unknown : Option UnknownFiles) (is_match : Bool) (verdict : Verdict)
     → get (codes "fault") (object_of (report_cell required unknown is_match verdict).json) ≡ None
 unfolding beside
 report_lacks required unknown is_match verdict = lacks (object_of (report_cell required unknown is_match verdict).json) refl (refl, (refl, (refl, outcome_other required unknown is_match verdict)))
 
-pub prefix_lacks : (required : Option (List BankRange)) (unknown : Option Unknown) (prefix : Verdict) (entries : ℕ) (unconfirmed : Option Unconfirmed)
+pub prefix_lacks : (required : Option (List BankRange)) (unknown : Option UnknownFiles) (prefix : Verdict) (entries : ℕ) (unconfirmed : Option Unconfirmed)
     → get (codes "fault") (object_of (prefix_cell required unknown prefix entries unconfirmed).json) ≡ None
 unfolding beside
 prefix_lacks required unknown prefix entries unconfirmed =
@@ -88,7 +88,7 @@ prefix_lacks required unknown prefix entries unconfirmed =
       ),
     )
 
-pub list_report_lacks : (required : Option (List BankRange)) (unknown : Option Unknown) (verdict : ListVerdict)
+pub list_report_lacks : (required : Option (List BankRange)) (unknown : Option UnknownFiles) (verdict : ListVerdict)
     → get (codes "fault") (object_of (list_report_cell required unknown verdict).json) ≡ None
 unfolding beside list_at
 list_report_lacks required unknown verdict = lacks (object_of (list_report_cell required unknown verdict).json) refl (

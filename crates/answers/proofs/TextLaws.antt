@@ -17,7 +17,7 @@ use Rattle.boot_verdict.specs.declared.report.State.{State}
 use Rattle.boot_verdict.specs.declared.report.State.TheVariants.{Match, Differ, Absent}
 use Rattle.boot_verdict.specs.Positions.{all_found}
 use Rattle.boot_verdict.specs.Verdicts.{Verdict}
-use Rattle.known_files.specs.declared.unknown.Unknown.{Unknown}
+use Rattle.known_files.specs.declared.unknown.UnknownFiles.{UnknownFiles}
 use Rattle.known_files.specs.Unknown.{has_no_unknown}
 use Rattle.tpm_keys.specs.declared.kinds.KeyPart.{KeyPart}
 use Rattle.tpm_keys.specs.declared.kinds.KeyPart.TheVariants as parts
@@ -77,7 +77,7 @@ plain_rows name expected_of said_of line_of same rows =
 
 -- ---- a report
 
-verdict_line : (unknown : Option Unknown) (is_match is : Bool) → has_no_unknown unknown && is_match ≡ is
+verdict_line : (unknown : Option UnknownFiles) (is_match is : Bool) → has_no_unknown unknown && is_match ≡ is
     → (verdict_cell unknown is_match).text ≡ verdict_text is
 unfolding beside
 verdict_line unknown is_match true e = rw e refl

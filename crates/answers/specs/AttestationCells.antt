@@ -12,7 +12,7 @@ use Rattle.attestations.specs.declared.expected.ExpectedValues.TheVariants.{NotG
 use Rattle.attestations.specs.declared.report.Whole.{Whole}
 use Rattle.attestations.specs.Quoted.{Stated}
 use Rattle.attestations.specs.Reports.{AttestVerdict, is_attested}
-use Rattle.known_files.specs.declared.unknown.Unknown.{Unknown}
+use Rattle.known_files.specs.declared.unknown.UnknownFiles.{UnknownFiles}
 use Rattle.known_files.specs.Unknown.{has_no_unknown}
 use Rattle.cells.specs.Values.{Member}
 use Rattle.cells.specs.Cells.{Cell, beside, each, flag_member, hex, if_some, in_order, item_number, list_at, nothing, number, object, object_at, text, when, word, word_member}
@@ -117,7 +117,7 @@ conclusion_cell false is_match = unsigned_cell
 
 -- The report: what the quote states, the counts, how log and list compare, which entries are not known, how the quote compares, and the
 -- verdict, which is no match if an entry is not known.
-abbrev pub attestation_cell : Option Unknown → AttestVerdict → Cell Member
+abbrev pub attestation_cell : Option UnknownFiles → AttestVerdict → Cell Member
 attestation_cell unknown report = in_order (
     stated_cell report.quoted
     ∷ attestation_counts report.verdict report.prefix

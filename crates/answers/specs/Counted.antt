@@ -7,7 +7,7 @@ use Rattle.boot_verdict.specs.declared.steps.Position.TheVariants.{Event, Entry}
 use Rattle.boot_verdict.specs.Words.{unconfirmed_entry}
 use Rattle.tpm_quotes.specs.declared.quote.Clock.{Clock}
 use Rattle.attestations.specs.declared.report.Whole.{Whole}
-use Rattle.known_files.specs.declared.unknown.Unknown.{Unknown}
+use Rattle.known_files.specs.declared.unknown.UnknownFiles.{UnknownFiles}
 use Rattle.cells.specs.Values.{IsCount}
 
 -- The numbers of both, if there are such, and the register.
@@ -15,7 +15,7 @@ abbrev pub AreCounted : Strays → Type 0
 AreCounted strays = IfSome strays.event IsCount × IfSome strays.entry (λ stray. IsCount stray.entry × IsCount stray.register)
 
 -- From which number on entries were looked at, and the numbers of those that are not known.
-abbrev pub IsCountedUnknown : Unknown → Type 0
+abbrev pub IsCountedUnknown : UnknownFiles → Type 0
 IsCountedUnknown unknown = IsCount unknown.first × AllByRecursion IsCount unknown.numbers.items
 
 -- The number of the event or entry, if there is one.

@@ -15,7 +15,7 @@ use Rattle.boot_verdict.specs.ListVerdicts.{ListVerdict, list_matches, required_
 use Rattle.boot_verdict.specs.Requirements.{required_matches}
 use Rattle.boot_verdict.specs.Verdicts.{Verdict, matches}
 use Rattle.boot_verdict.specs.Words.{aggregate_word, unconfirmed_entry, unconfirmed_kind, unconfirmed_message, unconfirmed_number}
-use Rattle.known_files.specs.declared.unknown.Unknown.{Unknown}
+use Rattle.known_files.specs.declared.unknown.UnknownFiles.{UnknownFiles}
 use Rattle.known_files.specs.Unknown.{has_no_unknown}
 use Rattle.cells.specs.Values.{Member}
 use Rattle.cells.specs.Cells.{Cell, beside, count, each, hex, if_some, in_order, item_number, list_at, nothing, number, number_member, object, object_at, text, word, word_member}
@@ -67,7 +67,7 @@ strays_cell strays =
 
 -- ---- entries that are not known, and the verdict
 
-abbrev pub unknown_cell : Unknown → Cell Member
+abbrev pub unknown_cell : UnknownFiles → Cell Member
 unknown_cell unknown = in_order (
     number (codes "known_from ") (codes "known_from") unknown.first
     ∷ text (codes "\n")
@@ -79,14 +79,14 @@ verdict_word true = codes "match"
 verdict_word false = codes "differ"
 
 -- The verdict: no match where an entry is unknown.
-abbrev pub verdict_cell : Option Unknown → Bool → Cell Member
+abbrev pub verdict_cell : Option UnknownFiles → Bool → Cell Member
 verdict_cell unknown is_match =
     beside (word (codes "verdict ") (codes "verdict") (verdict_word (has_no_unknown unknown && is_match))) (text (codes "\n"))
 
 -- ---- the report
 
 -- What comes after the counts, with whether it is a match if no entry is unknown.
-abbrev pub outcome_cell : Option (List BankRange) → Option Unknown → Bool → Verdict → Cell Member
+abbrev pub outcome_cell : Option (List BankRange) → Option UnknownFiles → Bool → Verdict → Cell Member
 outcome_cell required unknown is_match verdict = in_order (
     if_some required (λ ranges. compared_cell (length verdict.rows))
     ∷ aggregate_cell verdict.aggregate
@@ -96,7 +96,7 @@ outcome_cell required unknown is_match verdict = in_order (
     ∷ verdict_cell unknown is_match
     ∷ [])
 
-abbrev pub report_cell : Option (List BankRange) → Option Unknown → Bool → Verdict → Cell Member
+abbrev pub report_cell : Option (List BankRange) → Option UnknownFiles → Bool → Verdict → Cell Member
 report_cell required unknown is_match verdict =
     beside (counts_cell verdict.events verdict.locality verdict.entries) (outcome_cell required unknown is_match verdict)
 
@@ -134,7 +134,7 @@ prefix_counts_cell prefix entries unconfirmed = in_order (
     ∷ [])
 
 -- These counts, and then what comes after the counts of a report on the prefix.
-abbrev pub prefix_cell : Option (List BankRange) → Option Unknown → Verdict → ℕ → Option Unconfirmed → Cell Member
+abbrev pub prefix_cell : Option (List BankRange) → Option UnknownFiles → Verdict → ℕ → Option Unconfirmed → Cell Member
 prefix_cell required unknown prefix entries unconfirmed =
     beside (prefix_counts_cell prefix entries unconfirmed) (outcome_cell required unknown (meets required prefix) prefix)
 
@@ -145,7 +145,7 @@ abbrev pub list_meets : Option (List BankRange) → ListVerdict → Bool
 list_meets None verdict = list_matches verdict
 list_meets (Some ranges) verdict = required_list_matches ranges verdict
 
-abbrev pub list_report_cell : Option (List BankRange) → Option Unknown → ListVerdict → Cell Member
+abbrev pub list_report_cell : Option (List BankRange) → Option UnknownFiles → ListVerdict → Cell Member
 list_report_cell required unknown verdict = in_order (
     number (codes "entries ") (codes "entries") verdict.entries
     ∷ text (codes "\n")

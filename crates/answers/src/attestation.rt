@@ -16,14 +16,14 @@ use crate::report::{
 use attestations::{AttestReport, ExpectedValues, Whole};
 use boot_verdict::{Report, Row};
 use cells::{CellWriter, Written};
-use known_files::{Unknown, has_no_unknown};
+use known_files::{UnknownFiles, has_no_unknown};
 use std::alloc::Global;
 
 /// Shows the report on a log and a list by a quote.
 pub fn show_attestation(
     alloc: Global,
     report: &AttestReport,
-    unknown: Option<&Unknown>,
+    unknown: Option<&UnknownFiles>,
     out: &mut CellWriter,
 ) -> Written
     ensures { ShowsMembers result out.old out.new (attestation_cell (option_copied unknown.entry) (attest_verdict_of report.now)) }
@@ -37,7 +37,7 @@ pub fn show_attestation(
 }
 
 // Whether log and list are what the quote is of, and no entry is unknown.
-fn is_attested(report: &AttestReport, unknown: Option<&Unknown>) -> bool
+fn is_attested(report: &AttestReport, unknown: Option<&UnknownFiles>) -> bool
     ensures { result ≡ has_no_unknown (option_copied unknown.entry) && is_attested (attest_verdict_of report.now) }
 {
     has_no_unknown(unknown) && report.is_attested()

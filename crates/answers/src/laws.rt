@@ -13,7 +13,7 @@ ghost use Rattle.boot_verdict.specs.declared.report.Unconfirmed.{Unconfirmed};
 ghost use Rattle.boot_verdict.specs.ListVerdicts.{ListVerdict};
 ghost use Rattle.boot_verdict.specs.Verdicts.{Verdict, matches};
 ghost use Rattle.boot_verdict.specs.Words.{unconfirmed_entry};
-ghost use Rattle.known_files.specs.declared.unknown.Unknown.{Unknown};
+ghost use Rattle.known_files.specs.declared.unknown.UnknownFiles.{UnknownFiles};
 ghost use Rattle.attestations.specs.Reports.{AttestVerdict};
 ghost use Rattle.tpm_keys.specs.declared.kinds.KeyPart.{KeyPart};
 ghost use Rattle.tpm_keys.specs.declared.report.KeyReport.{KeyReport};
@@ -35,21 +35,21 @@ pub fn each_answer_is_one_line()
     ensures registers { (now start : Banks) → IsOneLine (object_of (registers_cell now start).json) }
     ensures expected { (expected : List Expected) → AllByRecursion (λ e. IsCount e.register) expected
         → IsOneLine (object_of (expected_cell expected).json) }
-    ensures report { (required : Option (List BankRange)) (unknown : Option Unknown) (is_match : Bool) (verdict : Verdict)
+    ensures report { (required : Option (List BankRange)) (unknown : Option UnknownFiles) (is_match : Bool) (verdict : Verdict)
         → IsCount verdict.events → IsCount verdict.locality → IsCount verdict.entries → AreCounted verdict.strays
         → IfSome unknown IsCountedUnknown → AllByRecursion (λ row. IsCount row.expected.register) verdict.rows
         → IsOneLine (object_of (report_cell required unknown is_match verdict).json) }
-    ensures prefix_report { (required : Option (List BankRange)) (unknown : Option Unknown) (prefix : Verdict) (entries : ℕ)
+    ensures prefix_report { (required : Option (List BankRange)) (unknown : Option UnknownFiles) (prefix : Verdict) (entries : ℕ)
         (unconfirmed : Option Unconfirmed)
         → IsCount prefix.events → IsCount prefix.locality → IsCount prefix.entries → IsCount entries
         → IfSome unconfirmed (λ fault. IfSome (unconfirmed_entry fault) IsCount) → AreCounted prefix.strays
         → IfSome unknown IsCountedUnknown → AllByRecursion (λ row. IsCount row.expected.register) prefix.rows
         → IsOneLine (object_of (prefix_cell required unknown prefix entries unconfirmed).json) }
-    ensures list_report { (required : Option (List BankRange)) (unknown : Option Unknown) (verdict : ListVerdict)
+    ensures list_report { (required : Option (List BankRange)) (unknown : Option UnknownFiles) (verdict : ListVerdict)
         → IsCount verdict.entries → AreCounted verdict.strays
         → IfSome unknown IsCountedUnknown → AllByRecursion (λ row. IsCount row.expected.register) verdict.rows
         → IsOneLine (object_of (list_report_cell required unknown verdict).json) }
-    ensures attestation { (unknown : Option Unknown) (report : AttestVerdict)
+    ensures attestation { (unknown : Option UnknownFiles) (report : AttestVerdict)
         → IsCountedClock report.quoted.clock → IsCount report.quoted.firmware
         → IsCount report.verdict.events → IsCount report.verdict.locality → IsCount report.verdict.entries
         → IfSome report.prefix IsCountedWhole → AreCounted report.verdict.strays → IfSome unknown IsCountedUnknown
@@ -66,14 +66,14 @@ pub fn each_answer_is_one_line()
 pub fn no_answer_has_a_fault()
     ensures registers { (now start : Banks) → get (codes "fault") (object_of (registers_cell now start).json) ≡ None }
     ensures expected { (expected : List Expected) → get (codes "fault") (object_of (expected_cell expected).json) ≡ None }
-    ensures report { (required : Option (List BankRange)) (unknown : Option Unknown) (is_match : Bool) (verdict : Verdict)
+    ensures report { (required : Option (List BankRange)) (unknown : Option UnknownFiles) (is_match : Bool) (verdict : Verdict)
         → get (codes "fault") (object_of (report_cell required unknown is_match verdict).json) ≡ None }
-    ensures prefix_report { (required : Option (List BankRange)) (unknown : Option Unknown) (prefix : Verdict) (entries : ℕ)
+    ensures prefix_report { (required : Option (List BankRange)) (unknown : Option UnknownFiles) (prefix : Verdict) (entries : ℕ)
         (unconfirmed : Option Unconfirmed)
         → get (codes "fault") (object_of (prefix_cell required unknown prefix entries unconfirmed).json) ≡ None }
-    ensures list_report { (required : Option (List BankRange)) (unknown : Option Unknown) (verdict : ListVerdict)
+    ensures list_report { (required : Option (List BankRange)) (unknown : Option UnknownFiles) (verdict : ListVerdict)
         → get (codes "fault") (object_of (list_report_cell required unknown verdict).json) ≡ None }
-    ensures attestation { (unknown : Option Unknown) (report : AttestVerdict)
+    ensures attestation { (unknown : Option UnknownFiles) (report : AttestVerdict)
         → get (codes "fault") (object_of (attestation_cell unknown report).json) ≡ None }
     ensures key { (part : KeyPart) (report : KeyReport) → get (codes "fault") (object_of (key_cell part report).json) ≡ None }
     ensures positions { (required : Option (List BankRange)) (located : List Located)

@@ -8,7 +8,7 @@ ghost use Rattle.answers.specs.ReportCells.{list_meets, list_report_cell};
 use crate::report::{show_compared, show_report_rows, show_strays, show_unknown, show_verdict};
 use boot_verdict::{ListReport, Requirement};
 use cells::{CellWriter, Written};
-use known_files::Unknown;
+use known_files::UnknownFiles;
 use std::alloc::Global;
 
 /// Shows the report on a list alone.
@@ -16,7 +16,7 @@ pub fn show_list_report(
     alloc: Global,
     report: &ListReport,
     requirement: Option<&Requirement>,
-    unknown: Option<&Unknown>,
+    unknown: Option<&UnknownFiles>,
     out: &mut CellWriter,
 ) -> Written
     ensures { ShowsMembers result out.old out.new

@@ -9,7 +9,7 @@ ghost use Rattle.answers.specs.ReportCells.{confirmed_cell, prefix_cell, prefix_
 use crate::report::{meets, show_counts, show_outcome};
 use boot_verdict::{PrefixReport, Report, Requirement, Unconfirmed};
 use cells::{CellWriter, Written};
-use known_files::Unknown;
+use known_files::UnknownFiles;
 use std::alloc::Global;
 
 /// Shows the report on a confirmed prefix.
@@ -17,7 +17,7 @@ pub fn show_prefix(
     alloc: Global,
     prefix: &PrefixReport,
     requirement: Option<&Requirement>,
-    unknown: Option<&Unknown>,
+    unknown: Option<&UnknownFiles>,
     out: &mut CellWriter,
 ) -> Written
     ensures { ShowsMembers result out.old out.new (prefix_cell (option_copied requirement.entry) (option_copied unknown.entry)

@@ -12,7 +12,7 @@ use boot_verdict::{
     Aggregate, LIST_REGISTER, Report, Requirement, Row, State, Stray, Strays, aggregate_word,
 };
 use cells::{CellWriter, Written};
-use known_files::{Unknown, has_no_unknown};
+use known_files::{UnknownFiles, has_no_unknown};
 use pcr_banks::Digest;
 use std::alloc::Global;
 
@@ -21,7 +21,7 @@ pub fn show_report(
     alloc: Global,
     report: &Report,
     requirement: Option<&Requirement>,
-    unknown: Option<&Unknown>,
+    unknown: Option<&UnknownFiles>,
     is_match: bool,
     out: &mut CellWriter,
 ) -> Written
@@ -52,7 +52,7 @@ pub(crate) fn show_outcome(
     alloc: Global,
     report: &Report,
     requirement: Option<&Requirement>,
-    unknown: Option<&Unknown>,
+    unknown: Option<&UnknownFiles>,
     is_match: bool,
     out: &mut CellWriter,
 ) -> Written
@@ -191,7 +191,7 @@ fn show_stray(
 }
 
 /// Shows from which number on entries were looked at, and the numbers of those that are not known; nothing where no files are known.
-pub(crate) fn show_unknown(unknown: Option<&Unknown>, out: &mut CellWriter) -> Written
+pub(crate) fn show_unknown(unknown: Option<&UnknownFiles>, out: &mut CellWriter) -> Written
     ensures { ShowsMembers result out.old out.new (if_some (option_copied unknown.entry) unknown_cell) }
 {
     match unknown {
@@ -200,7 +200,7 @@ pub(crate) fn show_unknown(unknown: Option<&Unknown>, out: &mut CellWriter) -> W
     }
 }
 
-fn show_numbers(unknown: &Unknown, out: &mut CellWriter) -> Written
+fn show_numbers(unknown: &UnknownFiles, out: &mut CellWriter) -> Written
     ensures { ShowsMembers result out.old out.new (unknown_cell unknown.now) }
 {
     out.number("known_from ", "known_from", unknown.first as u64)?;
@@ -220,7 +220,7 @@ fn show_each(numbers: &[usize], out: &mut CellWriter) -> Written
 }
 
 pub(crate) fn show_verdict(
-    unknown: Option<&Unknown>,
+    unknown: Option<&UnknownFiles>,
     is_match: bool,
     out: &mut CellWriter,
 ) -> Written
@@ -232,7 +232,7 @@ pub(crate) fn show_verdict(
 }
 
 // Whether no entry is unknown, and the rest is a match.
-fn is_all_known(unknown: Option<&Unknown>, is_match: bool) -> bool
+fn is_all_known(unknown: Option<&UnknownFiles>, is_match: bool) -> bool
     ensures { result ≡ has_no_unknown (option_copied unknown.entry) && is_match }
 {
     has_no_unknown(unknown) && is_match

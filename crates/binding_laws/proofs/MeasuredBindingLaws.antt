@@ -31,9 +31,9 @@ first_digest : (alg : Alg) (b : Bool) (event : LogEvent) (after : List LogEvent)
 first_digest alg true event after digest e has = rw has refl
 first_digest alg false event after digest e has = absurd cc
 
-middle : {A : Type 0} (front after : List A) (x : A) → slice_get (front ++ x ∷ after) (length front) ≡ Some x
+middle : {A : Type 0} (prefix after : List A) (x : A) → slice_get (prefix ++ x ∷ after) (length prefix) ≡ Some x
 middle [] after x = refl
-middle (y ∷ front) after x = middle front after x
+middle (y ∷ prefix) after x = middle prefix after x
 
 place : (alg : Alg) (register : ℕ) (events before : List LogEvent) (bytes : List ℕ) → MeasuresAfter alg register events before bytes
     → slice_get (digests_for alg register events) (length (digests_for alg register before)) ≡ Some (hash_of alg bytes)
@@ -41,14 +41,14 @@ place alg register events before bytes at =
     let kept = filter (is_extended_into register) at.after in
     let digest : digest_in at.event.digests alg ≡ Some (hash_of alg bytes) =
     at.measured.digest ∙ ap (λ (b : List ℕ). Some (hash_of alg b)) at.bytes_are in
-    let front = digests_for alg register before in
+    let prefix = digests_for alg register before in
     let rest = filter_map (λ (e : LogEvent). digest_in e.digests alg) kept in
-    let all : digests_for alg register events ≡ front ++ hash_of alg bytes ∷ rest =
+    let all : digests_for alg register events ≡ prefix ++ hash_of alg bytes ∷ rest =
     ap (digests_for alg register) at.parts
     ∙ digests_joined alg register before (at.event ∷ at.after)
-    ∙ ap (λ (ds : List (List ℕ)). front ++ ds)
+    ∙ ap (λ (ds : List (List ℕ)). prefix ++ ds)
     (first_digest alg (is_extended_into register at.event) at.event kept (hash_of alg bytes) at.extended digest) in
-    rw all (middle front rest (hash_of alg bytes))
+    rw all (middle prefix rest (hash_of alg bytes))
 
 -- ---- what was hashed
 
@@ -111,19 +111,19 @@ confirmed matched events before after event part machine parts is same = record 
       (same (record { alg = bank; register = event.register }) matches);
 }
 
-pub is_the_same : (alg : Alg) (register : ℕ) (events others before front : List LogEvent) (bytes other : List ℕ)
+pub is_the_same : (alg : Alg) (register : ℕ) (events others before prefix : List LogEvent) (bytes other : List ℕ)
     → firmware_value events alg register ≡ firmware_value others alg register
-    → length (digests_for alg register before) ≡ length (digests_for alg register front)
-    → MeasuresAfter alg register events before bytes → MeasuresAfter alg register others front other
+    → length (digests_for alg register before) ≡ length (digests_for alg register prefix)
+    → MeasuresAfter alg register events before bytes → MeasuresAfter alg register others prefix other
     → (bytes ≡ other) ⊎ (Collide alg bytes other ⊎ LogsBreakHash alg register events others)
-is_the_same alg register events others before front bytes other same n at there =
+is_the_same alg register events others before prefix bytes other same n at there =
     elim (alike_or_broken alg register events others same) [
       | inl alike ↦
           let one : Some (hash_of alg bytes) ≡ Some (hash_of alg other) =
           sym (place alg register events before bytes at)
           ∙ ap (λ (ds : List (List ℕ)). slice_get ds (length (digests_for alg register before))) alike.digests
           ∙ ap (slice_get (digests_for alg register others)) n
-          ∙ place alg register others front other there in
+          ∙ place alg register others prefix other there in
           elim (same_or_collide alg (λ b. b ≡ bytes) (λ b. b ≡ other) bytes other refl refl (some_is (hash_of alg bytes) (hash_of alg other) one)) [
             | inl equal ↦ inl equal
             | inr collide ↦ inr (inl collide)

@@ -42,10 +42,10 @@ pub fn confirmed_data_was_hashed()
 /// Two logs that give a register the same value: where both have a measured event at the same place among those that are extended into it,
 /// what was measured is the same in both; or the hash is broken. So no other data can be shown as measured there.
 pub fn measured_data_is_the_same()
-    ensures { (alg : Alg) (register : ℕ) (events others before front : List LogEvent) (bytes other : List ℕ)
+    ensures { (alg : Alg) (register : ℕ) (events others before prefix : List LogEvent) (bytes other : List ℕ)
         → firmware_value events alg register ≡ firmware_value others alg register
-        → length (digests_for alg register before) ≡ length (digests_for alg register front)
-        → MeasuresAfter alg register events before bytes → MeasuresAfter alg register others front other
+        → length (digests_for alg register before) ≡ length (digests_for alg register prefix)
+        → MeasuresAfter alg register events before bytes → MeasuresAfter alg register others prefix other
         → (bytes ≡ other) ⊎ (Collide alg bytes other ⊎ LogsBreakHash alg register events others) }
 {}
 

@@ -32,36 +32,36 @@ added_last {X = X} P [] x all holds = (holds, tt)
 added_last {X = X} P (y ∷ xs) x all holds = (all.0, added_last P xs x all.1 holds)
 
 -- Where all of a list pass a test, and the element after them does not, its part that passes ends there.
-pub record SameEnd {X : Type 0} (front other : List X) (x y : X) : Type 0 where
-  pub fronts : front ≡ other
+pub record SameEnd {X : Type 0} (prefix other : List X) (x y : X) : Type 0 where
+  pub prefixes : prefix ≡ other
   pub ends : x ≡ y
 
-pub one_end : {X : Type 0} (P : X → Type 0) (front other : List X) (x y : X) (back rest : List X) → AllByRecursion P front → (P x → ⊥)
-    → AllByRecursion P other → (P y → ⊥) → front ++ x ∷ back ≡ other ++ y ∷ rest → SameEnd front other x y
-one_end {X = X} P [] [] x y back rest all fails others fails_too e = record { fronts = refl; ends = cc }
+pub one_end : {X : Type 0} (P : X → Type 0) (prefix other : List X) (x y : X) (back rest : List X) → AllByRecursion P prefix → (P x → ⊥)
+    → AllByRecursion P other → (P y → ⊥) → prefix ++ x ∷ back ≡ other ++ y ∷ rest → SameEnd prefix other x y
+one_end {X = X} P [] [] x y back rest all fails others fails_too e = record { prefixes = refl; ends = cc }
 one_end {X = X} P [] (z ∷ other) x y back rest all fails others fails_too e =
     let same : x ≡ z = cc in
     absurd (fails (rw same others.0))
-one_end {X = X} P (z ∷ front) [] x y back rest all fails others fails_too e =
+one_end {X = X} P (z ∷ prefix) [] x y back rest all fails others fails_too e =
     let same : z ≡ y = cc in
     absurd (fails_too (rw (sym same) all.0))
-one_end {X = X} P (z ∷ front) (w ∷ other) x y back rest all fails others fails_too e =
+one_end {X = X} P (z ∷ prefix) (w ∷ other) x y back rest all fails others fails_too e =
     let same : z ≡ w = cc in
-    let tails : front ++ x ∷ back ≡ other ++ y ∷ rest = cc in
-    let more = one_end P front other x y back rest all.1 fails others.1 fails_too tails in
-    record { fronts = ap (λ (l : List X). z ∷ l) more.fronts ∙ ap (λ (h : X). h ∷ other) same; ends = more.ends }
+    let tails : prefix ++ x ∷ back ≡ other ++ y ∷ rest = cc in
+    let more = one_end P prefix other x y back rest all.1 fails others.1 fails_too tails in
+    record { prefixes = ap (λ (l : List X). z ∷ l) more.prefixes ∙ ap (λ (h : X). h ∷ other) same; ends = more.ends }
 
 -- Where all of a list pass a test, no element of it fails.
-pub no_end : {X : Type 0} (P : X → Type 0) (all front : List X) (x : X) (back : List X) → AllByRecursion P all → (P x → ⊥)
-    → all ≡ front ++ x ∷ back → ⊥
+pub no_end : {X : Type 0} (P : X → Type 0) (all prefix : List X) (x : X) (back : List X) → AllByRecursion P all → (P x → ⊥)
+    → all ≡ prefix ++ x ∷ back → ⊥
 no_end {X = X} P [] [] x back passed fails e = absurd cc
-no_end {X = X} P [] (z ∷ front) x back passed fails e = absurd cc
+no_end {X = X} P [] (z ∷ prefix) x back passed fails e = absurd cc
 no_end {X = X} P (w ∷ all) [] x back passed fails e =
     let same : w ≡ x = cc in
     fails (rw (sym same) passed.0)
-no_end {X = X} P (w ∷ all) (z ∷ front) x back passed fails e =
-    let tails : all ≡ front ++ x ∷ back = cc in
-    no_end P all front x back passed.1 fails tails
+no_end {X = X} P (w ∷ all) (z ∷ prefix) x back passed fails e =
+    let tails : all ≡ prefix ++ x ∷ back = cc in
+    no_end P all prefix x back passed.1 fails tails
 
 -- No more events are extended into a register than there are.
 kept_first : (b : Bool) (event : LogEvent) (kept : List LogEvent) (n : ℕ) → length kept ≤ n → length (cond b (event ∷ kept) kept) ≤ suc n

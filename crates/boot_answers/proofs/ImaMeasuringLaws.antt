@@ -3,9 +3,9 @@ use Rattle.std.proofs.Common.{◌≡◌, ℕ, Bool, true, false, List, [], ◌�
 use Rattle.boot_answers.specs.ImaMeasuring.{AsksToMeasure, BeginsMeasuring, is_space, stops}
 use Rattle.boot_answers.specs.parts.ImaMeasuring.{AsksFrom}
 
-no_back : (front back : List ℕ) → [] ≡ front ++ back → back ≡ []
+no_back : (prefix back : List ℕ) → [] ≡ prefix ++ back → back ≡ []
 no_back [] back e = sym e
-no_back (x ∷ front) back e = absurd cc
+no_back (x ∷ prefix) back e = absurd cc
 
 pub asks_here : (starts : Bool) (text : List ℕ) → starts ≡ true → BeginsMeasuring text → stops text ≡ false → AsksFrom starts text
 asks_here starts text here option goes_on = record {
@@ -14,7 +14,7 @@ asks_here starts text here option goes_on = record {
   parts = refl;
   start = inl (refl, here);
   option = option;
-  plain = λ front back e. subst (λ (l : List ℕ). stops (l ++ text) ≡ false) (sym (no_back front back e)) goes_on;
+  plain = λ prefix back e. subst (λ (l : List ℕ). stops (l ++ text) ≡ false) (sym (no_back prefix back e)) goes_on;
 }
 
 none_here : (before rest : List ℕ) → [] ≡ before ++ rest → BeginsMeasuring rest → ⊥
@@ -27,14 +27,14 @@ none_here (x ∷ before) rest parts option = absurd cc
 pub asks_not_at_end : (starts : Bool) → AsksFrom starts [] → ⊥
 asks_not_at_end starts asks = none_here asks.before asks.rest asks.parts asks.option
 
-plain_later : (byte : ℕ) (text before rest front back : List ℕ) → text ≡ before ++ rest → stops (byte ∷ text) ≡ false
-    → ((front back : List ℕ) → before ≡ front ++ back → stops (back ++ rest) ≡ false) → byte ∷ before ≡ front ++ back
+plain_later : (byte : ℕ) (text before rest prefix back : List ℕ) → text ≡ before ++ rest → stops (byte ∷ text) ≡ false
+    → ((prefix back : List ℕ) → before ≡ prefix ++ back → stops (back ++ rest) ≡ false) → byte ∷ before ≡ prefix ++ back
     → stops (back ++ rest) ≡ false
 plain_later byte text before rest [] back parts goes_on plain e =
     subst (λ (l : List ℕ). stops l ≡ false) (ap (λ (l : List ℕ). byte ∷ l) parts ∙ ap (λ (l : List ℕ). l ++ rest) e) goes_on
-plain_later byte text before rest (x ∷ front) back parts goes_on plain e =
-    let tails : before ≡ front ++ back = cc in
-    plain front back tails
+plain_later byte text before rest (x ∷ prefix) back parts goes_on plain e =
+    let tails : before ≡ prefix ++ back = cc in
+    plain prefix back tails
 
 pub asks_later : (starts : Bool) (byte : ℕ) (text : List ℕ) → stops (byte ∷ text) ≡ false → AsksFrom (is_space byte) text
     → AsksFrom starts (byte ∷ text)
@@ -47,28 +47,28 @@ asks_later starts byte text goes_on asks = record {
     | inr there ↦ inr (byte ∷ there.0, there.1, ap (λ (l : List ℕ). byte ∷ l) there.2, there.3)
   ];
   option = asks.option;
-  plain = λ front back e. plain_later byte text asks.before asks.rest front back asks.parts goes_on asks.plain e;
+  plain = λ prefix back e. plain_later byte text asks.before asks.rest prefix back asks.parts goes_on asks.plain e;
 }
 
-not_empty : (front : List ℕ) (last : ℕ) → [] ≡ front ++ last ∷ [] → ⊥
+not_empty : (prefix : List ℕ) (last : ℕ) → [] ≡ prefix ++ last ∷ [] → ⊥
 not_empty [] last e = absurd cc
-not_empty (x ∷ front) last e = absurd cc
+not_empty (x ∷ prefix) last e = absurd cc
 
-start_after : (byte x : ℕ) (before front : List ℕ) (last : ℕ) → byte ≡ x → x ∷ before ≡ front ++ last ∷ [] → is_space last ≡ true
+start_after : (byte x : ℕ) (before prefix : List ℕ) (last : ℕ) → byte ≡ x → x ∷ before ≡ prefix ++ last ∷ [] → is_space last ≡ true
     → ((before ≡ []) × (is_space byte ≡ true))
     ⊎ ((more : List ℕ) × (end : ℕ) × (before ≡ more ++ end ∷ []) × (is_space end ≡ true))
 start_after byte x before [] last same e space =
     let one : x ≡ last = cc in
     let none : before ≡ [] = cc in
     inl (none, rw (same ∙ one) space)
-start_after byte x before (y ∷ front) last same e space =
-    let tails : before ≡ front ++ last ∷ [] = cc in
-    inr (front, last, tails, space)
+start_after byte x before (y ∷ prefix) last same e space =
+    let tails : before ≡ prefix ++ last ∷ [] = cc in
+    inr (prefix, last, tails, space)
 
 split_start : (starts : Bool) (byte : ℕ) (text before rest : List ℕ) → (starts ≡ true → BeginsMeasuring (byte ∷ text) → ⊥)
     → byte ∷ text ≡ before ++ rest
-    → ((before ≡ []) × (starts ≡ true)) ⊎ ((front : List ℕ) × (last : ℕ) × (before ≡ front ++ last ∷ []) × (is_space last ≡ true))
-    → BeginsMeasuring rest → ((front back : List ℕ) → before ≡ front ++ back → stops (back ++ rest) ≡ false)
+    → ((before ≡ []) × (starts ≡ true)) ⊎ ((prefix : List ℕ) × (last : ℕ) × (before ≡ prefix ++ last ∷ []) × (is_space last ≡ true))
+    → BeginsMeasuring rest → ((prefix back : List ℕ) → before ≡ prefix ++ back → stops (back ++ rest) ≡ false)
     → AsksFrom (is_space byte) text
 split_start starts byte text [] rest none parts (inl here) option plain =
     absurd (none here.1 (subst BeginsMeasuring (sym parts) option))
@@ -83,7 +83,7 @@ split_start starts byte text (x ∷ before) rest none parts (inr there) option p
       parts = tails;
       start = start_after byte x before there.0 there.1 same there.2 there.3;
       option = option;
-      plain = λ front back e. plain (x ∷ front) back (ap (λ (l : List ℕ). x ∷ l) e);
+      plain = λ prefix back e. plain (x ∷ prefix) back (ap (λ (l : List ℕ). x ∷ l) e);
     }
 
 -- A text whose start is no option has one later.

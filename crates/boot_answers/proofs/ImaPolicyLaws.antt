@@ -26,24 +26,24 @@ sets_later starts byte text sets = record {
   option = sets.option;
 }
 
-not_empty : (front : List ℕ) (last : ℕ) → [] ≡ front ++ last ∷ [] → ⊥
+not_empty : (prefix : List ℕ) (last : ℕ) → [] ≡ prefix ++ last ∷ [] → ⊥
 not_empty [] last e = absurd cc
-not_empty (x ∷ front) last e = absurd cc
+not_empty (x ∷ prefix) last e = absurd cc
 
-start_after : (byte x : ℕ) (before front : List ℕ) (last : ℕ) → byte ≡ x → x ∷ before ≡ front ++ last ∷ [] → is_between last ≡ true
+start_after : (byte x : ℕ) (before prefix : List ℕ) (last : ℕ) → byte ≡ x → x ∷ before ≡ prefix ++ last ∷ [] → is_between last ≡ true
     → ((before ≡ []) × (is_between byte ≡ true))
     ⊎ ((more : List ℕ) × (end : ℕ) × (before ≡ more ++ end ∷ []) × (is_between end ≡ true))
 start_after byte x before [] last same e between =
     let one : x ≡ last = cc in
     let none : before ≡ [] = cc in
     inl (none, rw (same ∙ one) between)
-start_after byte x before (y ∷ front) last same e between =
-    let tails : before ≡ front ++ last ∷ [] = cc in
-    inr (front, last, tails, between)
+start_after byte x before (y ∷ prefix) last same e between =
+    let tails : before ≡ prefix ++ last ∷ [] = cc in
+    inr (prefix, last, tails, between)
 
 split_start : (starts : Bool) (byte : ℕ) (text before rest : List ℕ) → (starts ≡ true → begins_option (byte ∷ text) ≡ false)
     → byte ∷ text ≡ before ++ rest
-    → ((before ≡ []) × (starts ≡ true)) ⊎ ((front : List ℕ) × (last : ℕ) × (before ≡ front ++ last ∷ []) × (is_between last ≡ true))
+    → ((before ≡ []) × (starts ≡ true)) ⊎ ((prefix : List ℕ) × (last : ℕ) × (before ≡ prefix ++ last ∷ []) × (is_between last ≡ true))
     → begins_option rest ≡ true → SetsFrom (is_between byte) text
 split_start starts byte text [] rest none parts (inl here) option =
     let not_here : begins_option rest ≡ false = rw (sym parts) (none here.1) in

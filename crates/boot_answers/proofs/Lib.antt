@@ -1,7 +1,7 @@
 pub mod EventLaws
 pub mod DifferenceLaws
 pub mod CommonLaws
-pub mod FrontLaws
+pub mod FailingTestLaws
 pub mod SecureBootLaws
 pub mod VariableLaws
 pub mod VersionLaws

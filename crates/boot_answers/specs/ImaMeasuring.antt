@@ -30,6 +30,6 @@ pub record AsksToMeasure (text : List ℕ) : Type 0 where
   pub before : List ℕ
   pub rest : List ℕ
   pub parts : text ≡ before ++ rest
-  pub start : (before ≡ []) ⊎ ((front : List ℕ) × (byte : ℕ) × (before ≡ front ++ byte ∷ []) × (is_space byte ≡ true))
+  pub start : (before ≡ []) ⊎ ((prefix : List ℕ) × (byte : ℕ) × (before ≡ prefix ++ byte ∷ []) × (is_space byte ≡ true))
   pub option : BeginsMeasuring rest
-  pub plain : (front back : List ℕ) → before ≡ front ++ back → stops (back ++ rest) ≡ false
+  pub plain : (prefix back : List ℕ) → before ≡ prefix ++ back → stops (back ++ rest) ≡ false

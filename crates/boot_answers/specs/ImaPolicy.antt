@@ -25,7 +25,7 @@ begins_option bytes = list_any (starts_with nat_eq bytes) policy_options
 
 -- A word may begin after these bytes.
 abbrev pub EndsWord : List ℕ → Type 0
-EndsWord before = (before ≡ []) ⊎ ((front : List ℕ) × (byte : ℕ) × (before ≡ front ++ byte ∷ []) × (is_between byte ≡ true))
+EndsWord before = (before ≡ []) ⊎ ((prefix : List ℕ) × (byte : ℕ) × (before ≡ prefix ++ byte ∷ []) × (is_between byte ≡ true))
 
 -- A word of the text may be such an option.
 pub record MaySetImaPolicy (text : List ℕ) : Type 0 where

@@ -21,7 +21,7 @@ use Rattle.event_lines.proofs.ContentLaws.{content_plain}
 use Rattle.event_lines.proofs.CountLaws.{content_counted}
 use Rattle.boot_texts.specs.declared.difference_lines.ComparedBoot.{ComparedBoot}
 use Rattle.boot_texts.specs.declared.policies.ImaPolicy.TheVariants.{Asked, Possible}
-use Rattle.boot_texts.specs.AnswerCells.{answered_digest, boot_variable_type, command_cell, digest_cell, image_cell, kind_cell, text_member, untold_cell, variable_cell, version_cell, word_cell}
+use Rattle.boot_texts.specs.AnswerCells.{answered_digest, boot_variable_type, command_cell, digest_cell, image_cell, kind_cell, text_member, unknown_command_cell, variable_cell, version_cell, word_cell}
 use Rattle.boot_texts.specs.Differences.{alike_cell, apart_cell, event_cell}
 use Rattle.boot_texts.specs.Policies.{policy_cell}
 
@@ -97,15 +97,15 @@ command_is_one register number text place count =
     line_within 3 (object_of (command_cell register number text).json) (omega arith)
     ((number, count, refl), ((register, place, refl), (text_is_plain text, kind_plain text)))
 
-pub untold_is_one : (register number : ℕ) → IsCount register → IsCount number
-    → IsOneLine (object_of (untold_cell register (Some number)).json)
+pub unknown_command_is_one : (register number : ℕ) → IsCount register → IsCount number
+    → IsOneLine (object_of (unknown_command_cell register (Some number)).json)
 unfolding beside
-untold_is_one register number place count =
-    line_within 3 (object_of (untold_cell register (Some number)).json) (omega arith) (tt, ((register, place, refl), ((number, count, refl), tt)))
+unknown_command_is_one register number place count =
+    line_within 3 (object_of (unknown_command_cell register (Some number)).json) (omega arith) (tt, ((register, place, refl), ((number, count, refl), tt)))
 
-pub unanswered_is_one : (register : ℕ) → IsCount register → IsOneLine (object_of (untold_cell register None).json)
+pub unanswered_is_one : (register : ℕ) → IsCount register → IsOneLine (object_of (unknown_command_cell register None).json)
 unfolding beside
-unanswered_is_one register place = line_within 3 (object_of (untold_cell register None).json) (omega arith) (tt, ((register, place, refl), tt))
+unanswered_is_one register place = line_within 3 (object_of (unknown_command_cell register None).json) (omega arith) (tt, ((register, place, refl), tt))
 
 -- ---- differences
 

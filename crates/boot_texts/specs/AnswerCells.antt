@@ -90,8 +90,8 @@ command_cell register n said = in_order (
     ∷ [])
 
 -- The event with this number tells no text, so none is told after it. Where no bank answers for the register there is none.
-abbrev pub untold_cell : ℕ → Option ℕ → Cell Member
-untold_cell register event = in_order (
+abbrev pub unknown_command_cell : ℕ → Option ℕ → Cell Member
+unknown_command_cell register event = in_order (
     word (codes "command ") (codes "command") (codes "unknown")
     ∷ number (codes " ") (codes "register") register
     ∷ if_some event (number (codes " ") (codes "event"))

@@ -14,20 +14,20 @@ use Rattle.boot_texts.specs.declared.event_walk.BootQuestion.{BootQuestion}
 use Rattle.boot_texts.specs.declared.event_walk.BootQuestion.TheVariants.{Images, Commands, Variables}
 use Rattle.boot_texts.specs.Answering.{Chosen, is_answered}
 use Rattle.cells.specs.Cells.{rendered}
-use Rattle.boot_texts.specs.AnswerCells.{secure_boot_cell, untold_cell, version_cell, word_cell}
+use Rattle.boot_texts.specs.AnswerCells.{secure_boot_cell, unknown_command_cell, version_cell, word_cell}
 use Rattle.boot_texts.specs.Policies.{IsImaPolicy, policy_cell}
-use Rattle.boot_texts.specs.Telling.{Tells, ToldOf}
+use Rattle.boot_texts.specs.Telling.{AreEventLines, IsEventLine}
 
 -- The text has the lines of the events for the question, if this register is answered for; otherwise it is the other.
 abbrev pub AreQuestionLines : BootQuestion → ℕ → List ℕ → Form → List Pcr → List LogEvent → List ℕ → Type 0
 AreQuestionLines question register other form matched events text =
-    Chosen (is_answered matched register events) (Tells (ToldOf question form matched) 1 events text) (text ≡ other)
+    Chosen (is_answered matched register events) (AreEventLines (IsEventLine question form matched) 1 events text) (text ≡ other)
 
 abbrev pub AreImageLines : Form → List Pcr → List LogEvent → List ℕ → Type 0
 AreImageLines form = AreQuestionLines Images image_register (rendered form (word_cell (codes "image") (codes "unknown"))) form
 
 abbrev pub AreCommandLines : ℕ → Form → List Pcr → List LogEvent → List ℕ → Type 0
-AreCommandLines register form = AreQuestionLines (Commands register) register (rendered form (untold_cell register None)) form
+AreCommandLines register form = AreQuestionLines (Commands register) register (rendered form (unknown_command_cell register None)) form
 
 abbrev pub AreVariableLines : Form → List Pcr → List LogEvent → List ℕ → Type 0
 AreVariableLines form = AreQuestionLines Variables settings_register (rendered form (word_cell (codes "boot_variable") (codes "unknown"))) form

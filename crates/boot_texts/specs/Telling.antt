@@ -22,19 +22,19 @@ use Rattle.cells.specs.declared.writer.Form.{Form}
 use Rattle.boot_texts.specs.declared.event_walk.BootQuestion.{BootQuestion}
 use Rattle.boot_texts.specs.declared.event_walk.BootQuestion.TheVariants.{Images, Commands, Variables}
 use Rattle.cells.specs.Cells.{rendered}
-use Rattle.boot_texts.specs.AnswerCells.{command_cell, image_cell, untold_cell, variable_cell}
+use Rattle.boot_texts.specs.AnswerCells.{command_cell, image_cell, unknown_command_cell, variable_cell}
 
 -- Whether the events after one are looked at, and the text of the one, are these.
 abbrev pub Are : Bool → List ℕ → Bool × List ℕ → Type 0
 Are goes text answer = (goes ≡ answer.0) × (text ≡ answer.1)
 
--- The text of these events one after another, the first with this number, up to one after which none is looked at. `Told` relates an event's
+-- The text of these events one after another, the first with this number, up to one after which none is looked at. `IsLine` relates an event's
 -- number, the event, whether those after it are looked at, and its text.
-abbrev pub Tells : (ℕ → LogEvent → Bool → List ℕ → Type 0) → ℕ → List LogEvent → List ℕ → Type 0
-Tells Told number [] text = text ≡ []
-Tells Told number (event ∷ events) text =
-    Told number event false text
-    ⊎ ((first : List ℕ) × (rest : List ℕ) × Told number event true first × Tells Told (number + 1) events rest × (text ≡ first ++ rest))
+abbrev pub AreEventLines : (ℕ → LogEvent → Bool → List ℕ → Type 0) → ℕ → List LogEvent → List ℕ → Type 0
+AreEventLines IsLine number [] text = text ≡ []
+AreEventLines IsLine number (event ∷ events) text =
+    IsLine number event false text
+    ⊎ ((first : List ℕ) × (rest : List ℕ) × IsLine number event true first × AreEventLines IsLine (number + 1) events rest × (text ≡ first ++ rest))
 
 -- ---- images
 
@@ -48,8 +48,8 @@ abbrev pub MayBeImageIn : List Pcr → LogEvent → Type 0
 MayBeImageIn matched event = (alg : Alg) × IsImageBy matched event alg
 
 -- Each event that may be an image is told.
-abbrev pub TellsImage : Form → List Pcr → ℕ → LogEvent → Bool → List ℕ → Type 0
-TellsImage form matched number event goes text =
+abbrev pub IsImageLine : Form → List Pcr → ℕ → LogEvent → Bool → List ℕ → Type 0
+IsImageLine form matched number event goes text =
     (goes ≡ true)
     × ((MayBeImageIn matched event × (text ≡ rendered form (image_cell matched number event))) ⊎ ((MayBeImageIn matched event → ⊥) × (text ≡ [])))
 
@@ -58,11 +58,11 @@ TellsImage form matched number event goes text =
 -- Whether the events after one are looked at, and its line, where this is its text.
 abbrev pub command_answer : ℕ → Form → ℕ → Option CommandSaid → Bool × List ℕ
 command_answer register form number (Some text) = (true, rendered form (command_cell register number text))
-command_answer register form number None = (false, rendered form (untold_cell register (Some number)))
+command_answer register form number None = (false, rendered form (unknown_command_cell register (Some number)))
 
 -- The texts of the register's events are told, up to the first event that tells none.
-abbrev pub TellsCommand : ℕ → Form → List Pcr → ℕ → LogEvent → Bool → List ℕ → Type 0
-TellsCommand register form matched number event goes text =
+abbrev pub IsCommandLine : ℕ → Form → List Pcr → ℕ → LogEvent → Bool → List ℕ → Type 0
+IsCommandLine register form matched number event goes text =
     Are goes text (if is_extended_into register event then command_answer register form number (told_text matched event) else (true, []))
 
 -- ---- boot variables
@@ -99,22 +99,22 @@ abbrev pub told_variable : Form → List Pcr → ℕ → LogEvent → List ℕ
 told_variable form matched number event = if is_told_variable matched event then rendered form (variable_cell number event) else []
 
 -- The boot variables of the register of settings are told, up to its first event that may be a separator.
-abbrev pub TellsSetting : Form → List Pcr → ℕ → LogEvent → Bool → List ℕ → Type 0
-TellsSetting form matched number event goes text =
+abbrev pub IsSettingLine : Form → List Pcr → ℕ → LogEvent → Bool → List ℕ → Type 0
+IsSettingLine form matched number event goes text =
     (MayBeSeparatorIn matched event × Are goes text (false, []))
     ⊎ ((MayBeSeparatorIn matched event → ⊥) × Are goes text (true, told_variable form matched number event))
 
-abbrev pub TellsIf : Bool → Type 0 → Bool → List ℕ → Type 0
-TellsIf true Told goes text = Told
-TellsIf false Told goes text = Are goes text (true, [])
+abbrev pub IsLineIf : Bool → Type 0 → Bool → List ℕ → Type 0
+IsLineIf true IsLine goes text = IsLine
+IsLineIf false IsLine goes text = Are goes text (true, [])
 
-abbrev pub TellsVariable : Form → List Pcr → ℕ → LogEvent → Bool → List ℕ → Type 0
-TellsVariable form matched number event goes text =
-    TellsIf (is_extended_into settings_register event) (TellsSetting form matched number event goes text) goes text
+abbrev pub IsVariableLine : Form → List Pcr → ℕ → LogEvent → Bool → List ℕ → Type 0
+IsVariableLine form matched number event goes text =
+    IsLineIf (is_extended_into settings_register event) (IsSettingLine form matched number event goes text) goes text
 
 -- ---- all
 
-abbrev pub ToldOf : BootQuestion → Form → List Pcr → ℕ → LogEvent → Bool → List ℕ → Type 0
-ToldOf Images form matched number event goes text = TellsImage form matched number event goes text
-ToldOf (Commands register) form matched number event goes text = TellsCommand register form matched number event goes text
-ToldOf Variables form matched number event goes text = TellsVariable form matched number event goes text
+abbrev pub IsEventLine : BootQuestion → Form → List Pcr → ℕ → LogEvent → Bool → List ℕ → Type 0
+IsEventLine Images form matched number event goes text = IsImageLine form matched number event goes text
+IsEventLine (Commands register) form matched number event goes text = IsCommandLine register form matched number event goes text
+IsEventLine Variables form matched number event goes text = IsVariableLine form matched number event goes text

@@ -7,7 +7,7 @@ ghost use Rattle.cells.specs.Cells.{ShowsMembers, if_some, object_at, word_membe
 ghost use Rattle.cells.specs.Values.{line_of, object_of};
 ghost use Rattle.event_lines.specs.SteeringTexts.{unsteered};
 ghost use Rattle.cells.specs.Writing.{WritesMembers, WritesValue};
-ghost use Rattle.boot_texts.specs.AnswerCells.{command_cell, kind_cell, said_cell, text_member, untold_cell};
+ghost use Rattle.boot_texts.specs.AnswerCells.{command_cell, kind_cell, said_cell, text_member, unknown_command_cell};
 
 use boot_answers::CommandText;
 use cells::{CellWriter, Shown, Written, write_shown};
@@ -120,15 +120,15 @@ pub(crate) struct UnknownCommandLine {
 }
 
 impl Shown for UnknownCommandLine {
-    ghost cell_of = { λ line. untold_cell line.register line.event };
+    ghost cell_of = { λ line. unknown_command_cell line.register line.event };
 
     fn show(&self, _alloc: Global, out: &mut CellWriter) -> Written {
-        show_untold(self.register, self.event, out)
+        show_unknown_command(self.register, self.event, out)
     }
 }
 
-fn show_untold(register: u32, event: Option<usize>, out: &mut CellWriter) -> Written
-    ensures { ShowsMembers result out.old out.new (untold_cell register event) }
+fn show_unknown_command(register: u32, event: Option<usize>, out: &mut CellWriter) -> Written
+    ensures { ShowsMembers result out.old out.new (unknown_command_cell register event) }
 {
     out.word("command ", "command", "unknown")?;
     out.number(" ", "register", register as u64)?;

@@ -4,7 +4,7 @@ ghost use Rattle.std.specs.Prelude.{◌≡◌, List, ℕ, ◌++◌, IfOk, OnOk, 
 ghost use Rattle.boot_log.specs.declared.header.DeclaredAlgorithm.{DeclaredAlgorithm};
 ghost use Rattle.boot_log.specs.LogViews.{log_bytes};
 ghost use Rattle.boot_log.specs.Spelling.{IsLog, LogEvent, log_event_of};
-ghost use Rattle.boot_texts.specs.Telling.{Tells, TellsCommand, ToldOf};
+ghost use Rattle.boot_texts.specs.Telling.{AreEventLines, IsCommandLine, IsEventLine};
 
 use crate::commands::{CommandLine, UnknownCommandLine};
 use crate::images::append_if_image;
@@ -36,7 +36,7 @@ pub(crate) fn append_each(
     lines: &mut Vec<u8>,
 ) -> Written
     ensures { OnOk result ((table : List DeclaredAlgorithm) (events : List LogEvent) → IsLog (log_bytes log.now) table events
-        → (text : List ℕ) × Tells (ToldOf question form matched.now) 1 events text × (lines.new.items ≡ lines.old.items ++ text)) }
+        → (text : List ℕ) × AreEventLines (IsEventLine question form matched.now) 1 events text × (lines.new.items ≡ lines.old.items ++ text)) }
 {
     let mut events = log.events();
     while let Some(event) = events.next_event() {
@@ -59,7 +59,7 @@ fn append_told(
     event: &Event<'_>,
     lines: &mut Vec<u8>,
 ) -> Result<bool, AllocError>
-    ensures { IfOk result (λ goes. (text : List ℕ) × ToldOf question form matched.now number (log_event_of event.now) goes text
+    ensures { IfOk result (λ goes. (text : List ℕ) × IsEventLine question form matched.now number (log_event_of event.now) goes text
         × (lines.new.items ≡ lines.old.items ++ text)) }
 {
     match question {
@@ -84,7 +84,7 @@ fn append_if_command(
     event: &Event<'_>,
     lines: &mut Vec<u8>,
 ) -> Result<bool, AllocError>
-    ensures { IfOk result (λ goes. (text : List ℕ) × TellsCommand register form matched.now number (log_event_of event.now) goes text
+    ensures { IfOk result (λ goes. (text : List ℕ) × IsCommandLine register form matched.now number (log_event_of event.now) goes text
         × (lines.new.items ≡ lines.old.items ++ text)) }
 {
     if !event.is_extended_into(register) {

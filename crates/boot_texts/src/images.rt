@@ -5,7 +5,7 @@ ghost use Rattle.pcr_banks.specs.Digests.{bytes_of};
 ghost use Rattle.boot_log.specs.Spelling.{log_event_of};
 ghost use Rattle.cells.specs.Cells.{ShowsMembers, if_some, object_at};
 ghost use Rattle.boot_texts.specs.AnswerCells.{answered_cell, answered_digest, digest_cell, image_cell};
-ghost use Rattle.boot_texts.specs.Telling.{IsImageBy, MayBeImageIn, TellsImage};
+ghost use Rattle.boot_texts.specs.Telling.{IsImageBy, MayBeImageIn, IsImageLine};
 
 use crate::answering_banks::answers;
 use boot_answers::may_be_image;
@@ -47,7 +47,7 @@ pub(crate) fn append_if_image(
     event: &Event<'_>,
     lines: &mut Vec<u8>,
 ) -> Written
-    ensures { OnOk result ((text : List ℕ) × TellsImage form matched.now number (log_event_of event.now) true text
+    ensures { OnOk result ((text : List ℕ) × IsImageLine form matched.now number (log_event_of event.now) true text
         × (lines.new.items ≡ lines.old.items ++ text)) }
 {
     if may_be_image_in(event, matched) {

@@ -12,7 +12,7 @@ ghost use Rattle.measured_data.specs.Measuring.{settings_register};
 ghost use Rattle.boot_answers.specs.Commands.{CommandSaid, told_text};
 ghost use Rattle.boot_answers.specs.FirmwareVersion.{version_type};
 ghost use Rattle.cells.specs.Values.{IsCount, IsOneLine, object_of};
-ghost use Rattle.boot_texts.specs.AnswerCells.{command_cell, image_cell, text_member, untold_cell, variable_cell, version_cell, word_cell};
+ghost use Rattle.boot_texts.specs.AnswerCells.{command_cell, image_cell, text_member, unknown_command_cell, variable_cell, version_cell, word_cell};
 ghost use Rattle.boot_texts.specs.declared.difference_lines.ComparedBoot.{ComparedBoot};
 ghost use Rattle.boot_texts.specs.declared.policies.ImaPolicy.TheVariants.{Asked, Possible};
 ghost use Rattle.boot_texts.specs.Differences.{alike_cell, apart_cell, event_cell};
@@ -46,9 +46,9 @@ pub fn each_line_is_one_value()
     ensures command { (register number : ℕ) (text : CommandSaid) → IsCount register → IsCount number
         → IsOneLine (object_of (command_cell register number text).json) }
     ensures text { (text : CommandSaid) → IsOneLine (object_of (text_member text ∷ [])) }
-    ensures untold { (register number : ℕ) → IsCount register → IsCount number
-        → IsOneLine (object_of (untold_cell register (Some number)).json) }
-    ensures unanswered { (register : ℕ) → IsCount register → IsOneLine (object_of (untold_cell register None).json) }
+    ensures unknown_command { (register number : ℕ) → IsCount register → IsCount number
+        → IsOneLine (object_of (unknown_command_cell register (Some number)).json) }
+    ensures unanswered { (register : ℕ) → IsCount register → IsOneLine (object_of (unknown_command_cell register None).json) }
     ensures asked { (number : ℕ) → IsCount number → IsOneLine (object_of (policy_cell (Asked number)).json) }
     ensures possible { (number : ℕ) → IsCount number → IsOneLine (object_of (policy_cell (Possible number)).json) }
     ensures variable { (number : ℕ) (event : LogEvent) → IsCount number → AreBytes event.payload

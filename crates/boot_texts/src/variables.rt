@@ -9,7 +9,7 @@ ghost use Rattle.event_data.specs.Forms.{variable_of};
 ghost use Rattle.event_data.specs.Reading.{variable_in};
 ghost use Rattle.cells.specs.Cells.{ShowsMembers};
 ghost use Rattle.boot_texts.specs.AnswerCells.{variable_cell};
-ghost use Rattle.boot_texts.specs.Telling.{IsSeparatorBy, MayBeSeparatorIn, TellsSetting, TellsVariable, allows_variable, is_boot_variable, is_told_variable, told_variable};
+ghost use Rattle.boot_texts.specs.Telling.{IsSeparatorBy, MayBeSeparatorIn, IsSettingLine, IsVariableLine, allows_variable, is_boot_variable, is_told_variable, told_variable};
 
 use crate::answering_banks::answers;
 use boot_answers::{SETTINGS_REGISTER, may_be_separator};
@@ -33,7 +33,7 @@ pub(crate) fn append_if_variable(
     event: &Event<'_>,
     lines: &mut Vec<u8>,
 ) -> Result<bool, AllocError>
-    ensures { IfOk result (λ goes. (text : List ℕ) × TellsVariable form matched.now number (log_event_of event.now) goes text
+    ensures { IfOk result (λ goes. (text : List ℕ) × IsVariableLine form matched.now number (log_event_of event.now) goes text
         × (lines.new.items ≡ lines.old.items ++ text)) }
 {
     if event.is_extended_into(SETTINGS_REGISTER) {
@@ -52,7 +52,7 @@ fn append_setting(
     event: &Event<'_>,
     lines: &mut Vec<u8>,
 ) -> Result<bool, AllocError>
-    ensures { IfOk result (λ goes. (text : List ℕ) × TellsSetting form matched.now number (log_event_of event.now) goes text
+    ensures { IfOk result (λ goes. (text : List ℕ) × IsSettingLine form matched.now number (log_event_of event.now) goes text
         × (lines.new.items ≡ lines.old.items ++ text)) }
 {
     if may_be_separator_in(event, matched) {

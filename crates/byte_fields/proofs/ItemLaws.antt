@@ -3,7 +3,7 @@
 use Rattle.std.proofs.Common.{◌≡◌, ℕ, zero, suc, ◌+◌, ◌<◌, ◌≤◌, List, [], ◌∷◌, ◌++◌, length, Result, Ok, Err, refl, sym, ap, subst, ◌∙◌, append_assoc, arith}
 use Rattle.std.proofs.lemmas.List.{length-append, append-nil}
 use Rattle.byte_fields.specs.Reading.{◌>>=◌, items_within, items_from}
-use Rattle.byte_fields.specs.Items.{AreItems, BeginsWithItems, HasNoItem, FailsAtItem}
+use Rattle.byte_fields.specs.Items.{AreItems, BeginsWithItems, BeginsWithNoItem, FailsAtItem}
 use Rattle.byte_fields.proofs.Steps.{IsBytes, ok_is, ok_not_err}
 use Rattle.byte_fields.proofs.SequenceLaws.{Shortens, items_none, from_first}
 use Rattle.byte_fields.proofs.FormatLaws.{IsBytes-behind}
@@ -44,7 +44,7 @@ module _ {X E : Type 0} {item_at : ℕ → List ℕ → Result (X × List ℕ) E
     {Fails : ℕ → List ℕ → E → Type 0} (r : ReadsItems item_at Is Fails) where
   -- ---- reading from left to right
 
-  pub no_item : (k : ℕ) (bytes : List ℕ) (d : E) → item_at k bytes ≡ Err d → HasNoItem Is bytes
+  pub no_item : (k : ℕ) (bytes : List ℕ) (d : E) → item_at k bytes ≡ Err d → BeginsWithNoItem Is bytes
   no_item k bytes d e x prefix rest parts is =
       ok_not_err (x, rest) d (sym (ap (item_at k) parts ∙ r.again k prefix x rest is) ∙ e)
 
@@ -136,7 +136,7 @@ module _ {X E : Type 0} {item_at : ℕ → List ℕ → Result (X × List ℕ) E
       (rw (same.0, others.0) refl, others.1)
 
   -- Where the remaining bytes begin with no item, the bytes begin with no longer list of items.
-  pub no_longer : (xs ys : List X) (bytes rest left : List ℕ) → BeginsWithItems Is bytes xs rest → HasNoItem Is rest
+  pub no_longer : (xs ys : List X) (bytes rest left : List ℕ) → BeginsWithItems Is bytes xs rest → BeginsWithNoItem Is rest
       → BeginsWithItems Is bytes ys left → length ys ≤ length xs
   no_longer xs [] bytes rest left a none b = omega arith
   no_longer [] (y ∷ ys) bytes rest left a none b =
@@ -148,7 +148,7 @@ module _ {X E : Type 0} {item_at : ℕ → List ℕ → Result (X × List ℕ) E
       let same = one_item p.0 q.0 p.1 q.1 x y p.3 q.3 (sym p.2 ∙ q.2) in
       omega (arith, no_longer xs ys p.1 rest left p.4 none (rw same.1 q.4))
 
-  pub none_in_nothing : HasNoItem Is []
+  pub none_in_nothing : BeginsWithNoItem Is []
   none_in_nothing x prefix rest parts is = omega (arith, r.some prefix x is, ap length parts, length-append prefix rest)
 
   -- Bytes are at most one list of items.

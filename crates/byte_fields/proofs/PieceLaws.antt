@@ -3,7 +3,7 @@
 use Rattle.std.proofs.Common.{◌≡◌, ℕ, ◌+◌, ◌-◌, ◌<◌, ◌≤◌, List, [], ◌∷◌, ◌++◌, length, drop, Result, Err, refl, sym, ap, ◌∙◌, append_assoc, arith, inl, inr}
 use Rattle.std.proofs.lemmas.Bool.{cases_lt}
 use Rattle.std.proofs.lemmas.List.{append-nil, drop_at, length-append}
-use Rattle.byte_fields.specs.Items.{AreItems, BeginsWithItems, HasNoItem, FailsAtItem}
+use Rattle.byte_fields.specs.Items.{AreItems, BeginsWithItems, BeginsWithNoItem, FailsAtItem}
 use Rattle.byte_fields.proofs.ItemLaws.{ReadsItems, no_item, no_longer, same_items}
 
 -- ---- one more item
@@ -46,7 +46,7 @@ FaultsLast {X} {E} item_at Fails Lasts =
 pub record AreReadSoFar {X E : Type 0} (Is : List ℕ → X → Type 0) (Fails : ℕ → List ℕ → E → Type 0) (Lasts : E → Type 0)
     (bytes : List ℕ) (items : List X) (kept : List ℕ) : Type 0 where
   pub begins : BeginsWithItems Is bytes items kept
-  pub no_item : HasNoItem Is kept
+  pub no_item : BeginsWithNoItem Is kept
   pub no_fault : (k : ℕ) (d : E) → Lasts d → Fails k kept d → ⊥
 
 -- Where two texts are the same, and the first has the shorter rest, its prefix is the other's prefix and what lies between.

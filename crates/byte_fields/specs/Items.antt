@@ -14,8 +14,8 @@ pub record BeginsWithItems {X : Type 0} (Is : List ℕ → X → Type 0) (bytes 
   pub are : AreItems Is prefix items
 
 -- No prefix of the bytes is an item.
-abbrev pub HasNoItem : {X : Type 0} → (List ℕ → X → Type 0) → List ℕ → Type 0
-HasNoItem {X} Is bytes = (x : X) (prefix rest : List ℕ) → bytes ≡ prefix ++ rest → Is prefix x → ⊥
+abbrev pub BeginsWithNoItem : {X : Type 0} → (List ℕ → X → Type 0) → List ℕ → Type 0
+BeginsWithNoItem {X} Is bytes = (x : X) (prefix rest : List ℕ) → bytes ≡ prefix ++ rest → Is prefix x → ⊥
 
 -- After some items, numbered from `start`, some bytes remain that begin with no item, and the fault belongs to the missing item:
 -- `Fails k rest fault` says that it belongs to item k where `rest` remains.
@@ -25,5 +25,5 @@ pub record FailsAtItem {X E : Type 0} (Is : List ℕ → X → Type 0) (Fails : 
   pub rest : List ℕ
   pub begins : BeginsWithItems Is bytes items rest
   pub some_left : 0 < length rest
-  pub no_item : HasNoItem Is rest
+  pub no_item : BeginsWithNoItem Is rest
   pub fault_is : Fails (length items + start) rest fault

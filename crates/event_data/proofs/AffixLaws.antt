@@ -22,23 +22,23 @@ tested false x y e = absurd cc
 pub passed : {X : Type 0} (b : Bool) (x : X) → b ≡ true → cond b (Some x) None ≡ Some x
 passed b x e = rw e refl
 
-front_there : (bytes front suffix : List ℕ) → bytes ≡ front ++ suffix → take (length bytes - length suffix) bytes ≡ front
-front_there bytes front suffix e =
-    let size : length bytes ≡ length front + length suffix = ap length e ∙ length-append front suffix in
-    let less : length bytes - length suffix ≡ length front = omega (arith, size) in
-    ap₂ take less e ∙ take_at front suffix (length front) refl
+prefix_there : (bytes prefix suffix : List ℕ) → bytes ≡ prefix ++ suffix → take (length bytes - length suffix) bytes ≡ prefix
+prefix_there bytes prefix suffix e =
+    let size : length bytes ≡ length prefix + length suffix = ap length e ∙ length-append prefix suffix in
+    let less : length bytes - length suffix ≡ length prefix = omega (arith, size) in
+    ap₂ take less e ∙ take_at prefix suffix (length prefix) refl
 
-pub before_finds : (suffix bytes : List ℕ) → Finds (λ front. bytes ≡ front ++ suffix) (before_in suffix bytes)
+pub before_finds : (suffix bytes : List ℕ) → Finds (λ prefix. bytes ≡ prefix ++ suffix) (before_in suffix bytes)
 before_finds suffix bytes =
-    let front = take (length bytes - length suffix) bytes in
-    let decides = bytes_eq-Decides (front ++ suffix) bytes in
+    let prefix = take (length bytes - length suffix) bytes in
+    let decides = bytes_eq-Decides (prefix ++ suffix) bytes in
     record {
       is = λ x e.
-          let test = tested (bytes_eq (front ++ suffix) bytes) front x e in
+          let test = tested (bytes_eq (prefix ++ suffix) bytes) prefix x e in
           sym (decides.0 test.0) ∙ ap (λ (f : List ℕ). f ++ suffix) test.1;
       only = λ x e.
-          let same = front_there bytes x suffix e in
-          passed (bytes_eq (front ++ suffix) bytes) front (decides.1 (ap (λ (f : List ℕ). f ++ suffix) same ∙ sym e))
+          let same = prefix_there bytes x suffix e in
+          passed (bytes_eq (prefix ++ suffix) bytes) prefix (decides.1 (ap (λ (f : List ℕ). f ++ suffix) same ∙ sym e))
           ∙ ap (λ (f : List ℕ). Some f) same;
     }
 

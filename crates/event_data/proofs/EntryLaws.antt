@@ -28,9 +28,9 @@ entry_fixed size =
 
 -- What an entry took: its bytes, and the rest.
 pub record EntryTaken (size : ℕ) (bytes : List ℕ) (x : PartitionData) (rest : List ℕ) : Type 0 where
-  pub front : List ℕ
-  pub parts : bytes ≡ front ++ rest
-  pub is : IsPartition size front x
+  pub prefix : List ℕ
+  pub parts : bytes ≡ prefix ++ rest
+  pub is : IsPartition size prefix x
   pub length_is : length bytes ≡ size + length rest
   pub rest_fits : IsBytes rest
 
@@ -40,10 +40,10 @@ unfolding entry
 fields_taken size bytes x rest wide fits e =
     let taken = takes (entry_exact size) bytes (x, rest) fits e in
     let is = taken.is.0 in
-    let front = (entry size).spell x in
-    let all = ap (λ (b : List ℕ). length b) taken.parts ∙ length-append front rest in
+    let prefix = (entry size).spell x in
+    let all = ap (λ (b : List ℕ). length b) taken.parts ∙ length-append prefix rest in
     record {
-      front = front;
+      prefix = prefix;
       parts = taken.parts;
       is = record {
         name_field = x.name_field;
@@ -59,7 +59,7 @@ fields_taken size bytes x rest wide fits e =
         spelled = refl;
       };
       length_is = omega (arith, all, (entry_fixed size).spells x taken.is);
-      rest_fits = IsBytes-behind bytes front rest taken.parts fits;
+      rest_fits = IsBytes-behind bytes prefix rest taken.parts fits;
     }
 
 pub entry_takes : (size : ℕ) (bytes : List ℕ) (x : PartitionData) (rest : List ℕ) → 128 ≤ size → IsBytes bytes
@@ -98,13 +98,13 @@ spelled_is : (size : ℕ) (bytes : List ℕ) (x : PartitionData) (is : IsPartiti
 unfolding entry fields_of
 spelled_is size bytes x is = is.spelled
 
-pub entry_again : (size : ℕ) (bytes front rest : List ℕ) (x : PartitionData) → bytes ≡ front ++ rest → IsPartition size front x
+pub entry_again : (size : ℕ) (bytes prefix rest : List ℕ) (x : PartitionData) → bytes ≡ prefix ++ rest → IsPartition size prefix x
     → partition_at size bytes ≡ Ok (x, rest)
-entry_again size bytes front rest x parts is =
-    let fields = fields_of size front x is in
-    let read = again (entry_exact size) fields rest (entry_is size front x is) in
-    ap (partition_at size) (parts ∙ ap (λ (f : List ℕ). f ++ rest) (spelled_is size front x is))
-    ∙ rw read (ap (λ (y : PartitionData). Ok (y, rest)) (told_is size front x is))
+entry_again size bytes prefix rest x parts is =
+    let fields = fields_of size prefix x is in
+    let read = again (entry_exact size) fields rest (entry_is size prefix x is) in
+    ap (partition_at size) (parts ∙ ap (λ (f : List ℕ). f ++ rest) (spelled_is size prefix x is))
+    ∙ rw read (ap (λ (y : PartitionData). Ok (y, rest)) (told_is size prefix x is))
 
 -- An entry's bytes are as many as its size says.
 pub entry_size : (size : ℕ) (bytes : List ℕ) (x : PartitionData) → IsPartition size bytes x → length bytes ≡ size

@@ -9,7 +9,7 @@ use Rattle.byte_fields.proofs.FormatLaws.{Exact, takes, again, passes, number32_
 use Rattle.event_data.specs.declared.content.Mismatch.{Mismatch}
 use Rattle.event_data.specs.declared.content.Mismatch.TheVariants.{Form}
 use Rattle.event_data.specs.GptForms.{GptData, PartitionData, IsGpt, IsPartition}
-use Rattle.event_data.specs.GptReading.{TableFront, table_front, table_in, fitting, gpt_in, partition_at, then_more, partitions_within, partitions_in}
+use Rattle.event_data.specs.GptReading.{TablePrefix, table_prefix, table_in, fitting, gpt_in, partition_at, then_more, partitions_within, partitions_in}
 use Rattle.byte_fields.specs.Spelling.{number32, number64}
 use Rattle.event_data.specs.Results.{after_in}
 use Rattle.event_data.proofs.AffixLaws.{after_finds}
@@ -79,7 +79,7 @@ entries_are size (suc count) bytes wide fits e =
     let taken = entry_takes size bytes first.0.0 first.0.1 wide fits first.1 in
     let others = entries_are size count first.0.1 wide taken.rest_fits (omega (arith, e, long, taken.length_is)) in
     rw (more_left size bytes first.0.0 first.0.1 wide fits first.1)
-    (record { are = (taken.front, first.0.1, taken.parts, taken.is, others.are); count_is = ap suc others.count_is })
+    (record { are = (taken.prefix, first.0.1, taken.parts, taken.is, others.are); count_is = ap suc others.count_is })
 
 entries_length : (size : ℕ) (bytes : List ℕ) (partitions : List PartitionData) → AreItems (IsPartition size) bytes partitions
     → length bytes ≡ length partitions * size
@@ -104,9 +104,9 @@ entries_again size (suc steps) bytes (x ∷ partitions) wide enough are =
 
 -- ---- the table
 
-front_exact : Exact AnyFault table_front
-unfolding table_front
-front_exact =
+prefix_exact : Exact AnyFault table_prefix
+unfolding table_prefix
+prefix_exact =
     mapped_exact (λ x is. refl)
     (followed_exact (part_exact Form 48 tt) (λ places. followed_exact (part_exact Form 16 tt) (λ disk.
     followed_exact (part_exact Form 12 tt) (λ array.
@@ -115,28 +115,28 @@ front_exact =
 
 -- What follows the signature is this table.
 record IsTable (bytes : List ℕ) (gpt : GptData) : Type 0 where
-  front : TableFront
+  prefix : TablePrefix
   entries : List ℕ
-  is : table_front.Is front
-  parts : bytes ≡ table_front.spell front ++ entries
-  wide : 128 ≤ front.size
-  disk : front.disk ≡ gpt.disk
-  count : front.count ≡ length gpt.partitions
-  are : AreItems (IsPartition front.size) entries gpt.partitions
+  is : table_prefix.Is prefix
+  parts : bytes ≡ table_prefix.spell prefix ++ entries
+  wide : 128 ≤ prefix.size
+  disk : prefix.disk ≡ gpt.disk
+  count : prefix.count ≡ length gpt.partitions
+  are : AreItems (IsPartition prefix.size) entries gpt.partitions
 
-front_wide : (front : TableFront) → table_front.Is front → 128 ≤ front.size
-unfolding table_front
-front_wide front is = ltb-false front.size 128 (passes _ Form front.size front.size is.0.1.1.1.0.1)
+prefix_wide : (prefix : TablePrefix) → table_prefix.Is prefix → 128 ≤ prefix.size
+unfolding table_prefix
+prefix_wide prefix is = ltb-false prefix.size 128 (passes _ Form prefix.size prefix.size is.0.1.1.1.0.1)
 
-table_taken : (bytes : List ℕ) (front : TableFront) (entries : List ℕ) → IsBytes bytes → table_front.at bytes ≡ Ok (front, entries)
-    → length entries ≡ front.count * front.size → IsTable bytes (record { disk = front.disk; partitions = partitions_in front.size entries })
-table_taken bytes front entries fits e size =
-    let taken = takes front_exact bytes (front, entries) fits e in
-    let wide = front_wide front taken.is in
-    let rest_fits = IsBytes-behind bytes (table_front.spell front) entries taken.parts fits in
-    let all = entries_are front.size front.count entries wide rest_fits size in
+table_taken : (bytes : List ℕ) (prefix : TablePrefix) (entries : List ℕ) → IsBytes bytes → table_prefix.at bytes ≡ Ok (prefix, entries)
+    → length entries ≡ prefix.count * prefix.size → IsTable bytes (record { disk = prefix.disk; partitions = partitions_in prefix.size entries })
+table_taken bytes prefix entries fits e size =
+    let taken = takes prefix_exact bytes (prefix, entries) fits e in
+    let wide = prefix_wide prefix taken.is in
+    let rest_fits = IsBytes-behind bytes (table_prefix.spell prefix) entries taken.parts fits in
+    let all = entries_are prefix.size prefix.count entries wide rest_fits size in
     record {
-      front = front;
+      prefix = prefix;
       entries = entries;
       is = taken.is;
       parts = taken.parts;
@@ -149,19 +149,19 @@ table_taken bytes front entries fits e size =
 table_takes : (bytes : List ℕ) (gpt : GptData) → IsBytes bytes → table_in bytes ≡ Ok gpt → IsTable bytes gpt
 table_takes bytes gpt fits e =
     let read = bind_ok _ _ gpt e in
-    let front = bind_ok _ _ read.0 read.1 in
-    let same = ok_is ((front.0.0.disk, (front.0.0.size, front.0.0.count)), front.0.1) read.0 front.2 in
+    let prefix = bind_ok _ _ read.0 read.1 in
+    let same = ok_is ((prefix.0.0.disk, (prefix.0.0.size, prefix.0.0.count)), prefix.0.1) read.0 prefix.2 in
     let test = test_ok _ _ _ gpt (ap fitting same ∙ read.2) in
     subst (IsTable bytes) (ok_is _ gpt test.1)
-    (table_taken bytes front.0.0 front.0.1 fits front.1 (eqb-true (length front.0.1) (front.0.0.count * front.0.0.size) test.0))
+    (table_taken bytes prefix.0.0 prefix.0.1 fits prefix.1 (eqb-true (length prefix.0.1) (prefix.0.0.count * prefix.0.0.size) test.0))
 
 table_again : (bytes : List ℕ) (gpt : GptData) → IsTable bytes gpt → table_in bytes ≡ Ok gpt
 table_again bytes gpt is =
-    let read = ap table_front.at is.parts ∙ again front_exact is.front is.entries is.is in
-    let size : length is.entries ≡ is.front.count * is.front.size
-    = entries_length is.front.size is.entries gpt.partitions is.are ∙ ap (λ (n : ℕ). n * is.front.size) (sym is.count) in
-    let all = entries_again is.front.size (length is.entries) is.entries gpt.partitions is.wide (omega arith) is.are in
-    let fits = (Decides-eqb (length is.entries) (is.front.count * is.front.size)).1 size in
+    let read = ap table_prefix.at is.parts ∙ again prefix_exact is.prefix is.entries is.is in
+    let size : length is.entries ≡ is.prefix.count * is.prefix.size
+    = entries_length is.prefix.size is.entries gpt.partitions is.are ∙ ap (λ (n : ℕ). n * is.prefix.size) (sym is.count) in
+    let all = entries_again is.prefix.size (length is.entries) is.entries gpt.partitions is.wide (omega arith) is.are in
+    let fits = (Decides-eqb (length is.entries) (is.prefix.count * is.prefix.size)).1 size in
     rw (read, is.disk, all, fits) refl
 
 -- ---- the signature and the table
@@ -178,16 +178,16 @@ abbrev AreParts : List ℕ → GptData → Type 0
 AreParts bytes gpt = (rest : List ℕ) × (bytes ≡ codes "EFI PART" ++ rest) × IsTable rest gpt
 
 parts_are : (bytes : List ℕ) (gpt : GptData) → AreParts bytes gpt → IsGpt bytes gpt
-unfolding table_front
+unfolding table_prefix
 parts_are bytes gpt is =
     let table = is.2 in
-    let front = table.front in
+    let prefix = table.prefix in
     let fields = table.is.0 in
     record {
-      places = front.places;
-      array = front.array;
-      size = front.size;
-      check = front.check;
+      places = prefix.places;
+      array = prefix.array;
+      size = prefix.size;
+      check = prefix.check;
       entries = table.entries;
       places_size = fields.0;
       disk_size = rw (← table.disk) fields.1.0;
@@ -198,23 +198,23 @@ parts_are bytes gpt is =
       count_fits = subst (λ (n : ℕ). n < 2 ^ 64) table.count fields.1.1.1.1.1;
       are = table.are;
       spelled = is.1 ∙ ap (λ (t : List ℕ). codes "EFI PART" ++ t) (table.parts
-          ∙ nested front.places front.disk front.array (number32 front.size) front.check (number64 front.count) table.entries
-          ∙ ap₂ (λ (d : List ℕ) (n : ℕ). front.places ++ (d ++ (front.array ++ (number32 front.size ++ (front.check ++ (number64 n ++ table.entries))))))
+          ∙ nested prefix.places prefix.disk prefix.array (number32 prefix.size) prefix.check (number64 prefix.count) table.entries
+          ∙ ap₂ (λ (d : List ℕ) (n : ℕ). prefix.places ++ (d ++ (prefix.array ++ (number32 prefix.size ++ (prefix.check ++ (number64 n ++ table.entries))))))
           table.disk table.count);
     }
 
 are_parts : (bytes : List ℕ) (gpt : GptData) → IsGpt bytes gpt → AreParts bytes gpt
-unfolding table_front
+unfolding table_prefix
 are_parts bytes gpt is =
     let count = number64 (length gpt.partitions) in
-    let front : TableFront
+    let prefix : TablePrefix
     = record { places = is.places; disk = gpt.disk; array = is.array; size = is.size; check = is.check; count = length gpt.partitions } in
     let wide : ltb is.size 128 ≡ false = le-ltb is.size 128 is.wide in
     let rest = is.places ++ (gpt.disk ++ (is.array ++ (number32 is.size ++ (is.check ++ (count ++ is.entries))))) in (
       rest,
       is.spelled,
       record {
-        front = front;
+        prefix = prefix;
         entries = is.entries;
         is = ((is.places_size, (is.disk_size, (is.array_size, ((is.size_fits, rw wide refl), (is.check_size, is.count_fits))))), refl);
         parts = sym (nested is.places gpt.disk is.array (number32 is.size) is.check count is.entries);

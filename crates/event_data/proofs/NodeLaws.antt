@@ -2,7 +2,7 @@
 use Rattle.std.proofs.Common.{◌≡◌, ℕ, zero, suc, ◌+◌, ◌≤◌, Result, ◌-◌, ◌<◌, false, ltb, List, [], ◌∷◌, ◌++◌, length, Ok, Err, refl, sym, ap, ◌∙◌, arith}
 use Rattle.std.proofs.lemmas.Bool.{ltb-false, le-ltb}
 use Rattle.std.proofs.lemmas.List.{length-append}
-use Rattle.byte_fields.specs.Items.{HasNoItem}
+use Rattle.byte_fields.specs.Items.{BeginsWithNoItem}
 use Rattle.byte_fields.proofs.Steps.{IsBytes, ok_not_err}
 use Rattle.byte_fields.proofs.FormatLaws.{Exact, takes, again, passes, number16_exact, byte_exact, part_exact, followed_exact, unless_exact, mapped_exact, IsBytes-behind}
 use Rattle.event_data.specs.declared.content.Mismatch.{Mismatch}
@@ -25,9 +25,9 @@ node_exact =
 
 -- What a node took: the bytes of the node, and the rest.
 pub record NodeTaken (bytes : List ℕ) (x : NodeData) (rest : List ℕ) : Type 0 where
-  pub front : List ℕ
-  pub parts : bytes ≡ front ++ rest
-  pub is : IsNode front x
+  pub prefix : List ℕ
+  pub parts : bytes ≡ prefix ++ rest
+  pub is : IsNode prefix x
   pub shorter : length rest < length bytes
   pub rest_fits : IsBytes rest
 
@@ -36,29 +36,29 @@ unfolding node
 node_takes bytes x rest fits e =
     let taken = takes node_exact bytes (x, rest) fits e in
     let is = taken.is.0 in
-    let front = node.spell x in
-    let size : length bytes ≡ length front + length rest = ap length taken.parts ∙ length-append front rest in
+    let prefix = node.spell x in
+    let size : length bytes ≡ length prefix + length rest = ap length taken.parts ∙ length-append prefix rest in
     record {
-      front = front;
+      prefix = prefix;
       parts = taken.parts;
       is = record { kind_fits = is.0; subtype_fits = is.1.0; size_fits = is.1.1.0.0; spelled = refl };
       shorter = omega (arith, size);
-      rest_fits = IsBytes-behind bytes front rest taken.parts fits;
+      rest_fits = IsBytes-behind bytes prefix rest taken.parts fits;
     }
 
-node_is : (front : List ℕ) (x : NodeData) → IsNode front x → node.Is x
+node_is : (prefix : List ℕ) (x : NodeData) → IsNode prefix x → node.Is x
 unfolding node
-node_is front x is =
+node_is prefix x is =
     let small : ltb (length x.payload + 4) 4 ≡ false = le-ltb _ _ (omega arith) in
     let less : length x.payload ≡ length x.payload + 4 - 4 = omega arith in
     ((is.kind_fits, (is.subtype_fits, ((is.size_fits, rw small refl), less))), refl)
 
-pub node_missing : (bytes : List ℕ) (fault : Mismatch) → node.at bytes ≡ Err fault → HasNoItem IsNode bytes
+pub node_missing : (bytes : List ℕ) (fault : Mismatch) → node.at bytes ≡ Err fault → BeginsWithNoItem IsNode bytes
 unfolding node
-node_missing bytes fault e x front rest parts is =
-    ok_not_err (x, rest) fault (sym (again node_exact x rest (node_is front x is)) ∙ ap node.at (sym (parts ∙ ap (λ (f : List ℕ). f ++ rest) is.spelled)) ∙ e)
+node_missing bytes fault e x prefix rest parts is =
+    ok_not_err (x, rest) fault (sym (again node_exact x rest (node_is prefix x is)) ∙ ap node.at (sym (parts ∙ ap (λ (f : List ℕ). f ++ rest) is.spelled)) ∙ e)
 
--- ---- the nodes at the front
+-- ---- the nodes at the start
 
 same_more : (reading : Result (NodeData × List ℕ) Mismatch) (f g : List ℕ → List NodeData × List ℕ) (bytes : List ℕ)
     → ((x : NodeData) (rest : List ℕ) → reading ≡ Ok (x, rest) → f rest ≡ g rest) → and_more reading f bytes ≡ and_more reading g bytes

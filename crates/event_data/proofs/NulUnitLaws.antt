@@ -2,35 +2,35 @@
 use Rattle.std.proofs.Common.{◌≡◌, ℕ, ◌-◌, ◌≤◌, ◌<◌, ◌&&◌, false, eqb, List, [], ◌∷◌, ◌++◌, length, take, drop, get_or, refl, sym, ap, ap₂, ◌∙◌, arith, append_assoc, append-nil, length-append, take_at, take_all, take-append-drop}
 use Rattle.event_data.specs.GptForms.{up_to_nul}
 
--- The bytes are a front and the rest, and the units of the bytes are the front and the units of the rest.
+-- The bytes are a prefix and the rest, and the units of the bytes are the prefix and the units of the rest.
 pub record IsOnWay (bytes rest : List ℕ) : Type 0 where
-  pub front : List ℕ
-  pub parts : bytes ≡ front ++ rest
-  pub same : up_to_nul bytes ≡ front ++ up_to_nul rest
+  pub prefix : List ℕ
+  pub parts : bytes ≡ prefix ++ rest
+  pub same : up_to_nul bytes ≡ prefix ++ up_to_nul rest
 
 pub way_begins : (bytes : List ℕ) → IsOnWay bytes bytes
-way_begins bytes = record { front = []; parts = refl; same = refl }
+way_begins bytes = record { prefix = []; parts = refl; same = refl }
 
 pub way_goes_on : (bytes rest after : List ℕ) → IsOnWay bytes rest → up_to_nul rest ≡ take 2 rest ++ up_to_nul after → after ≡ drop 2 rest
     → IsOnWay bytes after
 way_goes_on bytes rest after way more e =
     record {
-      front = way.front ++ take 2 rest;
-      parts = way.parts ∙ ap (λ (r : List ℕ). way.front ++ r) (sym (take-append-drop 2 rest) ∙ ap (λ (a : List ℕ). take 2 rest ++ a) (sym e))
-          ∙ sym (append_assoc way.front (take 2 rest) after);
-      same = way.same ∙ ap (λ (r : List ℕ). way.front ++ r) more ∙ sym (append_assoc way.front (take 2 rest) (up_to_nul after));
+      prefix = way.prefix ++ take 2 rest;
+      parts = way.parts ∙ ap (λ (r : List ℕ). way.prefix ++ r) (sym (take-append-drop 2 rest) ∙ ap (λ (a : List ℕ). take 2 rest ++ a) (sym e))
+          ∙ sym (append_assoc way.prefix (take 2 rest) after);
+      same = way.same ∙ ap (λ (r : List ℕ). way.prefix ++ r) more ∙ sym (append_assoc way.prefix (take 2 rest) (up_to_nul after));
     }
 
 pub way_ends : (bytes rest : List ℕ) → IsOnWay bytes rest → up_to_nul rest ≡ [] → take (length bytes - length rest) bytes ≡ up_to_nul bytes
 way_ends bytes rest way none =
-    let size = ap (λ (b : List ℕ). length b) way.parts ∙ length-append way.front rest in
-    let less : length bytes - length rest ≡ length way.front = omega (arith, size) in
-    ap₂ take less way.parts ∙ take_at way.front rest (length way.front) refl
-    ∙ sym (way.same ∙ ap (λ (u : List ℕ). way.front ++ u) none ∙ append-nil way.front)
+    let size = ap (λ (b : List ℕ). length b) way.parts ∙ length-append way.prefix rest in
+    let less : length bytes - length rest ≡ length way.prefix = omega (arith, size) in
+    ap₂ take less way.parts ∙ take_at way.prefix rest (length way.prefix) refl
+    ∙ sym (way.same ∙ ap (λ (u : List ℕ). way.prefix ++ u) none ∙ append-nil way.prefix)
 
 pub way_length : (bytes rest : List ℕ) → IsOnWay bytes rest → length rest ≤ length bytes
 way_length bytes rest way =
-    let size = ap (λ (b : List ℕ). length b) way.parts ∙ length-append way.front rest in
+    let size = ap (λ (b : List ℕ). length b) way.parts ∙ length-append way.prefix rest in
     omega (arith, size)
 
 -- A unit that is not NUL, then others.

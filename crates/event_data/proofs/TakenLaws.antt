@@ -3,7 +3,7 @@ use Rattle.std.proofs.Common.{◌≡◌, ℕ, zero, suc, ◌+◌, ◌≤◌, ◌
 use Rattle.std.proofs.lemmas.Bool.{eqb-true}
 use Rattle.std.proofs.lemmas.List.{length-append}
 use Rattle.byte_fields.specs.Formats.{Format}
-use Rattle.byte_fields.specs.Items.{AreItems, HasNoItem}
+use Rattle.byte_fields.specs.Items.{AreItems, BeginsWithNoItem}
 use Rattle.byte_fields.proofs.Steps.{IsBytes, ok_not_err}
 use Rattle.byte_fields.proofs.FormatLaws.{Exact, takes, again, IsBytes-behind}
 use Rattle.event_data.specs.declared.content.Mismatch.{Mismatch}
@@ -84,16 +84,16 @@ module _ {X : Type 0} {format : Format X Mismatch} (exact : Exact AnyFault forma
   module _ (Is : List ℕ → X → Type 0) (into : (x : X) → format.Is x → Is (format.spell x) x)
       (out : (prefix : List ℕ) (x : X) → Is prefix x → format.Is x × (prefix ≡ format.spell x)) where
     pub item_taken : (bytes : List ℕ) (x : X) (rest : List ℕ) → IsBytes bytes → format.at bytes ≡ Ok (x, rest)
-        → (front : List ℕ) × (bytes ≡ front ++ rest) × Is front x
+        → (prefix : List ℕ) × (bytes ≡ prefix ++ rest) × Is prefix x
     item_taken bytes x rest fits e =
         let taken = takes exact bytes (x, rest) fits e in
         (format.spell x, taken.parts, into x taken.is)
 
-    pub item_missing : (bytes : List ℕ) (fault : Mismatch) → format.at bytes ≡ Err fault → HasNoItem Is bytes
+    pub item_missing : (bytes : List ℕ) (fault : Mismatch) → format.at bytes ≡ Err fault → BeginsWithNoItem Is bytes
     item_missing bytes fault e x prefix rest parts is =
         let own = out prefix x is in
         ok_not_err (x, rest) fault
-        (sym (again exact x rest own.0) ∙ ap format.at (sym (parts ∙ ap (λ (front : List ℕ). front ++ rest) own.1)) ∙ e)
+        (sym (again exact x rest own.0) ∙ ap format.at (sym (parts ∙ ap (λ (prefix : List ℕ). prefix ++ rest) own.1)) ∙ e)
 
     first_are : (reading : Result (X × List ℕ) Mismatch) (more : List ℕ → List X × List ℕ) (bytes : List ℕ) → IsBytes bytes
         → format.at bytes ≡ reading
@@ -121,7 +121,7 @@ module _ {X : Type 0} {format : Format X Mismatch} (exact : Exact AnyFault forma
         let rest = are.1 in
         let is = out are.0 x are.3 in
         let read : format.at bytes ≡ Ok (x, rest) =
-        ap format.at (are.2 ∙ ap (λ (front : List ℕ). front ++ rest) is.1) ∙ again exact x rest is.0 in
+        ap format.at (are.2 ∙ ap (λ (prefix : List ℕ). prefix ++ rest) is.1) ∙ again exact x rest is.0 in
         taken_more bytes x rest fits read
         ∙ ap (λ (m : List X × List ℕ). (x ∷ m.0, m.1)) (are_taken xs rest (taken_fits bytes x rest fits read) are.4)
 

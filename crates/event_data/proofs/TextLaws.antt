@@ -22,21 +22,21 @@ and_none true c e = e
 and_none false c e = refl
 
 -- A NUL among bytes.
-nul_among : (front back : List ℕ) → has_no_nul (front ++ 0 ∷ back) ≡ false
+nul_among : (prefix back : List ℕ) → has_no_nul (prefix ++ 0 ∷ back) ≡ false
 nul_among [] back = refl
-nul_among (x ∷ front) back = and_none (not (eqb x 0)) (has_no_nul (front ++ 0 ∷ back)) (nul_among front back)
+nul_among (x ∷ prefix) back = and_none (not (eqb x 0)) (has_no_nul (prefix ++ 0 ∷ back)) (nul_among prefix back)
 
-pub no_nul_there : (bytes front back : List ℕ) → has_no_nul bytes ≡ true → bytes ≡ front ++ 0 ∷ back → ⊥
-no_nul_there bytes front back none e =
-    let there : has_no_nul bytes ≡ false = ap has_no_nul e ∙ nul_among front back in
+pub no_nul_there : (bytes prefix back : List ℕ) → has_no_nul bytes ≡ true → bytes ≡ prefix ++ 0 ∷ back → ⊥
+no_nul_there bytes prefix back none e =
+    let there : has_no_nul bytes ≡ false = ap has_no_nul e ∙ nul_among prefix back in
     absurd cc
 
-spelled_by : (found : Option (List ℕ)) (bytes : List ℕ) → Finds (λ front. bytes ≡ front ++ 0 ∷ []) found
+spelled_by : (found : Option (List ℕ)) (bytes : List ℕ) → Finds (λ prefix. bytes ≡ prefix ++ 0 ∷ []) found
     → (bytes ≡ unwrap_or found bytes) ⊎ (bytes ≡ unwrap_or found bytes ++ 0 ∷ [])
 spelled_by (Some x) bytes f = inr (f.is x refl)
 spelled_by None bytes f = inl refl
 
-cut_is : (found : Option (List ℕ)) (bytes value : List ℕ) → Finds (λ front. bytes ≡ front ++ 0 ∷ []) found → has_no_nul value ≡ true
+cut_is : (found : Option (List ℕ)) (bytes value : List ℕ) → Finds (λ prefix. bytes ≡ prefix ++ 0 ∷ []) found → has_no_nul value ≡ true
     → (bytes ≡ value) ⊎ (bytes ≡ value ++ 0 ∷ []) → unwrap_or found bytes ≡ value
 cut_is (Some x) bytes value f no_nul (inl e) = absurd (no_nul_there value x [] no_nul (sym e ∙ f.is x refl))
 cut_is None bytes value f no_nul (inl e) = e

@@ -69,10 +69,10 @@ units_exact = record {
 
 -- ---- reading by steps
 
-behind_twice : (front more : List ℕ) (reading : Result (List ℕ × List ℕ) Mismatch)
-    → behind front (behind more reading) ≡ behind (front ++ more) reading
-behind_twice front more (Ok x) = ap (λ (t : List ℕ). Ok (t, x.1)) (sym (append_assoc front more x.0))
-behind_twice front more (Err fault) = refl
+behind_twice : (prefix more : List ℕ) (reading : Result (List ℕ × List ℕ) Mismatch)
+    → behind prefix (behind more reading) ≡ behind (prefix ++ more) reading
+behind_twice prefix more (Ok x) = ap (λ (t : List ℕ). Ok (t, x.1)) (sym (append_assoc prefix more x.0))
+behind_twice prefix more (Err fault) = refl
 
 pub behind_nothing : (reading : Result (List ℕ × List ℕ) Mismatch) → behind [] reading ≡ reading
 behind_nothing (Ok x) = refl
@@ -93,26 +93,26 @@ way_begins bytes =
     let none : length bytes - length bytes ≡ 0 = omega arith in
     record { parts = rw none refl; less = omega arith; same = rw none (behind_nothing (units_at bytes)) }
 
-before_grows : (bytes front : List ℕ) (low high : ℕ) (after : List ℕ) → bytes ≡ front ++ low ∷ high ∷ after
-    → before_rest bytes after ≡ front ++ low ∷ high ∷ []
-before_grows bytes front low high after e =
-    let parts : bytes ≡ (front ++ low ∷ high ∷ []) ++ after = e ∙ sym (append_assoc front (low ∷ high ∷ []) after) in
-    let size : length bytes ≡ length (front ++ low ∷ high ∷ []) + length after =
-    ap length parts ∙ length-append (front ++ low ∷ high ∷ []) after in
+before_grows : (bytes prefix : List ℕ) (low high : ℕ) (after : List ℕ) → bytes ≡ prefix ++ low ∷ high ∷ after
+    → before_rest bytes after ≡ prefix ++ low ∷ high ∷ []
+before_grows bytes prefix low high after e =
+    let parts : bytes ≡ (prefix ++ low ∷ high ∷ []) ++ after = e ∙ sym (append_assoc prefix (low ∷ high ∷ []) after) in
+    let size : length bytes ≡ length (prefix ++ low ∷ high ∷ []) + length after =
+    ap length parts ∙ length-append (prefix ++ low ∷ high ∷ []) after in
     ap (λ (xs : List ℕ). take (length bytes - length after) xs) parts
-    ∙ take_at (front ++ low ∷ high ∷ []) after (length bytes - length after) (omega (arith, size))
+    ∙ take_at (prefix ++ low ∷ high ∷ []) after (length bytes - length after) (omega (arith, size))
 
 way_goes_on : (bytes : List ℕ) (low high : ℕ) (after : List ℕ) → (eqb low 0 && eqb high 0) ≡ false
     → IsOnWay bytes (low ∷ high ∷ after) → IsOnWay bytes after
 unfolding units_at
 way_goes_on bytes low high after other way =
-    let front = before_rest bytes (low ∷ high ∷ after) in
-    let grown = before_grows bytes front low high after way.parts in
+    let prefix = before_rest bytes (low ∷ high ∷ after) in
+    let grown = before_grows bytes prefix low high after way.parts in
     record {
-      parts = way.parts ∙ sym (append_assoc front (low ∷ high ∷ []) after) ∙ ap (λ (t : List ℕ). t ++ after) (sym grown);
+      parts = way.parts ∙ sym (append_assoc prefix (low ∷ high ∷ []) after) ∙ ap (λ (t : List ℕ). t ++ after) (sym grown);
       less = omega (arith, way.less);
-      same = ap (λ (t : List ℕ). behind t (units_at after)) grown ∙ sym (behind_twice front (low ∷ high ∷ []) (units_at after))
-          ∙ ap (λ (b : Bool). behind front (cond b (Ok ([], after)) (behind (low ∷ high ∷ []) (units_at after)))) (sym other) ∙ way.same;
+      same = ap (λ (t : List ℕ). behind t (units_at after)) grown ∙ sym (behind_twice prefix (low ∷ high ∷ []) (units_at after))
+          ∙ ap (λ (b : Bool). behind prefix (cond b (Ok ([], after)) (behind (low ∷ high ∷ []) (units_at after)))) (sym other) ∙ way.same;
     }
 
 -- Two bytes at least: the slice pattern that names them, and what follows.

@@ -73,7 +73,7 @@ partitions_in size bytes = partitions_within size (length bytes) bytes
 -- ---- the table
 
 -- What stands between the signature and the entries.
-pub record TableFront : Type 0 where
+pub record TablePrefix : Type 0 where
   pub places : List ℕ
   pub disk : List ℕ
   pub array : List ℕ
@@ -81,8 +81,8 @@ pub record TableFront : Type 0 where
   pub check : List ℕ
   pub count : ℕ
 
-unfoldable pub table_front : Format TableFront Mismatch
-table_front =
+unfoldable pub table_prefix : Format TablePrefix Mismatch
+table_prefix =
     mapped (λ x. record {
       places = x.0;
       disk = x.1.0;
@@ -100,8 +100,8 @@ table_front =
     followed_by λ check. number Form w64)
 
 -- The disk's GUID, the size of an entry, and the number of entries.
-abbrev pub front_at : List ℕ → Result ((List ℕ × (ℕ × ℕ)) × List ℕ) Mismatch
-front_at bytes = table_front.at bytes >>= λ x. Ok ((x.0.disk, (x.0.size, x.0.count)), x.1)
+abbrev pub prefix_at : List ℕ → Result ((List ℕ × (ℕ × ℕ)) × List ℕ) Mismatch
+prefix_at bytes = table_prefix.at bytes >>= λ x. Ok ((x.0.disk, (x.0.size, x.0.count)), x.1)
 
 -- The entries are as long as their number and size say.
 abbrev pub fitting : (List ℕ × (ℕ × ℕ)) × List ℕ → Result GptData Mismatch
@@ -111,7 +111,7 @@ fitting x =
     else Err Form
 
 abbrev pub table_in : List ℕ → Result GptData Mismatch
-table_in bytes = front_at bytes >>= fitting
+table_in bytes = prefix_at bytes >>= fitting
 
 abbrev pub gpt_in : List ℕ → Option GptData
 gpt_in bytes = option_and_then (λ rest. result_ok (table_in rest)) (after_in (codes "EFI PART") bytes)

@@ -45,7 +45,7 @@ node =
     followed_by λ subtype. unless (λ size. nat_lt size 4) Form (number Form w16)
     followed_by λ size. part Form (size - 4))
 
--- ---- the nodes at the front of bytes, and what remains
+-- ---- the nodes at the start of bytes, and what remains
 
 abbrev pub and_more : Result (NodeData × List ℕ) Mismatch → (List ℕ → List NodeData × List ℕ) → List ℕ → List NodeData × List ℕ
 and_more (Ok first) more bytes = (first.0 ∷ (more first.1).0, (more first.1).1)

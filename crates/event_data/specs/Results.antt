@@ -15,8 +15,8 @@ after_in prefix bytes =
 -- What precedes this suffix, where the bytes end with it.
 abbrev pub before_in : List ℕ → List ℕ → Option (List ℕ)
 before_in suffix bytes =
-    let front = take (length bytes - length suffix) bytes in
-    if bytes_eq (front ++ suffix) bytes then Some front else None
+    let prefix = take (length bytes - length suffix) bytes in
+    if bytes_eq (prefix ++ suffix) bytes then Some prefix else None
 
 -- A text, without the NUL that may stand at its end.
 abbrev pub text_in : List ℕ → Option (List ℕ)

@@ -10,9 +10,9 @@ use Rattle.event_data.specs.ValueForms.{LoadOptionData, SignatureData, ListData,
 
 -- ---- units up to the first NUL unit
 
--- What was read, behind the front.
+-- What was read, behind the prefix.
 abbrev pub behind : List ℕ → Result (List ℕ × List ℕ) Mismatch → Result (List ℕ × List ℕ) Mismatch
-behind front reading = reading >>= λ x. Ok (front ++ x.0, x.1)
+behind prefix reading = reading >>= λ x. Ok (prefix ++ x.0, x.1)
 
 -- The units before the first NUL unit, and what follows it.
 unfoldable pub units_at : List ℕ → Result (List ℕ × List ℕ) Mismatch
@@ -56,7 +56,7 @@ unfoldable pub taken_within : {X : Type 0} → (List ℕ → Result (X × List �
 taken_within item_at zero bytes = ([], bytes)
 taken_within item_at (suc steps) bytes = with_more (item_at bytes) (λ rest. taken_within item_at steps rest) bytes
 
--- The items at the front of the bytes, and what remains.
+-- The items at the start of the bytes, and what remains.
 abbrev pub taken_in : {X : Type 0} → (List ℕ → Result (X × List ℕ) Mismatch) → List ℕ → List X × List ℕ
 taken_in item_at bytes = taken_within item_at (length bytes) bytes
 
@@ -69,7 +69,7 @@ all_taken taken = if length taken.1 == 0 then Some taken.0 else None
 abbrev pub boot_number : Format ℕ Mismatch
 boot_number = number Form w16
 
--- The numbers at the front of the bytes, and what remains.
+-- The numbers at the start of the bytes, and what remains.
 abbrev pub numbers_in : List ℕ → List ℕ × List ℕ
 numbers_in bytes = taken_in boot_number.at bytes
 
@@ -86,7 +86,7 @@ signature size =
 abbrev pub signature_in : List ℕ → Option SignatureData
 signature_in bytes = result_ok (part_at Form 16 bytes >>= λ x. Ok (record { owner = x.0; payload = x.1 }))
 
--- The signatures of this size at the front of the bytes, and what remains.
+-- The signatures of this size at the start of the bytes, and what remains.
 abbrev pub signatures_in : ℕ → List ℕ → List SignatureData × List ℕ
 signatures_in size bytes = taken_in (signature size).at bytes
 
@@ -101,7 +101,7 @@ signature_list =
     followed_by λ each. part Form header_size
     followed_by λ header. part Form (size - 28 - header_size))
 
--- The lists at the front of the bytes, and what remains.
+-- The lists at the start of the bytes, and what remains.
 abbrev pub lists_in : List ℕ → List ListData × List ℕ
 lists_in bytes = taken_in signature_list.at bytes
 

@@ -4,7 +4,7 @@ ghost use Rattle.std.specs.Prelude.{◌≡◌, ◌≤◌, Some, IfSome, IfOk, le
 ghost use Rattle.byte_fields.specs.Reading.{Reads};
 ghost use Rattle.event_data.specs.Gpts.{gpt_of};
 ghost use Rattle.event_data.specs.GptForms.{GptData, IsGpt};
-ghost use Rattle.event_data.specs.GptReading.{front_at, table_in, gpt_in, partition_at};
+ghost use Rattle.event_data.specs.GptReading.{prefix_at, table_in, gpt_in, partition_at};
 ghost use Rattle.event_data.specs.Entries.{partition_of};
 
 use crate::content::Mismatch;
@@ -13,9 +13,9 @@ use crate::text::{after_prefix, up_to_nul};
 use byte_fields::{part_at, u32_at, u64_at};
 
 // Reads the disk's GUID, the size of an entry and the number of entries, after the signature. Returns them and the remaining bytes.
-#[tactic(auto, unfolding(crate::specs::GptReading::table_front))]
-fn front_at(bytes: &[u8]) -> Result<((&[u8], u32, u64), &[u8]), Mismatch>
-    ensures read { Reads (λ x. ((x.0.0.now, (x.0.1, x.0.2)), x.1.now)) result (front_at bytes.now) }
+#[tactic(auto, unfolding(crate::specs::GptReading::table_prefix))]
+fn prefix_at(bytes: &[u8]) -> Result<((&[u8], u32, u64), &[u8]), Mismatch>
+    ensures read { Reads (λ x. ((x.0.0.now, (x.0.1, x.0.2)), x.1.now)) result (prefix_at bytes.now) }
     ensures disk_size { IfOk result (λ x. length x.0.0.now ≡ 16) }
     ensures wide { IfOk result (λ x. 128 ≤ x.0.1) }
 {
@@ -35,7 +35,7 @@ fn front_at(bytes: &[u8]) -> Result<((&[u8], u32, u64), &[u8]), Mismatch>
 fn table_in(bytes: &[u8]) -> Result<Gpt<'_>, Mismatch>
     ensures { Reads gpt_of result (table_in bytes.now) }
 {
-    let ((disk, entry_size, count), entries) = front_at(bytes)?;
+    let ((disk, entry_size, count), entries) = prefix_at(bytes)?;
     match count.checked_mul(entry_size as u64) {
         Some(size) if size == entries.len() as u64 => Ok(Gpt::new(disk, entry_size, entries)),
         _ => Err(Mismatch::Form),
@@ -54,7 +54,7 @@ pub fn read_gpt(bytes: &[u8]) -> Option<Gpt<'_>>
     }
 }
 
-/// Reads the entry of `size` bytes at the front of the bytes. Returns the partition and the remaining bytes.
+/// Reads the entry of `size` bytes at the start of the bytes. Returns the partition and the remaining bytes.
 #[tactic(auto, unfolding(crate::specs::GptReading::entry))]
 pub(crate) fn entry_at(size: u32, bytes: &[u8]) -> Result<(Partition<'_>, &[u8]), Mismatch>
     requires { 128 ≤ size }

@@ -2,7 +2,7 @@
 
 ghost use Rattle.std.specs.Prelude.{◌≡◌, [], Some, IfSome, option_map, ◌<◌, ◌∷◌, ◌++◌, ℕ, List, length, IfNone};
 ghost use Rattle.byte_fields.specs.Reading.{Reads};
-ghost use Rattle.byte_fields.specs.Items.{HasNoItem};
+ghost use Rattle.byte_fields.specs.Items.{BeginsWithNoItem};
 ghost use Rattle.byte_fields.specs.Spelling.{IsBytes};
 ghost use Rattle.event_data.specs.ValueForms.{IsLoadOption, LoadOptionData, IsBootNumber};
 ghost use Rattle.event_data.specs.ValueReading.{load_option, load_option_in, numbers_in};
@@ -25,7 +25,7 @@ pub struct LoadOption<'a> {
     pub optional_data: &'a [u8],
 }
 
-// Reads the load option at the front of the bytes, whose optional data is all that remains.
+// Reads the load option at the start of the bytes, whose optional data is all that remains.
 #[tactic(auto, unfolding(crate::specs::ValueReading::load_option))]
 fn whole_load_option(bytes: &[u8]) -> Result<LoadOption<'_>, Mismatch>
     ensures { Reads (λ x. (record (load_option_of x) { optional_data = [] }, x.optional_data.now)) result (load_option.at bytes.now) }
@@ -73,9 +73,9 @@ impl<'a> BootOrder<'a> {
 
     /// The next number, or `None` after the last.
     pub fn next_number(&mut self) -> Option<u16>
-        ensures number { IfSome result (λ found. (front : List ℕ) × (numbers_left self.old ≡ front ++ numbers_left self.new)
-            × IsBootNumber front found) }
-        ensures none { IfNone result (HasNoItem IsBootNumber (numbers_left self.old) × (self.new ≡ self.old)) }
+        ensures number { IfSome result (λ found. (prefix : List ℕ) × (numbers_left self.old ≡ prefix ++ numbers_left self.new)
+            × IsBootNumber prefix found) }
+        ensures none { IfNone result (BeginsWithNoItem IsBootNumber (numbers_left self.old) × (self.new ≡ self.old)) }
         // The numbers that are left are this one, and those that are left then.
         ensures more { IfSome result (λ found. numbers_in (numbers_left self.old)
             ≡ (found ∷ (numbers_in (numbers_left self.new)).0, (numbers_in (numbers_left self.new)).1)) }

@@ -2,7 +2,7 @@
 
 ghost use Rattle.std.specs.Prelude.{◌≡◌, ◌<◌, [], ◌∷◌, ◌++◌, ℕ, List, length, IfSome, IfNone};
 ghost use Rattle.byte_fields.specs.Reading.{Reads};
-ghost use Rattle.byte_fields.specs.Items.{HasNoItem};
+ghost use Rattle.byte_fields.specs.Items.{BeginsWithNoItem};
 ghost use Rattle.byte_fields.specs.Spelling.{IsBytes};
 ghost use Rattle.event_data.specs.PathNodes.{node_of};
 ghost use Rattle.event_data.specs.Reading.{node, nodes_in};
@@ -22,7 +22,7 @@ pub struct PathNode<'a> {
     pub payload: &'a [u8],
 }
 
-/// Reads the node at the front of the bytes. Returns it and the remaining bytes.
+/// Reads the node at the start of the bytes. Returns it and the remaining bytes.
 #[tactic(auto, unfolding(crate::specs::Reading::node))]
 pub(crate) fn node_at(bytes: &[u8]) -> Result<(PathNode<'_>, &[u8]), Mismatch>
     ensures { Reads (λ x. (node_of x.0, x.1.now)) result (node.at bytes.now) }
@@ -68,8 +68,8 @@ impl<'a> DevicePath<'a> {
 
     /// The next node, or `None` where what is left begins with none.
     pub fn next_node(&mut self) -> Option<PathNode<'a>>
-        ensures node { IfSome result (λ found. (front : List ℕ) × (left_of self.old ≡ front ++ left_of self.new) × IsNode front (node_of found)) }
-        ensures none { IfNone result (HasNoItem IsNode (left_of self.old) × (self.new ≡ self.old)) }
+        ensures node { IfSome result (λ found. (prefix : List ℕ) × (left_of self.old ≡ prefix ++ left_of self.new) × IsNode prefix (node_of found)) }
+        ensures none { IfNone result (BeginsWithNoItem IsNode (left_of self.old) × (self.new ≡ self.old)) }
         // The nodes that are left are this one, and those that are left then.
         ensures more { IfSome result (λ found. nodes_in (left_of self.old)
             ≡ (node_of found ∷ (nodes_in (left_of self.new)).0, (nodes_in (left_of self.new)).1)) }

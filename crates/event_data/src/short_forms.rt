@@ -55,7 +55,7 @@ pub struct Tagged<'a> {
     pub payload: &'a [u8],
 }
 
-// Reads the tagged event at the front of the bytes. Returns it and the remaining bytes.
+// Reads the tagged event at the start of the bytes. Returns it and the remaining bytes.
 #[tactic(auto, unfolding(crate::specs::BlobReading::tagged))]
 fn tagged_at(bytes: &[u8]) -> Result<(Tagged<'_>, &[u8]), Mismatch>
     ensures { Reads (λ x. (tagged_of x.0, x.1.now)) result (tagged.at bytes.now) }
@@ -98,7 +98,7 @@ fn place_at(bytes: &[u8]) -> Result<((u64, u64), &[u8]), Mismatch>
     Ok(((base, size), rest))
 }
 
-// Reads the blob without a description at the front of the bytes. Returns it and the remaining bytes.
+// Reads the blob without a description at the start of the bytes. Returns it and the remaining bytes.
 #[tactic(auto, unfolding(crate::specs::BlobReading::plain_blob))]
 fn plain_blob_at(bytes: &[u8]) -> Result<(Blob<'_>, &[u8]), Mismatch>
     ensures { Reads (λ x. (blob_of x.0, x.1.now)) result (plain_blob.at bytes.now) }
@@ -112,7 +112,7 @@ fn plain_blob_at(bytes: &[u8]) -> Result<(Blob<'_>, &[u8]), Mismatch>
     Ok((blob, rest))
 }
 
-// Reads the blob with a description at the front of the bytes. Returns it and the remaining bytes.
+// Reads the blob with a description at the start of the bytes. Returns it and the remaining bytes.
 #[tactic(auto, unfolding(crate::specs::BlobReading::described_blob))]
 fn described_blob_at(bytes: &[u8]) -> Result<(Blob<'_>, &[u8]), Mismatch>
     ensures { Reads (λ x. (blob_of x.0, x.1.now)) result (described_blob.at bytes.now) }
@@ -165,7 +165,7 @@ pub struct Image<'a> {
     pub path: &'a [u8],
 }
 
-// Reads the image at the front of the bytes. Returns it and the remaining bytes.
+// Reads the image at the start of the bytes. Returns it and the remaining bytes.
 #[tactic(auto, unfolding(crate::specs::Reading::image))]
 fn image_at(bytes: &[u8]) -> Result<(Image<'_>, &[u8]), Mismatch>
     ensures { Reads (λ x. (image_of x.0, x.1.now)) result (image.at bytes.now) }

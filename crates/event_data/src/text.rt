@@ -35,7 +35,7 @@ fn without_nul(bytes: &[u8]) -> &[u8]
     ensures { result.now ≡ unwrap_or (before_in (0 ∷ []) bytes.now) bytes.now }
 {
     match before_suffix(&[0], bytes) {
-        Some(front) => front,
+        Some(prefix) => prefix,
         None => bytes,
     }
 }
@@ -79,9 +79,9 @@ pub(crate) fn after_prefix<'a>(prefix: &[u8], bytes: &'a [u8]) -> Option<&'a [u8
 
 /// What precedes this suffix, if the bytes end with it.
 pub(crate) fn before_suffix<'a>(suffix: &[u8], bytes: &'a [u8]) -> Option<&'a [u8]>
-    ensures value { option_map (λ front. front.now) result ≡ before_in suffix.now bytes.now }
-    ensures found { IfSome result (λ front. bytes.now ≡ front.now ++ suffix.now) }
-    ensures none { IfNone result ((front : List ℕ) → bytes.now ≡ front ++ suffix.now → ⊥) }
+    ensures value { option_map (λ prefix. prefix.now) result ≡ before_in suffix.now bytes.now }
+    ensures found { IfSome result (λ prefix. bytes.now ≡ prefix.now ++ suffix.now) }
+    ensures none { IfNone result ((prefix : List ℕ) → bytes.now ≡ prefix ++ suffix.now → ⊥) }
 {
     bytes.strip_suffix(suffix)
 }

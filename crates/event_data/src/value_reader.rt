@@ -61,7 +61,7 @@ fn units_at(units: u64, bytes: &[u8]) -> Result<(&[u8], &[u8]), Mismatch>
     part_at(Mismatch::Form, 2 * units as usize, bytes)
 }
 
-// Reads the variable at the front of the bytes. Returns it and the remaining bytes.
+// Reads the variable at the start of the bytes. Returns it and the remaining bytes.
 #[tactic(auto, unfolding(crate::specs::Reading::variable))]
 fn variable_at(bytes: &[u8]) -> Result<(Variable<'_>, &[u8]), Mismatch>
     ensures { Reads (λ x. (variable_of x.0, x.1.now)) result (variable.at bytes.now) }
@@ -86,7 +86,7 @@ pub fn read_variable(bytes: &[u8]) -> Option<Variable<'_>>
     }
 }
 
-/// Reads the signature of this size at the front of the bytes. Returns it and the remaining bytes.
+/// Reads the signature of this size at the start of the bytes. Returns it and the remaining bytes.
 #[tactic(auto, unfolding(crate::specs::ValueReading::signature))]
 pub(crate) fn signature_at(size: usize, bytes: &[u8]) -> Result<(Signature<'_>, &[u8]), Mismatch>
     requires { 16 ≤ size }
@@ -109,7 +109,7 @@ pub fn read_signature(bytes: &[u8]) -> Option<Signature<'_>>
     }
 }
 
-/// Reads the list at the front of the bytes. Returns it and the remaining bytes.
+/// Reads the list at the start of the bytes. Returns it and the remaining bytes.
 #[tactic(auto, unfolding(crate::specs::ValueReading::signature_list))]
 pub(crate) fn list_at(bytes: &[u8]) -> Result<(SignatureList<'_>, &[u8]), Mismatch>
     ensures { Reads (λ x. (list_of x.0, x.1.now)) result (signature_list.at bytes.now) }

@@ -1,7 +1,7 @@
 //! A UEFI variable that was measured, and the lists of signatures that some have as values, lent one after another.
 
 ghost use Rattle.std.specs.Prelude.{◌≡◌, length, ◌≤◌, ◌<◌, [], ◌∷◌, ◌++◌, ℕ, List, IfSome, IfNone, ◌%◌};
-ghost use Rattle.byte_fields.specs.Items.{HasNoItem};
+ghost use Rattle.byte_fields.specs.Items.{BeginsWithNoItem};
 ghost use Rattle.byte_fields.specs.Spelling.{IsBytes};
 ghost use Rattle.event_data.specs.ValueReading.{signatures_in, lists_in};
 
@@ -55,9 +55,9 @@ impl<'a> Signatures<'a> {
 
     /// The next signature, or `None` after the last.
     pub fn next_signature(&mut self) -> Option<Signature<'a>>
-        ensures signature { IfSome result (λ found. (front : List ℕ) × (signatures_left self.old ≡ front ++ signatures_left self.new)
-            × IsSignatureOf (size_of self.old) front (signature_of found)) }
-        ensures none { IfNone result (HasNoItem (IsSignatureOf (size_of self.old)) (signatures_left self.old) × (self.new ≡ self.old)) }
+        ensures signature { IfSome result (λ found. (prefix : List ℕ) × (signatures_left self.old ≡ prefix ++ signatures_left self.new)
+            × IsSignatureOf (size_of self.old) prefix (signature_of found)) }
+        ensures none { IfNone result (BeginsWithNoItem (IsSignatureOf (size_of self.old)) (signatures_left self.old) × (self.new ≡ self.old)) }
         // The signatures that are left are this one, and those that are left then.
         ensures more { IfSome result (λ found. signatures_in (size_of self.old) (signatures_left self.old)
             ≡ (
@@ -152,9 +152,9 @@ impl<'a> SignatureLists<'a> {
 
     /// The next list, or `None` where what is left begins with none.
     pub fn next_list(&mut self) -> Option<SignatureList<'a>>
-        ensures list { IfSome result (λ found. (front : List ℕ) × (lists_left self.old ≡ front ++ lists_left self.new)
-            × IsSignatureList front (list_of found)) }
-        ensures none { IfNone result (HasNoItem IsSignatureList (lists_left self.old) × (self.new ≡ self.old)) }
+        ensures list { IfSome result (λ found. (prefix : List ℕ) × (lists_left self.old ≡ prefix ++ lists_left self.new)
+            × IsSignatureList prefix (list_of found)) }
+        ensures none { IfNone result (BeginsWithNoItem IsSignatureList (lists_left self.old) × (self.new ≡ self.old)) }
         // The lists that are left are this one, and those that are left then.
         ensures more { IfSome result (λ found. lists_in (lists_left self.old)
             ≡ (list_of found ∷ (lists_in (lists_left self.new)).0, (lists_in (lists_left self.new)).1)) }

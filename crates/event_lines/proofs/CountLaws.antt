@@ -30,14 +30,14 @@ use Rattle.event_lines.specs.ValueJson.{IsCountedValue}
 
 -- ---- parts of bytes
 
-before : (front rest : List ℕ) → IsBytes (front ++ rest) → IsBytes front
+before : (prefix rest : List ℕ) → IsBytes (prefix ++ rest) → IsBytes prefix
 before [] rest fits i = omega arith
-before (byte ∷ front) rest fits zero = fits zero
-before (byte ∷ front) rest fits (suc i) = before front rest (λ j. fits (suc j)) i
+before (byte ∷ prefix) rest fits zero = fits zero
+before (byte ∷ prefix) rest fits (suc i) = before prefix rest (λ j. fits (suc j)) i
 
-behind : (front rest : List ℕ) → IsBytes (front ++ rest) → IsBytes rest
+behind : (prefix rest : List ℕ) → IsBytes (prefix ++ rest) → IsBytes rest
 behind [] rest fits = fits
-behind (byte ∷ front) rest fits = behind front rest (λ i. fits (suc i))
+behind (byte ∷ prefix) rest fits = behind prefix rest (λ i. fits (suc i))
 
 -- ---- one form, else another
 

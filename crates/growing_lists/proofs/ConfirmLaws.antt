@@ -24,30 +24,30 @@ use Rattle.growing_lists.proofs.PrefixLaws.{within_genuine}
 use Rattle.growing_lists.proofs.SessionLaws.{taken_as}
 
 -- Entries that are unconfirmed after a log are so after any reading of it.
-any_log : (log : List ℕ) (aim : GoalData) (least : ℕ) (entries : List ListEntry) (table : List DeclaredAlgorithm) (events : List LogEvent)
-    → IsLog log table events → AreUnconfirmed (algs_in table) events aim least entries
-    → (other : List DeclaredAlgorithm) (others : List LogEvent) → IsLog log other others → AreUnconfirmed (algs_in other) others aim least entries
-any_log log aim least entries table events is none other others also =
+any_log : (log : List ℕ) (goal : GoalData) (least : ℕ) (entries : List ListEntry) (table : List DeclaredAlgorithm) (events : List LogEvent)
+    → IsLog log table events → AreUnconfirmed (algs_in table) events goal least entries
+    → (other : List DeclaredAlgorithm) (others : List LogEvent) → IsLog log other others → AreUnconfirmed (algs_in other) others goal least entries
+any_log log goal least entries table events is none other others also =
     let same = one_reading log table other events others is also in
-    subst (λ (p : List DeclaredAlgorithm × List LogEvent). AreUnconfirmed (algs_in p.0) p.1 aim least entries) (λ i. (same.0 i, same.1 i)) none
+    subst (λ (p : List DeclaredAlgorithm × List LogEvent). AreUnconfirmed (algs_in p.0) p.1 goal least entries) (λ i. (same.0 i, same.1 i)) none
 
-module _ (session : Session) (log list : List ℕ) (has : HasTaken log list session) (old new : Option (List ℕ)) (limit : ℕ) (aim : GoalData)
-    (search : Search) (searches : Searches session.checkpoint list old new limit aim search) where
+module _ (session : Session) (log list : List ℕ) (has : HasTaken log list session) (old new : Option (List ℕ)) (limit : ℕ) (goal : GoalData)
+    (search : Search) (searches : Searches session.checkpoint list old new limit goal search) where
   none_confirmed : search.prefix ≡ None → (table : List DeclaredAlgorithm) (events : List LogEvent) → IsLog log table events
-      → AreUnconfirmed (algs_in table) events aim session.checkpoint.entries searches.entries
+      → AreUnconfirmed (algs_in table) events goal session.checkpoint.entries searches.entries
   none_confirmed none =
-      any_log log aim session.checkpoint.entries searches.entries has.table has.events has.log_is
-      (subst (FindsPrefix (algs_in has.table) has.events aim session.checkpoint (list ++ searches.came) searches.entries) none
+      any_log log goal session.checkpoint.entries searches.entries has.table has.events has.log_is
+      (subst (FindsPrefix (algs_in has.table) has.events goal session.checkpoint (list ++ searches.came) searches.entries) none
       (searches.prefix (algs_in has.table) has.events has.start))
 
   -- The list is refused.
   pub refused_by : (wrong : Unconfirmed) → search.whole ≡ Err wrong → search.prefix ≡ None
-      → IsMoreFault list old new limit (fault_in wrong) × IsUnconfirmedFault log list old new limit aim session.checkpoint.entries (fault_in wrong)
+      → IsMoreFault list old new limit (fault_in wrong) × IsUnconfirmedFault log list old new limit goal session.checkpoint.entries (fault_in wrong)
   refused_by wrong is none = by wrong (subst (IsWhole session.checkpoint list old new limit searches.entries) is searches.whole)
       (subst (λ (whole : Result Checkpoint Unconfirmed). CameWrong list old new limit search.entries (wrong_with whole)) is searches.wrong)
     where
       by : (wrong : Unconfirmed) → IsWhole session.checkpoint list old new limit searches.entries (Err wrong) → CameWrong list old new limit search.entries (Some wrong)
-          → IsMoreFault list old new limit (fault_in wrong) × IsUnconfirmedFault log list old new limit aim session.checkpoint.entries (fault_in wrong)
+          → IsMoreFault list old new limit (fault_in wrong) × IsUnconfirmedFault log list old new limit goal session.checkpoint.entries (fault_in wrong)
       by (unconfirmed.List fault) whole why = (
         why.0,
         (
@@ -72,11 +72,11 @@ module _ (session : Session) (log list : List ℕ) (has : HasTaken log list sess
 
   -- No prefix is confirmed.
   pub takes_unconfirmed : (known : Checkpoint) → search.whole ≡ Ok known → search.prefix ≡ None
-      → TakesUnconfirmed log list old new limit aim session.checkpoint.entries (record { log = session.log; checkpoint = known })
+      → TakesUnconfirmed log list old new limit goal session.checkpoint.entries (record { log = session.log; checkpoint = known })
   takes_unconfirmed known is none = by (subst (IsWhole session.checkpoint list old new limit searches.entries) is searches.whole)
     where
       by : IsWhole session.checkpoint list old new limit searches.entries (Ok known)
-          → TakesUnconfirmed log list old new limit aim session.checkpoint.entries (record { log = session.log; checkpoint = known })
+          → TakesUnconfirmed log list old new limit goal session.checkpoint.entries (record { log = session.log; checkpoint = known })
       by (more, came, reading, checkpoint, before) = record {
         takes = record { more = more; came = came; taken = taken_as has checkpoint before };
         entries = searches.entries;
@@ -87,11 +87,11 @@ module _ (session : Session) (log list : List ℕ) (has : HasTaken log list sess
   -- ---- the prefix
 
   module _ (at : Checkpoint) (found : search.prefix ≡ Some at) where
-    abbrev pub here : IsConfirmedAt (algs_in has.table) has.events aim session.checkpoint (list ++ searches.came) searches.entries at
-    here = subst (FindsPrefix (algs_in has.table) has.events aim session.checkpoint (list ++ searches.came) searches.entries) found
+    abbrev pub here : IsConfirmedAt (algs_in has.table) has.events goal session.checkpoint (list ++ searches.came) searches.entries at
+    here = subst (FindsPrefix (algs_in has.table) has.events goal session.checkpoint (list ++ searches.came) searches.entries) found
         (searches.prefix (algs_in has.table) has.events has.start)
 
-    abbrev pub prefix_taken : IsPrefixTaken log list old new limit aim session.checkpoint.entries (record { log = session.log; checkpoint = at })
+    abbrev pub prefix_taken : IsPrefixTaken log list old new limit goal session.checkpoint.entries (record { log = session.log; checkpoint = at })
         (record { entries = search.entries; unconfirmed = wrong_with search.whole })
     prefix_taken = record {
       came = searches.came;
@@ -119,8 +119,8 @@ genuine_begin before after forged entries prefix parts is_forged are first =
     sym (take-append-le (length prefix) before (forged ∷ after) within) ∙ same
 
 module _ {W : Type 0} (IsAfter : After W) (start : W) (session : Session) (log list : List ℕ) (has : HasTaken log list session)
-    (old new : Option (List ℕ)) (limit : ℕ) (aim : GoalData) (search : Search) (watch : W)
-    (watches : WatchesSearch IsAfter start session.checkpoint list old new limit aim search watch) where
+    (old new : Option (List ℕ)) (limit : ℕ) (goal : GoalData) (search : Search) (watch : W)
+    (watches : WatchesSearch IsAfter start session.checkpoint list old new limit goal search watch) where
   -- Entries that are all genuine are all tracked.
   all_tracked : (entries : List ListEntry) (forged : Option ℕ) → AreGenuine entries → IsReplayedOrForged IsAfter start entries watch forged
       → AreTracked IsAfter start entries watch
@@ -144,19 +144,19 @@ module _ {W : Type 0} (IsAfter : After W) (start : W) (session : Session) (log l
 
   -- A confirmed prefix is tracked, with genuine entries that follow it.
   module _ (at : Checkpoint) (found : search.prefix ≡ Some at) where
-    abbrev taken : IsPrefixTaken log list old new limit aim session.checkpoint.entries (record { log = session.log; checkpoint = at })
+    abbrev taken : IsPrefixTaken log list old new limit goal session.checkpoint.entries (record { log = session.log; checkpoint = at })
         (record { entries = search.entries; unconfirmed = wrong_with search.whole })
-    taken = prefix_taken session log list has old new limit aim search watches.searches at found
+    taken = prefix_taken session log list has old new limit goal search watches.searches at found
 
-    pub watches_prefix : WatchesPrefix IsAfter start log list old new limit aim session.checkpoint.entries (record { log = session.log; checkpoint = at })
+    pub watches_prefix : WatchesPrefix IsAfter start log list old new limit goal session.checkpoint.entries (record { log = session.log; checkpoint = at })
         (record { entries = search.entries; unconfirmed = wrong_with search.whole }) watch
     watches_prefix = by watches.forged watches.watched
       where
-        at_here : IsConfirmedAt (algs_in has.table) has.events aim session.checkpoint (list ++ watches.searches.came) watches.searches.entries at
-        at_here = here session log list has old new limit aim search watches.searches at found
+        at_here : IsConfirmedAt (algs_in has.table) has.events goal session.checkpoint (list ++ watches.searches.came) watches.searches.entries at
+        at_here = here session log list has old new limit goal search watches.searches at found
 
         by : (forged : Option ℕ) → IsReplayedOrForged IsAfter start watches.searches.entries watch forged
-            → WatchesPrefix IsAfter start log list old new limit aim session.checkpoint.entries (record { log = session.log; checkpoint = at })
+            → WatchesPrefix IsAfter start log list old new limit goal session.checkpoint.entries (record { log = session.log; checkpoint = at })
             (record { entries = search.entries; unconfirmed = wrong_with search.whole }) watch
         by None tracked = record { prefix = taken; all = watches.searches.entries; tracked = tracked.1; first = at_here.first }
         by (Some position) (first, tracked) = record {

@@ -72,11 +72,11 @@ late first events n many =
 
 -- ---- one more step
 
-met_same : (start now : Banks) (aim : GoalData) (steps : List Step) → AreAfter start steps now
-    → is_met aim (value_at now) ≡ is_met aim (values_after start steps)
-met_same start now aim steps after =
+met_same : (start now : Banks) (goal : GoalData) (steps : List Step) → AreAfter start steps now
+    → is_met goal (value_at now) ≡ is_met goal (values_after start steps)
+met_same start now goal steps after =
     let all : value_at now ≡ values_after start steps = λ i alg register. after.values alg register i in
-    ap (is_met aim) all
+    ap (is_met goal) all
 
 prefix_by : {start : Confirming} {events : ℕ} {steps : List Step} {prefix : Prefix} (passes : Bool) → IsPrefixAt start events steps prefix
     → PrefixIs start events (cond passes (Some steps) None) (cond passes (Some prefix) None)
@@ -287,8 +287,8 @@ module _ (algs : AlgSet) (events : List LogEvent) (start : Banks) (firmware : Is
   values_reached entries = λ i alg register. value_reached entries alg register i
 
   -- Log and list are confirmed if the boot aggregate is good, and the values are as is sought.
-  confirmed_by : (aim : GoalData) (entries : List ListEntry) → is_confirmed aim algs events entries
-      ≡ (is_good (aggregate_of algs events (recorded_aggregate entries)) && is_met aim (values_after start (entries_as_steps entries)))
+  confirmed_by : (goal : GoalData) (entries : List ListEntry) → is_confirmed goal algs events entries
+      ≡ (is_good (aggregate_of algs events (recorded_aggregate entries)) && is_met goal (values_after start (entries_as_steps entries)))
   confirmed_by (OfExpected expected) entries =
       ap (λ (b : Bool). is_good (aggregate_of algs events (recorded_aggregate entries)) && b)
       (list_all-map is_match (row_on algs events entries) expected

@@ -21,16 +21,16 @@ use Rattle.growing_lists.specs.Sessions.{HasTaken, TakesMore, WatchesMore}
 
 -- These entries are the shortest prefix of a list that has at least `least` entries and with which log and list are confirmed. Each of
 -- them is genuine.
-pub record IsConfirmed (algs : AlgSet) (events : List LogEvent) (aim : GoalData) (least : ℕ) (prefix : List ListEntry) : Type 0 where
+pub record IsConfirmed (algs : AlgSet) (events : List LogEvent) (goal : GoalData) (least : ℕ) (prefix : List ListEntry) : Type 0 where
   pub genuine : AreGenuine prefix
   pub enough : least ≤ length prefix
-  pub is_match : is_confirmed aim algs events prefix ≡ true
-  pub shortest : (n : ℕ) → least ≤ n → n < length prefix → is_confirmed aim algs events (take n prefix) ≡ false
+  pub is_match : is_confirmed goal algs events prefix ≡ true
+  pub shortest : (n : ℕ) → least ≤ n → n < length prefix → is_confirmed goal algs events (take n prefix) ≡ false
 
 -- None of the prefixes of these entries that have at least `least` entries, all genuine, is confirmed.
 abbrev pub AreUnconfirmed : AlgSet → List LogEvent → GoalData → ℕ → List ListEntry → Type 0
-AreUnconfirmed algs events aim least entries =
-    (n : ℕ) → least ≤ n → n ≤ length entries → AreGenuine (take n entries) → is_confirmed aim algs events (take n entries) ≡ false
+AreUnconfirmed algs events goal least entries =
+    (n : ℕ) → least ≤ n → n ≤ length entries → AreGenuine (take n entries) → is_confirmed goal algs events (take n entries) ≡ false
 
 -- The list has so many entries, and this is wrong with it, if anything: the fault of its bytes, which has so many entries before it; or
 -- else that of its entries.
@@ -48,7 +48,7 @@ CameWrong list old new limit count wrong = (more : List ℕ) × CameWhole old ne
 
 -- The session has taken the confirmed prefix, with at least `least` entries, of a list that goes on after these bytes; and this comes
 -- with it.
-pub record IsPrefixTaken (log list : List ℕ) (old new : Option (List ℕ)) (limit : ℕ) (aim : GoalData) (least : ℕ) (session : Session)
+pub record IsPrefixTaken (log list : List ℕ) (old new : Option (List ℕ)) (limit : ℕ) (goal : GoalData) (least : ℕ) (session : Session)
     (confirmed : Confirmed) : Type 0 where
   pub came : List ℕ
   pub over : List ℕ
@@ -59,14 +59,14 @@ pub record IsPrefixTaken (log list : List ℕ) (old new : Option (List ℕ)) (li
   pub came_is : CameFrom old new limit came over
   pub log_is : IsLog log table events
   pub begins : BeginsWith (list ++ came) prefix rest
-  pub shortest : IsConfirmed (algs_in table) events aim least prefix
+  pub shortest : IsConfirmed (algs_in table) events goal least prefix
   pub taken : HasTaken log (list_spelling prefix) session
   pub wrong : CameWrong list old new limit confirmed.entries confirmed.unconfirmed
 
 -- The same, where `watch` has tracked entries that begin with those of the prefix.
-pub record WatchesPrefix {W : Type 0} (IsAfter : After W) (start : W) (log list : List ℕ) (old new : Option (List ℕ)) (limit : ℕ) (aim : GoalData) (least : ℕ)
+pub record WatchesPrefix {W : Type 0} (IsAfter : After W) (start : W) (log list : List ℕ) (old new : Option (List ℕ)) (limit : ℕ) (goal : GoalData) (least : ℕ)
     (session : Session) (confirmed : Confirmed) (watch : W) : Type 0 where
-  pub prefix : IsPrefixTaken log list old new limit aim least session confirmed
+  pub prefix : IsPrefixTaken log list old new limit goal least session confirmed
   pub all : List ListEntry
   pub tracked : AreTracked IsAfter start all watch
   pub first : take (length prefix.prefix) all ≡ prefix.prefix
@@ -74,19 +74,19 @@ pub record WatchesPrefix {W : Type 0} (IsAfter : After W) (start : W) (log list 
 -- What `watch` has tracked, whether a prefix is confirmed or not.
 abbrev pub WatchesFound : {W : Type 0} → After W → W → List ℕ → List ℕ → Option (List ℕ) → Option (List ℕ) → ℕ → GoalData → ℕ → Session → Option Confirmed → W
     → Type 0
-WatchesFound IsAfter start log list old new limit aim least session (Some confirmed) watch =
-    WatchesPrefix IsAfter start log list old new limit aim least session confirmed watch
-WatchesFound IsAfter start log list old new limit aim least session None watch = WatchesMore IsAfter start log list old new limit session watch
+WatchesFound IsAfter start log list old new limit goal least session (Some confirmed) watch =
+    WatchesPrefix IsAfter start log list old new limit goal least session confirmed watch
+WatchesFound IsAfter start log list old new limit goal least session None watch = WatchesMore IsAfter start log list old new limit session watch
 
 -- The session has taken all of the list, and no prefix of it is confirmed.
-pub record TakesUnconfirmed (log list : List ℕ) (old new : Option (List ℕ)) (limit : ℕ) (aim : GoalData) (least : ℕ) (session : Session) : Type 0 where
+pub record TakesUnconfirmed (log list : List ℕ) (old new : Option (List ℕ)) (limit : ℕ) (goal : GoalData) (least : ℕ) (session : Session) : Type 0 where
   pub takes : TakesMore log list old new limit session
   pub entries : List ListEntry
   pub list_is : IsReading (list ++ takes.more) (Ok entries)
-  pub none : (table : List DeclaredAlgorithm) (events : List LogEvent) → IsLog log table events → AreUnconfirmed (algs_in table) events aim least entries
+  pub none : (table : List DeclaredAlgorithm) (events : List LogEvent) → IsLog log table events → AreUnconfirmed (algs_in table) events goal least entries
 
 -- So many entries are at the start of what came, and no prefix of them is confirmed.
-pub record CameUnconfirmed (log list : List ℕ) (old new : Option (List ℕ)) (limit : ℕ) (aim : GoalData) (least count : ℕ) : Type 0 where
+pub record CameUnconfirmed (log list : List ℕ) (old new : Option (List ℕ)) (limit : ℕ) (goal : GoalData) (least count : ℕ) : Type 0 where
   pub came : List ℕ
   pub over : List ℕ
   pub entries : List ListEntry
@@ -94,19 +94,19 @@ pub record CameUnconfirmed (log list : List ℕ) (old new : Option (List ℕ)) (
   pub came_is : CameFrom old new limit came over
   pub begins : BeginsWith (list ++ came) entries rest
   pub count_is : length entries ≡ count
-  pub none : (table : List DeclaredAlgorithm) (events : List LogEvent) → IsLog log table events → AreUnconfirmed (algs_in table) events aim least entries
+  pub none : (table : List DeclaredAlgorithm) (events : List LogEvent) → IsLog log table events → AreUnconfirmed (algs_in table) events goal least entries
 
 -- All that came is a list, and no prefix of it is confirmed.
-pub record IsUnconfirmedList (log list : List ℕ) (old new : Option (List ℕ)) (limit : ℕ) (aim : GoalData) (least : ℕ) : Type 0 where
+pub record IsUnconfirmedList (log list : List ℕ) (old new : Option (List ℕ)) (limit : ℕ) (goal : GoalData) (least : ℕ) : Type 0 where
   pub more : List ℕ
   pub entries : List ListEntry
   pub came : CameWhole old new limit more
   pub list_is : IsReading (list ++ more) (Ok entries)
-  pub none : (table : List DeclaredAlgorithm) (events : List LogEvent) → IsLog log table events → AreUnconfirmed (algs_in table) events aim least entries
+  pub none : (table : List DeclaredAlgorithm) (events : List LogEvent) → IsLog log table events → AreUnconfirmed (algs_in table) events goal least entries
 
 -- The list is refused only if no prefix of it is confirmed: of the entries before the one that the fault names, or of all.
 abbrev pub IsUnconfirmedFault : List ℕ → List ℕ → Option (List ℕ) → Option (List ℕ) → ℕ → GoalData → ℕ → VerifyFault → Type 0
-IsUnconfirmedFault log list old new limit aim least (faults.List fault) =
-    (count : ℕ) × (list_fault_entry fault ≡ Some count) × CameUnconfirmed log list old new limit aim least count
-IsUnconfirmedFault log list old new limit aim least (faults.Replay fault) = IsUnconfirmedList log list old new limit aim least
-IsUnconfirmedFault log list old new limit aim least fault = Unit {0}
+IsUnconfirmedFault log list old new limit goal least (faults.List fault) =
+    (count : ℕ) × (list_fault_entry fault ≡ Some count) × CameUnconfirmed log list old new limit goal least count
+IsUnconfirmedFault log list old new limit goal least (faults.Replay fault) = IsUnconfirmedList log list old new limit goal least
+IsUnconfirmedFault log list old new limit goal least fault = Unit {0}

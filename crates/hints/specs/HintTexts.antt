@@ -87,8 +87,8 @@ of_option None = []
 of_option (Some hint) = hint ∷ []
 
 -- All that there is to say, what a person should look at first before the rest.
-abbrev pub hints_of : Causes → Option Grown → Bool → List Hint
-hints_of causes grown is_old =
+abbrev pub hints_of_causes : Causes → Option Grown → Bool → List Hint
+hints_of_causes causes grown is_old =
     of_option (list_hint causes grown is_old) ++ (of_option (values_hint causes grown) ++ (of_option (event_hint causes) ++ (of_option (entry_hint causes)
     ++ (of_option (log_hint causes) ++ (of_option (missing_hint causes) ++ (of_option (absent_hint causes) ++ of_option (unknown_hint causes)))))))
 

@@ -19,7 +19,7 @@ use Rattle.attestations.specs.declared.report.AttestReport.{AttestReport}
 use Rattle.agent_inputs.specs.Loading.{Inputs}
 use Rattle.judging.specs.declared.request.Answer.{Answer}
 use Rattle.judging.specs.declared.request.Answered.{Answered}
-use Rattle.known_files.specs.declared.unknown.Unknown.{Unknown}
+use Rattle.known_files.specs.declared.unknown.UnknownFiles.{UnknownFiles}
 use Rattle.agent_inputs.specs.declared.fault.RunFault.{RunFault}
 use Rattle.judging.specs.Answering.{IsAnswer, IsRefusal}
 use Rattle.judging.specs.Requests.{Requested, on_prefix}
@@ -151,7 +151,7 @@ causes_by required (answers.Positions positions) = causes_at required positions.
 causes_by required answer = no_cause
 
 -- The first entry that is not known.
-abbrev pub first_unknown : Option Unknown → Option ℕ
+abbrev pub first_unknown : Option UnknownFiles → Option ℕ
 first_unknown unknown = option_and_then (λ unknown. slice_get unknown.numbers.items 0) unknown
 
 -- Why the answer is that something differs.

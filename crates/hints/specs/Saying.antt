@@ -13,7 +13,7 @@ use Rattle.hints.specs.declared.wrong_input.ExpectedInput.{ExpectedInput}
 use Rattle.hints.specs.Escaping.{escape}
 use Rattle.hints.specs.Heads.{IsLookedAt}
 use Rattle.hints.specs.Hints.{IsGrown, IsNotGrown, IsNotSeen, IsSeen}
-use Rattle.hints.specs.HintTexts.{hints_of, mistake_words, shown_hint}
+use Rattle.hints.specs.HintTexts.{hints_of_causes, mistake_words, shown_hint}
 use Rattle.hints.specs.Mistakes.{mistake_in}
 use Rattle.hints.specs.OldAggregates.{IsSaidOld}
 use Rattle.questions.specs.Questions.{requested_by, with_known}
@@ -34,7 +34,7 @@ TellsCauses inputs question text =
     ⊎ ((causes : Causes) × (grown : Option Grown) × (is_old : Bool) × IsSeen inputs (requested_by question) causes
     × IfSome grown (IsGrown inputs (without_known question)) × IfNone grown (IsNotGrown inputs (without_known question))
     × IsSaidOld inputs (log_of (tasks.Answer question)) (list_of (tasks.Answer question)) is_old
-    × (text ≡ flat_map shown_hint (take 3 (hints_of causes grown is_old))))
+    × (text ≡ flat_map shown_hint (take 3 (hints_of_causes causes grown is_old))))
 
 -- The line that names an input, and says what it is; nothing if that cannot be told.
 abbrev pub mistake_line : List ℕ → Option Mistake → List ℕ

@@ -4,7 +4,7 @@ ghost use Rattle.std.specs.Prelude.{◌≡◌, ◌++◌, ◌∷◌, [], codes, d
 ghost use Rattle.std.specs.List.{list_all};
 ghost use Rattle.pcr_banks.specs.Hashing.{name_of};
 ghost use Rattle.hints.specs.Escaping.{escape, is_shown};
-ghost use Rattle.hints.specs.HintTexts.{absent_hint, entry_hint, event_hint, hint_line, hints_of, is_grown, last_words, list_hint, log_hint, missing_hint, mistake_words, of_option, shown_hint, unknown_hint, values_hint};
+ghost use Rattle.hints.specs.HintTexts.{absent_hint, entry_hint, event_hint, hint_line, hints_of_causes, is_grown, last_words, list_hint, log_hint, missing_hint, mistake_words, of_option, shown_hint, unknown_hint, values_hint};
 
 use crate::escapes::shown_line;
 use crate::reasons::{Causes, Grown, JudgedBy};
@@ -63,16 +63,16 @@ pub(crate) enum Hint {
 }
 
 /// What to do about these causes, or that the list grew, in three lines at most. A boot aggregate that is another may be an older kernel's.
-pub(crate) fn hints_on(
+pub(crate) fn rendered_hints(
     alloc: Global,
     causes: &Causes,
     grown: Option<Grown>,
     is_old: bool,
 ) -> Result<String, AllocError>
-    ensures lines { IfOk result (λ text. string_bytes text ≡ flat_map shown_hint (take 3 (hints_of causes.now grown is_old))) }
+    ensures lines { IfOk result (λ text. string_bytes text ≡ flat_map shown_hint (take 3 (hints_of_causes causes.now grown is_old))) }
     ensures shown { IfOk result (λ text. list_all is_shown (string_bytes text) ≡ true) }
 {
-    let mut hints = hints_of(alloc, causes, grown, is_old)?;
+    let mut hints = hints_of_causes(alloc, causes, grown, is_old)?;
     hints.truncate(MOST_LINES);
     lines_of(alloc, &hints)
 }
@@ -92,13 +92,13 @@ fn lines_of(alloc: Global, hints: &[Hint]) -> Result<String, AllocError>
 }
 
 // All that there is to say of these causes.
-fn hints_of(
+fn hints_of_causes(
     alloc: Global,
     causes: &Causes,
     grown: Option<Grown>,
     is_old: bool,
 ) -> Result<Vec<Hint>, AllocError>
-    ensures { IfOk result (λ hints. hints.items ≡ hints_of causes.now grown is_old) }
+    ensures { IfOk result (λ hints. hints.items ≡ hints_of_causes causes.now grown is_old) }
 {
     let mut hints = Vec::new(alloc);
     push_if(&mut hints, list_hint(causes, grown, is_old))?;
@@ -438,7 +438,11 @@ fn register_line(
 }
 
 /// That the input of this name is not what it should be.
-pub(crate) fn hint_on(alloc: Global, input: &str, mistake: Mistake) -> Result<String, AllocError>
+pub(crate) fn rendered_mistake(
+    alloc: Global,
+    input: &str,
+    mistake: Mistake,
+) -> Result<String, AllocError>
     ensures line { IfOk result (λ text. string_bytes text ≡ escape (input.now ++ (codes ": " ++ mistake_words mistake)) ++ 10 ∷ []) }
     ensures shown { IfOk result (λ text. list_all is_shown (string_bytes text) ≡ true) }
 {

@@ -15,4 +15,4 @@ mod wrong_input;
 pub use escapes::escape;
 pub use explanations::explanation;
 pub use progress::{SystemProgress, Terminals};
-pub use rejudge::{hint, hint_from};
+pub use rejudge::{hint_from_files, hint_on_failure};

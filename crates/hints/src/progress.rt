@@ -1,7 +1,7 @@
 //! What is told beside the output: the progress of a measurement, why a run failed, and what to do next.
 
 use crate::explanations::explanation;
-use crate::rejudge::hint;
+use crate::rejudge::hint_on_failure;
 use measuring::FileProgress;
 use questions::{Failure, Progress};
 use std::alloc::Global;
@@ -30,7 +30,7 @@ const INTERVAL: u64 = 100;
 
 /// Shows the progress on standard error, if that is a terminal: `123 of 10000 files`, after more than a second and at most ten
 /// times a second, written over what was shown before. The line is erased when the measurement ends. Of a run that failed it shows
-/// the [`explanation`] there, and of it or an answer that something differs the [`hint`]; these also where there is no terminal, if the
+/// the [`explanation`] there, and of it or an answer that something differs the [`hint`](hint_on_failure); these also where there is no terminal, if the
 /// arguments ask for it. Before standard input is read, if that is a terminal, it says so. If the clock or the terminal fails,
 /// nothing is shown; this is no fault.
 #[derive(Drop)]
@@ -109,7 +109,7 @@ impl<R: Eprint + Clock + FileSystem + io::Input + Sync> Progress for SystemProgr
             Ok(text) => eprint!(self.runtime; "{text}"),
             Err(_) => eprint!(self.runtime; "out of memory\n"),
         };
-        if let Ok(text) = hint(self.runtime, alloc, failure) {
+        if let Ok(text) = hint_on_failure(self.runtime, alloc, failure) {
             let _ = eprint!(self.runtime; "{text}");
         }
     }

@@ -8,7 +8,7 @@ ghost use Rattle.hints.specs.Escaping.{is_shown};
 ghost use Rattle.hints.specs.Hints.{IsGrown, IsNotGrown, IsNotSeen, IsSeen};
 ghost use Rattle.hints.specs.Saying.{TellsMistake, TellsNext, TellsOf};
 
-use crate::hints::{hint_on, hints_on};
+use crate::hints::{rendered_hints, rendered_mistake};
 use crate::old_aggregates::is_old_aggregate;
 use crate::reasons::{Causes, Grown, causes_of, grown_by};
 use crate::reread::{FilesAgain, head_of};
@@ -21,8 +21,8 @@ use questions::{Failure, known_inputs, request_of};
 use std::alloc::{AllocError, Global};
 use std::rt::Files as FileSystem;
 
-/// What [`hint_from`] says of the files of a runtime, if they are regular files: others are not read again.
-pub fn hint<R: FileSystem>(
+/// What [`hint_from_files`] says of the files of a runtime, if they are regular files: others are not read again.
+pub fn hint_on_failure<R: FileSystem>(
     rt: &R,
     alloc: Global,
     failure: Failure<'_>,
@@ -30,14 +30,14 @@ pub fn hint<R: FileSystem>(
     ensures told { IfOk result (λ text. TellsNext unknown failure.entry (string_bytes text)) }
     ensures shown { IfOk result (λ text. list_all is_shown (string_bytes text) ≡ true) }
 {
-    hint_from(alloc, &mut FilesAgain::new(rt), failure)
+    hint_from_files(alloc, &mut FilesAgain::new(rt), failure)
 }
 
 /// What a person may do next, in lines: after an answer that something differs, by a second look at the inputs, and where an input is refused
 /// that is not what it should be, by its first bytes. No text where nothing helps, or the inputs cannot be read again. It changes no input.
 ///
 /// Fails if memory runs out.
-pub fn hint_from<F: AgentFiles>(
+pub fn hint_from_files<F: AgentFiles>(
     alloc: Global,
     files: &mut F,
     failure: Failure<'_>,
@@ -72,7 +72,7 @@ fn on_difference<F: AgentFiles>(
         Some(causes) => {
             let grown = grown_seen(alloc, files, request_of(question, &[]));
             let is_old = is_old_aggregate(alloc, files, task)?;
-            hints_on(alloc, &causes, grown, is_old)
+            rendered_hints(alloc, &causes, grown, is_old)
         }
     }
 }
@@ -123,6 +123,6 @@ fn on_fault<F: AgentFiles>(
     };
     match mistake_in(wanted, &head) {
         None => Ok(String::new(alloc)),
-        Some(mistake) => hint_on(alloc, input, mistake),
+        Some(mistake) => rendered_mistake(alloc, input, mistake),
     }
 }

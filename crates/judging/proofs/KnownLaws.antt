@@ -9,7 +9,7 @@ use Rattle.ima_list.specs.ListEntry.{ListEntry}
 use Rattle.boot_verdict.specs.ListReplays.{AreTracked}
 use Rattle.boot_verdict.specs.ListVerdicts.{IsListVerdict, ListVerdict}
 use Rattle.known_files.specs.declared.known.KnownFiles.{KnownFiles}
-use Rattle.known_files.specs.declared.unknown.Unknown.{Unknown}
+use Rattle.known_files.specs.declared.unknown.UnknownFiles.{UnknownFiles}
 use Rattle.known_files.specs.declared.unknown.UnknownEntries.{UnknownEntries}
 use Rattle.known_files.specs.Unknown.{AreUnknown, IsFresh, IsLookedAfter}
 use Rattle.known_files.specs.declared.listed.ListedFiles.{ListedFiles}
@@ -104,7 +104,7 @@ some_input (input ∷ known) none = omega arith
 -- ---- what a watch tells
 
 -- What is told within the first entries, of which there are so many, is told of entries that the watch has looked at.
-pub told_within : (known : Option KnownFiles) (first count : ℕ) (start watch : UnknownEntries) (unknown : Option Unknown) → IsFresh known first start
+pub told_within : (known : Option KnownFiles) (first count : ℕ) (start watch : UnknownEntries) (unknown : Option UnknownFiles) → IsFresh known first start
     → ((files : KnownFiles) (first : ℕ) (start : UnknownEntries) (entries : List ListEntry) → IsFresh (Some files) first start
     → AreTracked IsLookedAfter start entries watch → IsSomeAnd unknown (λ unknown. (unknown.first ≡ first)
     × ((texts : List (List ℕ)) → Knows texts files → AreUnknown texts first (take count entries) unknown.numbers.items)))

@@ -5,7 +5,7 @@ use Rattle.agent_plans.specs.declared.plan.Scope.TheVariants.{Whole}
 use Rattle.boot_verdict.specs.declared.checkpoint.Checkpoint.{Checkpoint}
 use Rattle.boot_verdict.specs.Verdicts.{ReadsAsLog}
 use Rattle.ima_list.specs.ListEntry.{ListEntry}
-use Rattle.known_files.specs.declared.unknown.Unknown.{Unknown}
+use Rattle.known_files.specs.declared.unknown.UnknownFiles.{UnknownFiles}
 use Rattle.judging.specs.declared.request.Answer.{Answer}
 use Rattle.judging.specs.declared.request.Answered.{Answered}
 use Rattle.judging.specs.declared.request.ScopedReport.{ScopedReport}
@@ -23,7 +23,7 @@ module _ (inputs : Inputs) (list : Where) (evidence : Evidence) (first : evidenc
       record { table = verdict.table; events = verdict.events; log_is = verdict.log_is }
   log_on Tells (judged.Prefix report) next (boot, seeks, more, wrong) = cc
 
-  log_judged : (place : Where) (answer : Answer) (next : Option Checkpoint) (unknown : Option Unknown)
+  log_judged : (place : Where) (answer : Answer) (next : Option Checkpoint) (unknown : Option UnknownFiles)
       → IsJudged inputs (VerdictOf place Whole None) list evidence answer next unknown → ReadsAsLog evidence.log
   log_judged place answer None unknown is = absurd is
   log_judged place answer (Some next) unknown (on, is, answered) = log_on _ on next is

@@ -29,7 +29,7 @@ use Rattle.boot_verdict.specs.declared.report.PrefixReport.{PrefixReport}
 use Rattle.known_files.specs.declared.fault.KnownFault.{KnownFault}
 use Rattle.known_files.specs.declared.known.KnownFiles.{KnownFiles}
 use Rattle.known_files.specs.declared.listed.ListedFiles.{ListedFiles}
-use Rattle.known_files.specs.declared.unknown.Unknown.{Unknown}
+use Rattle.known_files.specs.declared.unknown.UnknownFiles.{UnknownFiles}
 use Rattle.known_files.specs.declared.unknown.UnknownEntries.{UnknownEntries}
 use Rattle.known_files.specs.Known.{HoldsAll, Knows}
 use Rattle.known_files.specs.Listing.{BeginsWithGood, HasFaultOfFirst, IsGoodText}
@@ -139,13 +139,13 @@ OfList inputs place known P = OfMore inputs place known (λ taken more. P (taken
 -- ---- which entries are unknown
 
 -- These are the unknown ones of the entries from number `first` on, by the texts that list the known files.
-pub record IsUnknownOf (files : KnownFiles) (first : ℕ) (entries : List ListEntry) (unknown : Unknown) : Type 0 where
+pub record IsUnknownOf (files : KnownFiles) (first : ℕ) (entries : List ListEntry) (unknown : UnknownFiles) : Type 0 where
   pub first_is : unknown.first ≡ first
   pub numbers_are : (texts : List (List ℕ)) → Knows texts files → AreUnknown texts first entries unknown.numbers.items
 
 -- What an answer tells of the entries that it is on, of which so many were taken before: which of the others are unknown; nothing if no file
 -- has to be known.
-abbrev pub TellsUnknown : Option KnownFiles → ℕ → Option Unknown → List ListEntry → Type 0
+abbrev pub TellsUnknown : Option KnownFiles → ℕ → Option UnknownFiles → List ListEntry → Type 0
 TellsUnknown None first unknown entries = unknown ≡ None
 TellsUnknown (Some files) first unknown entries = IsSomeAnd unknown (IsUnknownOf files first entries)
 
@@ -233,7 +233,7 @@ IsAnswerOn (Some quote) is_signed values on next answer =
 
 -- The answer is on this evidence and the list of this input; this is where to go on; and these are the unknown ones of the entries that the
 -- answer is on, without those of the list that was taken before.
-abbrev pub IsJudged : Inputs → Judgement → Where → Evidence → Answer → Option Checkpoint → Option Unknown → Type 0
+abbrev pub IsJudged : Inputs → Judgement → Where → Evidence → Answer → Option Checkpoint → Option UnknownFiles → Type 0
 IsJudged inputs (VerdictOf place scope resume) list evidence answer (Some next) unknown =
     (on : ScopedReport) × IsVerdictOn inputs scope list evidence (TellsUnknown evidence.known_files (entries_taken evidence.checkpoint) unknown) on next
     × IsAnswerOn evidence.quote evidence.is_signed evidence.values on next answer
@@ -481,7 +481,7 @@ is_good requires ranges (answers.Attestation report) = report.is_signed && is_at
 is_good requires ranges answer = true
 
 -- Whether all is well: no entry is told unknown, and the answer is good.
-abbrev pub is_success : Requires → Option (List BankRange) → Option Unknown → Answer → Bool
+abbrev pub is_success : Requires → Option (List BankRange) → Option UnknownFiles → Answer → Bool
 is_success requires ranges unknown answer = has_no_unknown unknown && is_good requires ranges answer
 
 -- This is what comes of what is compared, and what it is worth. Nobody goes on from it, unless all is well; and no quote tells the boot.
@@ -492,7 +492,7 @@ pub record IsComparison (inputs : Inputs) (request : Compared) (given : Answered
   pub evidence_is : IsEvidence inputs request evidence
   pub requirement_is : given.requirement ≡ evidence.required
   pub judged : IsJudged inputs request.judgement request.list evidence given.answer next given.unknown
-  pub well_is : given.is_success ≡ is_success request.required given.requirement given.unknown given.answer
+  pub success_is : given.is_success ≡ is_success request.required given.requirement given.unknown given.answer
   pub next_is : given.next ≡ (if given.is_success then state_after None next else None)
 
 -- Why nothing comes of what is compared, where known files are asked for as they can be, or are not: the text spells no registers; it spells
@@ -583,7 +583,7 @@ pub record IsAttestation (inputs : Inputs) (asked : AttestRequested) (given : An
   pub judged : IsJudged inputs (VerdictOf asked.log asked.scope asked.resume) asked.list
       (quoted_evidence log quote asked.is_signed values counted (checkpoint_of state) files) given.answer next given.unknown
   pub none_required : given.requirement ≡ None
-  pub well_is : given.is_success ≡ is_success Nothing None given.unknown given.answer
+  pub success_is : given.is_success ≡ is_success Nothing None given.unknown given.answer
   pub next_is : given.next ≡ (if given.is_success then state_after (Some (boot_of quote)) next else None)
 
 -- The input to go on from has no checkpoint; or it has one, and that is not of the quote's boot, or no quote confirmed it.

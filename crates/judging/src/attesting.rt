@@ -53,7 +53,7 @@ pub(crate) fn attest<F: AgentFiles>(
     }
     let message = load_at(alloc, files, request.message)?;
     let quote = asked_quote(message.bytes(), &policy)?;
-    judge_by(alloc, files, request, &quote)
+    answer_by_quote(alloc, files, request, &quote)
 }
 
 // The registers that must be quoted.
@@ -82,7 +82,7 @@ fn asked_quote<'a>(message: &'a [u8], policy: &Policy<'_>) -> Result<Quote<'a>, 
 }
 
 // What comes of a log and a list by this quote.
-fn judge_by<F: AgentFiles>(
+fn answer_by_quote<F: AgentFiles>(
     alloc: Global,
     files: &mut F,
     request: AttestRequest<'_>,

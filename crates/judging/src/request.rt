@@ -13,7 +13,7 @@ use boot_verdict::{
     Checkpoint, ListReport, Located, PrefixReport, Report, Requirement, all_found, required_found,
 };
 use growing_lists::{Boot, SavedState};
-use known_files::{Unknown, has_no_unknown};
+use known_files::{UnknownFiles, has_no_unknown};
 use pcr_banks::Banks;
 use pcr_values::Expected;
 use tpm_keys::{KeyPart, KeyReport, Purpose};
@@ -179,7 +179,7 @@ pub struct Answered {
     /// The registers that are required, if a text spells some.
     pub requirement: Option<Requirement>,
     /// The entries that are not known, of those that the answer is on; none without known files.
-    pub unknown: Option<Unknown>,
+    pub unknown: Option<UnknownFiles>,
     /// Whether all is well: the verdict is `match`, or each register was located; what has to be among them is; and no entry is unknown.
     pub is_success: bool,
     /// Where to go on, if all is well: the checkpoint of what a verdict is on, and the boot, if a quote confirmed it.
@@ -212,7 +212,7 @@ pub(crate) struct Found {
     /// Where to go on, if it is the answer of a verdict on a log and a list.
     pub next: Option<Checkpoint>,
     /// The entries that are not known; none without known files.
-    pub unknown: Option<Unknown>,
+    pub unknown: Option<UnknownFiles>,
 }
 
 /// What was found, and what it is worth where this has to be among the expected registers, of which the text spells these. If all is well,
@@ -226,7 +226,7 @@ pub(crate) fn answered_with(
     ensures answer { result.answer ≡ found.answer }
     ensures requirement { result.requirement ≡ requirement }
     ensures unknown { result.unknown ≡ found.unknown }
-    ensures well { result.is_success ≡ is_success (requires_of required.entry) requirement found.unknown found.answer }
+    ensures success { result.is_success ≡ is_success (requires_of required.entry) requirement found.unknown found.answer }
     ensures next { result.next ≡ (if result.is_success then state_after boot found.next else None) }
 {
     let Found {

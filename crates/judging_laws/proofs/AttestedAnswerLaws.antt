@@ -66,10 +66,10 @@ record AreGood (verdict : Verdict) (quote : TpmQuote) (next : Checkpoint) : Type
   apart : are_none verdict.strays ≡ true
   quoted : confirms quote (value_at next.after) ≡ true
 
-well_told : (told : AttestVerdict) (quote : TpmQuote) (next : Checkpoint) (is_signed : Bool) → (told.is_signed && is_attested told) ≡ true
+success_told : (told : AttestVerdict) (quote : TpmQuote) (next : Checkpoint) (is_signed : Bool) → (told.is_signed && is_attested told) ≡ true
     → told.is_signed ≡ is_signed → told.is_quoted ≡ confirms quote (value_at next.after) → (is_signed ≡ true) × AreGood told.verdict quote next
-well_told told quote next is_signed well signed_is quoted_is =
-    let signed = both_true told.is_signed (is_attested told) well in
+success_told told quote next is_signed success signed_is quoted_is =
+    let signed = both_true told.is_signed (is_attested told) success in
     let good = both_true (is_good told.verdict.aggregate) (are_none told.verdict.strays && told.is_quoted) signed.1 in
     let last = both_true (are_none told.verdict.strays) told.is_quoted good.1 in
     (sym signed_is ∙ signed.0, record { aggregate = good.0; apart = last.0; quoted = sym quoted_is ∙ last.1 })
@@ -143,7 +143,7 @@ from_nothing inputs asked given is resume =
     let none : is.state ≡ None = subst (λ (r : Option Where). IsResumedState inputs r is.state) resume is.state_is in
     subst (λ (s : Option SavedState). IsTaken (checkpoint_of s) []) (sym none) refl
 
-module _ (inputs : Inputs) (asked : AttestRequested) (given : Answered) (is : IsAttestation inputs asked given) (well : given.is_success ≡ true) where
+module _ (inputs : Inputs) (asked : AttestRequested) (given : Answered) (is : IsAttestation inputs asked given) (success : given.is_success ≡ true) where
   abbrev evidence : Evidence
   evidence = quoted_evidence is.log is.quote asked.is_signed is.values is.counted (checkpoint_of is.state) is.files
 
@@ -167,11 +167,11 @@ module _ (inputs : Inputs) (asked : AttestRequested) (given : Answered) (is : Is
       let told = told_by is.quote asked.is_signed is.values next on in
       let report = answer.0 in
       let good_is : is_good_answer Nothing None given.answer ≡ true =
-      (both_true (has_no_unknown given.unknown) (is_good_answer Nothing None given.answer) (sym is.well_is ∙ well)).1 in
+      (both_true (has_no_unknown given.unknown) (is_good_answer Nothing None given.answer) (sym is.success_is ∙ success)).1 in
       let here : (report.is_signed && is_attested (attest_verdict_of report)) ≡ true = ap (is_good_answer Nothing None) (sym answer.1) ∙ good_is in
       let there : (told.is_signed && is_attested told) ≡ true =
       subst (λ (v : AttestVerdict). (v.is_signed && is_attested v) ≡ true) answer.2 here in
-      let good = well_told told is.quote next asked.is_signed there (told_signed is.quote asked.is_signed is.values next on)
+      let good = success_told told is.quote next asked.is_signed there (told_signed is.quote asked.is_signed is.values next on)
       (told_quoted is.quote asked.is_signed is.values next on) in
       record {
         report = report;

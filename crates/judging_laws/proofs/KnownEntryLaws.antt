@@ -14,7 +14,7 @@ use Rattle.boot_verdict.specs.ListVerdicts.{ListVerdict}
 use Rattle.boot_verdict.specs.Verdicts.{Verdict, verdict_of}
 use Rattle.boot_verdict.proofs.ReplayLaws.{one_list}
 use Rattle.known_files.specs.declared.known.KnownFiles.{KnownFiles}
-use Rattle.known_files.specs.declared.unknown.Unknown.{Unknown}
+use Rattle.known_files.specs.declared.unknown.UnknownFiles.{UnknownFiles}
 use Rattle.known_files.specs.EntryFiles.{IsKnown, is_aggregate}
 use Rattle.known_files.specs.Known.{Knows}
 use Rattle.known_files.specs.Unknown.{AreUnknown, has_no_unknown, unknown_in}
@@ -73,7 +73,7 @@ known_first law texts (entry ∷ entries) none = law.first texts entry entries (
 -- So they are where none is told unknown.
 has_known : KnownLaw → (given : Answered) (texts : List (List ℕ)) (files : KnownFiles) (first : ℕ) (list rest : List ℕ) (entries : List ListEntry)
     → Knows texts files → BeginsWith list entries rest → entries_of given.answer ≡ Some (length entries)
-    → (unknown : Option Unknown) → given.unknown ≡ unknown → has_no_unknown unknown ≡ true → TellsUnknown (Some files) first unknown entries
+    → (unknown : Option UnknownFiles) → given.unknown ≡ unknown → has_no_unknown unknown ≡ true → TellsUnknown (Some files) first unknown entries
     → HasKnownEntries given texts first list
 has_known law given texts files first list rest entries knows begins count None same none tells = absurd tells
 has_known law given texts files first list rest entries knows begins count (Some told) same none tells =
@@ -140,13 +140,13 @@ entries_told quote is_signed values next on answer is = ap entries_of is.1 ∙ a
 
 pub attested_known : KnownLaw → (inputs : Inputs) (asked : AttestRequested) (given : Answered) (is : IsAttestation inputs asked given)
     → given.is_success ≡ true → 0 < length asked.known → TellsKnown inputs asked.known asked.list (checkpoint_of is.state) given
-attested_known law inputs asked given is well some = record { texts = has.texts; texts_are = has.texts_are; entries_are = by is.next is.judged }
+attested_known law inputs asked given is success some = record { texts = has.texts; texts_are = has.texts_are; entries_are = by is.next is.judged }
   where
     has : HasTexts inputs asked.known is.files
     has = texts_in inputs asked.known is.files some is.files_are
 
     none : has_no_unknown given.unknown ≡ true
-    none = (both_true (has_no_unknown given.unknown) (is_good Nothing None given.answer) (sym is.well_is ∙ well)).0
+    none = (both_true (has_no_unknown given.unknown) (is_good Nothing None given.answer) (sym is.success_is ∙ success)).0
 
     evidence : Evidence
     evidence = quoted_evidence is.log is.quote asked.is_signed is.values is.counted (checkpoint_of is.state) is.files
@@ -213,7 +213,7 @@ module _ (law : KnownLaw) (inputs : Inputs) (places : List Where) (list : Where)
 
 pub comparison_known : KnownLaw → (inputs : Inputs) (request : Compared) (given : Answered) (is : IsComparison inputs request given)
     → given.is_success ≡ true → 0 < length request.known → TellsKnown inputs request.known request.list is.evidence.checkpoint given
-comparison_known law inputs request given is well some = record {
+comparison_known law inputs request given is success some = record {
   texts = has.texts;
   texts_are = has.texts_are;
   entries_are = by request.judgement is.next is.takes is.evidence_is.state_is is.judged;
@@ -223,7 +223,7 @@ comparison_known law inputs request given is well some = record {
     has = texts_in inputs request.known is.evidence.known_files some is.evidence_is.files_are
 
     none : has_no_unknown given.unknown ≡ true
-    none = (both_true (has_no_unknown given.unknown) (is_good request.required given.requirement given.answer) (sym is.well_is ∙ well)).0
+    none = (both_true (has_no_unknown given.unknown) (is_good request.required given.requirement given.answer) (sym is.success_is ∙ success)).0
 
     by : (judgement : Judgement) (next : Option Checkpoint) → takes_known judgement request.required request.known ≡ true
         → IsState inputs (resume_of judgement) is.evidence_is.state

@@ -4,7 +4,7 @@ use Rattle.std.specs.List.{AllByRecursion}
 use Rattle.ima_list.specs.ListEntry.{ListEntry}
 use Rattle.ima_list.specs.Spelling.{BeginsWith}
 use Rattle.boot_verdict.specs.declared.checkpoint.Checkpoint.{Checkpoint}
-use Rattle.known_files.specs.declared.unknown.Unknown.{Unknown}
+use Rattle.known_files.specs.declared.unknown.UnknownFiles.{UnknownFiles}
 use Rattle.known_files.specs.EntryFiles.{IsKnown, is_aggregate}
 use Rattle.agent_inputs.specs.Loading.{Inputs}
 use Rattle.judging.specs.declared.request.Answer.{Answer}
@@ -31,7 +31,7 @@ IsFirstKnown texts (entry ∷ entries) = IsKnown texts entry ⊎ (is_aggregate e
 pub record HasKnownEntries (given : Answered) (texts : List (List ℕ)) (first : ℕ) (list : List ℕ) : Type 0 where
   pub entries : List ListEntry
   pub rest : List ℕ
-  pub unknown : Unknown
+  pub unknown : UnknownFiles
   pub begins : BeginsWith list entries rest
   pub count_is : entries_of given.answer ≡ Some (length entries)
   pub are_known : AllByRecursion (IsKnown texts) (drop (max 1 first) entries)

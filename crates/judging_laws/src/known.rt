@@ -11,7 +11,7 @@ use known_files::laws::each_is_known;
 
 /// Where files have to be known, and all is well with an answer, no entry is told unknown: each entry that the answer is on is known by the
 /// texts, but for those of a checkpoint that was gone on from; the first of the list is known, or one of the boot aggregate.
-pub fn well_answer_has_known_entries()
+pub fn successful_answer_has_known_entries()
     ensures comparison { (inputs : Inputs) (request : Compared) (given : Answered) (is : IsComparison inputs request given) → given.is_success ≡ true
         → 0 < length request.known → TellsKnown inputs request.known request.list is.evidence.checkpoint given }
     ensures attestation { (inputs : Inputs) (asked : AttestRequested) (given : Answered) (is : IsAttestation inputs asked given) → given.is_success ≡ true

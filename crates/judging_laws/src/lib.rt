@@ -7,6 +7,6 @@ mod quoted;
 mod verdicts;
 
 pub use attested::answer_tells_attestation;
-pub use known::well_answer_has_known_entries;
-pub use quoted::well_answer_quotes_the_log;
-pub use verdicts::report_is_well_by_its_verdict;
+pub use known::successful_answer_has_known_entries;
+pub use quoted::successful_answer_quotes_the_log;
+pub use verdicts::report_succeeds_by_its_verdict;

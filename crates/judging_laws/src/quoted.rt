@@ -12,7 +12,7 @@ use crate::attested::answer_tells_attestation;
 
 /// If all is well with an answer by a quote on a whole list, the quote is of the values of registers after the log and the list; and of each
 /// register but the list's this value is the one after the log, before any list.
-pub fn well_answer_quotes_the_log()
+pub fn successful_answer_quotes_the_log()
     ensures { (inputs : Inputs) (asked : AttestRequested) (given : Answered) (is : IsAttestation inputs asked given) → given.is_success ≡ true
         → asked.scope ≡ Whole → asked.resume ≡ None → QuotesLog is.log is.quote }
 {

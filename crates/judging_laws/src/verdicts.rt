@@ -16,7 +16,7 @@ ghost use Rattle.judging.specs.Requests.{Compared, Nothing};
 /// All is well with a report where its own verdict is 'match', so that what a report is shown with is its verdict. `required`: where registers are
 /// required, it is 'match' if all that is required holds; `plain`: where nothing is, if all that is compared matches. `prefix`: so it is on a
 /// confirmed prefix. Where files have to be known, no entry is unknown besides.
-pub fn report_is_well_by_its_verdict()
+pub fn report_succeeds_by_its_verdict()
     ensures required { (inputs : Inputs) (request : Compared) (given : Answered) (ranges : List BankRange) (report : ReportData)
         → IsComparison inputs request given → given.requirement ≡ Some ranges → given.answer ≡ Report report
         → given.is_success ≡ (has_no_unknown given.unknown && required_matches ranges (verdict_of report)) }

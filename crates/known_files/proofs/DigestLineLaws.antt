@@ -104,9 +104,9 @@ by_again bytes digest p =
     let n = digits_count p.digits digest p.value_is p.value_size in
     let back : drop (2 * size_of (alg_of digest)) bytes ≡ p.mark ++ p.name =
     ap (λ k. drop k bytes) n ∙ ap (drop (length p.digits)) p.spelled ∙ drop_at p.digits (p.mark ++ p.name) (length p.digits) refl in
-    let front : take (2 * size_of (alg_of digest)) bytes ≡ p.digits =
+    let prefix : take (2 * size_of (alg_of digest)) bytes ≡ p.digits =
     ap (λ k. take k bytes) n ∙ ap (take (length p.digits)) p.spelled ∙ take_at p.digits (p.mark ++ p.name) (length p.digits) refl in
-    rw (back, front, p.value_is, mark_again p.mark p.name p.mark_is) (ap (λ d. the_some d) (digest_again digest))
+    rw (back, prefix, p.value_is, mark_again p.mark p.name p.mark_is) (ap (λ d. the_some d) (digest_again digest))
 
 -- ---- a line
 
@@ -179,11 +179,11 @@ pub digest_here : (alg : Alg) (bytes digits after : List ℕ) (result : Option D
     → IfSome result (λ digest. (alg_of digest ≡ alg) × (decode_of digits ≡ Ok (bytes_of digest)))
     → result ≡ digest_by alg bytes
 unfolding digest_by
-digest_here alg bytes digits after result front back mark found value =
+digest_here alg bytes digits after result prefix back mark found value =
     let n = 2 * size_of alg in
     let test : begins_with_mark (drop n bytes) ≡ true = ap begins_with_mark (sym back) ∙ mark in
     let long : 0 < length bytes - n = omega (arith, some_after (drop n bytes) test, length-drop n bytes) in
-    let size : length digits ≡ n = ap length front ∙ length-take-le n bytes (omega (arith, long)) in
+    let size : length digits ≡ n = ap length prefix ∙ length-take-le n bytes (omega (arith, long)) in
     hex_digest alg digits result size found value
-    ∙ ap (λ (l : List ℕ). option_map (digest_of alg) (result_ok (decode_of l))) front
+    ∙ ap (λ (l : List ℕ). option_map (digest_of alg) (result_ok (decode_of l))) prefix
     ∙ sym (ap (λ b. cond b (option_map (digest_of alg) (result_ok (decode_of (take n bytes)))) None) test)

@@ -6,7 +6,7 @@ use Rattle.boot_verdict.specs.declared.steps.Position.TheVariants.{Reset, Event,
 use Rattle.boot_verdict.specs.Positions.{position_after}
 use Rattle.boot_verdict.specs.Steps.{Step, OfEntry, OfEvent}
 use Rattle.known_files.specs.declared.known.KnownFiles.{KnownFiles}
-use Rattle.known_files.specs.declared.unknown.Unknown.{Unknown}
+use Rattle.known_files.specs.declared.unknown.UnknownFiles.{UnknownFiles}
 use Rattle.known_files.specs.declared.unknown.UnknownEntries.{UnknownEntries}
 use Rattle.known_files.specs.EntryFiles.{is_aggregate, is_known}
 use Rattle.known_files.specs.Known.{Knows}
@@ -37,7 +37,7 @@ abbrev pub IsSomeUnknown : List (List ℕ) → ℕ → List ListEntry → Type 0
 IsSomeUnknown texts first entries = 0 < length (unknown_in texts first (drop first entries))
 
 -- No entry is told unknown; so it is where no files are known.
-abbrev pub has_no_unknown : Option Unknown → Bool
+abbrev pub has_no_unknown : Option UnknownFiles → Bool
 has_no_unknown None = true
 has_no_unknown (Some unknown) = length unknown.numbers.items == 0
 

@@ -19,4 +19,4 @@ pub use entry_file::file_of;
 pub use fault::KnownFault;
 pub use known::KnownFiles;
 pub use listed::ListedFiles;
-pub use unknown::{Unknown, UnknownEntries, has_no_unknown};
+pub use unknown::{UnknownEntries, UnknownFiles, has_no_unknown};

@@ -15,10 +15,10 @@ use boot_verdict::{Position, Step, Tracker};
 use ima_list::EntryRef;
 use std::alloc::{AllocError, Global};
 
-/// The entries that are not known, of those from number `first` on. Entries count from 0. Entry 0 is not among them if it is one of the boot
+/// The entries whose files are not known, of those from number `first` on. Entries count from 0. Entry 0 is not among them if it is one of the boot
 /// aggregate.
 #[derive(Drop)]
-pub struct Unknown {
+pub struct UnknownFiles {
     /// The number of the first entry that was looked at.
     pub first: usize,
     /// The numbers of those that are not known, in order.
@@ -26,7 +26,7 @@ pub struct Unknown {
 }
 
 /// Whether no entry is told unknown; so it is where no files are known.
-pub fn has_no_unknown(unknown: Option<&Unknown>) -> bool
+pub fn has_no_unknown(unknown: Option<&UnknownFiles>) -> bool
     ensures { result ≡ has_no_unknown (option_copied unknown.entry) }
 {
     match unknown {
@@ -61,7 +61,7 @@ impl<'a> UnknownEntries<'a> {
 
     /// The entries that are not known, among the first `count` of the list; `None` without known files. Fails if memory ran out at an
     /// unknown entry, which may be a later one.
-    pub fn within(self, count: usize) -> Result<Option<Unknown>, AllocError>
+    pub fn within(self, count: usize) -> Result<Option<UnknownFiles>, AllocError>
         ensures unknown { IfOk result (λ unknown. (files : KnownFiles) (first : ℕ) (start : UnknownEntries) (entries : List ListEntry)
             → IsFresh (Some files) first start → AreTracked IsLookedAfter start entries self.entry
             → IsSomeAnd unknown (λ unknown. (unknown.first ≡ first)
@@ -78,7 +78,7 @@ impl<'a> UnknownEntries<'a> {
             return Err(AllocError);
         }
         match self.known {
-            Some(_known) => Ok(Some(Unknown {
+            Some(_known) => Ok(Some(UnknownFiles {
                 first: self.first,
                 numbers: numbers_below(self.numbers, count),
             })),

@@ -2,7 +2,7 @@
 use Rattle.std.specs.Prelude.{ℕ, Bool, true, false, List, Option, Some, None, flat_map, ◌≡◌, ◌⊎◌, if◌then◌else◌, []}
 use Rattle.pcr_values.specs.declared.selection.BankRange.{BankRange}
 use Rattle.boot_verdict.specs.ListVerdicts.{list_verdict_of}
-use Rattle.known_files.specs.declared.unknown.Unknown.{Unknown}
+use Rattle.known_files.specs.declared.unknown.UnknownFiles.{UnknownFiles}
 use Rattle.attestations.specs.Reports.{attest_verdict_of}
 use Rattle.cells.specs.Cells.{Cell, rendered}
 use Rattle.cells.specs.Values.{Member}
@@ -32,16 +32,16 @@ use Rattle.judging.specs.Answering.{IsAnswer, IsRefusal}
 use Rattle.judging.specs.Requests.{Requested}
 
 -- The cell of an answer, with whether all is well, the registers that are required, and the entries that are not known.
-abbrev pub answer_cell : Bool → Option (List BankRange) → Option Unknown → Answer → Cell Member
-answer_cell well required unknown (Attestation report) = attestation_cell unknown (attest_verdict_of report)
-answer_cell well required unknown (Report report) = report_cell required unknown well (verdict_of report)
-answer_cell well required unknown (Prefix prefix) =
+abbrev pub answer_cell : Bool → Option (List BankRange) → Option UnknownFiles → Answer → Cell Member
+answer_cell success required unknown (Attestation report) = attestation_cell unknown (attest_verdict_of report)
+answer_cell success required unknown (Report report) = report_cell required unknown success (verdict_of report)
+answer_cell success required unknown (Prefix prefix) =
     prefix_cell required unknown (verdict_of prefix.report) prefix.entries prefix.unconfirmed
-answer_cell well required unknown (Positions positions) = positions_cell required positions.items
-answer_cell well required unknown (ListReport report) = list_report_cell required unknown (list_verdict_of report)
-answer_cell well required unknown (Registers registers) = registers_cell registers.now registers.start
-answer_cell well required unknown (Expected expected) = expected_cell expected.items
-answer_cell well required unknown (Key report part) = key_cell part report
+answer_cell success required unknown (Positions positions) = positions_cell required positions.items
+answer_cell success required unknown (ListReport report) = list_report_cell required unknown (list_verdict_of report)
+answer_cell success required unknown (Registers registers) = registers_cell registers.now registers.start
+answer_cell success required unknown (Expected expected) = expected_cell expected.items
+answer_cell success required unknown (Key report part) = key_cell part report
 
 -- The answer in this form.
 abbrev pub render : Form → Answered → List ℕ

@@ -168,10 +168,10 @@ fn integer(alloc: Global, bytes: &[u8]) -> Result<Vec<u8>, AllocError>
 }
 
 // A value with this tag, of a content in two parts.
-fn der(alloc: Global, tag: u8, front: &[u8], back: &[u8]) -> Result<Vec<u8>, AllocError>
-    ensures { IfOk result (λ value. value.items ≡ der tag (front.now ++ back.now)) }
+fn der(alloc: Global, tag: u8, prefix: &[u8], back: &[u8]) -> Result<Vec<u8>, AllocError>
+    ensures { IfOk result (λ value. value.items ≡ der tag (prefix.now ++ back.now)) }
 {
-    let mut content = Vec::from_slice(alloc, front)?;
+    let mut content = Vec::from_slice(alloc, prefix)?;
     content.extend_from_slice(back)?;
     let mut value = Vec::new(alloc);
     value.push(tag)?;

@@ -40,16 +40,16 @@ fn state_of(status: i32) -> &'static str {
     }
 }
 
-fn front() -> String {
+fn on_prefix() -> String {
     REPORT.replace(ENTRIES, r#""entries":5,"confirmed":3,"#)
 }
 
 /// The same with what is told of the entries after it.
-fn front_and(fault: &str) -> String {
-    front().replace(CONFIRMED, &format!("{CONFIRMED}{fault}"))
+fn on_prefix_and(fault: &str) -> String {
+    on_prefix().replace(CONFIRMED, &format!("{CONFIRMED}{fault}"))
 }
 
-fn whole_front() -> String {
+fn whole_prefix() -> String {
     REPORT.replace(ENTRIES, r#""entries":3,"confirmed":3,"#)
 }
 
@@ -120,10 +120,10 @@ fn right_answers_are_read() {
         (DIFFERS, differing(), true, None, None),
         (DIFFERS, on_nothing(&differing().replace("wrong", "good")), false, None, None),
         (DIFFERS, on_nothing(&differing().replace("wrong", "good")), true, None, None),
-        (DONE, front(), true, Some(3), None),
-        (DONE, whole_front(), true, Some(3), None),
-        (DONE, front_and(REPLAY), true, Some(3), fault("unconfirmed: replay fault 1 at entry 4", Kind::Replay, 4)),
-        (DONE, front_and(LIST), true, Some(3), fault("unconfirmed: list fault 1 at entry 5", Kind::List, 5)),
+        (DONE, on_prefix(), true, Some(3), None),
+        (DONE, whole_prefix(), true, Some(3), None),
+        (DONE, on_prefix_and(REPLAY), true, Some(3), fault("unconfirmed: replay fault 1 at entry 4", Kind::Replay, 4)),
+        (DONE, on_prefix_and(LIST), true, Some(3), fault("unconfirmed: list fault 1 at entry 5", Kind::List, 5)),
     ] {
         let mut session = session(None, prefix);
         let verdict = session.given(300, status, state_of(status), &text).unwrap();
@@ -135,9 +135,9 @@ fn right_answers_are_read() {
 }
 
 #[test]
-fn front_that_cannot_be_is_none() {
+fn prefix_that_cannot_be_is_none() {
     check_changes(
-        &front(),
+        &on_prefix(),
         &[
             (r#""confirmed":3"#, r#""confirmed":6"#),
             (r#""confirmed":3"#, r#""confirmed":0"#),
@@ -156,8 +156,8 @@ fn front_that_cannot_be_is_none() {
             (MATCHING, r#""state":"missing""#),
         ],
     );
-    check_unexpected(DIFFERS, "", &front(), true);
-    check_unexpected(DONE, STATE, REPORT, true); // (a whole list that matches has a front, too)
+    check_unexpected(DIFFERS, "", &on_prefix(), true);
+    check_unexpected(DONE, STATE, REPORT, true); // (a whole list that matches has a prefix, too)
     let both = format!("{CONFIRMED}{REPLAY}");
     for told in [CONFIRMED, &both, REPLAY, r#""confirmed":null,"#, r#""unconfirmed":null,"#] {
         for entries in [ENTRIES, r#""entries":5,"#] {
@@ -167,7 +167,7 @@ fn front_that_cannot_be_is_none() {
             assert!(!is_whole(DIFFERS, &text));
         }
     }
-    for text in [front(), front_and(REPLAY), whole_front()] {
+    for text in [on_prefix(), on_prefix_and(REPLAY), whole_prefix()] {
         check_unexpected(DONE, STATE, &text, false);
         assert!(!is_whole(DONE, &text));
     }
@@ -179,11 +179,11 @@ fn strayed(report: &str, extends: &str) -> String {
 }
 
 #[test]
-fn front_with_a_stray_is_no_match() {
+fn prefix_with_a_stray_is_no_match() {
     let entry = r#""extends":[{"entry":2,"register":11}]"#;
     let both = r#""extends":[{"event":1,"register":10},{"entry":0,"register":0}]"#;
     for extends in [entry, r#""extends":[{"event":1,"register":10}]"#, both] {
-        for (text, is_told) in [(front(), false), (front_and(REPLAY), true)] {
+        for (text, is_told) in [(on_prefix(), false), (on_prefix_and(REPLAY), true)] {
             let text = strayed(&text, extends);
             let verdict = session(None, true).given(300, DIFFERS, "", &text).unwrap();
             let found = (verdict.matches, verdict.confirmed, verdict.unconfirmed.is_some(), verdict.extends.is_empty());
@@ -204,17 +204,17 @@ fn front_with_a_stray_is_no_match() {
             assert!(!is_whole(DIFFERS, &text));
         }
         let whole = strayed(REPORT, extends);
-        check_unexpected(DIFFERS, "", &whole, true); // (all registers match, so there is a front)
+        check_unexpected(DIFFERS, "", &whole, true); // (all registers match, so there is a prefix)
         assert!(!session(None, false).given(300, DIFFERS, "", &whole).unwrap().matches);
     }
-    let after = strayed(&front(), entry).replace(r#""entry":2"#, r#""entry":3"#);
-    check_unexpected(DIFFERS, "", &after, true); // (it is after the front)
+    let after = strayed(&on_prefix(), entry).replace(r#""entry":2"#, r#""entry":3"#);
+    check_unexpected(DIFFERS, "", &after, true); // (it is after the prefix)
 }
 
 #[test]
-fn fault_after_the_front_that_cannot_be_is_none() {
+fn fault_after_the_prefix_that_cannot_be_is_none() {
     check_changes(
-        &front_and(REPLAY),
+        &on_prefix_and(REPLAY),
         &[
             (r#""entry":4"#, r#""entry":3"#),
             (r#"y 4""#, r#"y 3""#),
@@ -243,7 +243,7 @@ fn fault_after_the_front_that_cannot_be_is_none() {
             (REPLAY, r#""unconfirmed":{"kind":"memory","message":"failed: memory"},"#),
         ],
     );
-    check_changes(&front_and(LIST), &[(r#""entries":5"#, r#""entries":6"#), (r#""entries":5"#, r#""entries":4"#)]);
+    check_changes(&on_prefix_and(LIST), &[(r#""entries":5"#, r#""entries":6"#), (r#""entries":5"#, r#""entries":4"#)]);
 }
 
 #[test]
@@ -264,16 +264,16 @@ fn state_that_is_not_that_of_the_report_is_none() {
         let state = STATE.replacen(old, new, 1);
         assert_ne!(state, STATE);
         check_unexpected(DONE, &state, REPORT, false);
-        check_unexpected(DONE, &state, &front(), true);
+        check_unexpected(DONE, &state, &on_prefix(), true);
     }
     for state in [STATE, "x", "\n"] {
         check_unexpected(DIFFERS, state, &differing(), false); // (only a match has one)
         check_unexpected(DIFFERS, state, &differing(), true);
     }
-    let none = front().replace(r#""confirmed":3"#, r#""confirmed":0"#);
+    let none = on_prefix().replace(r#""confirmed":3"#, r#""confirmed":0"#);
     for (text, old, new, size) in [
         (REPORT, "300", "2", 2), // (fewer bytes than entries)
-        (&front(), "300", "2", 2),
+        (&on_prefix(), "300", "2", 2),
         (&none, "entries 3", "entries 0", 300),
     ] {
         let mut session = session(None, text != REPORT);
@@ -283,11 +283,11 @@ fn state_that_is_not_that_of_the_report_is_none() {
     let less = STATE.replace("300", "299");
     check_unexpected(DONE, &less, REPORT, false);
     let mut new = session(None, true);
-    let verdict = new.given(300, DONE, &less, &front()).unwrap(); // (the front's end may be anywhere)
+    let verdict = new.given(300, DONE, &less, &on_prefix()).unwrap(); // (the prefix's end may be anywhere)
     assert_eq!((verdict.confirmed, new.offset()), (Some(3), 299));
-    assert!(session(Some(STATE), true).given(0, DONE, &less, &front()).is_err());
+    assert!(session(Some(STATE), true).given(0, DONE, &less, &on_prefix()).is_err());
     let later = STATE.replace("entries 3", "entries 4").replace("300", "400");
-    for (text, prefix) in [(REPORT.to_owned(), false), (front(), true)] {
+    for (text, prefix) in [(REPORT.to_owned(), false), (on_prefix(), true)] {
         assert!(session(Some(&later), prefix).given(0, DONE, &STATE.replace("300", "400"), &text).is_err());
     }
     assert!(session(Some(&later), false).given(0, DIFFERS, "", &differing()).is_err());
@@ -295,7 +295,7 @@ fn state_that_is_not_that_of_the_report_is_none() {
 
 #[test]
 fn report_of_no_registers_is_no_match() {
-    for (text, prefix) in [(REPORT.to_owned(), false), (front(), true)] {
+    for (text, prefix) in [(REPORT.to_owned(), false), (on_prefix(), true)] {
         for status in [DONE, DIFFERS] {
             check_unexpected(status, state_of(status), &on_nothing(&text), prefix);
         }

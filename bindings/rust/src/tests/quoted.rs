@@ -66,14 +66,14 @@ fn nothing_is_attested_without_a_signature() {
 #[test]
 fn other_logs_and_lists_differ() {
     let files = files();
-    let (front, last) = files.list.split_at(files.list.len() - LAST_ENTRY_SIZE);
+    let (prefix, last) = files.list.split_at(files.list.len() - LAST_ENTRY_SIZE);
     let event = [&[9, 0, 0, 0, 13, 0, 0, 0, 1, 0, 0, 0, 0x0b][..], &[0; 37]].concat();
     let (longer, later) = ([&files.list[..], last].concat(), [&files.log[..], &event].concat());
-    for (log, list) in [(&files.log, front), (&files.log, &longer[..]), (&files.log, &[]), (&later, &files.list)] {
+    for (log, list) in [(&files.log, prefix), (&files.log, &longer[..]), (&files.log, &[]), (&later, &files.list)] {
         let found = attest(log, list, &files.quote()).unwrap();
         assert_eq!((found.matches, found.quote_matches, found.signature_checked), (false, false, true));
     }
-    let straying = [front, &[11], &last[1..], last].concat();
+    let straying = [prefix, &[11], &last[1..], last].concat();
     let found = attest(&files.log, &straying, &files.quote()).unwrap();
     assert_eq!((found.matches, found.quote_matches), (false, true));
     assert_eq!(found.extends, [Stray::Entry { entry: 98, register: 11 }]);

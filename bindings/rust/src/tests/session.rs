@@ -118,7 +118,7 @@ fn check_argument(session: &mut Session, data: &[u8]) {
     assert_eq!((session.state().map(<[u8]>::to_vec), session.offset()), before);
 }
 
-fn check_front(verdict: Verdict, entries: u64, confirmed: u64, unconfirmed: Option<Unconfirmed>) {
+fn check_prefix(verdict: Verdict, entries: u64, confirmed: u64, unconfirmed: Option<Unconfirmed>) {
     assert!(verdict.matches && verdict.rows.iter().all(|row| row.state == State::Match));
     assert_eq!((verdict.entries, verdict.confirmed, verdict.unconfirmed), (entries, Some(confirmed), unconfirmed));
 }
@@ -160,7 +160,7 @@ fn only_a_match_moves_the_session() {
 #[test]
 fn list_in_many_parts() {
     let boot = Sample::new();
-    let mut session = Session::new(&boot.log, &boot.first(10), NOTHING_REQUIRED); // (of which each front is a match)
+    let mut session = Session::new(&boot.log, &boot.first(10), NOTHING_REQUIRED); // (of which each prefix is a match)
     for (start, end) in boot.ends.iter().zip(&boot.ends[1..]) {
         let verdict = session.more(&boot.list[*start..*end]).unwrap();
         assert_eq!((verdict.matches, session.offset()), (true, *end as u64));
@@ -329,7 +329,7 @@ fn entry_of_another_register_is_no_match_and_no_state() {
         }
     }
     let mut before = Session::new(&boot.log, &boot.tenth_after(97), "sha256:0-10").prefix();
-    check_front(before.more(&straying).unwrap(), 100, 97, None);
+    check_prefix(before.more(&straying).unwrap(), 100, 97, None);
 }
 
 #[test]
@@ -347,26 +347,26 @@ fn event_of_register_10_is_no_match_and_no_state() {
 }
 
 #[test]
-fn front_that_the_registers_confirm() {
+fn prefix_that_the_registers_confirm() {
     let boot = Sample::new();
     for count in [1, 2, 50, 97, 98, 99] {
         let mut session = Session::new(&boot.log, &boot.tenth_after(count), "sha256:0-10").prefix();
-        check_front(session.more(&boot.list).unwrap(), 99, count as u64, None);
+        check_prefix(session.more(&boot.list).unwrap(), 99, count as u64, None);
         assert_eq!((session.state(), session.offset()), (Some(&boot.state_after(count)[..]), boot.ends[count] as u64));
     }
     // (without register 10 nothing speaks for more than the boot aggregate)
-    check_front(Session::new(&boot.log, &boot.first(10), NOTHING_REQUIRED).prefix().more(&boot.list).unwrap(), 99, 1, None);
+    check_prefix(Session::new(&boot.log, &boot.first(10), NOTHING_REQUIRED).prefix().more(&boot.list).unwrap(), 99, 1, None);
 }
 
 #[test]
-fn session_goes_on_from_the_front() {
+fn session_goes_on_from_the_prefix() {
     let boot = Sample::new();
     let mut session = boot.session_of(97).prefix();
-    check_front(session.more(&boot.list).unwrap(), 99, 97, None);
+    check_prefix(session.more(&boot.list).unwrap(), 99, 97, None);
     let mut later = boot.session().prefix().resume(session.state().unwrap()).unwrap();
     let longer = [&boot.list, boot.from(98)].concat();
     for _ in 0..2 {
-        check_front(later.more(&longer[later.offset() as usize..]).unwrap(), 100, 99, None);
+        check_prefix(later.more(&longer[later.offset() as usize..]).unwrap(), 100, 99, None);
         assert_eq!(later.offset(), boot.list.len() as u64);
     }
     let mut early = boot.session_of(50).prefix().resume(&boot.state_after(97)).unwrap();
@@ -375,7 +375,7 @@ fn session_goes_on_from_the_front() {
 }
 
 #[test]
-fn damage_after_the_front_is_told() {
+fn damage_after_the_prefix_is_told() {
     let boot = Sample::new();
     for (list, entries, kind, number, place) in [
         (boot.forged(98), 99, Kind::Replay, 1, 98),
@@ -389,7 +389,7 @@ fn damage_after_the_front_is_told() {
             let new = Session::new(&boot.log, &boot.tenth_after(97), "sha256:10");
             let mut session = new.prefix().resume(&boot.state_after(cut)).unwrap();
             let wanted = Unconfirmed { line: format!("unconfirmed: {line}"), kind, number, entry: place };
-            check_front(session.more(&list[boot.ends[cut]..]).unwrap(), entries, 97, Some(wanted));
+            check_prefix(session.more(&list[boot.ends[cut]..]).unwrap(), entries, 97, Some(wanted));
             assert_eq!(session.state(), Some(&boot.state_after(97)[..]));
         }
         check_refused(&mut boot.session_of(97), &list, refused(&format!("refused: {line}"), kind, number, Some(place)));
@@ -401,7 +401,7 @@ fn damage_after_the_front_is_told() {
 }
 
 #[test]
-fn list_without_a_front_is_as_without_prefix() {
+fn list_without_a_confirmed_prefix_is_as_without_the_option() {
     let boot = Sample::new();
     let nowhere = format!("sha256 10 {}", "1".repeat(64));
     let new = || Session::new(&boot.log, nowhere.as_bytes(), NOTHING_REQUIRED);

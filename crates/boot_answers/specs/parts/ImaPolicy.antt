@@ -7,5 +7,5 @@ pub record SetsFrom (starts : Bool) (text : List ℕ) : Type 0 where
   pub before : List ℕ
   pub rest : List ℕ
   pub parts : text ≡ before ++ rest
-  pub start : ((before ≡ []) × (starts ≡ true)) ⊎ ((front : List ℕ) × (byte : ℕ) × (before ≡ front ++ byte ∷ []) × (is_between byte ≡ true))
+  pub start : ((before ≡ []) × (starts ≡ true)) ⊎ ((prefix : List ℕ) × (byte : ℕ) × (before ≡ prefix ++ byte ∷ []) × (is_between byte ≡ true))
   pub option : begins_option rest ≡ true

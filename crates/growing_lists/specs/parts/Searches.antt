@@ -23,21 +23,21 @@ use Rattle.boot_verdict.specs.ListSources.{CameFrom, CameWhole}
 use Rattle.boot_verdict.specs.Tracking.{After}
 
 -- The checkpoint of a confirmed prefix of these bytes and of these entries.
-pub record IsConfirmedAt (algs : AlgSet) (events : List LogEvent) (aim : GoalData) (known : Checkpoint) (bytes : List ℕ) (entries : List ListEntry) (at : Checkpoint)
+pub record IsConfirmedAt (algs : AlgSet) (events : List LogEvent) (goal : GoalData) (known : Checkpoint) (bytes : List ℕ) (entries : List ListEntry) (at : Checkpoint)
     : Type 0 where
   pub prefix : List ListEntry
   pub rest : List ℕ
   pub begins : BeginsWith bytes prefix rest
   pub first : take (length prefix) entries ≡ prefix
-  pub confirmed : IsConfirmed algs events aim known.entries prefix
+  pub confirmed : IsConfirmed algs events goal known.entries prefix
   pub checkpoint : IsCheckpoint (list_spelling prefix) at
   pub same : checkpoint.entries ≡ prefix
   pub before : at.before ≡ known.before
 
 -- The confirmed prefix of these entries, with which the bytes begin, or none.
 abbrev pub FindsPrefix : AlgSet → List LogEvent → GoalData → Checkpoint → List ℕ → List ListEntry → Option Checkpoint → Type 0
-FindsPrefix algs events aim known bytes entries None = AreUnconfirmed algs events aim known.entries entries
-FindsPrefix algs events aim known bytes entries (Some at) = IsConfirmedAt algs events aim known bytes entries at
+FindsPrefix algs events goal known bytes entries None = AreUnconfirmed algs events goal known.entries entries
+FindsPrefix algs events goal known bytes entries (Some at) = IsConfirmedAt algs events goal known bytes entries at
 
 abbrev pub wrong_with : Result Checkpoint Unconfirmed → Option Unconfirmed
 wrong_with (Ok whole) = None
@@ -52,7 +52,7 @@ IsWhole known list old new limit entries (Err (unconfirmed.Replay fault)) = (mor
 IsWhole known list old new limit entries (Err (unconfirmed.List fault)) = Unit {0}
 
 -- What came of a list that goes on after these bytes was searched.
-pub record Searches (known : Checkpoint) (list : List ℕ) (old new : Option (List ℕ)) (limit : ℕ) (aim : GoalData) (search : Search) : Type 0 where
+pub record Searches (known : Checkpoint) (list : List ℕ) (old new : Option (List ℕ)) (limit : ℕ) (goal : GoalData) (search : Search) : Type 0 where
   pub came : List ℕ
   pub over : List ℕ
   pub entries : List ListEntry
@@ -60,15 +60,15 @@ pub record Searches (known : Checkpoint) (list : List ℕ) (old new : Option (Li
   pub came_is : CameFrom old new limit came over
   pub begins : BeginsWith (list ++ came) entries rest
   pub prefix : (algs : AlgSet) (events : List LogEvent) → IsFirmware algs events known.before
-      → FindsPrefix algs events aim known (list ++ came) entries search.prefix
+      → FindsPrefix algs events goal known (list ++ came) entries search.prefix
   pub count : length entries ≡ search.entries
   pub wrong : CameWrong list old new limit search.entries (wrong_with search.whole)
   pub whole : IsWhole known list old new limit entries search.whole
 
 -- The same, where `watch` has tracked the entries before the first that is not genuine.
-pub record WatchesSearch {W : Type 0} (IsAfter : After W) (start : W) (known : Checkpoint) (list : List ℕ) (old new : Option (List ℕ)) (limit : ℕ) (aim : GoalData)
+pub record WatchesSearch {W : Type 0} (IsAfter : After W) (start : W) (known : Checkpoint) (list : List ℕ) (old new : Option (List ℕ)) (limit : ℕ) (goal : GoalData)
     (search : Search) (watch : W) : Type 0 where
-  pub searches : Searches known list old new limit aim search
+  pub searches : Searches known list old new limit goal search
   pub forged : Option ℕ
   pub watched : IsReplayedOrForged IsAfter start searches.entries watch forged
 
@@ -114,5 +114,5 @@ fault_in (unconfirmed.Replay fault) = faults.Replay fault
 
 -- It is no fault of a list, so it does not tell of a prefix.
 abbrev pub IsNoListFault : VerifyFault → Type 0
-IsNoListFault fault = (log list : List ℕ) (old new : Option (List ℕ)) (limit : ℕ) (aim : GoalData) (least : ℕ)
-    → IsUnconfirmedFault log list old new limit aim least fault
+IsNoListFault fault = (log list : List ℕ) (old new : Option (List ℕ)) (limit : ℕ) (goal : GoalData) (least : ℕ)
+    → IsUnconfirmedFault log list old new limit goal least fault

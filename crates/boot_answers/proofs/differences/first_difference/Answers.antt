@@ -5,7 +5,7 @@ use Rattle.boot_answers.specs.Differences.{digests_in}
 use Rattle.boot_answers.specs.Extending.{extended_events}
 use Rattle.boot_answers.proofs.DifferenceLaws.{differ, known_longer, same_longer}
 use Rattle.boot_answers.proofs.EventLaws.{given_are_read}
-use Rattle.boot_answers.proofs.FrontLaws.{not_told}
+use Rattle.boot_answers.proofs.FailingTestLaws.{not_told}
 use Rattle.boot_answers.proofs.differences.first_difference.Goals as goal
 
 pub returns-in_default-next_event : goal.returns-in_default-next_event

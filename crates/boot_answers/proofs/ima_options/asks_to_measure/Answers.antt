@@ -1,7 +1,7 @@
 use Rattle.std.proofs.Common.{◌≡◌, ℕ, List, false, [], ◌∷◌, refl, sym, subst, ◌∙◌}
 use Rattle.boot_answers.specs.ImaMeasuring.{stops}
 use Rattle.boot_answers.specs.parts.ImaMeasuring.{AsksFrom}
-use Rattle.boot_answers.proofs.FrontLaws.{not_told}
+use Rattle.boot_answers.proofs.FailingTestLaws.{not_told}
 use Rattle.boot_answers.proofs.ImaMeasuringLaws.{asks_all, asks_earlier, asks_from, asks_here, asks_later, asks_not_at_end, stopped}
 use Rattle.boot_answers.proofs.ImaPolicyLaws.{no_bytes}
 use Rattle.boot_answers.proofs.ima_options.asks_to_measure.Goals as goal

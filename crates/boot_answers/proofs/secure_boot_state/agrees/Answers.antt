@@ -1,6 +1,6 @@
 use Rattle.std.proofs.Common.{refl, subst}
 use Rattle.boot_answers.specs.parts.SecureBoot.{IsToldIn}
-use Rattle.boot_answers.proofs.FrontLaws.{not_told}
+use Rattle.boot_answers.proofs.FailingTestLaws.{not_told}
 use Rattle.boot_answers.proofs.SecureBootLaws.{one_told_in}
 use Rattle.boot_answers.proofs.secure_boot_state.agrees.Goals as goal
 

@@ -6,7 +6,7 @@ use Rattle.pcr_banks.specs.declared.alg.Alg.TheVariants.{Sha1}
 use Rattle.pcr_banks.specs.Hashing.{all_algs}
 use Rattle.pcr_banks.proofs.AlgLaws.{every_alg, one_more}
 use Rattle.boot_answers.specs.parts.SecureBoot.{Agrees}
-use Rattle.boot_answers.proofs.FrontLaws.{not_told}
+use Rattle.boot_answers.proofs.FailingTestLaws.{not_told}
 use Rattle.boot_answers.proofs.secure_boot_state.all_agree.Goals as goal
 
 pub returns-then-not-agrees : goal.returns-then-not-agrees

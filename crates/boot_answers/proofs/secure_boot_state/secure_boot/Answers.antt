@@ -1,4 +1,4 @@
-use Rattle.boot_answers.proofs.FrontLaws.{not_told}
+use Rattle.boot_answers.proofs.FailingTestLaws.{not_told}
 use Rattle.boot_answers.proofs.SecureBootLaws.{told_by_all, told_by_none, told_by_some}
 use Rattle.boot_answers.proofs.secure_boot_state.secure_boot.Goals as goal
 

@@ -1,5 +1,5 @@
 use Rattle.std.proofs.Common.{refl}
-use Rattle.boot_answers.proofs.FrontLaws.{not_told}
+use Rattle.boot_answers.proofs.FailingTestLaws.{not_told}
 use Rattle.boot_answers.proofs.versions.agrees.Goals as goal
 
 pub returns-then-is_answering : goal.returns-then-is_answering

@@ -1,5 +1,5 @@
 use Rattle.std.proofs.Common.{[], refl, sym, append-nil, inr}
-use Rattle.boot_answers.proofs.FrontLaws.{not_told}
+use Rattle.boot_answers.proofs.FailingTestLaws.{not_told}
 use Rattle.boot_texts.proofs.images.append_if_image.Goals as goal
 
 pub returns-else-may_be_image_in : goal.returns-else-may_be_image_in

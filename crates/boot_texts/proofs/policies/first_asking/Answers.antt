@@ -4,7 +4,7 @@ use Rattle.std.proofs.lemmas.List.{length-append}
 use Rattle.boot_log.specs.Spelling.{log_event_of}
 use Rattle.boot_log.proofs.LogLaws.{one_reading}
 use Rattle.boot_answers.proofs.EventLaws.{added_last, other_adds_nothing, own_is_next}
-use Rattle.boot_answers.proofs.FrontLaws.{not_told}
+use Rattle.boot_answers.proofs.FailingTestLaws.{not_told}
 use Rattle.boot_answers.specs.Extending.{extended_events}
 use Rattle.boot_texts.specs.Policies.{Passes}
 use Rattle.boot_texts.proofs.PolicyLaws.{none_before, none_of_all}

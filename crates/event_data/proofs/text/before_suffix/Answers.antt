@@ -16,5 +16,5 @@ returns-clause-none c =
 
 pub returns-clause-value : goal.returns-clause-value
 returns-clause-value c =
-    same_finds c.strip_suffix.result (λ (front : List ℕ). c.args.bytes.now ≡ front ++ c.args.suffix.now) (before_in c.args.suffix.now c.args.bytes.now)
+    same_finds c.strip_suffix.result (λ (prefix : List ℕ). c.args.bytes.now ≡ prefix ++ c.args.suffix.now) (before_in c.args.suffix.now c.args.bytes.now)
     (before_finds c.args.suffix.now c.args.bytes.now) (returns-clause-found c) (returns-clause-none c)

@@ -26,6 +26,6 @@ returns-clause-answer g c = record {
   evidence_is = c.in_ok-evidence.ensures.evidence;
   requirement_is = c.answered_with.ensures.requirement;
   judged = rw (c.answered_with.ensures.answer, c.answered_with.ensures.unknown) (rw c.in_ok-evidence.ensures.inputs at c.in_ok-found.ensures.found);
-  well_is = rw (c.answered_with.ensures.answer, c.answered_with.ensures.requirement, c.answered_with.ensures.unknown) c.answered_with.ensures.well;
+  success_is = rw (c.answered_with.ensures.answer, c.answered_with.ensures.requirement, c.answered_with.ensures.unknown) c.answered_with.ensures.success;
   next_is = c.answered_with.ensures.next;
 }

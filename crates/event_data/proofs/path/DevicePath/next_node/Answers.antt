@@ -6,7 +6,7 @@ use Rattle.event_data.proofs.path.DevicePath.next_node.Goals as goal
 pub returns-in-Ok-clause-node : goal.returns-in-Ok-clause-node
 returns-in-Ok-clause-node c =
     let taken = node_takes c.args.self.now.rest.now (node_of c.in-Ok.node) c.in-Ok.rest.now c.args.self.now.fits c.in-Ok.ensures in
-    (taken.front, taken.parts, taken.is)
+    (taken.prefix, taken.parts, taken.is)
 
 pub returns-in-Ok-clause-shorter : goal.returns-in-Ok-clause-shorter
 returns-in-Ok-clause-shorter c =

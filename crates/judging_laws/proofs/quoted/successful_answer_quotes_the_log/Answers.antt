@@ -5,12 +5,12 @@ use Rattle.tpm_quotes.specs.Quoting.{confirms}
 use Rattle.tpm_quotes.specs.Spelling.{TpmQuote}
 use Rattle.attestations.specs.Judging.{Attestation}
 use Rattle.judging_laws.proofs.QuotedLogLaws.{after_log}
-use Rattle.judging_laws.proofs.quoted.well_answer_quotes_the_log.Goals as goal
+use Rattle.judging_laws.proofs.quoted.successful_answer_quotes_the_log.Goals as goal
 
 pub returns : goal.returns
 returns c =
-    λ inputs asked given is well whole none.
-    let (list, held, tells) = c.answer_tells_attestation.ensures.whole inputs asked given is well whole none in
+    λ inputs asked given is success whole none.
+    let (list, held, tells) = c.answer_tells_attestation.ensures.whole inputs asked given is success whole none in
     let attested = tells.attested in
     let algs = algs_in attested.table in
     let same = sym (ap (λ (attestation : Attestation). attestation.quote) attested.attestation_is) ∙ tells.quote_is in

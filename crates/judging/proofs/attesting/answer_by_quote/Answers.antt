@@ -2,7 +2,7 @@ use Rattle.std.proofs.Common.{inl, inr}
 use Rattle.std.proofs.lemmas.Result.{err_from_is_err_and}
 use Rattle.tpm_quotes.specs.Spelling.{quote_of}
 use Rattle.judging.specs.Requests.{held_bytes}
-use Rattle.judging.proofs.attesting.judge_by.Goals as goal
+use Rattle.judging.proofs.attesting.answer_by_quote.Goals as goal
 
 pub returns-in_err-state-clause-fault : goal.returns-in_err-state-clause-fault
 returns-in_err-state-clause-fault g c =
@@ -83,6 +83,6 @@ returns-clause-answer g c =
         c.checkpoint_of.ensures,
       ) at c.in_ok-found.ensures.found);
       none_required = c.answered_with.ensures.requirement;
-      well_is = rw (c.answered_with.ensures.answer, c.answered_with.ensures.unknown) c.answered_with.ensures.well;
+      success_is = rw (c.answered_with.ensures.answer, c.answered_with.ensures.unknown) c.answered_with.ensures.success;
       next_is = rw c.of-boot.ensures at c.answered_with.ensures.next;
     }

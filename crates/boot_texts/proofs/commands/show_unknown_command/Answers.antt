@@ -1,5 +1,5 @@
 use Rattle.cells.proofs.CellLaws.{joined}
-use Rattle.boot_texts.proofs.commands.show_untold.Goals as goal
+use Rattle.boot_texts.proofs.commands.show_unknown_command.Goals as goal
 
 pub returns : goal.returns
 returns c = joined c.in_ok-word.ensures (joined c.in_ok-number.ensures (joined c.in_ok-show_event.ensures c.text.ensures))

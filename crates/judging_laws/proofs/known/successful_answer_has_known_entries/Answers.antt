@@ -1,5 +1,5 @@
 use Rattle.judging_laws.proofs.KnownEntryLaws.{attested_known, comparison_known}
-use Rattle.judging_laws.proofs.known.well_answer_has_known_entries.Goals as goal
+use Rattle.judging_laws.proofs.known.successful_answer_has_known_entries.Goals as goal
 
 pub returns-clause-comparison : goal.returns-clause-comparison
 returns-clause-comparison c = comparison_known (record { from = c.each_is_known.ensures.from; first = c.each_is_known.ensures.first })
