@@ -6,9 +6,7 @@ use Rattle.std.specs.Io.KnownBytes.{IsAtEnd}
 use Rattle.pcr_banks.specs.declared.alg.Alg.{Alg}
 use Rattle.pcr_banks.specs.declared.digest.Digest.{Digest}
 use Rattle.pcr_banks.specs.declared.hasher.Hasher.{Hasher}
-use Rattle.pcr_banks.specs.Digests.{digest_of}
-use Rattle.pcr_banks.specs.Hashing.{hash_of}
-use Rattle.pcr_banks.specs.Hashers.{HasTaken}
+use Rattle.pcr_banks.specs.Names.{HasTaken, digest_of, hash_of}
 use Rattle.byte_streams.specs.Streams.{SourceState}
 use Rattle.agent_inputs.specs.Loading.{IsHashOfAll}
 use Rattle.agent_inputs.proofs.LoadingLemmas.{HasLost, lost_nothing, whole}

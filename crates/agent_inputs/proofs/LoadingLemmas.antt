@@ -7,7 +7,7 @@ use Rattle.byte_streams.specs.declared.piece_reader.ReadFault.{ReadFault}
 use Rattle.byte_streams.specs.declared.piece_reader.ReadFault.TheVariants as reads
 use Rattle.byte_streams.specs.Streams.{GivesPiece, SourceState, failures_after_reading}
 use Rattle.byte_streams.proofs.SourceLaws.{Consumes-kept, Consumes-none, Consumes-then}
-use Rattle.boot_verdict.specs.ListSources.{failures_after_list}
+use Rattle.boot_verdict.specs.Names.{failures_after_list}
 use Rattle.boot_verdict.specs.declared.verifier.VerifyFault.{VerifyFault}
 use Rattle.boot_verdict.specs.declared.verifier.VerifyFault.TheVariants as verdicts
 use Rattle.agent_inputs.specs.declared.files.LoadFault.TheVariants.{TooLong}

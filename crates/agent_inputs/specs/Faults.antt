@@ -2,20 +2,19 @@
 use Rattle.std.specs.Prelude.{◌≡◌, ℕ, ◌⊎◌, List, Option, Some, None}
 use Rattle.pcr_values.specs.declared.expected.ExpectFault.{ExpectFault}
 use Rattle.pcr_values.specs.declared.expected.ExpectFault.TheVariants as expects
-use Rattle.pcr_values.specs.ExpectFaults.{expect_fault_line, expect_fault_number}
+use Rattle.pcr_values.specs.Names.{expect_fault_line, expect_fault_number}
 use Rattle.agent_plans.specs.declared.plan.ArgumentsFault.{ArgumentsFault}
 use Rattle.agent_plans.specs.declared.plan.ArgumentsFault.TheVariants as arguments
 use Rattle.boot_log.specs.declared.fault.LogFault.{LogFault}
 use Rattle.boot_log.specs.declared.fault.LogFault.TheVariants as logs
-use Rattle.boot_log.specs.Faults.{log_fault_event, log_fault_number}
-use Rattle.boot_log.specs.Reading.{log_fault}
+use Rattle.boot_log.specs.Names.{log_fault, log_fault_event, log_fault_number}
 use Rattle.ima_list.specs.declared.fault.ListFault.{ListFault}
 use Rattle.ima_list.specs.declared.fault.ListFault.TheVariants as lists
-use Rattle.ima_list.specs.ListFaults.{list_fault_entry, list_fault_number, replay_fault_entry, replay_fault_number}
+use Rattle.ima_list.specs.Names.{list_fault_entry, list_fault_number, replay_fault_entry, replay_fault_number}
 use Rattle.measure_book.specs.declared.fault.BookFault.{BookFault}
 use Rattle.measure_book.specs.declared.fault.BookFault.TheVariants as books
 use Rattle.measure_book.specs.declared.gathers.GatherFault.TheVariants as gathers
-use Rattle.measure_book.specs.Faults.{fault_number, gather_fault_number}
+use Rattle.measure_book.specs.Names.{fault_number, gather_fault_number}
 use Rattle.known_files.specs.declared.fault.KnownFault.{KnownFault}
 use Rattle.known_files.specs.declared.fault.KnownFault.TheVariants as known
 use Rattle.attestations.specs.Judging.{quote_refusal_number}

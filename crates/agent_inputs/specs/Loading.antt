@@ -11,8 +11,7 @@ use Rattle.agent_inputs.specs.declared.fault.RunFault.{RunFault}
 use Rattle.agent_inputs.specs.declared.fault.RunFault.TheVariants as runs
 use Rattle.pcr_banks.specs.declared.alg.Alg.{Alg}
 use Rattle.pcr_banks.specs.declared.digest.Digest.{Digest}
-use Rattle.pcr_banks.specs.Hashing.{hash_of}
-use Rattle.pcr_banks.specs.Digests.{digest_of}
+use Rattle.pcr_banks.specs.Names.{digest_of, hash_of}
 
 -- The fault of reading one piece.
 abbrev pub fault_of_reading : ReadFault → LoadFault

@@ -1,7 +1,7 @@
 -- There is one answer.
 use Rattle.std.proofs.Common.{◌≡◌, List, Option, Some, None, refl, ap, arith}
-use Rattle.boot_log.specs.Spelling.{LogEvent}
-use Rattle.event_data.specs.EventForms.{Content}
+use Rattle.boot_log.specs.Names.{LogEvent}
+use Rattle.event_data.specs.Names.{Content}
 use Rattle.measured_data.specs.declared.confirmed.Pcr.{Pcr}
 use Rattle.boot_answers.specs.declared.secure_boot_state.SecureBoot.{SecureBoot}
 use Rattle.boot_answers.specs.declared.secure_boot_state.SecureBoot.TheVariants.{On, Off, Unknown}

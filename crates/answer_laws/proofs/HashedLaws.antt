@@ -4,13 +4,10 @@ use Rattle.std.specs.Prelude.{◌⊎◌, filter_map}
 use Rattle.std.specs.List.{AllByRecursion}
 use Rattle.std.proofs.lemmas.List.Elements.{filter_map-append}
 use Rattle.pcr_banks.specs.declared.alg.Alg.{Alg}
-use Rattle.pcr_banks.specs.Hashing.{hash_of}
-use Rattle.pcr_banks.specs.Registers.{reset_value}
-use Rattle.pcr_banks.specs.Sets.{digest_in}
+use Rattle.pcr_banks.specs.Names.{digest_in, hash_of, reset_value}
 use Rattle.binding_laws.specs.BankBinding.{Collision}
 use Rattle.binding_laws.proofs.BankBindingLaws.{collision_of, reset_size, same_or_broken, same_or_collide}
-use Rattle.boot_log.specs.Replaying.{digests_for, startup_locality}
-use Rattle.boot_log.specs.Spelling.{LogEvent}
+use Rattle.boot_log.specs.Names.{LogEvent, digests_for, startup_locality}
 use Rattle.boot_answers.specs.Extending.{extended_events}
 use Rattle.answer_laws.specs.Hashed.{HasHashed, HashIsBroken, IsAmong, IsDataAmong, IsWhole, StartAlike, data_of}
 

@@ -2,12 +2,11 @@
 use Rattle.std.proofs.Common.{◌≡◌, ℕ, Bool, true, false, not, ◌&&◌, eqb, List, [], ◌∷◌, ◌++◌, length, Some, refl, sym, ap, subst, ◌∙◌, inl, inr, append_assoc, arith}
 use Rattle.std.specs.Prelude.{◌⊎◌}
 use Rattle.pcr_banks.specs.declared.alg.Alg.{Alg}
-use Rattle.pcr_banks.specs.Hashing.{hash_of}
-use Rattle.pcr_banks.specs.Sets.{digest_in}
+use Rattle.pcr_banks.specs.Names.{digest_in, hash_of}
 use Rattle.binding_laws.specs.BankBinding.{Collision}
 use Rattle.byte_fields.specs.Spelling.{number32}
-use Rattle.boot_log.specs.Spelling.{LogEvent}
-use Rattle.event_data.specs.Forms.{IsSeparator, IsText, has_no_nul}
+use Rattle.boot_log.specs.Names.{LogEvent}
+use Rattle.event_data.specs.Names.{IsSeparator, IsText, has_no_nul}
 use Rattle.boot_answers.specs.Images.{IsNoImage}
 use Rattle.answer_laws.specs.HashedImages.{IsImageBytes}
 use Rattle.binding_laws.proofs.BankBindingLaws.{same_or_collide}

@@ -3,12 +3,11 @@ use Rattle.std.proofs.Common.{◌≡◌, ℕ, List, [], ◌∷◌, ◌++◌, map
 use Rattle.std.specs.Prelude.{◌⊎◌}
 use Rattle.std.specs.List.{AllByRecursion}
 use Rattle.pcr_banks.specs.declared.alg.Alg.{Alg}
-use Rattle.pcr_banks.specs.Hashing.{hash_of}
+use Rattle.pcr_banks.specs.Names.{hash_of}
 use Rattle.binding_laws.specs.BankBinding.{Collision}
 use Rattle.binding_laws.proofs.LogBindingLaws.{alike_or_broken}
-use Rattle.boot_log.specs.Replaying.{firmware_value}
-use Rattle.boot_log.specs.Spelling.{LogEvent}
-use Rattle.event_data.specs.EventForms.{Content, Says}
+use Rattle.boot_log.specs.Names.{LogEvent, firmware_value}
+use Rattle.event_data.specs.Names.{Content, Says}
 use Rattle.boot_answers.specs.FirmwareVersion.{TellsVersion, firmware_register, version_type}
 use Rattle.boot_answers.specs.SecureBoot.{IsBefore, IsTelling, TellsSecureBoot, policy_register}
 use Rattle.boot_answers.proofs.EventLaws.{added_last}

@@ -3,14 +3,10 @@ use Rattle.std.proofs.Common.{◌≡◌, ℕ, ◌==◌, not, true, List, ◌∷�
 use Rattle.std.specs.Prelude.{◌⊎◌, option_map}
 use Rattle.std.proofs.lemmas.Bool.{and_parts, eqb-true}
 use Rattle.pcr_banks.specs.declared.alg.Alg.{Alg}
-use Rattle.pcr_banks.specs.Hashing.{hash_of}
-use Rattle.pcr_banks.specs.Registers.{reset_value}
-use Rattle.pcr_banks.specs.Sets.{digest_in}
+use Rattle.pcr_banks.specs.Names.{digest_in, hash_of, reset_value}
 use Rattle.binding_laws.proofs.BankBindingLaws.{reset_size, same_or_broken}
-use Rattle.boot_log.specs.Replaying.{digests_for, is_extended_into, startup_locality}
-use Rattle.boot_log.specs.Spelling.{LogEvent, no_action}
-use Rattle.event_data.specs.Forms.{CommandData, IsWideText}
-use Rattle.event_data.specs.Results.{command_in, wide_text_in}
+use Rattle.boot_log.specs.Names.{LogEvent, digests_for, is_extended_into, no_action, startup_locality}
+use Rattle.event_data.specs.Names.{CommandData, IsWideText, command_in, wide_text_in}
 use Rattle.event_data.proofs.CommandLaws.{command_finds}
 use Rattle.event_data.proofs.TextLaws.{wide_text_finds}
 use Rattle.measured_data.specs.declared.measured.Part.{Part}

@@ -1,11 +1,9 @@
 -- What the machine hashed, and what breaks the hash.
 use Rattle.std.specs.Prelude.{◌≡◌, ◌⊎◌, ℕ, List, ◌∷◌, ◌++◌, map}
 use Rattle.pcr_banks.specs.declared.alg.Alg.{Alg}
-use Rattle.pcr_banks.specs.Hashing.{hash_of}
-use Rattle.pcr_banks.specs.Registers.{extended_by_all, reset_value}
+use Rattle.pcr_banks.specs.Names.{extended_by_all, hash_of, reset_value}
 use Rattle.binding_laws.specs.BankBinding.{Collision, ExtendsBreakHash}
-use Rattle.boot_log.specs.Replaying.{digests_for, firmware_value, startup_locality}
-use Rattle.boot_log.specs.Spelling.{LogEvent}
+use Rattle.boot_log.specs.Names.{LogEvent, digests_for, firmware_value, startup_locality}
 use Rattle.measured_data.specs.declared.measured.Part.TheVariants.{Whole}
 use Rattle.measured_data.specs.Measuring.{IsMeasured}
 use Rattle.boot_answers.specs.Extending.{extended_events}

@@ -4,7 +4,7 @@ use Rattle.std.specs.List.{AllByRecursion}
 use Rattle.pcr_banks.specs.declared.alg.Alg.{Alg}
 use Rattle.binding_laws.specs.BankBinding.{Collision}
 use Rattle.binding_laws.specs.LogBinding.{LogsBreakHash}
-use Rattle.boot_log.specs.Spelling.{LogEvent}
+use Rattle.boot_log.specs.Names.{LogEvent}
 use Rattle.boot_answers.specs.Extending.{extended_events}
 use Rattle.boot_answers.specs.SecureBoot.{IsSecureBootVariable}
 use Rattle.answer_laws.specs.Hashed.{IsDataAmong}

@@ -2,12 +2,10 @@
 use Rattle.std.specs.Prelude.{◌≡◌, ℕ, true, List, ◌∷◌, ◌++◌, Some}
 use Rattle.byte_fields.specs.Spelling.{IsBytes}
 use Rattle.pcr_banks.specs.declared.alg.Alg.{Alg}
-use Rattle.pcr_banks.specs.Hashing.{hash_of}
-use Rattle.pcr_banks.specs.Registers.{extended_by_all, reset_value}
+use Rattle.pcr_banks.specs.Names.{extended_by_all, hash_of, reset_value}
 use Rattle.binding_laws.specs.BankBinding.{ExtendsBreakHash}
-use Rattle.boot_log.specs.Replaying.{digests_for, firmware_value, is_extended_into, startup_locality}
-use Rattle.boot_log.specs.Spelling.{LogEvent}
-use Rattle.event_data.specs.Forms.{IsWideText}
+use Rattle.boot_log.specs.Names.{LogEvent, digests_for, firmware_value, is_extended_into, startup_locality}
+use Rattle.event_data.specs.Names.{IsWideText}
 use Rattle.measured_data.specs.declared.confirmed.Pcr.{Pcr}
 use Rattle.boot_answers.specs.Commands.{CommandSaid, grub, told_text, wide}
 

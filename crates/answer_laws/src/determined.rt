@@ -1,8 +1,8 @@
 //! There is one answer.
 
 ghost use Rattle.std.specs.Prelude.{◌≡◌, List, Option};
-ghost use Rattle.boot_log.specs.Spelling.{LogEvent};
-ghost use Rattle.event_data.specs.EventForms.{Content};
+ghost use Rattle.boot_log.specs.Names.{LogEvent};
+ghost use Rattle.event_data.specs.Names.{Content};
 ghost use Rattle.measured_data.specs.declared.confirmed.Pcr.{Pcr};
 ghost use Rattle.boot_answers.specs.declared.secure_boot_state.SecureBoot.{SecureBoot};
 ghost use Rattle.boot_answers.specs.FirmwareVersion.{IsFirmwareVersion, IsOfVersion};

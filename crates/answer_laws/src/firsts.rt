@@ -3,7 +3,7 @@
 ghost use Rattle.std.specs.Prelude.{◌≡◌, ◌⊎◌, ℕ, List, ◌++◌};
 ghost use Rattle.std.specs.List.{AllByRecursion};
 ghost use Rattle.pcr_banks.specs.declared.alg.Alg.{Alg};
-ghost use Rattle.boot_log.specs.Spelling.{LogEvent};
+ghost use Rattle.boot_log.specs.Names.{LogEvent};
 ghost use Rattle.boot_answers.specs.Extending.{extended_events};
 ghost use Rattle.answer_laws.specs.Hashed.{HasHashed, HashIsBroken, IsWhole, StartAlike, data_of};
 

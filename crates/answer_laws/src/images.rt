@@ -2,10 +2,9 @@
 
 ghost use Rattle.std.specs.Prelude.{◌≡◌, List, ℕ, Some, true};
 ghost use Rattle.pcr_banks.specs.declared.alg.Alg.{Alg};
-ghost use Rattle.pcr_banks.specs.Hashing.{hash_of};
-ghost use Rattle.pcr_banks.specs.Sets.{digest_in};
+ghost use Rattle.pcr_banks.specs.Names.{digest_in, hash_of};
 ghost use Rattle.binding_laws.specs.BankBinding.{Collision};
-ghost use Rattle.boot_log.specs.Spelling.{LogEvent};
+ghost use Rattle.boot_log.specs.Names.{LogEvent};
 ghost use Rattle.boot_answers.specs.Images.{IsNoImage};
 ghost use Rattle.answer_laws.specs.HashedImages.{IsImageBytes};
 

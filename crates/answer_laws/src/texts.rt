@@ -2,7 +2,7 @@
 
 ghost use Rattle.std.specs.Prelude.{◌⊎◌, ℕ, List};
 ghost use Rattle.pcr_banks.specs.declared.alg.Alg.{Alg};
-ghost use Rattle.boot_log.specs.Spelling.{LogEvent};
+ghost use Rattle.boot_log.specs.Names.{LogEvent};
 ghost use Rattle.measured_data.specs.declared.confirmed.Pcr.{Pcr};
 ghost use Rattle.boot_answers.specs.Commands.{CommandSaid};
 ghost use Rattle.boot_answers.specs.Extending.{IsAnswering};

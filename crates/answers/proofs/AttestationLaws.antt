@@ -3,9 +3,9 @@ use Rattle.std.proofs.Common.{◌≡◌, ℕ, zero, suc, refl, ◌+◌, ◌≤�
 use Rattle.std.specs.Prelude.{◌&&◌, flat_map, IfSome}
 use Rattle.std.specs.List.{AllByRecursion, range_with_len}
 use Rattle.json.specs.Find.{get}
-use Rattle.pcr_values.specs.RegisterTexts.{all_registers}
+use Rattle.pcr_values.specs.Names.{all_registers}
 use Rattle.boot_verdict.specs.declared.report.Row.{Row}
-use Rattle.boot_verdict.specs.Verdicts.{Verdict}
+use Rattle.boot_verdict.specs.Names.{Verdict}
 use Rattle.tpm_quotes.specs.Spelling.{BankSelection, is_selected, selects_one}
 use Rattle.attestations.specs.declared.expected.ExpectedValues.{ExpectedValues}
 use Rattle.attestations.specs.declared.expected.ExpectedValues.TheVariants as values

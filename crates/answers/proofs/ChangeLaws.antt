@@ -5,7 +5,7 @@ use Rattle.pcr_banks.specs.declared.alg.Alg.{Alg}
 use Rattle.pcr_banks.specs.declared.alg.Alg.TheVariants as algs
 use Rattle.pcr_banks.specs.declared.digest.Digest.{Digest}
 use Rattle.pcr_banks.specs.declared.digest.Digest.TheVariants as digests
-use Rattle.pcr_banks.specs.Digests.{bytes_of, digest_of}
+use Rattle.pcr_banks.specs.Names.{bytes_of, digest_of}
 
 pub none_is : (alg : Alg) (value : Option (List ℕ)) → option_map (digest_of alg) value ≡ None → value ≡ None
 none_is alg None is = refl

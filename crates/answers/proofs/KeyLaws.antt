@@ -2,7 +2,7 @@
 use Rattle.std.proofs.Common.{◌≡◌, List, [], ◌++◌, Option, Some, None, codes, refl}
 use Rattle.json.specs.Find.{get}
 use Rattle.pcr_banks.specs.declared.alg.Alg.{Alg}
-use Rattle.pcr_banks.specs.Hashing.{name_of}
+use Rattle.pcr_banks.specs.Names.{name_of}
 use Rattle.tpm_keys.specs.declared.kinds.KeyPart.{KeyPart}
 use Rattle.tpm_keys.specs.declared.kinds.KeyPart.TheVariants as parts
 use Rattle.tpm_keys.specs.declared.report.KeyReport.{KeyReport}

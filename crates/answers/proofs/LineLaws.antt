@@ -6,12 +6,10 @@ use Rattle.std.proofs.lemmas.List.Concat.{flat_map-append}
 use Rattle.json.specs.Json.{Json}
 use Rattle.pcr_banks.specs.declared.alg.Alg.{Alg}
 use Rattle.pcr_banks.specs.declared.banks.Banks.{Banks}
-use Rattle.pcr_banks.specs.Digests.{bytes_of}
-use Rattle.pcr_banks.specs.Hashing.{all_algs}
-use Rattle.pcr_banks.specs.Registers.{value_at}
+use Rattle.pcr_banks.specs.Names.{all_algs, bytes_of, value_at}
 use Rattle.pcr_values.specs.declared.expected.Expected.{Expected}
 use Rattle.pcr_values.specs.declared.selection.BankRange.{BankRange}
-use Rattle.pcr_values.specs.RegisterTexts.{all_registers, differs, every_register}
+use Rattle.pcr_values.specs.Names.{all_registers, differs, every_register}
 use Rattle.ima_list.specs.declared.fault.ListFault.TheVariants as lists
 use Rattle.ima_list.specs.declared.list_replay.ReplayFault.TheVariants as replays
 use Rattle.boot_verdict.specs.declared.isolation.Stray.{Stray}
@@ -24,11 +22,7 @@ use Rattle.boot_verdict.specs.declared.report.Unconfirmed.TheVariants as faults
 use Rattle.boot_verdict.specs.declared.report.Row.{Row}
 use Rattle.boot_verdict.specs.declared.report.State.{State}
 use Rattle.boot_verdict.specs.declared.report.State.TheVariants.{Match, Differ, Absent}
-use Rattle.boot_verdict.specs.Isolation.{are_none}
-use Rattle.boot_verdict.specs.ListVerdicts.{ListVerdict}
-use Rattle.boot_verdict.specs.Requirements.{is_missing}
-use Rattle.boot_verdict.specs.Verdicts.{Verdict}
-use Rattle.boot_verdict.specs.Words.{unconfirmed_entry, unconfirmed_number}
+use Rattle.boot_verdict.specs.Names.{ListVerdict, Verdict, are_none, is_missing, unconfirmed_entry, unconfirmed_number}
 use Rattle.known_files.specs.declared.unknown.UnknownFiles.{UnknownFiles}
 use Rattle.cells.specs.Values.{IsCount, IsOneLine, Member, items_of, number_json, object_of}
 use Rattle.cells.specs.Cells.{Cell, beside, each, if_some, list_at, nothing, number_member, object, object_at, when}

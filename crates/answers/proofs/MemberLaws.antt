@@ -9,9 +9,7 @@ use Rattle.pcr_values.specs.declared.selection.BankRange.{BankRange}
 use Rattle.boot_verdict.specs.declared.isolation.Strays.{Strays}
 use Rattle.boot_verdict.specs.declared.steps.Located.{Located}
 use Rattle.boot_verdict.specs.declared.report.Unconfirmed.{Unconfirmed}
-use Rattle.boot_verdict.specs.Isolation.{are_none}
-use Rattle.boot_verdict.specs.ListVerdicts.{ListVerdict}
-use Rattle.boot_verdict.specs.Verdicts.{Verdict}
+use Rattle.boot_verdict.specs.Names.{ListVerdict, Verdict, are_none}
 use Rattle.known_files.specs.declared.unknown.UnknownFiles.{UnknownFiles}
 use Rattle.cells.specs.Values.{members_of, object_of}
 use Rattle.cells.specs.Cells.{Cell, beside, if_some, list_at, nothing, object_at}

@@ -4,19 +4,15 @@ use Rattle.std.specs.Prelude.{flat_map, ◌&&◌, if◌then◌else◌}
 use Rattle.hex.specs.Hex.{encode_lower}
 use Rattle.pcr_banks.specs.declared.alg.Alg.{Alg}
 use Rattle.pcr_banks.specs.declared.banks.Banks.{Banks}
-use Rattle.pcr_banks.specs.Digests.{bytes_of}
-use Rattle.pcr_banks.specs.Hashing.{name_of}
-use Rattle.pcr_banks.specs.Registers.{value_at}
+use Rattle.pcr_banks.specs.Names.{bytes_of, name_of, value_at}
 use Rattle.pcr_values.specs.declared.expected.Expected.{Expected}
-use Rattle.pcr_values.specs.RegisterTexts.{change_line, differs, every_register, register_line, registers_text}
-use Rattle.pcr_values.specs.WrittenTexts.{expected_text}
+use Rattle.pcr_values.specs.Names.{change_line, differs, every_register, expected_text, register_line, registers_text}
 use Rattle.boot_verdict.specs.declared.steps.Located.{Located}
 use Rattle.boot_verdict.specs.declared.steps.Position.{Position}
 use Rattle.boot_verdict.specs.declared.steps.Position.TheVariants as positions
 use Rattle.boot_verdict.specs.declared.report.State.{State}
 use Rattle.boot_verdict.specs.declared.report.State.TheVariants.{Match, Differ, Absent}
-use Rattle.boot_verdict.specs.Positions.{all_found}
-use Rattle.boot_verdict.specs.Verdicts.{Verdict}
+use Rattle.boot_verdict.specs.Names.{Verdict, all_found}
 use Rattle.known_files.specs.declared.unknown.UnknownFiles.{UnknownFiles}
 use Rattle.known_files.specs.Unknown.{has_no_unknown}
 use Rattle.tpm_keys.specs.declared.kinds.KeyPart.{KeyPart}

@@ -1,10 +1,10 @@
 -- The cells of a report by a quote.
 use Rattle.std.specs.Prelude.{ℕ, Bool, true, false, ◌&&◌, List, [], ◌∷◌, codes, Option, None, Some}
 use Rattle.json.specs.Json.{Json}
-use Rattle.pcr_banks.specs.Hashing.{name_of}
-use Rattle.pcr_values.specs.RegisterTexts.{all_registers}
+use Rattle.pcr_banks.specs.Names.{name_of}
+use Rattle.pcr_values.specs.Names.{all_registers}
 use Rattle.boot_verdict.specs.declared.report.Row.{Row}
-use Rattle.boot_verdict.specs.Verdicts.{Verdict}
+use Rattle.boot_verdict.specs.Names.{Verdict}
 use Rattle.tpm_quotes.specs.declared.quote.Clock.{Clock}
 use Rattle.tpm_quotes.specs.Spelling.{BankSelection, is_selected, selects_one}
 use Rattle.attestations.specs.declared.expected.ExpectedValues.{ExpectedValues}

@@ -4,7 +4,7 @@ use Rattle.std.specs.List.{AllByRecursion}
 use Rattle.boot_verdict.specs.declared.isolation.Strays.{Strays}
 use Rattle.boot_verdict.specs.declared.steps.Position.{Position}
 use Rattle.boot_verdict.specs.declared.steps.Position.TheVariants.{Event, Entry}
-use Rattle.boot_verdict.specs.Words.{unconfirmed_entry}
+use Rattle.boot_verdict.specs.Names.{unconfirmed_entry}
 use Rattle.tpm_quotes.specs.declared.quote.Clock.{Clock}
 use Rattle.attestations.specs.declared.report.Whole.{Whole}
 use Rattle.known_files.specs.declared.unknown.UnknownFiles.{UnknownFiles}

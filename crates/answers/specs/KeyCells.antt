@@ -2,7 +2,7 @@
 use Rattle.std.specs.Prelude.{List, [], ◌∷◌, codes, ℕ}
 use Rattle.std.specs.String.{string_bytes}
 use Rattle.pcr_banks.specs.declared.digest.Digest.{Digest}
-use Rattle.pcr_banks.specs.Hashing.{name_of}
+use Rattle.pcr_banks.specs.Names.{name_of}
 use Rattle.tpm_keys.specs.declared.area.Scheme.{Scheme}
 use Rattle.tpm_keys.specs.declared.kinds.KeyPart.{KeyPart}
 use Rattle.tpm_keys.specs.declared.kinds.KeyPart.TheVariants as parts

@@ -4,8 +4,7 @@ use Rattle.pcr_values.specs.declared.selection.BankRange.{BankRange}
 use Rattle.boot_verdict.specs.declared.steps.Located.{Located}
 use Rattle.boot_verdict.specs.declared.steps.Position.{Position}
 use Rattle.boot_verdict.specs.declared.steps.Position.TheVariants.{Reset, Event, Entry, Nowhere, Absent}
-use Rattle.boot_verdict.specs.Positions.{all_found}
-use Rattle.boot_verdict.specs.Requirements.{required_found}
+use Rattle.boot_verdict.specs.Names.{all_found, required_found}
 use Rattle.cells.specs.Values.{Member}
 use Rattle.cells.specs.Cells.{Cell, beside, flag_member, number, text, word, word_member}
 use Rattle.answers.specs.RowCells.{rows_cell}

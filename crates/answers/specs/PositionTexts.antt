@@ -3,7 +3,7 @@ use Rattle.std.specs.Prelude.{ℕ, Bool, true, false, List, [], ◌++◌, codes,
 use Rattle.boot_verdict.specs.declared.steps.Located.{Located}
 use Rattle.boot_verdict.specs.declared.steps.Position.{Position}
 use Rattle.boot_verdict.specs.declared.steps.Position.TheVariants.{Reset, Event, Entry, Nowhere, Absent}
-use Rattle.boot_verdict.specs.Positions.{all_found}
+use Rattle.boot_verdict.specs.Names.{all_found}
 use Rattle.answers.specs.ReportTexts.{row_line}
 
 -- The words for a position; after `event` or `entry` comes its number.

@@ -2,12 +2,10 @@
 use Rattle.std.specs.Prelude.{ℕ, List, [], ◌∷◌, codes, if◌then◌else◌, Option, None, Some}
 use Rattle.pcr_banks.specs.declared.alg.Alg.{Alg}
 use Rattle.pcr_banks.specs.declared.banks.Banks.{Banks}
-use Rattle.pcr_banks.specs.Digests.{bytes_of}
-use Rattle.pcr_banks.specs.Hashing.{name_of}
-use Rattle.pcr_banks.specs.Registers.{value_at}
+use Rattle.pcr_banks.specs.Names.{bytes_of, name_of, value_at}
 use Rattle.json.specs.Json.{Json}
 use Rattle.pcr_values.specs.declared.expected.Expected.{Expected}
-use Rattle.pcr_values.specs.RegisterTexts.{differs, every_register}
+use Rattle.pcr_values.specs.Names.{differs, every_register}
 use Rattle.cells.specs.Values.{Member}
 use Rattle.cells.specs.Cells.{Cell, beside, each, hex, if_some, in_order, list_at, number, object, text, word}
 

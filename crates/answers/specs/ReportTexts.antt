@@ -1,15 +1,13 @@
 -- The text of a report.
 use Rattle.std.specs.Prelude.{ℕ, Bool, true, false, List, [], ◌++◌, codes, decimal, flat_map}
 use Rattle.hex.specs.Hex.{encode_lower}
-use Rattle.pcr_banks.specs.Hashing.{name_of}
-use Rattle.pcr_banks.specs.Digests.{bytes_of}
+use Rattle.pcr_banks.specs.Names.{bytes_of, name_of}
 use Rattle.pcr_values.specs.declared.expected.Expected.{Expected}
 use Rattle.boot_verdict.specs.declared.report.Row.{Row}
 use Rattle.boot_verdict.specs.declared.report.State.{State}
 use Rattle.boot_verdict.specs.declared.report.State.TheVariants.{Match, Differ, Absent}
 use Rattle.boot_verdict.specs.declared.report.Aggregate.{Aggregate}
-use Rattle.boot_verdict.specs.Words.{aggregate_word}
-use Rattle.boot_verdict.specs.Verdicts.{Verdict, matches}
+use Rattle.boot_verdict.specs.Names.{Verdict, aggregate_word, matches}
 
 -- Two lines: events and locality, and entries.
 abbrev pub counts_text : ℕ → ℕ → ℕ → List ℕ

@@ -1,12 +1,12 @@
 -- The cells of rows: expected registers, and required registers that have none.
 use Rattle.std.specs.Prelude.{ℕ, List, [], ◌∷◌, codes, map, Option}
 use Rattle.pcr_banks.specs.declared.alg.Alg.{Alg}
-use Rattle.pcr_banks.specs.Digests.{bytes_of}
+use Rattle.pcr_banks.specs.Names.{bytes_of}
 use Rattle.json.specs.Json.{Json}
 use Rattle.pcr_values.specs.declared.expected.Expected.{Expected}
 use Rattle.pcr_values.specs.declared.selection.BankRange.{BankRange}
-use Rattle.pcr_values.specs.RegisterTexts.{every_register}
-use Rattle.boot_verdict.specs.Requirements.{is_missing}
+use Rattle.pcr_values.specs.Names.{every_register}
+use Rattle.boot_verdict.specs.Names.{is_missing}
 use Rattle.cells.specs.Values.{Member}
 use Rattle.cells.specs.Cells.{Cell, beside, each, hex_member, if_some, in_order, list_at, object, text, when, word}
 use Rattle.answers.specs.RegisterCells.{register_cell}

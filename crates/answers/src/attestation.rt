@@ -1,7 +1,7 @@
 //! The report on a log and a list by a quote.
 
 ghost use Rattle.std.specs.Prelude.{◌≡◌, ◌&&◌, option_copied};
-ghost use Rattle.boot_verdict.specs.Verdicts.{verdict_of};
+ghost use Rattle.boot_verdict.specs.Names.{verdict_of};
 ghost use Rattle.known_files.specs.Unknown.{has_no_unknown};
 ghost use Rattle.attestations.specs.declared.expected.ExpectedValues.TheVariants.{Confirmed};
 ghost use Rattle.attestations.specs.Reports.{attest_verdict_of, is_attested};

@@ -1,7 +1,7 @@
 //! What is told of a key.
 
 ghost use Rattle.std.specs.Prelude.{◌≡◌, codes};
-ghost use Rattle.pcr_banks.specs.Hashing.{name_of};
+ghost use Rattle.pcr_banks.specs.Names.{name_of};
 ghost use Rattle.tpm_keys.specs.declared.kinds.KeyPart.TheVariants.{All};
 ghost use Rattle.cells.specs.Cells as cells;
 ghost use Rattle.cells.specs.Cells.{ShowsMembers, if_some};

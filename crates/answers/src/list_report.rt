@@ -1,7 +1,7 @@
 //! The report on a list alone.
 
 ghost use Rattle.std.specs.Prelude.{◌≡◌, option_copied};
-ghost use Rattle.boot_verdict.specs.ListVerdicts.{list_verdict_of};
+ghost use Rattle.boot_verdict.specs.Names.{list_verdict_of};
 ghost use Rattle.cells.specs.Cells.{ShowsMembers};
 ghost use Rattle.answers.specs.ReportCells.{list_meets, list_report_cell};
 

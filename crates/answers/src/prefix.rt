@@ -1,7 +1,7 @@
 //! The report on a confirmed prefix.
 
 ghost use Rattle.std.specs.Prelude.{◌≡◌, codes, option_copied};
-ghost use Rattle.boot_verdict.specs.Verdicts.{verdict_of};
+ghost use Rattle.boot_verdict.specs.Names.{verdict_of};
 ghost use Rattle.cells.specs.Cells as cells;
 ghost use Rattle.cells.specs.Cells.{ShowsMembers, if_some};
 ghost use Rattle.answers.specs.ReportCells.{confirmed_cell, prefix_cell, prefix_counts_cell, unconfirmed_cell};

@@ -1,7 +1,7 @@
 //! What a quote states.
 
 ghost use Rattle.std.specs.Prelude.{◌≡◌, map};
-ghost use Rattle.pcr_values.specs.RegisterTexts.{all_registers};
+ghost use Rattle.pcr_values.specs.Names.{all_registers};
 ghost use Rattle.attestations.specs.Quoted.{bank_selection_of, stated_of};
 ghost use Rattle.cells.specs.Cells.{ShowsItems, ShowsMembers, each};
 ghost use Rattle.answers.specs.AttestationCells.{bank_cell, clock_cell, firmware_cell, number_cell, safe_text, selection_cell, signer_cell, stated_cell};

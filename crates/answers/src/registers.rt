@@ -2,8 +2,8 @@
 
 ghost use Rattle.std.specs.Prelude.{◌≡◌, ℕ, List, Option, option_map};
 ghost use Rattle.pcr_banks.specs.declared.alg.Alg.{Alg};
-ghost use Rattle.pcr_banks.specs.Digests.{bytes_of, digest_of};
-ghost use Rattle.pcr_values.specs.RegisterTexts.{every_register};
+ghost use Rattle.pcr_banks.specs.Names.{bytes_of, digest_of};
+ghost use Rattle.pcr_values.specs.Names.{every_register};
 ghost use Rattle.cells.specs.Cells.{ShowsItems, ShowsMembers, each};
 ghost use Rattle.answers.specs.RegisterCells.{change_cell, changed_value, expected_cell, register_cell, registers_cell, value_cell};
 

@@ -2,7 +2,7 @@
 
 ghost use Rattle.std.specs.Prelude.{◌≡◌, ◌&&◌, codes, option_copied};
 ghost use Rattle.boot_verdict.specs.declared.report.State.TheVariants.{Differ};
-ghost use Rattle.boot_verdict.specs.Verdicts.{verdict_of};
+ghost use Rattle.boot_verdict.specs.Names.{verdict_of};
 ghost use Rattle.known_files.specs.Unknown.{has_no_unknown};
 ghost use Rattle.cells.specs.Cells.{ShowsItems, ShowsMembers, each, if_some, item_number};
 ghost use Rattle.answers.specs.ReportCells.{aggregate_cell, compared_cell, counts_cell, meets, outcome_cell, report_cell, report_rows, state_cell, stray_cell, stray_entry, stray_event, strays_cell, unknown_cell, verdict_cell, verdict_word};

@@ -2,9 +2,8 @@
 
 ghost use Rattle.std.specs.Prelude.{◌≡◌, flat_map};
 ghost use Rattle.byte_streams.specs.Streams.{Sends};
-ghost use Rattle.boot_verdict.specs.Verdicts.{verdict_of};
+ghost use Rattle.boot_verdict.specs.Names.{aggregate_word, verdict_of};
 ghost use Rattle.answers.specs.ReportTexts.{aggregate_text, counts_text, outcome_text, register_words, report_text, row_line, row_text, verdict_text};
-ghost use Rattle.boot_verdict.specs.Words.{aggregate_word};
 
 use boot_verdict::{Aggregate, Report, Row, State, aggregate_word};
 use byte_streams::{Failed, Sink, send, send_pieces};

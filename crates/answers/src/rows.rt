@@ -1,7 +1,7 @@
 //! Rows of registers, and the required registers that have none.
 
 ghost use Rattle.std.specs.Prelude.{codes, map, option_copied};
-ghost use Rattle.pcr_banks.specs.Digests.{bytes_of};
+ghost use Rattle.pcr_banks.specs.Names.{bytes_of};
 ghost use Rattle.cells.specs.Cells.{Cell, ShowsItems, ShowsMembers, each, if_some, object};
 ghost use Rattle.cells.specs.Cells as cells;
 ghost use Rattle.cells.specs.Values.{Member};

@@ -10,22 +10,18 @@ use Rattle.pcr_banks.specs.declared.alg.Alg.{Alg}
 use Rattle.pcr_banks.specs.declared.alg.Alg.TheVariants.{Sha1}
 use Rattle.pcr_banks.specs.declared.banks.Banks.{Banks}
 use Rattle.pcr_banks.specs.declared.sets.AlgSet.{AlgSet}
-use Rattle.pcr_banks.specs.Hashing.{all_algs}
+use Rattle.pcr_banks.specs.Names.{all_algs, extended_by_all, register_count, value_at}
 use Rattle.pcr_banks.proofs.AlgLaws.{every_alg}
-use Rattle.pcr_banks.specs.Registers.{extended_by_all, register_count, value_at}
 use Rattle.pcr_values.specs.declared.selection.BankRange.{BankRange}
-use Rattle.pcr_values.specs.Selections.{names}
+use Rattle.pcr_values.specs.Names.{names}
 use Rattle.boot_log.specs.declared.header.DeclaredAlgorithm.{DeclaredAlgorithm}
-use Rattle.boot_log.specs.Spelling.{LogEvent, IsLog, algs_in}
-use Rattle.boot_log.specs.Replaying.{IsFirmware}
-use Rattle.ima_list.specs.ListEntry.{ListEntry}
-use Rattle.ima_list.specs.Spelling.{IsReading}
-use Rattle.ima_list.specs.Replaying.{AreGenuine, IsReplayed, digests_of}
+use Rattle.boot_log.specs.Names.{IsFirmware, IsLog, LogEvent, algs_in}
+use Rattle.ima_list.specs.Names.{AreGenuine, IsReading, IsReplayed, ListEntry, digests_of}
 use Rattle.boot_verdict.specs.declared.report.Aggregate.{Aggregate}
 use Rattle.boot_verdict.specs.declared.report.Aggregate.TheVariants.{Good, Wrong, NoBank, Missing}
 use Rattle.boot_verdict.specs.declared.verifier.VerifyFault.{VerifyFault}
 use Rattle.boot_verdict.specs.declared.verifier.VerifyFault.TheVariants as verdicts
-use Rattle.boot_verdict.specs.Verdicts.{IsVerifyFault, aggregate_of, is_good, pcr_after_log_and_list, recorded_aggregate}
+use Rattle.boot_verdict.specs.Names.{IsVerifyFault, aggregate_of, first_extending, first_stray, is_good, pcr_after_log_and_list, recorded_aggregate}
 use Rattle.tpm_quotes.specs.Spelling.{BankSelection, IsQuote, TpmQuote, all_registers, selects}
 use Rattle.tpm_quotes.specs.Quoting.{confirms}
 use Rattle.attestations.specs.declared.attested.Cause.TheVariants.{BadAggregate, Differs}
@@ -34,7 +30,6 @@ use Rattle.attestations.specs.declared.policy.PolicyFault.TheVariants.{ShortNonc
 use Rattle.attestations.specs.declared.policy.QuoteRefusal.{QuoteRefusal}
 use Rattle.attestations.specs.declared.policy.QuoteRefusal.TheVariants as refusals
 use Rattle.attestations.specs.declared.policy.QuoteRefusal.TheVariants.{OtherNonce, NotSelected}
-use Rattle.boot_verdict.specs.Isolation.{first_extending, first_stray}
 use Rattle.attestations.specs.Policies.{AreSound, Terms, first_unnamed, first_unselected, first_weak, is_named, is_named_beside_sha1, policy_fault, unselected_in}
 use Rattle.attestations.specs.Judging.{Attestation, attestation_on, cause_against, cause_in_extends, cause_in_registers, quote_refusal}
 use Rattle.attestations.specs.Attesting.{IsAttested, IsBootFault, IsQuoteRefusal, IsRefusedFor}

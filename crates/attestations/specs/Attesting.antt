@@ -2,17 +2,15 @@
 -- verified.
 use Rattle.std.specs.Prelude.{◌≡◌, ℕ, ◌<◌, true, List, Some, None, Ok}
 use Rattle.pcr_banks.specs.declared.alg.Alg.{Alg}
-use Rattle.pcr_banks.specs.Registers.{register_count}
-use Rattle.pcr_values.specs.Selections.{names}
+use Rattle.pcr_banks.specs.Names.{register_count}
+use Rattle.pcr_values.specs.Names.{names}
 use Rattle.boot_log.specs.declared.header.DeclaredAlgorithm.{DeclaredAlgorithm}
-use Rattle.boot_log.specs.Spelling.{LogEvent, IsLog, algs_in}
-use Rattle.ima_list.specs.ListEntry.{ListEntry}
-use Rattle.ima_list.specs.Spelling.{IsReading}
-use Rattle.ima_list.specs.Replaying.{AreGenuine}
+use Rattle.boot_log.specs.Names.{IsLog, LogEvent, algs_in}
+use Rattle.ima_list.specs.Names.{AreGenuine, IsReading, ListEntry}
 use Rattle.boot_verdict.specs.declared.report.Aggregate.TheVariants.{Good}
 use Rattle.boot_verdict.specs.declared.verifier.VerifyFault.{VerifyFault}
 use Rattle.boot_verdict.specs.declared.verifier.VerifyFault.TheVariants as verdicts
-use Rattle.boot_verdict.specs.Verdicts.{IsVerifyFault, aggregate_of, pcr_after_log_and_list, recorded_aggregate}
+use Rattle.boot_verdict.specs.Names.{IsListApart, IsLogApart, IsVerifyFault, aggregate_of, pcr_after_log_and_list, recorded_aggregate}
 use Rattle.tpm_quotes.specs.Spelling.{IsQuote, TpmQuote, selects}
 use Rattle.tpm_quotes.specs.Reading.{quote_fault}
 use Rattle.tpm_quotes.specs.Quoting.{confirms}
@@ -21,7 +19,6 @@ use Rattle.attestations.specs.declared.attested.AttestFault.TheVariants as fault
 use Rattle.attestations.specs.declared.attested.Cause.{Cause}
 use Rattle.attestations.specs.declared.policy.QuoteRefusal.{QuoteRefusal}
 use Rattle.attestations.specs.declared.policy.QuoteRefusal.TheVariants as refusals
-use Rattle.boot_verdict.specs.Isolation.{IsListApart, IsLogApart}
 use Rattle.attestations.specs.Judging.{Attestation, attestation_on, cause_against, quote_refusal}
 use Rattle.attestations.specs.Policies.{AreSound, Terms, policy_fault}
 

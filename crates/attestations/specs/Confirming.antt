@@ -1,8 +1,8 @@
 -- Expected registers that nobody has signed, beside a quote. All of this is this project's choice.
 use Rattle.std.specs.Prelude.{Bool, if◌then◌else◌, List, [], filter, find, option_map}
-use Rattle.pcr_banks.specs.Digests.{bytes_of}
+use Rattle.pcr_banks.specs.Names.{bytes_of}
 use Rattle.pcr_values.specs.declared.expected.Expected.{Expected}
-use Rattle.boot_verdict.specs.Requirements.{is_of}
+use Rattle.boot_verdict.specs.Names.{is_of}
 use Rattle.tpm_quotes.specs.Spelling.{TpmQuote, selects}
 use Rattle.tpm_quotes.specs.Quoting.{Values, confirms}
 use Rattle.attestations.specs.declared.expected.ExpectedValues.{ExpectedValues}

@@ -2,10 +2,9 @@
 use Rattle.std.specs.Prelude.{ℕ, not, if◌then◌else◌, List, length, bytes_eq, Option, Some, None, option_map}
 use Rattle.std.specs.Option.{option_or}
 use Rattle.pcr_banks.specs.declared.sets.AlgSet.{AlgSet}
-use Rattle.boot_log.specs.Spelling.{LogEvent}
-use Rattle.boot_log.specs.Replaying.{startup_locality}
-use Rattle.ima_list.specs.ListEntry.{ListEntry}
-use Rattle.boot_verdict.specs.Verdicts.{aggregate_of, is_good, pcr_after_log_and_list, recorded_aggregate}
+use Rattle.boot_log.specs.Names.{LogEvent, startup_locality}
+use Rattle.ima_list.specs.Names.{ListEntry}
+use Rattle.boot_verdict.specs.Names.{aggregate_of, first_extending, first_stray, is_good, pcr_after_log_and_list, recorded_aggregate}
 use Rattle.tpm_quotes.specs.Spelling.{TpmQuote, quote_of}
 use Rattle.tpm_quotes.specs.Quoting.{confirms}
 use Rattle.tpm_quotes.specs.Faults.{quote_fault_number}
@@ -14,7 +13,6 @@ use Rattle.attestations.specs.declared.attested.Cause.{Cause}
 use Rattle.attestations.specs.declared.attested.Cause.TheVariants.{LogExtends, ListExtends, BadAggregate, Differs}
 use Rattle.attestations.specs.declared.policy.QuoteRefusal.{QuoteRefusal}
 use Rattle.attestations.specs.declared.policy.QuoteRefusal.TheVariants.{Message, OtherNonce, NotSelected}
-use Rattle.boot_verdict.specs.Isolation.{first_extending, first_stray}
 use Rattle.attestations.specs.Policies.{Terms, first_unselected}
 
 -- What is known where log and list are attested.

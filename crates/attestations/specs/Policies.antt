@@ -4,15 +4,14 @@ use Rattle.std.specs.Option.{option_or}
 use Rattle.std.specs.List.{list_any, range_with_len}
 use Rattle.pcr_banks.specs.declared.alg.Alg.{Alg}
 use Rattle.pcr_banks.specs.declared.alg.Alg.TheVariants.{Sha1}
-use Rattle.pcr_banks.specs.Hashing.{all_algs, same_alg}
-use Rattle.pcr_banks.specs.Registers.{register_count}
+use Rattle.pcr_banks.specs.Names.{all_algs, register_count, same_alg}
 use Rattle.pcr_values.specs.declared.selection.BankRange.{BankRange}
-use Rattle.pcr_values.specs.Selections.{names}
+use Rattle.pcr_values.specs.Names.{names}
 use Rattle.tpm_quotes.specs.Spelling.{BankSelection, all_registers, selects}
 use Rattle.attestations.specs.declared.policy.Policy.{Policy}
 use Rattle.attestations.specs.declared.policy.PolicyFault.{PolicyFault}
 use Rattle.attestations.specs.declared.policy.PolicyFault.TheVariants.{ShortNonce, NotRequired, OnlySha1}
-use Rattle.boot_verdict.specs.Isolation.{list_register}
+use Rattle.boot_verdict.specs.Names.{list_register}
 
 -- The nonce that was given out; the registers that must be quoted; and whether a register may be required in the SHA-1 bank alone.
 pub record Terms : Type 0 where

@@ -1,7 +1,6 @@
 -- The report on a log and a list by a quote. All of this is this project's choice.
 use Rattle.std.specs.Prelude.{◌&&◌, Bool, Option}
-use Rattle.boot_verdict.specs.Isolation.{are_none}
-use Rattle.boot_verdict.specs.Verdicts.{Verdict, is_good, verdict_of}
+use Rattle.boot_verdict.specs.Names.{Verdict, are_none, is_good, verdict_of}
 use Rattle.attestations.specs.declared.expected.ExpectedValues.{ExpectedValues}
 use Rattle.attestations.specs.declared.report.AttestReport.{AttestReport}
 use Rattle.attestations.specs.declared.report.Whole.{Whole}

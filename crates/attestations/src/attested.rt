@@ -3,14 +3,9 @@
 ghost use Rattle.std.specs.Prelude.{◌≡◌, List, ℕ, None, Ok, IsOk, IfOk, IfErr};
 ghost use Rattle.tpm_quotes.specs.Spelling.{IsQuote, TpmQuote, quote_of};
 ghost use Rattle.boot_log.specs.declared.header.DeclaredAlgorithm.{DeclaredAlgorithm};
-ghost use Rattle.boot_log.specs.LogViews.{log_bytes};
-ghost use Rattle.boot_log.specs.Replaying.{IsFirmware};
-ghost use Rattle.boot_log.specs.Spelling.{LogEvent, IsLog, algs_in};
-ghost use Rattle.ima_list.specs.ListEntry.{ListEntry};
-ghost use Rattle.ima_list.specs.Replaying.{AreGenuine};
-ghost use Rattle.ima_list.specs.Spelling.{IsReading};
-ghost use Rattle.boot_verdict.specs.Checkpoints.{IsCheckpoint};
-ghost use Rattle.boot_verdict.specs.Verdicts.{fault_of_log};
+ghost use Rattle.boot_log.specs.Names.{IsFirmware, IsLog, LogEvent, algs_in, log_bytes};
+ghost use Rattle.ima_list.specs.Names.{AreGenuine, IsReading, ListEntry};
+ghost use Rattle.boot_verdict.specs.Names.{IsCheckpoint, fault_of_log};
 ghost use Rattle.attestations.specs.declared.attested.AttestFault.TheVariants.{Boot, Quote as NotTaken};
 ghost use Rattle.attestations.specs.Policies.{policy_fault, terms_of};
 ghost use Rattle.attestations.specs.Judging.{attestation_of, attestation_on, cause_against, cause_in_extends, cause_in_registers, quote_refusal};

@@ -6,24 +6,19 @@ use Rattle.std.proofs.lemmas.Bool.{ne_eqb}
 use Rattle.std.proofs.lemmas.Bool.Decides.{eqb_tells}
 use Rattle.pcr_banks.specs.declared.alg.Alg.{Alg}
 use Rattle.pcr_banks.specs.declared.sets.AlgSet.{AlgSet}
-use Rattle.pcr_banks.specs.Hashing.{size_of}
-use Rattle.pcr_banks.specs.Sets.{has_alg}
-use Rattle.pcr_banks.specs.Registers.{extended_by_all, register_count, reset_value}
+use Rattle.pcr_banks.specs.Names.{extended_by_all, has_alg, register_count, reset_value, size_of}
 use Rattle.binding_laws.proofs.BankBindingLaws.{reset_size, value_size}
-use Rattle.boot_log.specs.Spelling.{LogEvent, algs_in}
-use Rattle.boot_log.specs.Replaying.{digests_for, firmware_value, is_extended_into, startup_locality}
+use Rattle.boot_log.specs.Names.{LogEvent, algs_in, digests_for, firmware_value, is_extended_into, startup_locality}
 use Rattle.binding_laws.proofs.LogBindingLaws.{alike_or_broken}
-use Rattle.ima_list.specs.ListEntry.{ListEntry}
+use Rattle.ima_list.specs.Names.{ListEntry, digests_of}
 use Rattle.binding_laws.specs.ListBinding.{entries_of}
-use Rattle.ima_list.specs.Replaying.{digests_of}
 use Rattle.binding_laws.proofs.ListBindingLaws.{same_or_broken_replays}
-use Rattle.boot_verdict.specs.Verdicts.{pcr_after_log_and_list}
+use Rattle.boot_verdict.specs.Names.{list_register, pcr_after_log_and_list}
 use Rattle.tpm_quotes.specs.Spelling.{TpmQuote, selects}
 use Rattle.tpm_quotes.specs.Quoting.{confirms}
 use Rattle.binding_laws.specs.QuoteBinding.{HaveSizes}
 use Rattle.tpm_quotes.proofs.QuoteLaws.{one_reading}
 use Rattle.binding_laws.proofs.QuoteBindingLaws.{tells}
-use Rattle.boot_verdict.specs.Isolation.{list_register}
 use Rattle.binding_laws.specs.AttestationBinding.{BreakHash, ExtendRegisterAlike, TwoAttestations, values_of}
 
 -- ---- sizes

@@ -9,8 +9,7 @@ use Rattle.std.proofs.lemmas.List.Sums.{fold-append}
 use Rattle.std.proofs.lemmas.Slice.Eq.{bytes_eq-Decides}
 use Rattle.std.proofs.Math.Seq.{append_snoc}
 use Rattle.pcr_banks.specs.declared.alg.Alg.{Alg}
-use Rattle.pcr_banks.specs.Hashing.{hash_of, size_of}
-use Rattle.pcr_banks.specs.Registers.{extended_value, extended_by_all, reset_value}
+use Rattle.pcr_banks.specs.Names.{extended_by_all, extended_value, hash_of, reset_value, size_of}
 use Rattle.binding_laws.specs.BankBinding.{Collision, Preimage, IsExtendInput, ExtendsBreakHash}
 use Rattle.pcr_banks.proofs.AlgLaws.{every_alg}
 use Rattle.pcr_banks.proofs.HashLaws.{hash_size}

@@ -5,11 +5,8 @@ use Rattle.std.proofs.lemmas.Bool.{eq-eqb, ne_eqb}
 use Rattle.std.specs.List.{Contains}
 use Rattle.std.proofs.lemmas.List.Sums.{fold-append}
 use Rattle.pcr_banks.specs.declared.alg.Alg.{Alg}
-use Rattle.pcr_banks.specs.Hashing.{hash_of}
-use Rattle.pcr_banks.specs.Registers.{extended_by_all, extended_value, reset_value}
-use Rattle.pcr_banks.specs.Sets.{digest_in}
-use Rattle.boot_log.specs.Replaying.{digests_for, firmware_value, is_extended_into, startup_locality}
-use Rattle.boot_log.specs.Spelling.{LogEvent, no_action}
+use Rattle.pcr_banks.specs.Names.{digest_in, extended_by_all, extended_value, hash_of, reset_value}
+use Rattle.boot_log.specs.Names.{LogEvent, digests_for, firmware_value, is_extended_into, no_action, startup_locality}
 use Rattle.measured_data.specs.declared.measured.Part.{Part}
 use Rattle.measured_data.specs.declared.confirmed.Pcr.{Pcr}
 use Rattle.measured_data.specs.Confirming.{IsConfirmed}

@@ -8,8 +8,7 @@ use Rattle.std.proofs.lemmas.Bool.Decides.{eqb_tells}
 use Rattle.std.proofs.lemmas.List.{take_at, drop_at}
 use Rattle.std.proofs.lemmas.Slice.Eq.{bytes_eq-Decides}
 use Rattle.pcr_banks.specs.declared.alg.Alg.{Alg}
-use Rattle.pcr_banks.specs.Hashing.{hash_of, size_of}
-use Rattle.pcr_banks.specs.Digests.{alg_of, bytes_of}
+use Rattle.pcr_banks.specs.Names.{alg_of, bytes_of, hash_of, size_of}
 use Rattle.pcr_banks.proofs.AlgLaws.{same_alg_is}
 use Rattle.tpm_quotes.specs.Spelling.{BankSelection, TpmQuote, all_registers, is_selected, selected, selected_in, selects}
 use Rattle.tpm_quotes.specs.Quoting.{Values, confirms, joined, quoted_bytes}

@@ -1,14 +1,13 @@
 -- What an attestation tells of a log and a list.
 use Rattle.std.specs.Prelude.{◌≡◌, ◌⊎◌, ℕ, List}
 use Rattle.pcr_banks.specs.declared.alg.Alg.{Alg}
-use Rattle.pcr_banks.specs.Registers.{reset_value}
-use Rattle.boot_log.specs.Spelling.{algs_in}
+use Rattle.pcr_banks.specs.Names.{reset_value}
+use Rattle.boot_log.specs.Names.{algs_in}
 use Rattle.binding_laws.specs.LogBinding.{ExtendAlike, LogsBreakHash}
 use Rattle.binding_laws.specs.ListBinding.{ReplaysBreakHash, extensions_of}
-use Rattle.boot_verdict.specs.Verdicts.{pcr_after_log_and_list}
+use Rattle.boot_verdict.specs.Names.{list_register, pcr_after_log_and_list}
 use Rattle.tpm_quotes.specs.Quoting.{Values}
 use Rattle.binding_laws.specs.QuoteBinding.{QuotesCollide}
-use Rattle.boot_verdict.specs.Isolation.{list_register}
 use Rattle.attestations.specs.Judging.{Attestation}
 use Rattle.attestations.specs.Policies.{Terms}
 use Rattle.attestations.specs.Attesting.{IsAttested}

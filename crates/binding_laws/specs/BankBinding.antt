@@ -1,8 +1,7 @@
 -- What a register's value tells about the digests that it was extended by.
 use Rattle.std.specs.Prelude.{◌≡◌, ◌⊎◌, ℕ, ◌<◌, List, ◌∷◌, ◌++◌, length}
 use Rattle.pcr_banks.specs.declared.alg.Alg.{Alg}
-use Rattle.pcr_banks.specs.Hashing.{hash_of}
-use Rattle.pcr_banks.specs.Registers.{extended_by_all}
+use Rattle.pcr_banks.specs.Names.{extended_by_all, hash_of}
 
 -- ---- bytes that break a hash
 

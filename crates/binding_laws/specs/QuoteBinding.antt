@@ -1,9 +1,7 @@
 -- What a quote tells of the values that it is of.
 use Rattle.std.specs.Prelude.{◌≡◌, ℕ, ◌<◌, true, List, length, Some, IsSome, IfSome}
 use Rattle.pcr_banks.specs.declared.alg.Alg.{Alg}
-use Rattle.pcr_banks.specs.Hashing.{size_of}
-use Rattle.pcr_banks.specs.Registers.{register_count}
-use Rattle.pcr_banks.specs.Digests.{alg_of}
+use Rattle.pcr_banks.specs.Names.{alg_of, register_count, size_of}
 use Rattle.tpm_quotes.specs.Spelling.{TpmQuote, selects}
 use Rattle.tpm_quotes.specs.Quoting.{Values, quoted_bytes}
 use Rattle.binding_laws.specs.BankBinding.{Collision}

@@ -2,7 +2,7 @@
 
 ghost use Rattle.std.specs.Prelude.{◌≡◌, ◌⊎◌, ◌<◌, ℕ, List, true};
 ghost use Rattle.pcr_banks.specs.declared.alg.Alg.{Alg};
-ghost use Rattle.pcr_banks.specs.Registers.{register_count};
+ghost use Rattle.pcr_banks.specs.Names.{register_count};
 ghost use Rattle.tpm_quotes.specs.Spelling.{selects};
 ghost use Rattle.binding_laws.specs.AttestationBinding.{BreakHash, ExtendRegisterAlike, TwoAttestations};
 

@@ -2,8 +2,7 @@
 
 ghost use Rattle.std.specs.Prelude.{◌≡◌, ◌⊎◌, ℕ, List, length};
 ghost use Rattle.pcr_banks.specs.declared.alg.Alg.{Alg};
-ghost use Rattle.pcr_banks.specs.Hashing.{size_of};
-ghost use Rattle.pcr_banks.specs.Registers.{extended_by_all};
+ghost use Rattle.pcr_banks.specs.Names.{extended_by_all, size_of};
 ghost use Rattle.binding_laws.specs.BankBinding.{ExtendsBreakHash};
 
 /// What the value of a register tells. If two sequences of extends end in the same value, they have the same start value and the

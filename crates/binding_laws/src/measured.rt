@@ -3,11 +3,9 @@
 ghost use Rattle.std.specs.Prelude.{◌≡◌, ◌⊎◌, ℕ, List, ◌∷◌, ◌++◌, length};
 ghost use Rattle.std.specs.List.{Contains};
 ghost use Rattle.pcr_banks.specs.declared.alg.Alg.{Alg};
-ghost use Rattle.pcr_banks.specs.Hashing.{hash_of};
-ghost use Rattle.pcr_banks.specs.Registers.{extended_by_all, reset_value};
-ghost use Rattle.boot_log.specs.Replaying.{digests_for, firmware_value};
-ghost use Rattle.boot_log.specs.Spelling.{LogEvent, no_action};
-ghost use Rattle.event_data.specs.Forms.{CommandData, IsCommand, IsVariable, VariableData};
+ghost use Rattle.pcr_banks.specs.Names.{extended_by_all, hash_of, reset_value};
+ghost use Rattle.boot_log.specs.Names.{LogEvent, digests_for, firmware_value, no_action};
+ghost use Rattle.event_data.specs.Names.{CommandData, IsCommand, IsVariable, VariableData};
 ghost use Rattle.measured_data.specs.declared.measured.Part.{Part};
 ghost use Rattle.measured_data.specs.declared.confirmed.Pcr.{Pcr};
 ghost use Rattle.measured_data.specs.Confirming.{IsConfirmed};

@@ -5,8 +5,8 @@ use Rattle.std.proofs.lemmas.List.{length-append, drop_more, drop_all, get_or-se
 use Rattle.std.proofs.lemmas.Bool.{cases_eq, cases_lt, cases_order, iff_false}
 use Rattle.pcr_banks.specs.declared.alg.Alg.{Alg}
 use Rattle.pcr_banks.specs.declared.digest.Digest.{Digest}
-use Rattle.pcr_banks.specs.Sets.{digest_for}
-use Rattle.boot_log.specs.Spelling.{LogEvent}
+use Rattle.pcr_banks.specs.Names.{digest_for}
+use Rattle.boot_log.specs.Names.{LogEvent}
 use Rattle.boot_answers.specs.CommonEvents.{IsCommon, IsLongestCommon, compared, marked}
 use Rattle.boot_answers.specs.Differences.{AreOne, IsKnown}
 use Rattle.boot_answers.specs.Extending.{extended_events}

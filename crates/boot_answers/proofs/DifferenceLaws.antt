@@ -2,8 +2,8 @@
 use Rattle.std.proofs.Common.{◌≡◌, ℕ, List, [], ◌∷◌, ◌++◌, length, Option, refl, sym, ap, subst, ◌∙◌, arith}
 use Rattle.std.specs.List.{AllByRecursion}
 use Rattle.pcr_banks.specs.declared.alg.Alg.{Alg}
-use Rattle.pcr_banks.specs.Sets.{digest_in}
-use Rattle.boot_log.specs.Spelling.{LogEvent}
+use Rattle.pcr_banks.specs.Names.{digest_in}
+use Rattle.boot_log.specs.Names.{LogEvent}
 use Rattle.boot_answers.specs.Differences.{BeginApart, DifferAt, IsKnown, digests_in}
 use Rattle.boot_answers.proofs.EventLaws.{added_last}
 

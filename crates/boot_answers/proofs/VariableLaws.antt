@@ -1,6 +1,6 @@
 -- Variables, by vendor and name.
 use Rattle.std.proofs.Common.{◌≡◌, ℕ, List, Some, None, ap}
-use Rattle.event_data.specs.Forms.{VariableData}
+use Rattle.event_data.specs.Names.{VariableData}
 
 some_is : {A : Type 0} (x y : A) → Some x ≡ Some y → x ≡ y
 some_is x y e = cc

@@ -1,8 +1,8 @@
 -- What the first event of register 0 tells of the firmware's version.
 use Rattle.std.proofs.Common.{◌≡◌, ◌⊎◌, ℕ, List, [], ◌∷◌, Option, Some, None, sym, subst, ◌∙◌}
 use Rattle.pcr_banks.specs.declared.alg.Alg.{Alg}
-use Rattle.boot_log.specs.Spelling.{LogEvent}
-use Rattle.event_data.specs.EventForms.{Content, Says}
+use Rattle.boot_log.specs.Names.{LogEvent}
+use Rattle.event_data.specs.Names.{Content, Says}
 use Rattle.event_data.proofs.ContentLaws.{says_once}
 use Rattle.measured_data.specs.declared.confirmed.Pcr.{Pcr}
 use Rattle.boot_answers.specs.Extending.{IsAnswering, extended_events}

@@ -7,8 +7,8 @@
 -- register have data that is not measured, so that an event between may be another variable that is hidden.
 use Rattle.std.specs.Prelude.{◌⊎◌}
 use Rattle.pcr_banks.specs.declared.alg.Alg.{Alg}
-use Rattle.boot_log.specs.Spelling.{LogEvent}
-use Rattle.event_data.specs.Forms.{IsVariable, VariableData}
+use Rattle.boot_log.specs.Names.{LogEvent}
+use Rattle.event_data.specs.Names.{IsVariable, VariableData}
 use Rattle.measured_data.specs.declared.measured.Part.TheVariants.{Value, Whole}
 use Rattle.measured_data.specs.Measuring.{IsMeasured}
 

@@ -6,9 +6,8 @@
 -- show other data, also the text alone without the command's start. Such an event tells no text.
 use Rattle.std.specs.Prelude.{ℕ, List, Option, Some, None, option_map}
 use Rattle.pcr_banks.specs.declared.alg.Alg.{Alg}
-use Rattle.boot_log.specs.Spelling.{LogEvent}
-use Rattle.event_data.specs.Forms.{CommandData, IsCommand, IsWideText, command_of}
-use Rattle.event_data.specs.Results.{command_in, wide_text_in}
+use Rattle.boot_log.specs.Names.{LogEvent}
+use Rattle.event_data.specs.Names.{CommandData, IsCommand, IsWideText, command_in, command_of, wide_text_in}
 use Rattle.measured_data.specs.declared.measured.Part.{Part}
 use Rattle.measured_data.specs.declared.measured.Part.TheVariants as parts
 use Rattle.measured_data.specs.declared.confirmed.Pcr.{Pcr}

@@ -3,8 +3,8 @@ use Rattle.std.specs.Prelude.{◌≡◌, ◌≤◌, ℕ, Bool, true, false, List
 use Rattle.std.specs.List.{AllByRecursion}
 use Rattle.pcr_banks.specs.declared.alg.Alg.{Alg}
 use Rattle.pcr_banks.specs.declared.digest.Digest.{Digest}
-use Rattle.pcr_banks.specs.Sets.{digest_for}
-use Rattle.boot_log.specs.Spelling.{LogEvent}
+use Rattle.pcr_banks.specs.Names.{digest_for}
+use Rattle.boot_log.specs.Names.{LogEvent}
 use Rattle.boot_answers.specs.Differences.{IsKnown}
 use Rattle.boot_answers.specs.Extending.{extended_events}
 

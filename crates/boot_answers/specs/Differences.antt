@@ -2,8 +2,8 @@
 use Rattle.std.specs.Prelude.{◌≡◌, ℕ, List, [], ◌∷◌, ◌++◌, length, map, Option, Some, None}
 use Rattle.std.specs.List.{AllByRecursion}
 use Rattle.pcr_banks.specs.declared.alg.Alg.{Alg}
-use Rattle.pcr_banks.specs.Sets.{digest_in}
-use Rattle.boot_log.specs.Spelling.{LogEvent}
+use Rattle.pcr_banks.specs.Names.{digest_in}
+use Rattle.boot_log.specs.Names.{LogEvent}
 use Rattle.boot_answers.specs.Extending.{extended_events}
 
 -- The events' digests in the algorithm's bank, none where an event has none.

@@ -6,8 +6,7 @@ use Rattle.std.specs.Prelude.{◌≡◌, ℕ, List, filter}
 use Rattle.std.specs.List.{Contains}
 use Rattle.pcr_banks.specs.declared.alg.Alg.{Alg}
 use Rattle.pcr_banks.specs.declared.alg.Alg.TheVariants.{Sha1}
-use Rattle.boot_log.specs.Replaying.{is_extended_into}
-use Rattle.boot_log.specs.Spelling.{LogEvent}
+use Rattle.boot_log.specs.Names.{LogEvent, is_extended_into}
 use Rattle.measured_data.specs.declared.confirmed.Pcr.{Pcr}
 
 -- The events that are extended into the register, in order.

@@ -6,9 +6,9 @@
 -- may be taken for a text.
 use Rattle.std.specs.Prelude.{◌≡◌, ◌⊎◌, ℕ, List, ◌∷◌, Option, Some, None}
 use Rattle.pcr_banks.specs.declared.alg.Alg.{Alg}
-use Rattle.boot_log.specs.Spelling.{LogEvent}
-use Rattle.event_data.specs.EventForms.{Content, Says, unknown}
-use Rattle.event_data.specs.Forms.{IsSeparator}
+use Rattle.boot_log.specs.Names.{LogEvent}
+use Rattle.event_data.specs.EventForms.{unknown}
+use Rattle.event_data.specs.Names.{Content, IsSeparator, Says}
 use Rattle.measured_data.specs.declared.measured.Part.TheVariants.{Whole}
 use Rattle.measured_data.specs.declared.confirmed.Pcr.{Pcr}
 use Rattle.measured_data.specs.Measuring.{IsMeasured}

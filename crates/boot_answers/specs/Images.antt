@@ -7,9 +7,8 @@
 -- hence an image more may be told. The path and all else that the data says is claimed.
 use Rattle.std.specs.Prelude.{◌≡◌, ◌⊎◌, ℕ, List, true}
 use Rattle.pcr_banks.specs.declared.alg.Alg.{Alg}
-use Rattle.boot_log.specs.Replaying.{is_extended_into}
-use Rattle.boot_log.specs.Spelling.{LogEvent}
-use Rattle.event_data.specs.Forms.{IsSeparator, IsText}
+use Rattle.boot_log.specs.Names.{LogEvent, is_extended_into}
+use Rattle.event_data.specs.Names.{IsSeparator, IsText}
 use Rattle.measured_data.specs.declared.measured.Part.TheVariants.{Whole}
 use Rattle.measured_data.specs.Measuring.{IsMeasured}
 

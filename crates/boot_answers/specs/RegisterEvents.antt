@@ -1,7 +1,6 @@
 -- What contracts see of the events of one register, which are lent one after another.
 use Rattle.std.specs.Prelude.{◌≡◌, ℕ, List}
-use Rattle.boot_log.specs.LogViews.{HasBorrowed, unread}
-use Rattle.boot_log.specs.Spelling.{LogEvent}
+use Rattle.boot_log.specs.Names.{HasBorrowed, LogEvent, unread}
 use Rattle.boot_answers.specs.declared.register_events.RegisterEvents.{RegisterEvents}
 use Rattle.boot_answers.specs.Extending.{extended_events}
 

@@ -9,7 +9,7 @@
 use Rattle.std.specs.Prelude.{◌≡◌, ℕ, List, [], ◌∷◌, ◌++◌, codes, length}
 use Rattle.std.specs.List.{AllByRecursion}
 use Rattle.pcr_banks.specs.declared.alg.Alg.{Alg}
-use Rattle.boot_log.specs.Spelling.{LogEvent}
+use Rattle.boot_log.specs.Names.{LogEvent}
 use Rattle.measured_data.specs.declared.measured.Part.TheVariants.{Whole}
 use Rattle.measured_data.specs.declared.confirmed.Pcr.{Pcr}
 use Rattle.measured_data.specs.Measuring.{IsMeasured}

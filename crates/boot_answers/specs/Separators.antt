@@ -6,9 +6,8 @@
 use Rattle.std.specs.Prelude.{◌≡◌, ◌⊎◌, ℕ, Some}
 use Rattle.byte_fields.specs.Spelling.{number32}
 use Rattle.pcr_banks.specs.declared.alg.Alg.{Alg}
-use Rattle.pcr_banks.specs.Hashing.{hash_of}
-use Rattle.pcr_banks.specs.Sets.{digest_in}
-use Rattle.boot_log.specs.Spelling.{LogEvent}
+use Rattle.pcr_banks.specs.Names.{digest_in, hash_of}
+use Rattle.boot_log.specs.Names.{LogEvent}
 
 -- The digest is that of this separator.
 abbrev pub HasDigestOf : Alg → LogEvent → ℕ → Type 0

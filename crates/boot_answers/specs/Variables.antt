@@ -1,6 +1,6 @@
 -- The variables of the firmware that answers speak of (UEFI 2.10, chapter 'Boot Manager', 'Globally Defined Variables').
 use Rattle.std.specs.Prelude.{ℕ, List, [], ◌∷◌}
-use Rattle.event_data.specs.Forms.{IsVariable}
+use Rattle.event_data.specs.Names.{IsVariable}
 
 -- EFI_GLOBAL_VARIABLE, 8be4df61-93ca-11d2-aa0d-00e098032b8c, as a GUID is spelled: its first three numbers in little endian.
 abbrev pub global_guid : List ℕ

@@ -2,8 +2,7 @@
 
 ghost use Rattle.std.specs.Prelude.{◌≡◌, ◌≤◌, ◌<◌, ◌*◌, ◌+◌, ◌↔◌, ℕ, List, length, IfOk, IsTrue, None, slice_index_or};
 ghost use Rattle.boot_log.specs.declared.header.DeclaredAlgorithm.{DeclaredAlgorithm};
-ghost use Rattle.boot_log.specs.LogViews.{log_bytes};
-ghost use Rattle.boot_log.specs.Spelling.{IsLog, LogEvent};
+ghost use Rattle.boot_log.specs.Names.{IsLog, LogEvent, log_bytes};
 ghost use Rattle.boot_answers.specs.CommonEvents.{IsLongestCommon, compared};
 ghost use Rattle.boot_answers.specs.Differences.{AreOne};
 ghost use Rattle.boot_answers.specs.parts.CommonLengths.{IsFilled, IsNext};

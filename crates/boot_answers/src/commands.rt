@@ -1,7 +1,7 @@
 //! The texts that boot loaders measure.
 
 ghost use Rattle.std.specs.Prelude.{◌≡◌, option_map};
-ghost use Rattle.boot_log.specs.Spelling.{log_event_of};
+ghost use Rattle.boot_log.specs.Names.{log_event_of};
 ghost use Rattle.boot_answers.specs.Commands.{said_of, told_text};
 
 use boot_log::Event;

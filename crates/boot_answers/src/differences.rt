@@ -2,9 +2,8 @@
 
 ghost use Rattle.std.specs.Prelude.{◌≡◌, ◌↔◌, List, IsTrue};
 ghost use Rattle.boot_log.specs.declared.header.DeclaredAlgorithm.{DeclaredAlgorithm};
-ghost use Rattle.boot_log.specs.LogViews.{log_bytes};
-ghost use Rattle.boot_log.specs.Spelling.{IsLog, LogEvent, log_event_of};
-ghost use Rattle.pcr_banks.specs.Sets.{digest_in};
+ghost use Rattle.boot_log.specs.Names.{IsLog, LogEvent, log_bytes, log_event_of};
+ghost use Rattle.pcr_banks.specs.Names.{digest_in};
 ghost use Rattle.boot_answers.specs.Differences.{AreOne, IsFirstDifference, IsKnown};
 
 use crate::register_events::RegisterEvents;

@@ -1,9 +1,9 @@
 //! Events by which the firmware starts a boot: the variables that say what it was to start, separators, and the images that it started.
 
 ghost use Rattle.std.specs.Prelude.{◌↔◌, IsTrue, ◌≡◌, ◌⊎◌, ℕ, List, Some, IfSome, IfNone};
-ghost use Rattle.pcr_banks.specs.Sets.{digest_for};
-ghost use Rattle.event_data.specs.Forms.{IsSeparator, IsText, VariableData, variable_of};
-ghost use Rattle.boot_log.specs.Spelling.{log_event_of};
+ghost use Rattle.pcr_banks.specs.Names.{digest_for};
+ghost use Rattle.event_data.specs.Names.{IsSeparator, IsText, VariableData, variable_of};
+ghost use Rattle.boot_log.specs.Names.{log_event_of};
 ghost use Rattle.boot_answers.specs.Separators.{HasDigestOf, MayBeSeparator};
 ghost use Rattle.boot_answers.specs.Images.{IsNoImage, MayBeImage};
 ghost use Rattle.boot_answers.specs.BootVariables.{IsBootVariable, IsMeasuredVariable};

@@ -2,8 +2,7 @@
 
 ghost use Rattle.std.specs.Prelude.{◌≡◌, ◌↔◌, ℕ, List, Some, IsTrue, IfSome, option_map, [], ◌∷◌, IfNone};
 ghost use Rattle.boot_log.specs.declared.header.DeclaredAlgorithm.{DeclaredAlgorithm};
-ghost use Rattle.boot_log.specs.LogViews.{log_bytes};
-ghost use Rattle.boot_log.specs.Spelling.{IsLog, LogEvent, log_event_of};
+ghost use Rattle.boot_log.specs.Names.{IsLog, LogEvent, log_bytes, log_event_of};
 ghost use Rattle.boot_answers.specs.Variables.{IsNamed, global_guid};
 ghost use Rattle.boot_answers.specs.SecureBoot.{IsBefore, IsSecureBoot, IsSecureBootVariable};
 ghost use Rattle.boot_answers.specs.parts.SecureBoot.{Agrees, AllAgree, Ends, IsOf, IsToldIn};

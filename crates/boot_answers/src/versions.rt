@@ -2,9 +2,8 @@
 
 ghost use Rattle.std.specs.Prelude.{◌≡◌, ◌↔◌, ◌⊎◌, List, IsTrue, option_map};
 ghost use Rattle.boot_log.specs.declared.header.DeclaredAlgorithm.{DeclaredAlgorithm};
-ghost use Rattle.boot_log.specs.LogViews.{log_bytes};
-ghost use Rattle.boot_log.specs.Spelling.{IsLog, LogEvent, log_event_of};
-ghost use Rattle.event_data.specs.EventForms.{content_of};
+ghost use Rattle.boot_log.specs.Names.{IsLog, LogEvent, log_bytes, log_event_of};
+ghost use Rattle.event_data.specs.Names.{content_of};
 ghost use Rattle.boot_answers.specs.FirmwareVersion.{IsFirmwareVersion, IsOfVersion, IsSeparatorData, IsVersion, TellsVersion};
 ghost use Rattle.boot_answers.specs.parts.FirmwareVersion.{Agrees, AllAgree, TellsAny};
 

@@ -4,10 +4,9 @@ use Rattle.std.specs.Prelude.{flat_map}
 use Rattle.hex.specs.Hex.{IsBytes}
 use Rattle.pcr_banks.specs.declared.alg.Alg.{Alg}
 use Rattle.pcr_banks.specs.declared.sets.PerBank.{PerBank}
-use Rattle.pcr_banks.specs.Hashing.{all_algs}
-use Rattle.pcr_banks.specs.Sets.{digest_in}
-use Rattle.boot_log.specs.Spelling.{LogEvent}
-use Rattle.event_data.specs.ContentReading.{content_in}
+use Rattle.pcr_banks.specs.Names.{all_algs, digest_in}
+use Rattle.boot_log.specs.Names.{LogEvent}
+use Rattle.event_data.specs.Names.{content_in}
 use Rattle.event_texts.specs.WideTexts.{wide_text}
 use Rattle.measured_data.specs.declared.confirmed.Pcr.{Pcr}
 use Rattle.boot_answers.specs.Commands.{CommandSaid, grub, wide}

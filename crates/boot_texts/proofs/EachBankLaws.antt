@@ -6,12 +6,10 @@ use Rattle.std.specs.Option.{option_map_or}
 use Rattle.std.proofs.lemmas.Bool.{and_parts, or_cases}
 use Rattle.byte_fields.specs.Spelling.{IsBytes}
 use Rattle.pcr_banks.specs.declared.alg.Alg.{Alg}
-use Rattle.pcr_banks.specs.Hashing.{all_algs}
+use Rattle.pcr_banks.specs.Names.{all_algs}
 use Rattle.pcr_banks.proofs.AlgLaws.{every_passes}
-use Rattle.boot_log.specs.Spelling.{LogEvent}
-use Rattle.event_data.specs.Forms.{IsCommand, IsVariable, IsWideText, VariableData}
-use Rattle.event_data.specs.Reading.{variable_in}
-use Rattle.event_data.specs.Results.{command_in, wide_text_in}
+use Rattle.boot_log.specs.Names.{LogEvent}
+use Rattle.event_data.specs.Names.{IsCommand, IsVariable, IsWideText, VariableData, command_in, variable_in, wide_text_in}
 use Rattle.event_data.proofs.CommandLaws.{command_finds}
 use Rattle.event_data.proofs.Finding.{Finds}
 use Rattle.event_data.proofs.FormLaws.{variable_finds}

@@ -2,8 +2,7 @@
 use Rattle.std.proofs.Common.{◌≡◌, ℕ, ◌+◌, Bool, true, false, List, [], ◌∷◌, ◌++◌, length, refl, sym, ap, subst, ◌∙◌, append_assoc, append-nil, arith, inl, inr}
 use Rattle.std.proofs.lemmas.List.{length-append}
 use Rattle.boot_log.specs.declared.log_view.LogEvents.{LogEvents}
-use Rattle.boot_log.specs.LogViews.{HasBorrowed}
-use Rattle.boot_log.specs.Spelling.{LogEvent}
+use Rattle.boot_log.specs.Names.{HasBorrowed, LogEvent}
 use Rattle.boot_texts.specs.Telling.{AreEventLines}
 
 -- The events that were read told this, and go on: whatever the rest tells comes after it.

@@ -3,11 +3,9 @@ use Rattle.std.specs.Prelude.{ℕ, if◌then◌else◌, List, [], ◌∷◌, ◌
 use Rattle.json.specs.Json.{Json}
 use Rattle.pcr_banks.specs.declared.alg.Alg.{Alg}
 use Rattle.pcr_banks.specs.declared.sets.PerBank.{PerBank}
-use Rattle.pcr_banks.specs.Hashing.{all_algs, name_of}
-use Rattle.pcr_banks.specs.Sets.{digest_in}
-use Rattle.boot_log.specs.Spelling.{LogEvent}
-use Rattle.event_data.specs.ContentReading.{content_in}
-use Rattle.event_data.specs.EventForms.{Content}
+use Rattle.pcr_banks.specs.Names.{all_algs, digest_in, name_of}
+use Rattle.boot_log.specs.Names.{LogEvent}
+use Rattle.event_data.specs.Names.{Content, content_in}
 use Rattle.measured_data.specs.declared.confirmed.Pcr.{Pcr}
 use Rattle.measured_data.specs.Confirming.{counts}
 use Rattle.boot_answers.specs.declared.secure_boot_state.SecureBoot.{SecureBoot}

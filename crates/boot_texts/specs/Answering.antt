@@ -1,8 +1,8 @@
 -- Whether a register is answered for.
 use Rattle.std.specs.Prelude.{ℕ, ◌&&◌, Bool, true, false, List, [], ◌∷◌}
 use Rattle.std.specs.List.{list_any}
-use Rattle.pcr_banks.specs.Hashing.{all_algs}
-use Rattle.boot_log.specs.Spelling.{LogEvent}
+use Rattle.pcr_banks.specs.Names.{all_algs}
+use Rattle.boot_log.specs.Names.{LogEvent}
 use Rattle.measured_data.specs.declared.confirmed.Pcr.{Pcr}
 use Rattle.measured_data.specs.Confirming.{counts}
 use Rattle.boot_answers.specs.Extending.{extended_events}

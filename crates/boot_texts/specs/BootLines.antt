@@ -1,7 +1,7 @@
 -- The lines of all answers on a boot.
 use Rattle.std.specs.Prelude.{◌≡◌, ℕ, List, ◌++◌, codes, Option, None}
-use Rattle.boot_log.specs.Spelling.{LogEvent}
-use Rattle.event_data.specs.EventForms.{Content}
+use Rattle.boot_log.specs.Names.{LogEvent}
+use Rattle.event_data.specs.Names.{Content}
 use Rattle.measured_data.specs.declared.confirmed.Pcr.{Pcr}
 use Rattle.measured_data.specs.Measuring.{settings_register}
 use Rattle.boot_answers.specs.declared.secure_boot_state.SecureBoot.{SecureBoot}

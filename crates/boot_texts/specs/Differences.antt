@@ -3,10 +3,8 @@
 use Rattle.std.specs.Prelude.{◌≡◌, ℕ, ◌+◌, ◌||◌, Bool, true, false, if◌then◌else◌, List, [], ◌∷◌, ◌++◌, codes, drop, flat_map, length, Option, None, Some}
 use Rattle.std.specs.List.{AllByRecursion}
 use Rattle.pcr_banks.specs.declared.alg.Alg.{Alg}
-use Rattle.pcr_banks.specs.Hashing.{all_algs, name_of}
-use Rattle.pcr_banks.specs.Sets.{digest_in}
-use Rattle.boot_log.specs.Replaying.{is_extended_into}
-use Rattle.boot_log.specs.Spelling.{LogEvent}
+use Rattle.pcr_banks.specs.Names.{all_algs, digest_in, name_of}
+use Rattle.boot_log.specs.Names.{LogEvent, is_extended_into}
 use Rattle.measured_data.specs.declared.confirmed.Pcr.{Pcr}
 use Rattle.measured_data.specs.Confirming.{counts}
 use Rattle.boot_answers.specs.declared.alike_events.Common.{Common}

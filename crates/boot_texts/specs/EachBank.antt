@@ -1,8 +1,8 @@
 -- What each bank that answers tells of an event.
 use Rattle.std.specs.Prelude.{List, ℕ}
 use Rattle.pcr_banks.specs.declared.alg.Alg.{Alg}
-use Rattle.boot_log.specs.Spelling.{LogEvent}
-use Rattle.event_data.specs.Forms.{VariableData}
+use Rattle.boot_log.specs.Names.{LogEvent}
+use Rattle.event_data.specs.Names.{VariableData}
 use Rattle.measured_data.specs.declared.confirmed.Pcr.{Pcr}
 use Rattle.boot_answers.specs.BootVariables.{IsBootVariable}
 use Rattle.boot_answers.specs.Commands.{CommandSaid, IsCommandText}

@@ -3,14 +3,11 @@ use Rattle.std.specs.Prelude.{◌≡◌, ◌⊎◌, ℕ, ◌+◌, ◌&&◌, ◌|
 use Rattle.std.specs.List.{list_all}
 use Rattle.std.specs.Option.{option_map_or}
 use Rattle.pcr_banks.specs.declared.alg.Alg.{Alg}
-use Rattle.pcr_banks.specs.Hashing.{all_algs}
-use Rattle.boot_log.specs.Replaying.{is_extended_into}
-use Rattle.boot_log.specs.Spelling.{LogEvent}
+use Rattle.pcr_banks.specs.Names.{all_algs}
+use Rattle.boot_log.specs.Names.{LogEvent, is_extended_into}
 use Rattle.event_data.specs.declared.value_reader.ValueForm.{ValueForm}
 use Rattle.event_data.specs.declared.value_reader.ValueForm.TheVariants as forms
-use Rattle.event_data.specs.Forms.{VariableData}
-use Rattle.event_data.specs.Reading.{variable_in}
-use Rattle.event_data.specs.Values.{value_form}
+use Rattle.event_data.specs.Names.{VariableData, value_form, variable_in}
 use Rattle.measured_data.specs.declared.measured.Part.TheVariants.{Value, Whole}
 use Rattle.measured_data.specs.declared.confirmed.Pcr.{Pcr}
 use Rattle.measured_data.specs.Confirming.{counts}

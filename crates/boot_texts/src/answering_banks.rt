@@ -2,8 +2,7 @@
 
 ghost use Rattle.std.specs.Prelude.{◌≡◌, List};
 ghost use Rattle.boot_log.specs.declared.header.DeclaredAlgorithm.{DeclaredAlgorithm};
-ghost use Rattle.boot_log.specs.LogViews.{log_bytes};
-ghost use Rattle.boot_log.specs.Spelling.{IsLog, LogEvent};
+ghost use Rattle.boot_log.specs.Names.{IsLog, LogEvent, log_bytes};
 ghost use Rattle.measured_data.specs.Confirming.{counts};
 ghost use Rattle.boot_answers.specs.Extending.{extended_events};
 ghost use Rattle.boot_texts.specs.Answering.{has_answer, has_any, is_answered};

@@ -2,10 +2,9 @@
 
 ghost use Rattle.std.specs.Prelude.{◌≡◌, ◌++◌, List, ℕ, OnErr, OnOk, option_map};
 ghost use Rattle.boot_log.specs.declared.header.DeclaredAlgorithm.{DeclaredAlgorithm};
-ghost use Rattle.boot_log.specs.LogViews.{log_bytes};
-ghost use Rattle.boot_log.specs.Spelling.{IsLog, LogEvent};
+ghost use Rattle.boot_log.specs.Names.{IsLog, LogEvent, log_bytes};
 ghost use Rattle.cells.specs.Cells.{ShowsMembers, rendered};
-ghost use Rattle.event_data.specs.EventForms.{content_of};
+ghost use Rattle.event_data.specs.Names.{content_of};
 ghost use Rattle.boot_texts.specs.AnswerCells.{secure_boot_cell, state_word, version_cell, word_cell};
 ghost use Rattle.boot_texts.specs.BootLines.{AreBootLines, AreCommandLines, AreImageLines, AreVariableLines};
 

@@ -1,10 +1,9 @@
 //! The lines that tell how far two boots extended a register alike, and by which other events.
 
 ghost use Rattle.std.specs.Prelude.{◌≡◌, ◌++◌, [], drop, false, get_or, if◌then◌else◌, List, OnOk, codes, option_map};
-ghost use Rattle.pcr_banks.specs.Digests.{bytes_of};
+ghost use Rattle.pcr_banks.specs.Names.{bytes_of};
 ghost use Rattle.boot_log.specs.declared.header.DeclaredAlgorithm.{DeclaredAlgorithm};
-ghost use Rattle.boot_log.specs.LogViews.{log_bytes};
-ghost use Rattle.boot_log.specs.Spelling.{IsLog, LogEvent, log_event_of};
+ghost use Rattle.boot_log.specs.Names.{IsLog, LogEvent, log_bytes, log_event_of};
 ghost use Rattle.cells.specs.Cells.{ShowsMembers, hex, if_some};
 ghost use Rattle.event_lines.specs.ContentJson.{event_content_json};
 ghost use Rattle.event_lines.specs.SteeringTexts.{value_cell};

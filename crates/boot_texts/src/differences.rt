@@ -2,8 +2,7 @@
 
 ghost use Rattle.std.specs.Prelude.{◌≡◌, ℕ, List, ◌++◌, IfOk, OnErr, OnOk};
 ghost use Rattle.boot_log.specs.declared.header.DeclaredAlgorithm.{DeclaredAlgorithm};
-ghost use Rattle.boot_log.specs.LogViews.{log_bytes};
-ghost use Rattle.boot_log.specs.Spelling.{IsLog, LogEvent};
+ghost use Rattle.boot_log.specs.Names.{IsLog, LogEvent, log_bytes};
 ghost use Rattle.cells.specs.Cells.{rendered};
 ghost use Rattle.boot_texts.specs.Differences.{AreDifferenceLines, IsComparedIn, IsDifference, alike_cell, either_extended, has_events, lines_of_both, register_lines, where_extended};
 

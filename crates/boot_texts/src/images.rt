@@ -1,8 +1,8 @@
 //! The images that the firmware started.
 
 ghost use Rattle.std.specs.Prelude.{◌≡◌, ◌↔◌, ◌++◌, codes, option_map, true, IsTrue, List, ℕ, OnOk};
-ghost use Rattle.pcr_banks.specs.Digests.{bytes_of};
-ghost use Rattle.boot_log.specs.Spelling.{log_event_of};
+ghost use Rattle.pcr_banks.specs.Names.{bytes_of};
+ghost use Rattle.boot_log.specs.Names.{log_event_of};
 ghost use Rattle.cells.specs.Cells.{ShowsMembers, if_some, object_at};
 ghost use Rattle.boot_texts.specs.AnswerCells.{answered_cell, answered_digest, digest_cell, image_cell};
 ghost use Rattle.boot_texts.specs.Telling.{IsImageBy, MayBeImageIn, IsImageLine};

@@ -4,9 +4,8 @@ ghost use Rattle.std.specs.Prelude.{◌≡◌, ℕ, List, [], ◌∷◌, None, S
 ghost use Rattle.byte_fields.specs.Spelling.{IsBytes};
 ghost use Rattle.hex.specs.Hex.{IsBytes as AreBytes};
 ghost use Rattle.pcr_banks.specs.declared.alg.Alg.{Alg};
-ghost use Rattle.boot_log.specs.Spelling.{LogEvent};
-ghost use Rattle.event_data.specs.ContentReading.{content_in};
-ghost use Rattle.event_data.specs.Forms.{VariableData};
+ghost use Rattle.boot_log.specs.Names.{LogEvent};
+ghost use Rattle.event_data.specs.Names.{VariableData, content_in};
 ghost use Rattle.measured_data.specs.declared.confirmed.Pcr.{Pcr};
 ghost use Rattle.measured_data.specs.Measuring.{settings_register};
 ghost use Rattle.boot_answers.specs.Commands.{CommandSaid, told_text};

@@ -3,10 +3,9 @@
 ghost use Rattle.std.specs.Prelude.{◌≡◌, ◌↔◌, ◌++◌, List, ℕ, false, IfOk, IsTrue, OnOk};
 ghost use Rattle.std.specs.List.{list_all};
 ghost use Rattle.std.specs.Option.{option_map_or};
-ghost use Rattle.pcr_banks.specs.Hashing.{all_algs};
-ghost use Rattle.boot_log.specs.Spelling.{log_event_of};
-ghost use Rattle.event_data.specs.Forms.{variable_of};
-ghost use Rattle.event_data.specs.Reading.{variable_in};
+ghost use Rattle.pcr_banks.specs.Names.{all_algs};
+ghost use Rattle.boot_log.specs.Names.{log_event_of};
+ghost use Rattle.event_data.specs.Names.{variable_in, variable_of};
 ghost use Rattle.cells.specs.Cells.{ShowsMembers};
 ghost use Rattle.boot_texts.specs.AnswerCells.{variable_cell};
 ghost use Rattle.boot_texts.specs.Telling.{IsSeparatorBy, MayBeSeparatorIn, IsSettingLine, IsVariableLine, allows_variable, is_boot_variable, is_told_variable, told_variable};

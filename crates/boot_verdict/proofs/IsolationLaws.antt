@@ -2,11 +2,10 @@
 use Rattle.std.proofs.Common.{◌≡◌, ℕ, Bool, true, false, cond, eqb, List, [], ◌∷◌, ◌++◌, length, Option, Some, None, sym, ap, ◌∙◌, refl, ◌+◌, arith}
 use Rattle.std.specs.Option.{option_or}
 use Rattle.std.proofs.lemmas.Bool.{eq-eqb, eqb-true, ne_eqb}
-use Rattle.boot_log.specs.Replaying.{is_extended_into}
-use Rattle.boot_log.specs.Spelling.{LogEvent}
-use Rattle.ima_list.specs.ListEntry.{ListEntry}
+use Rattle.boot_log.specs.Names.{LogEvent, is_extended_into}
+use Rattle.ima_list.specs.Names.{ListEntry}
 use Rattle.boot_verdict.specs.declared.isolation.Stray.{Stray}
-use Rattle.boot_verdict.specs.Isolation.{IsListApart, IsLogApart, extending_from, first_stray, list_register, stray_from}
+use Rattle.boot_verdict.specs.Names.{IsListApart, IsLogApart, extending_from, first_stray, list_register, stray_from}
 
 -- ---- events
 

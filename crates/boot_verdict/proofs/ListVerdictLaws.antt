@@ -4,18 +4,12 @@ use Rattle.std.specs.Prelude.{◌&&◌, nat_lt, if◌then◌else◌}
 use Rattle.pcr_banks.specs.declared.alg.Alg.{Alg}
 use Rattle.pcr_banks.specs.declared.alg.Alg.TheVariants.{Sha1, Sha256, Sha384, Sha512}
 use Rattle.pcr_banks.specs.declared.banks.Banks.{Banks}
-use Rattle.pcr_banks.specs.Sets.{has_alg}
-use Rattle.pcr_banks.specs.Registers.{register_count, extended_by_all, reset_value, value_at}
+use Rattle.pcr_banks.specs.Names.{extended_by_all, has_alg, register_count, reset_value, value_at}
 use Rattle.pcr_values.specs.declared.expected.Expected.{Expected}
-use Rattle.ima_list.specs.ListEntry.{ListEntry}
-use Rattle.ima_list.specs.Replaying.{IsReplayed, digests_of}
+use Rattle.ima_list.specs.Names.{IsReplayed, ListEntry, digests_of}
 use Rattle.boot_verdict.specs.declared.isolation.Stray.{Stray}
 use Rattle.boot_verdict.specs.declared.report.Row.{Row}
-use Rattle.boot_verdict.specs.Isolation.{first_stray}
-use Rattle.boot_verdict.specs.ListVerdicts.{ListVerdict, list_row_on, list_verdict_on, pcr_after_list}
-use Rattle.boot_verdict.specs.Replays.{IsListStart, every_alg}
-use Rattle.boot_verdict.specs.Verdicts.{row_state}
-use Rattle.boot_verdict.specs.parts.Rows.{row_of}
+use Rattle.boot_verdict.specs.Names.{IsListStart, ListVerdict, every_alg, first_stray, list_row_on, list_verdict_on, pcr_after_list, row_of, row_state}
 
 -- ---- registers
 

@@ -10,26 +10,18 @@ use Rattle.std.proofs.Math.Seq.{drop-length}
 use Rattle.pcr_banks.specs.declared.alg.Alg.{Alg}
 use Rattle.pcr_banks.specs.declared.banks.Banks.{Banks}
 use Rattle.pcr_banks.specs.declared.sets.AlgSet.{AlgSet}
-use Rattle.pcr_banks.specs.Registers.{reset_value, value_at}
+use Rattle.pcr_banks.specs.Names.{reset_value, value_at}
 use Rattle.pcr_values.specs.declared.expected.Expected.{Expected}
 use Rattle.boot_log.specs.declared.header.DeclaredAlgorithm.{DeclaredAlgorithm}
-use Rattle.boot_log.specs.Spelling.{LogEvent, IsLog, algs_in}
-use Rattle.boot_log.specs.Replaying.{startup_locality}
-use Rattle.ima_list.specs.ListEntry.{ListEntry}
+use Rattle.boot_log.specs.Names.{IsLog, LogEvent, algs_in, startup_locality}
+use Rattle.ima_list.specs.Names.{ListEntry}
 use Rattle.boot_verdict.specs.declared.steps.Located.{Located}
 use Rattle.boot_verdict.specs.declared.steps.Position.{Position}
 use Rattle.boot_verdict.specs.declared.steps.Position.TheVariants.{Reset, Event, Entry, Nowhere, Absent}
 use Rattle.boot_verdict.specs.declared.steps.RowTracker.{RowTracker}
 use Rattle.boot_verdict.specs.declared.report.State.TheVariants as states
 use Rattle.boot_verdict.specs.declared.list_replay.ListReplay.{ListReplay}
-use Rattle.boot_verdict.specs.Positions.{AreLocated, first_position, is_found, is_reached, located_on, pcr_after, position_after, position_of_prefix, position_on, reached_after}
-use Rattle.boot_verdict.specs.Steps.{Step, OfEvent, OfEntry, entries_as_steps, events_as_steps, has_register, least_prefix, pcr_at_reset, stepped, steps_of, value_after}
-use Rattle.boot_verdict.specs.Verdicts.{is_value, pcr_after_log_and_list, row_state, state_matches}
-use Rattle.boot_verdict.specs.Tracking.{AreAfter, register_of}
-use Rattle.boot_verdict.specs.parts.RowTrackers.{IsRowTrackerAfter, located_after}
-use Rattle.boot_verdict.specs.ListReplays.{AreTracked, ReplaysAll}
-use Rattle.boot_verdict.specs.parts.LogPositions.{IsTracked, position_at_reset, row_at_reset}
-use Rattle.boot_verdict.specs.parts.RowTrackers.{looked_at, position_with}
+use Rattle.boot_verdict.specs.Names.{AreAfter, AreLocated, AreTracked, IsRowTrackerAfter, IsTracked, OfEntry, OfEvent, ReplaysAll, Step, entries_as_steps, events_as_steps, first_position, has_register, is_found, is_reached, is_value, least_prefix, located_after, located_on, looked_at, pcr_after, pcr_after_log_and_list, pcr_at_reset, position_after, position_at_reset, position_of_prefix, position_on, position_with, reached_after, register_of, row_at_reset, row_state, state_matches, stepped, steps_of, value_after}
 use Rattle.boot_verdict.proofs.StepLaws.{TellsLeast, banks_joined, fun_same, least_more, least_tells, none_taken, or_all, steps_value, value_quiet}
 
 pub two_ways : (b : Bool) → b ≡ true → b ≡ false → ⊥

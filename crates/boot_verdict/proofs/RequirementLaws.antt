@@ -7,27 +7,21 @@ use Rattle.std.proofs.lemmas.List.Folds.{list_all_at}
 use Rattle.pcr_banks.specs.declared.alg.Alg.{Alg}
 use Rattle.pcr_banks.specs.declared.alg.Alg.TheVariants.{Sha1, Sha256, Sha384, Sha512}
 use Rattle.pcr_banks.specs.declared.sets.AlgSet.{AlgSet}
-use Rattle.pcr_banks.specs.Hashing.{all_algs, same_alg}
-use Rattle.pcr_banks.specs.Registers.{register_count}
+use Rattle.pcr_banks.specs.Names.{all_algs, register_count, same_alg}
 use Rattle.pcr_banks.proofs.AlgLaws.{every_passes, same_alg_is}
 use Rattle.pcr_values.specs.declared.expected.Expected.{Expected}
 use Rattle.pcr_values.specs.declared.selection.BankRange.{BankRange}
-use Rattle.pcr_values.specs.RegisterRanges.{is_within}
-use Rattle.pcr_values.specs.RegisterTexts.{all_registers}
-use Rattle.pcr_values.specs.Selections.{AreBankRanges, IsBankRangeText, SpellsRanges, are_of_banks, is_bank, is_in, names, split_at_separators}
+use Rattle.pcr_values.specs.Names.{AreBankRanges, IsBankRangeText, SpellsRanges, all_registers, are_of_banks, is_bank, is_in, is_within, names, split_at_separators}
 use Rattle.pcr_values.proofs.RangeLaws.{range_exists}
 use Rattle.pcr_values.proofs.SelectionLaws.{ranges_once}
 use Rattle.pcr_values.proofs.RegisterLaws as registers
-use Rattle.boot_log.specs.Spelling.{LogEvent}
-use Rattle.ima_list.specs.ListEntry.{ListEntry}
+use Rattle.boot_log.specs.Names.{LogEvent}
+use Rattle.ima_list.specs.Names.{ListEntry}
 use Rattle.boot_verdict.specs.declared.report.Row.{Row}
 use Rattle.boot_verdict.specs.declared.report.State.{State}
 use Rattle.boot_verdict.specs.declared.report.State.TheVariants.{Match, Differ, Absent}
 use Rattle.boot_verdict.specs.declared.isolation.Strays.{Strays}
-use Rattle.boot_verdict.specs.Isolation.{IsListApart, IsLogApart, are_none, list_register}
-use Rattle.boot_verdict.specs.Requirements.{HasMatch, IsRequirementText, bind_list, expected_of_rows, is_complete, is_complete_in, is_missing, is_of, required_matches, states}
-use Rattle.boot_verdict.specs.ListVerdicts.{list_matches, list_verdict_on, required_list_matches}
-use Rattle.boot_verdict.specs.Verdicts.{is_good, is_match, matches, state_matches, verdict_on}
+use Rattle.boot_verdict.specs.Names.{HasMatch, IsListApart, IsLogApart, IsRequirementText, are_none, bind_list, expected_of_rows, is_complete, is_complete_in, is_good, is_match, is_missing, is_of, list_matches, list_register, list_verdict_on, matches, required_list_matches, required_matches, state_matches, states, verdict_on}
 use Rattle.boot_verdict.proofs.IsolationLaws.{list_is_apart, log_is_apart}
 
 -- ---- what is no requirement

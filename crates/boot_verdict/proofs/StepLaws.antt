@@ -10,19 +10,12 @@ use Rattle.std.proofs.lemmas.List.Folds.{find-append}
 use Rattle.std.proofs.lemmas.List.Sums.{fold-append}
 use Rattle.pcr_banks.specs.declared.alg.Alg.{Alg}
 use Rattle.pcr_banks.specs.declared.banks.Banks.{Banks}
-use Rattle.pcr_banks.specs.Registers.{extended_by, extended_by_all, extended_value, value_at}
-use Rattle.pcr_banks.specs.Sets.{digest_in}
-use Rattle.boot_log.specs.Spelling.{LogEvent, no_action}
-use Rattle.boot_log.specs.Replaying.{IsExtended, digests_for, is_extended_into}
+use Rattle.pcr_banks.specs.Names.{digest_in, extended_by, extended_by_all, extended_value, value_at}
+use Rattle.boot_log.specs.Names.{IsExtended, LogEvent, digests_for, is_extended_into, no_action}
 use Rattle.boot_log.proofs.ListLaws.{find_map}
-use Rattle.ima_list.specs.ListEntry.{ListEntry}
-use Rattle.ima_list.specs.Digesting.{bank_digest}
-use Rattle.ima_list.specs.Replaying.{IsReplayed, digests_of}
+use Rattle.ima_list.specs.Names.{IsReplayed, ListEntry, bank_digest, digests_of}
 use Rattle.boot_verdict.specs.declared.steps.Position.TheVariants.{Event, Entry}
-use Rattle.boot_verdict.specs.Positions.{position_after}
-use Rattle.boot_verdict.specs.Steps.{Step, OfEvent, OfEntry, digest_of_step, entries_as_steps, events_as_steps, prefixes, least_prefix, stepped, steps_of, value_after}
-use Rattle.boot_verdict.specs.Tracking.{AreAfter, BanksAfter, register_of}
-use Rattle.boot_verdict.specs.ListReplays.{AreTracked}
+use Rattle.boot_verdict.specs.Names.{AreAfter, AreTracked, BanksAfter, OfEntry, OfEvent, Step, digest_of_step, entries_as_steps, events_as_steps, least_prefix, position_after, prefixes, register_of, stepped, steps_of, value_after}
 
 -- ---- registers
 

@@ -4,27 +4,19 @@ use Rattle.pcr_banks.specs.declared.alg.Alg.{Alg}
 use Rattle.pcr_banks.specs.declared.banks.Banks.{Banks}
 use Rattle.pcr_banks.specs.declared.digest.Digest.{Digest}
 use Rattle.pcr_banks.specs.declared.sets.AlgSet.{AlgSet}
-use Rattle.pcr_banks.specs.Hashing.{hash_of}
-use Rattle.pcr_banks.specs.Digests.{alg_of, bytes_of, digest_of}
-use Rattle.pcr_banks.specs.Registers.{value_at, extended_by_all}
+use Rattle.pcr_banks.specs.Names.{alg_of, bytes_of, digest_of, extended_by_all, hash_of, value_at}
 use Rattle.pcr_banks.proofs.SetLaws.{same_bytes}
 use Rattle.pcr_values.specs.declared.expected.Expected.{Expected}
 use Rattle.boot_log.specs.declared.fault.LogFault.{LogFault}
 use Rattle.boot_log.specs.declared.fault.LogFault.TheVariants as logs
 use Rattle.boot_log.specs.declared.header.DeclaredAlgorithm.{DeclaredAlgorithm}
-use Rattle.boot_log.specs.Spelling.{LogEvent, HasLogFault, IsLog, algs_in}
-use Rattle.boot_log.specs.Reading.{log_fault}
-use Rattle.boot_log.specs.Replaying.{IsFirmware}
-use Rattle.ima_list.specs.ListEntry.{ListEntry}
-use Rattle.ima_list.specs.Aggregates.{aggregate_register_count, boot_aggregate_of, joined_values}
-use Rattle.ima_list.specs.Replaying.{IsReplayed, digests_of}
+use Rattle.boot_log.specs.Names.{HasLogFault, IsFirmware, IsLog, LogEvent, algs_in, log_fault}
+use Rattle.ima_list.specs.Names.{IsReplayed, ListEntry, aggregate_register_count, boot_aggregate_of, digests_of, joined_values}
 use Rattle.boot_verdict.specs.declared.checkpoint.Checkpoint.{Checkpoint}
 use Rattle.boot_verdict.specs.declared.report.Row.{Row}
 use Rattle.boot_verdict.specs.declared.verifier.VerifyFault.{VerifyFault}
 use Rattle.boot_verdict.specs.declared.verifier.VerifyFault.TheVariants as faults
-use Rattle.boot_verdict.specs.Checkpoints.{IsCheckpoint, IsMoreFault}
-use Rattle.boot_verdict.specs.Verdicts.{ReadsAsLog, IsVerdict, IsVerifyFault, IsVerifyFaultFrom, Verdict, aggregate_of, aggregate_state, booted_aggregate, pcr_after_log, fault_of_log, pcr_after_log_and_list, row_on, row_state, verdict_on}
-use Rattle.boot_verdict.specs.parts.Rows.{row_of}
+use Rattle.boot_verdict.specs.Names.{IsCheckpoint, IsMoreFault, IsVerdict, IsVerifyFault, IsVerifyFaultFrom, ReadsAsLog, Verdict, aggregate_of, aggregate_state, booted_aggregate, fault_of_log, pcr_after_log, pcr_after_log_and_list, row_of, row_on, row_state, verdict_on}
 use Rattle.boot_verdict.proofs.StepLaws.{fun_same}
 
 -- ---- registers

@@ -1,9 +1,7 @@
 -- Where a verification stopped.
 use Rattle.std.specs.Prelude.{◌≡◌, ℕ, ◌-◌, ◌^◌, min, max, List, ◌++◌, length, Option, option_map, Ok}
-use Rattle.pcr_banks.specs.Digests.{alg_of, bytes_of}
-use Rattle.ima_list.specs.ListEntry.{ListEntry}
-use Rattle.ima_list.specs.Spelling.{IsReading}
-use Rattle.ima_list.specs.Replaying.{AreGenuine, IsReplayed}
+use Rattle.pcr_banks.specs.Names.{alg_of, bytes_of}
+use Rattle.ima_list.specs.Names.{AreGenuine, IsReading, IsReplayed, ListEntry}
 use Rattle.boot_verdict.specs.declared.checkpoint.Checkpoint.{Checkpoint}
 use Rattle.boot_verdict.specs.declared.verifier.VerifyFault.{VerifyFault}
 use Rattle.boot_verdict.specs.declared.verifier.VerifyFault.TheVariants as faults

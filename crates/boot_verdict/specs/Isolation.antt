@@ -1,9 +1,8 @@
 -- That a log and a list extend different registers, so that each register's value is by one of the two alone. This is this project's choice.
 use Rattle.std.specs.Prelude.{◌≡◌, ℕ, ◌+◌, ◌==◌, ◌&&◌, not, Bool, false, if◌then◌else◌, List, [], ◌∷◌, Option, Some, None, is_some}
 use Rattle.std.specs.List.{AllByRecursion}
-use Rattle.boot_log.specs.Spelling.{LogEvent}
-use Rattle.boot_log.specs.Replaying.{is_extended_into}
-use Rattle.ima_list.specs.ListEntry.{ListEntry}
+use Rattle.boot_log.specs.Names.{LogEvent, is_extended_into}
+use Rattle.ima_list.specs.Names.{ListEntry}
 use Rattle.boot_verdict.specs.declared.isolation.Stray.{Stray}
 use Rattle.boot_verdict.specs.declared.isolation.Strays.{Strays}
 

@@ -11,3 +11,4 @@ pub mod Tracking
 pub mod Words
 pub mod ListReplays
 pub mod Checkpoints
+pub mod Names

@@ -2,12 +2,10 @@
 use Rattle.std.specs.Prelude.{◌≡◌, ℕ, ◌&&◌, ◌==◌, nat_lt, not, Bool, if◌then◌else◌, List, [], length, map, Option, Some, None, Ok}
 use Rattle.std.specs.List.{list_all}
 use Rattle.pcr_banks.specs.declared.alg.Alg.{Alg}
-use Rattle.pcr_banks.specs.Registers.{register_count, extended_by_all, reset_value}
+use Rattle.pcr_banks.specs.Names.{extended_by_all, register_count, reset_value}
 use Rattle.pcr_values.specs.declared.expected.Expected.{Expected}
 use Rattle.pcr_values.specs.declared.selection.BankRange.{BankRange}
-use Rattle.ima_list.specs.ListEntry.{ListEntry}
-use Rattle.ima_list.specs.Spelling.{IsReading}
-use Rattle.ima_list.specs.Replaying.{digests_of, AreGenuine}
+use Rattle.ima_list.specs.Names.{AreGenuine, IsReading, ListEntry, digests_of}
 use Rattle.boot_verdict.specs.declared.isolation.Strays.{Strays}
 use Rattle.boot_verdict.specs.declared.list_verifier.ListReport.{ListReport}
 use Rattle.boot_verdict.specs.declared.report.Row.{Row}

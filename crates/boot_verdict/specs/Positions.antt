@@ -6,10 +6,8 @@ use Rattle.pcr_banks.specs.declared.alg.Alg.{Alg}
 use Rattle.pcr_banks.specs.declared.sets.AlgSet.{AlgSet}
 use Rattle.pcr_values.specs.declared.expected.Expected.{Expected}
 use Rattle.boot_log.specs.declared.header.DeclaredAlgorithm.{DeclaredAlgorithm}
-use Rattle.boot_log.specs.Spelling.{LogEvent, IsLog, algs_in}
-use Rattle.ima_list.specs.ListEntry.{ListEntry}
-use Rattle.ima_list.specs.Spelling.{IsReading}
-use Rattle.ima_list.specs.Replaying.{AreGenuine}
+use Rattle.boot_log.specs.Names.{IsLog, LogEvent, algs_in}
+use Rattle.ima_list.specs.Names.{AreGenuine, IsReading, ListEntry}
 use Rattle.boot_verdict.specs.declared.steps.Located.{Located}
 use Rattle.boot_verdict.specs.declared.steps.Position.{Position}
 use Rattle.boot_verdict.specs.declared.steps.Position.TheVariants.{Reset, Event, Entry, Nowhere, Absent}

@@ -3,11 +3,8 @@
 use Rattle.std.specs.Prelude.{ℕ, true, List, [], Option, Ok}
 use Rattle.pcr_banks.specs.declared.banks.Banks.{Banks}
 use Rattle.pcr_banks.specs.declared.sets.AlgSet.{AlgSet}
-use Rattle.pcr_banks.specs.Sets.{algs_where}
-use Rattle.pcr_banks.specs.Registers.{IsReset}
-use Rattle.ima_list.specs.ListEntry.{ListEntry}
-use Rattle.ima_list.specs.Spelling.{IsReading}
-use Rattle.ima_list.specs.Replaying.{AreGenuine, IsReplayed}
+use Rattle.pcr_banks.specs.Names.{IsReset, algs_where}
+use Rattle.ima_list.specs.Names.{AreGenuine, IsReading, IsReplayed, ListEntry}
 use Rattle.boot_verdict.specs.declared.verifier.VerifyFault.{VerifyFault}
 use Rattle.boot_verdict.specs.Checkpoints.{IsMoreFault}
 use Rattle.boot_verdict.specs.ListSources.{CameWhole}

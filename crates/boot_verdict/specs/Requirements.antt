@@ -2,11 +2,10 @@
 use Rattle.std.specs.Prelude.{◌≡◌, ◌⊎◌, ℕ, ◌&&◌, ◌==◌, not, Bool, true, false, List, map}
 use Rattle.std.specs.List.{Contains, list_all, list_any}
 use Rattle.pcr_banks.specs.declared.alg.Alg.{Alg}
-use Rattle.pcr_banks.specs.Hashing.{all_algs, same_alg}
+use Rattle.pcr_banks.specs.Names.{all_algs, same_alg}
 use Rattle.pcr_values.specs.declared.expected.Expected.{Expected}
 use Rattle.pcr_values.specs.declared.selection.BankRange.{BankRange}
-use Rattle.pcr_values.specs.RegisterTexts.{all_registers}
-use Rattle.pcr_values.specs.Selections.{IsFirstWrong, SpellsRanges, are_of_banks, names}
+use Rattle.pcr_values.specs.Names.{IsFirstWrong, SpellsRanges, all_registers, are_of_banks, names}
 use Rattle.boot_verdict.specs.declared.steps.Located.{Located}
 use Rattle.boot_verdict.specs.declared.report.Row.{Row}
 use Rattle.boot_verdict.specs.declared.report.State.TheVariants.{Match}

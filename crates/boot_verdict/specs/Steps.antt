@@ -3,12 +3,9 @@
 use Rattle.std.specs.Prelude.{ℕ, ◌==◌, ◌&&◌, nat_lt, Bool, if◌then◌else◌, List, [], ◌∷◌, ◌++◌, fold, map, find, Option, Some, None, option_map}
 use Rattle.pcr_banks.specs.declared.alg.Alg.{Alg}
 use Rattle.pcr_banks.specs.declared.sets.AlgSet.{AlgSet}
-use Rattle.pcr_banks.specs.Sets.{digest_in, has_alg}
-use Rattle.pcr_banks.specs.Registers.{extended_by, register_count, reset_value}
-use Rattle.boot_log.specs.Spelling.{LogEvent}
-use Rattle.boot_log.specs.Replaying.{is_extended_into, startup_locality}
-use Rattle.ima_list.specs.ListEntry.{ListEntry}
-use Rattle.ima_list.specs.Digesting.{bank_digest}
+use Rattle.pcr_banks.specs.Names.{digest_in, extended_by, has_alg, register_count, reset_value}
+use Rattle.boot_log.specs.Names.{LogEvent, is_extended_into, startup_locality}
+use Rattle.ima_list.specs.Names.{ListEntry, bank_digest}
 
 -- ---- steps
 

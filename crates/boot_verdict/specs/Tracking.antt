@@ -2,9 +2,9 @@
 use Rattle.std.specs.Prelude.{◌≡◌, ℕ, List}
 use Rattle.pcr_banks.specs.declared.alg.Alg.{Alg}
 use Rattle.pcr_banks.specs.declared.banks.Banks.{Banks}
-use Rattle.pcr_banks.specs.Registers.{is_active, value_at}
-use Rattle.boot_log.specs.Spelling.{log_event_of}
-use Rattle.ima_list.specs.Digesting.{IsGenuine}
+use Rattle.pcr_banks.specs.Names.{is_active, value_at}
+use Rattle.boot_log.specs.Names.{log_event_of}
+use Rattle.ima_list.specs.Names.{IsGenuine}
 use Rattle.boot_verdict.specs.declared.steps.Nobody.{Nobody}
 use Rattle.boot_verdict.specs.declared.steps.Step.{Step as TakenStep}
 use Rattle.boot_verdict.specs.declared.steps.Step.TheVariants as taken

@@ -4,29 +4,18 @@ use Rattle.std.specs.Prelude.{◌≡◌, ℕ, ◌&&◌, nat_lt, Bool, true, fals
 use Rattle.std.specs.List.{list_all}
 use Rattle.pcr_banks.specs.declared.alg.Alg.{Alg}
 use Rattle.pcr_banks.specs.declared.sets.AlgSet.{AlgSet}
-use Rattle.pcr_banks.specs.Hashing.{hash_of, same_alg}
-use Rattle.pcr_banks.specs.Digests.{alg_of, bytes_of, digest_of}
-use Rattle.pcr_banks.specs.Sets.{has_alg}
-use Rattle.pcr_banks.specs.Registers.{register_count, extended_by_all}
+use Rattle.pcr_banks.specs.Names.{alg_of, bytes_of, digest_of, extended_by_all, has_alg, hash_of, register_count, same_alg}
 use Rattle.byte_streams.specs.declared.piece_reader.ReadFault.{ReadFault}
 use Rattle.byte_streams.specs.declared.piece_reader.ReadFault.TheVariants as reads
 use Rattle.pcr_values.specs.declared.expected.Expected.{Expected}
 use Rattle.boot_log.specs.declared.fault.LogFault.{LogFault}
 use Rattle.boot_log.specs.declared.fault.LogFault.TheVariants as logs
 use Rattle.boot_log.specs.declared.header.DeclaredAlgorithm.{DeclaredAlgorithm}
-use Rattle.boot_log.specs.Spelling.{LogEvent, IsLog, algs_in}
-use Rattle.boot_log.specs.Reading.{log_fault}
-use Rattle.boot_log.specs.Replaying.{firmware_value, startup_locality}
+use Rattle.boot_log.specs.Names.{IsLog, LogEvent, algs_in, firmware_value, log_fault, startup_locality}
 use Rattle.ima_list.specs.declared.fault.ListFault.{ListFault}
 use Rattle.ima_list.specs.declared.fault.ListFault.TheVariants as lists
 use Rattle.ima_list.specs.declared.list_replay.ReplayFault.{ReplayFault}
-use Rattle.ima_list.specs.ListEntry.{ListEntry}
-use Rattle.ima_list.specs.Spelling.{IsReading}
-use Rattle.ima_list.specs.Digesting.{is_violation}
-use Rattle.ima_list.specs.FieldKinds.{FileFields}
-use Rattle.ima_list.specs.Fields.{fields_of}
-use Rattle.ima_list.specs.Aggregates.{aggregate_register_count, boot_aggregate_path, joined_values}
-use Rattle.ima_list.specs.Replaying.{digests_of, AreGenuine, IsReplayFault}
+use Rattle.ima_list.specs.Names.{AreGenuine, FileFields, IsReading, IsReplayFault, ListEntry, aggregate_register_count, boot_aggregate_path, digests_of, fields_of, is_violation, joined_values}
 use Rattle.boot_verdict.specs.declared.isolation.Strays.{Strays}
 use Rattle.boot_verdict.specs.declared.report.Row.{Row}
 use Rattle.boot_verdict.specs.declared.report.State.{State}

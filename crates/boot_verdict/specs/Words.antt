@@ -1,6 +1,6 @@
 -- Words that texts and JSON have in common.
 use Rattle.std.specs.Prelude.{ℕ, List, [], ◌++◌, codes, decimal, Option, Some, None}
-use Rattle.ima_list.specs.ListFaults.{list_fault_number, list_fault_entry, replay_fault_number, replay_fault_entry}
+use Rattle.ima_list.specs.Names.{list_fault_entry, list_fault_number, replay_fault_entry, replay_fault_number}
 use Rattle.boot_verdict.specs.declared.report.Unconfirmed.{Unconfirmed}
 use Rattle.boot_verdict.specs.declared.report.Unconfirmed.TheVariants as faults
 use Rattle.boot_verdict.specs.declared.report.Aggregate.{Aggregate}

@@ -2,9 +2,7 @@
 
 ghost use Rattle.std.specs.Prelude.{◌≡◌, ◌+◌, ◌^◌, ◌<◌, ℕ, is_some, List, [], length, Ok, IsOk, IfOk, IfErr, IsErrOf};
 ghost use Rattle.byte_streams.specs.Streams.{LosesPrefix};
-ghost use Rattle.ima_list.specs.ListEntry.{ListEntry};
-ghost use Rattle.ima_list.specs.Spelling.{IsReading};
-ghost use Rattle.ima_list.specs.Replaying.{AreGenuine};
+ghost use Rattle.ima_list.specs.Names.{AreGenuine, IsReading, ListEntry};
 ghost use Rattle.boot_verdict.specs.ListSources.{failures_after_list};
 ghost use Rattle.boot_verdict.specs.Tracking.{BanksAfter};
 ghost use Rattle.boot_verdict.specs.ListReplays.{AreTracked, ReplaysAll};

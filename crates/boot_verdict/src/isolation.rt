@@ -2,9 +2,8 @@
 
 ghost use Rattle.std.specs.Prelude.{◌≡◌, List, [], ◌∷◌, ◌++◌, length};
 ghost use Rattle.boot_log.specs.declared.header.DeclaredAlgorithm.{DeclaredAlgorithm};
-ghost use Rattle.boot_log.specs.LogViews.{log_bytes};
-ghost use Rattle.boot_log.specs.Spelling.{LogEvent, IsLog};
-ghost use Rattle.ima_list.specs.ListEntry.{ListEntry};
+ghost use Rattle.boot_log.specs.Names.{IsLog, LogEvent, log_bytes};
+ghost use Rattle.ima_list.specs.Names.{ListEntry};
 ghost use Rattle.boot_verdict.specs.Isolation.{are_none, first_extending, first_stray};
 
 use boot_log::LogView;

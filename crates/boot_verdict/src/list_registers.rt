@@ -2,9 +2,9 @@
 
 ghost use Rattle.std.specs.Prelude.{◌≡◌, ◌⊎◌, List, is_some, IfOk, IfErr, IsErrOf, IsOkAnd};
 ghost use Rattle.pcr_banks.specs.declared.alg.Alg.{Alg};
-ghost use Rattle.pcr_banks.specs.Sets.{has_alg};
+ghost use Rattle.pcr_banks.specs.Names.{has_alg};
 ghost use Rattle.byte_streams.specs.Streams.{LosesPrefix};
-ghost use Rattle.ima_list.specs.ListEntry.{ListEntry};
+ghost use Rattle.ima_list.specs.Names.{ListEntry};
 ghost use Rattle.boot_verdict.specs.ListSources.{HoldsGenuineList, failures_after_list};
 ghost use Rattle.boot_verdict.specs.Replays.{IsListReplay, IsListReplayFault, IsListReplayFrom, IsListStart, every_alg};
 

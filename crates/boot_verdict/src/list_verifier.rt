@@ -3,7 +3,7 @@
 ghost use Rattle.std.specs.Prelude.{◌≡◌, ◌⊎◌, List, [], is_some, Ok, IfOk, IfErr, IsErrOf};
 ghost use Rattle.byte_fields.specs.Reading.{ReadsInMemory};
 ghost use Rattle.byte_streams.specs.Streams.{LosesPrefix};
-ghost use Rattle.ima_list.specs.ListEntry.{ListEntry};
+ghost use Rattle.ima_list.specs.Names.{ListEntry};
 ghost use Rattle.boot_verdict.specs.ListReplays.{AreTracked};
 ghost use Rattle.boot_verdict.specs.ListSources.{HoldsGenuineList, failures_after_list};
 ghost use Rattle.boot_verdict.specs.ListVerdicts.{IsListVerdictFrom, WatchesList, list_matches, list_verdict_of, list_verdict_on, required_list_matches};

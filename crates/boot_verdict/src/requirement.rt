@@ -4,7 +4,7 @@ ghost use Rattle.std.specs.Prelude.{◌≡◌, ◌⊎◌, ℕ, List, map, IfOk, 
 ghost use Rattle.pcr_values.specs.declared.expected.Expected.{Expected};
 ghost use Rattle.pcr_values.specs.declared.selection.BankRange.{BankRange};
 ghost use Rattle.pcr_values.specs.declared.selection.SelectionFault.TheVariants.{Malformed, Memory, LacksPcr10};
-ghost use Rattle.pcr_values.specs.Selections.{BeginsWithBankRange, names};
+ghost use Rattle.pcr_values.specs.Names.{BeginsWithBankRange, names};
 ghost use Rattle.boot_verdict.specs.Requirements.{IsRequirementText, IsWithoutPcr10, IsWrong, bind_list, is_complete, is_complete_in, is_missing, is_of, states};
 
 use crate::isolation::LIST_REGISTER;

@@ -2,16 +2,12 @@
 
 ghost use Rattle.std.specs.Prelude.{◌≡◌, ◌⊎◌, ℕ, List, Option, map, option_map, is_some, Ok, IfOk, IfErr, IsErrOf};
 ghost use Rattle.pcr_banks.specs.declared.sets.AlgSet.{AlgSet};
-ghost use Rattle.pcr_banks.specs.Digests.{alg_of, bytes_of, digest_of};
+ghost use Rattle.pcr_banks.specs.Names.{alg_of, bytes_of, digest_of};
 ghost use Rattle.byte_fields.specs.Reading.{ReadsInMemory};
 ghost use Rattle.byte_streams.specs.Streams.{LosesPrefix};
 ghost use Rattle.boot_log.specs.declared.header.DeclaredAlgorithm.{DeclaredAlgorithm};
-ghost use Rattle.boot_log.specs.LogViews.{log_bytes};
-ghost use Rattle.boot_log.specs.Spelling.{LogEvent, IsLog, algs_in};
-ghost use Rattle.boot_log.specs.Replaying.{IsFirmware};
-ghost use Rattle.ima_list.specs.ListEntry.{ListEntry};
-ghost use Rattle.ima_list.specs.Spelling.{IsReading};
-ghost use Rattle.ima_list.specs.Replaying.{AreGenuine};
+ghost use Rattle.boot_log.specs.Names.{IsFirmware, IsLog, LogEvent, algs_in, log_bytes};
+ghost use Rattle.ima_list.specs.Names.{AreGenuine, IsReading, ListEntry};
 ghost use Rattle.boot_verdict.specs.declared.verifier.VerifyFault.TheVariants.{Memory, Replay};
 ghost use Rattle.boot_verdict.specs.Verdicts.{HasSomethingToKeep, ReadsAsLog, IsVerdict, IsVerdictFrom, IsVerifyFault, IsVerifyFaultFrom, aggregate_of, aggregate_state, fault_of_list, fault_of_log, fault_of_reading, row_state, verdict_of, verdict_on};
 ghost use Rattle.boot_verdict.specs.parts.Rows.{row_of};

@@ -8,8 +8,8 @@ use Rattle.clap.specs.declared.builder.ArgAction.TheVariants.{Append, SetTrue, V
 use Rattle.clap.specs.declared.builder.ValueParser.{ValueParser}
 use Rattle.std.specs.Str.Parse.{IsNumeral, digits_value, without_leading_plus}
 use Rattle.clap.specs.Takes.{takes}
-use Rattle.pcr_banks.specs.Hashing.{name_of}
-use Rattle.ima_list.specs.Templates.{template_name}
+use Rattle.pcr_banks.specs.Names.{name_of}
+use Rattle.ima_list.specs.Names.{template_name}
 use Rattle.agent_plans.specs.Plans.{IsOneOf, task_of}
 use Rattle.hex.specs.Hex.{decode_of}
 use Rattle.agent_plans.specs.declared.plan.AttestOptions.{AttestOptions}

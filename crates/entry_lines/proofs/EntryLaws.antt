@@ -2,11 +2,7 @@
 use Rattle.std.proofs.Common.{ℕ, ◌^◌, ◌<◌, List, Option, Some, None, refl, arith}
 use Rattle.ima_list.specs.declared.template.Template.{Template}
 use Rattle.ima_list.specs.declared.template.Template.TheVariants.{Ima, ImaNg, ImaSig}
-use Rattle.ima_list.specs.ListEntry.{ListEntry, IsEntry}
-use Rattle.ima_list.specs.FieldKinds.{FileFields}
-use Rattle.ima_list.specs.Fields.{fields_of}
-use Rattle.ima_list.specs.KernelFields.{FieldData, kernel_fields_of}
-use Rattle.ima_list.specs.Templates.{template_named}
+use Rattle.ima_list.specs.Names.{FieldData, FileFields, IsEntry, ListEntry, fields_of, kernel_fields_of, template_named}
 use Rattle.cells.specs.Values.{IsOneLine}
 use Rattle.entry_lines.specs.EntryJson.{content_members, entry_json, signature_members}
 use Rattle.entry_lines.proofs.KernelFieldLaws.{fields_plain}

@@ -4,11 +4,7 @@ use Rattle.std.specs.Str.{bytes_eq, is_utf8}
 use Rattle.json.specs.Find.{get}
 use Rattle.ima_list.specs.declared.template.Template.{Template}
 use Rattle.ima_list.specs.declared.template.Template.TheVariants.{Ima, ImaNg, ImaSig}
-use Rattle.ima_list.specs.ListEntry.{ListEntry}
-use Rattle.ima_list.specs.FieldKinds.{FileFields}
-use Rattle.ima_list.specs.Fields.{fields_of}
-use Rattle.ima_list.specs.KernelFields.{FieldData, kernel_fields_of}
-use Rattle.ima_list.specs.Templates.{template_named}
+use Rattle.ima_list.specs.Names.{FieldData, FileFields, ListEntry, fields_of, kernel_fields_of, template_named}
 use Rattle.cells.proofs.FaultMemberLaws.{AreOther, lacks, the_name}
 use Rattle.cells.specs.Values.{members_of}
 use Rattle.entry_lines.specs.EntryJson.{content_members, entry_json, signature_members}

@@ -8,8 +8,7 @@ use Rattle.pcr_banks.specs.declared.alg.Alg.{Alg}
 use Rattle.ima_list.specs.declared.kernel_field.DigestType.{DigestType}
 use Rattle.ima_list.specs.declared.kernel_field.KernelField.{KernelField}
 use Rattle.ima_list.specs.declared.kernel_field.KernelField.TheVariants as kinds
-use Rattle.ima_list.specs.FieldKinds.{digest_in_field}
-use Rattle.ima_list.specs.KernelFields.{FieldData, typed_digest_in}
+use Rattle.ima_list.specs.Names.{FieldData, digest_in_field, typed_digest_in}
 use Rattle.cells.specs.Values.{items_of, number_json}
 use Rattle.entry_lines.specs.KernelFieldJson.{digest_members, field_members, fields_json, fields_members, number16_members, number32_members, numbers_in, small_json, typed_members}
 use Rattle.cells.proofs.LineLaws.{ArePlain, IsPlain, ItemsArePlain, members_joined}

@@ -7,12 +7,7 @@ use Rattle.hex.proofs.HexLemmas.{decode_of-encode_lower}
 use Rattle.pcr_banks.proofs.AlgLaws.{same_name_is}
 use Rattle.ima_list.specs.declared.template.Template.{Template}
 use Rattle.ima_list.specs.declared.template.Template.TheVariants.{Ima, ImaNg, ImaSig}
-use Rattle.ima_list.specs.ListEntry.{ListEntry}
-use Rattle.ima_list.specs.FieldKinds.{FileFields, no_fields}
-use Rattle.ima_list.specs.Fields.{HasFields, IsMadeOf, fields_of}
-use Rattle.ima_list.specs.KernelFields.{FieldData, kernel_fields_of}
-use Rattle.ima_list.specs.Rows.{row_spelling, row_told}
-use Rattle.ima_list.specs.Templates.{template_name, template_named, template_row}
+use Rattle.ima_list.specs.Names.{FieldData, FileFields, HasFields, IsMadeOf, ListEntry, fields_of, kernel_fields_of, no_fields, row_spelling, row_told, template_name, template_named, template_row}
 use Rattle.cells.specs.Values.{line_of, members_of, shown_name, shown_text}
 use Rattle.entry_lines.specs.EntryJson.{HasBytes, IsKnown, content_members, entry_json, signature_members}
 use Rattle.cells.proofs.LineLaws.{same_line}

@@ -2,15 +2,10 @@
 use Rattle.std.specs.Prelude.{ℕ, ◌||◌, Bool, List, [], ◌∷◌, ◌++◌, codes, bytes_eq, Option, Some, None, option_map, ◌≡◌}
 use Rattle.json.specs.Json.{Json, boolean, string}
 use Rattle.pcr_banks.specs.declared.alg.Alg.TheVariants.{Sha1}
-use Rattle.pcr_banks.specs.Hashing.{hash_of, name_of}
+use Rattle.pcr_banks.specs.Names.{hash_of, name_of}
 use Rattle.ima_list.specs.declared.template.Template.{Template}
 use Rattle.ima_list.specs.declared.template.Template.TheVariants.{ImaSig}
-use Rattle.ima_list.specs.ListEntry.{ListEntry, IsEntry}
-use Rattle.ima_list.specs.Digesting.{hashed_bytes, is_violation}
-use Rattle.ima_list.specs.FieldKinds.{FileFields}
-use Rattle.ima_list.specs.Fields.{fields_of, HasFields}
-use Rattle.ima_list.specs.KernelFields.{FieldData, kernel_fields_of}
-use Rattle.ima_list.specs.Templates.{template_named}
+use Rattle.ima_list.specs.Names.{FieldData, FileFields, HasFields, IsEntry, ListEntry, fields_of, hashed_bytes, is_violation, kernel_fields_of, template_named}
 use Rattle.cells.specs.Values.{Member, hex_json, number_json, object_of, optional, shown_member}
 use Rattle.entry_lines.specs.KernelFieldJson.{fields_json}
 use Rattle.hex.specs.Hex.{IsBytes}

@@ -3,12 +3,11 @@ use Rattle.std.specs.Prelude.{ℕ, ◌^◌, nat_lt, if◌then◌else◌, List, [
 use Rattle.std.specs.Int.{w16, w32, from_le_bytes}
 use Rattle.json.specs.Json.{Json, null, string}
 use Rattle.pcr_banks.specs.declared.alg.Alg.{Alg}
-use Rattle.pcr_banks.specs.Hashing.{name_of}
+use Rattle.pcr_banks.specs.Names.{name_of}
 use Rattle.ima_list.specs.declared.kernel_field.DigestType.{DigestType}
 use Rattle.ima_list.specs.declared.kernel_field.KernelField.{KernelField}
 use Rattle.ima_list.specs.declared.kernel_field.KernelField.TheVariants as kinds
-use Rattle.ima_list.specs.FieldKinds.{digest_in_field, path_in_field}
-use Rattle.ima_list.specs.KernelFields.{FieldData, type_prefix, typed_digest_in}
+use Rattle.ima_list.specs.Names.{FieldData, digest_in_field, path_in_field, type_prefix, typed_digest_in}
 use Rattle.cells.specs.Values.{Member, array_of, hex_json, number_json, object_of, shown_member}
 
 -- A digest, under two names: its algorithm, and its bytes.

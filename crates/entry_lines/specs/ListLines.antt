@@ -1,10 +1,8 @@
 -- The lines of a list's entries.
 use Rattle.std.specs.Prelude.{ℕ, List, [], ◌++◌, ◌≡◌, length, Option, None, Some, Ok, Err}
-use Rattle.ima_list.specs.ListEntry.{ListEntry}
+use Rattle.ima_list.specs.Names.{BeginsWith, IsReading, ListEntry, list_fault_entry}
 use Rattle.ima_list.specs.Lines as texts
 use Rattle.ima_list.specs.declared.fault.ListFault.{ListFault}
-use Rattle.ima_list.specs.ListFaults.{list_fault_entry}
-use Rattle.ima_list.specs.Spelling.{BeginsWith, IsReading}
 use Rattle.cells.specs.declared.writer.Form.{Form}
 use Rattle.cells.specs.declared.writer.Form.TheVariants.{Json, Text}
 use Rattle.cells.specs.ItemLines.{numbered_lines}

@@ -5,11 +5,8 @@ use Rattle.byte_streams.specs.declared.piece_reader.ReadFault.{ReadFault}
 use Rattle.byte_streams.specs.declared.piece_reader.ReadFault.TheVariants as reads
 use Rattle.byte_streams.specs.Streams.{SinkState, Sends, failures_after}
 use Rattle.ima_list.specs.declared.fault.ListFault.TheVariants as lists
-use Rattle.ima_list.specs.ListEntry.{ListEntry}
-use Rattle.ima_list.specs.ListFaults.{list_fault_entry}
-use Rattle.ima_list.specs.Spelling.{BeginsWith, IsReading}
-use Rattle.ima_list.specs.Pieces.{FailsFor, AreComplete}
-use Rattle.boot_verdict.specs.ListSources.{CameFrom}
+use Rattle.ima_list.specs.Names.{AreComplete, BeginsWith, FailsFor, IsReading, ListEntry, list_fault_entry}
+use Rattle.boot_verdict.specs.Names.{CameFrom}
 use Rattle.entry_lines.specs.declared.entry_lines.EntriesFault.{EntriesFault}
 use Rattle.entry_lines.specs.declared.entry_lines.EntriesFault.TheVariants as faults
 use Rattle.cells.specs.declared.writer.Form.{Form}

@@ -1,8 +1,8 @@
 //! The fields of entries with the kernel's other templates.
 
 ghost use Rattle.std.specs.Prelude.{◌≡◌, ◌<◌, [], ◌∷◌, codes, length, option_map, Some, IfSome, IfNone};
-ghost use Rattle.pcr_banks.specs.Digests.{alg_of, bytes_of};
-ghost use Rattle.ima_list.specs.KernelFields.{fields_left};
+ghost use Rattle.pcr_banks.specs.Names.{alg_of, bytes_of};
+ghost use Rattle.ima_list.specs.Names.{fields_left};
 ghost use Rattle.cells.specs.Values.{array_of, number_json, shown_member};
 ghost use Rattle.entry_lines.specs.KernelFieldJson.{digest_members, ended, field_members, fields_json, fields_members, number16_members, number32_members, numbers_in, typed_members};
 ghost use Rattle.cells.specs.Writing.{WritesItems, WritesMembers};

@@ -2,10 +2,7 @@
 
 ghost use Rattle.std.specs.Prelude.{◌≡◌, ℕ, ◌↔◌, codes, Some, None, IsTrue};
 ghost use Rattle.hex.specs.Hex.{IsBytes};
-ghost use Rattle.ima_list.specs.ListEntry.{IsEntry, ListEntry};
-ghost use Rattle.ima_list.specs.Digesting.{IsGenuine};
-ghost use Rattle.ima_list.specs.FieldKinds.{FileFields};
-ghost use Rattle.ima_list.specs.Fields.{HasFields, fields_of};
+ghost use Rattle.ima_list.specs.Names.{FileFields, HasFields, IsEntry, IsGenuine, ListEntry, fields_of};
 ghost use Rattle.json.specs.Find.{get};
 ghost use Rattle.cells.specs.Values.{IsCount, IsOneLine, line_of};
 ghost use Rattle.entry_lines.specs.EntryJson.{HasBytes, IsKnown, entry_count_json, entry_json, is_genuine};

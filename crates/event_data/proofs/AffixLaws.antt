@@ -3,7 +3,7 @@ use Rattle.std.proofs.Common.{◌≡◌, ℕ, ◌-◌, ◌+◌, Bool, true, fals
 use Rattle.std.specs.Prelude.{IfSome, IfNone}
 use Rattle.std.specs.Option.{MatchOption}
 use Rattle.std.proofs.lemmas.Slice.Eq.{bytes_eq-Decides}
-use Rattle.event_data.specs.Results.{after_in, before_in}
+use Rattle.event_data.specs.Names.{after_in, before_in}
 use Rattle.event_data.proofs.Finding.{Finds, some_is}
 
 pub if_found : {A : Type 0} (found : Option A) (P : Type 0) (Q : A → Type 0) → MatchOption found P Q → IfSome found Q

@@ -6,8 +6,8 @@ use Rattle.event_data.specs.declared.content.Mismatch.{Mismatch}
 use Rattle.byte_fields.proofs.Steps.{IsBytes}
 use Rattle.byte_fields.proofs.FormatLaws.{Exact, byte_exact, number32_exact, number64_exact, sized_exact, sized_by_exact, followed_exact, mapped_exact, whole_takes, whole_again}
 use Rattle.event_data.specs.declared.content.Mismatch.TheVariants.{Form}
-use Rattle.event_data.specs.Blobs.{BlobData, TaggedData, IsPlainBlob, IsDescribedBlob, IsTagged}
-use Rattle.event_data.specs.BlobReading.{plain_blob, plain_blob_in, described_blob, described_blob_in, tagged, tagged_in}
+use Rattle.event_data.specs.Names.{BlobData, IsDescribedBlob, IsPlainBlob, IsTagged, TaggedData, described_blob, described_blob_in, plain_blob, plain_blob_in, tagged_in}
+use Rattle.event_data.specs.BlobReading.{tagged}
 use Rattle.event_data.proofs.FormLaws.{AnyFault}
 use Rattle.event_data.proofs.Finding.{Finds, whole_finds}
 

@@ -4,8 +4,7 @@ use Rattle.std.specs.Option.{option_or}
 use Rattle.std.proofs.lemmas.List.{append_cancel_left, append_cancel_right}
 use Rattle.event_data.specs.declared.command.CommandKind.{CommandKind}
 use Rattle.event_data.specs.declared.command.CommandKind.TheVariants.{Grub, Kernel, Module}
-use Rattle.event_data.specs.Forms.{CommandData, IsCommand, command_prefix}
-use Rattle.event_data.specs.Results.{after_in, any_command, command_as, command_in}
+use Rattle.event_data.specs.Names.{CommandData, IsCommand, after_in, any_command, command_as, command_in, command_prefix}
 use Rattle.event_data.proofs.AffixLaws.{before_finds, after_finds}
 use Rattle.event_data.proofs.Finding.{Finds, alike_finds, then_finds, mapped_is, or_some, or_only}
 

@@ -4,13 +4,8 @@ use Rattle.std.proofs.lemmas.List.{append_cancel_right}
 use Rattle.byte_fields.proofs.Steps.{IsBytes}
 use Rattle.event_data.specs.declared.content.DataForm.{DataForm}
 use Rattle.event_data.specs.declared.content.DataForm.TheVariants as forms
-use Rattle.event_data.specs.Forms.{CommandData, IsCommand, has_no_nul}
-use Rattle.event_data.specs.EventForms.{Content, separator, text, wide_text, guid, command, variable, image, gpt, blob, tagged, locality, unknown, SaysText, SaysVersion, SaysLoader, SaysPostCode, SaysIn, Says, SaysKnown, form_of}
-use Rattle.event_data.specs.ContentReading.{text_content, version_content, loader_content, post_code_content, form_content, content_in}
-use Rattle.event_data.specs.Reading.{separator_in, variable_in, image_in}
-use Rattle.event_data.specs.Results.{text_in, wide_text_in, command_in, guid_in, locality_in}
-use Rattle.event_data.specs.BlobReading.{plain_blob_in, described_blob_in, tagged_in}
-use Rattle.event_data.specs.GptReading.{gpt_in}
+use Rattle.event_data.specs.Names.{CommandData, Content, IsCommand, Says, SaysIn, SaysKnown, SaysLoader, SaysPostCode, SaysText, SaysVersion, blob, command, command_in, content_in, described_blob_in, form_content, form_of, gpt, gpt_in, guid, guid_in, has_no_nul, image_in, loader_content, locality, locality_in, plain_blob_in, post_code_content, separator, separator_in, tagged_in, text, text_content, text_in, variable_in, version_content, wide_text, wide_text_in}
+use Rattle.event_data.specs.EventForms.{variable, image, tagged, unknown}
 use Rattle.event_data.proofs.Finding.{Finds, some_is, none_is, mapped_is, or_some}
 use Rattle.event_data.proofs.TextLaws.{no_nul_there, text_finds, wide_text_finds, guid_finds, locality_finds, locality_only}
 use Rattle.event_data.proofs.CommandLaws.{command_finds}

@@ -3,8 +3,7 @@ use Rattle.std.proofs.Common.{◌≡◌, ℕ, ◌+◌, ◌-◌, ◌≤◌, List,
 use Rattle.byte_fields.proofs.Steps.{IsBytes, bind_ok, ok_is}
 use Rattle.byte_fields.proofs.FormatLaws.{Exact, takes, again, number64_exact, part_exact, followed_exact, mapped_exact, IsBytes-behind}
 use Rattle.event_data.specs.declared.content.Mismatch.TheVariants.{Form}
-use Rattle.event_data.specs.GptForms.{PartitionData, IsPartition}
-use Rattle.event_data.specs.GptReading.{EntryFields, entry, told_entry, partition_at}
+use Rattle.event_data.specs.Names.{EntryFields, IsPartition, PartitionData, entry, partition_at, told_entry}
 use Rattle.event_data.proofs.FormLaws.{AnyFault}
 use Rattle.event_data.proofs.FixedSize.{Fixed, fixed_part, fixed_number64, fixed_followed, fixed_mapped, reaches}
 

@@ -8,8 +8,8 @@ use Rattle.byte_fields.proofs.Steps.{IsBytes}
 use Rattle.byte_fields.proofs.FormatLaws.{Exact, number32_exact, number64_exact, part_exact, followed_exact, mapped_exact, whole_takes, whole_again}
 use Rattle.event_data.specs.declared.content.Mismatch.{Mismatch}
 use Rattle.event_data.specs.declared.content.Mismatch.TheVariants.{Form}
-use Rattle.event_data.specs.Forms.{VariableData, IsVariable, ImageData, IsImage, IsSeparator}
-use Rattle.event_data.specs.Reading.{variable, variable_in, image, image_in, separator_in}
+use Rattle.event_data.specs.Names.{ImageData, IsImage, IsSeparator, IsVariable, VariableData, image_in, separator_in, variable_in}
+use Rattle.event_data.specs.Reading.{variable, image}
 use Rattle.event_data.proofs.Finding.{Finds, whole_finds, some_is}
 
 abbrev pub AnyFault : Mismatch → Type 0

@@ -8,10 +8,8 @@ use Rattle.byte_fields.proofs.Steps.{IsBytes, bind_ok, test_ok, ok_is}
 use Rattle.byte_fields.proofs.FormatLaws.{Exact, takes, again, passes, number32_exact, number64_exact, part_exact, followed_exact, unless_exact, mapped_exact, IsBytes-behind}
 use Rattle.event_data.specs.declared.content.Mismatch.{Mismatch}
 use Rattle.event_data.specs.declared.content.Mismatch.TheVariants.{Form}
-use Rattle.event_data.specs.GptForms.{GptData, PartitionData, IsGpt, IsPartition}
-use Rattle.event_data.specs.GptReading.{TablePrefix, table_prefix, table_in, fitting, gpt_in, partition_at, then_more, partitions_within, partitions_in}
+use Rattle.event_data.specs.Names.{GptData, IsGpt, IsPartition, PartitionData, TablePrefix, after_in, fitting, gpt_in, partition_at, partitions_in, partitions_within, table_in, table_prefix, then_more}
 use Rattle.byte_fields.specs.Spelling.{number32, number64}
-use Rattle.event_data.specs.Results.{after_in}
 use Rattle.event_data.proofs.AffixLaws.{after_finds}
 use Rattle.event_data.proofs.EntryLaws.{entry_takes, entry_again, entry_size, entry_reached, no_entry}
 use Rattle.event_data.proofs.Finding.{Finds, ok_some}

@@ -8,8 +8,8 @@ use Rattle.byte_fields.specs.Spelling.{number32}
 use Rattle.byte_fields.proofs.Steps.{IsBytes}
 use Rattle.byte_fields.proofs.FormatLaws.{Exact, again, passes, number32_exact, part_exact, followed_exact, unless_exact, mapped_exact, IsBytes-behind}
 use Rattle.event_data.specs.declared.content.Mismatch.TheVariants.{Form}
-use Rattle.event_data.specs.ValueForms.{ListData, IsSignatureList, SignatureData, IsSignatureOf, AreSignatures}
-use Rattle.event_data.specs.ValueReading.{signatures_of, signature, signature_list, signatures_in}
+use Rattle.event_data.specs.Names.{AreSignatures, IsSignatureList, IsSignatureOf, ListData, SignatureData, signature_list, signatures_in, signatures_of}
+use Rattle.event_data.specs.ValueReading.{signature}
 use Rattle.event_data.proofs.FormLaws.{AnyFault}
 use Rattle.event_data.proofs.TakenLaws.{all_takes, taken_more, taken_none, taken_fits}
 use Rattle.event_data.proofs.ValueLaws.{signature_exact, some_signature}

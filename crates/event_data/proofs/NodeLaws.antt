@@ -7,8 +7,7 @@ use Rattle.byte_fields.proofs.Steps.{IsBytes, ok_not_err}
 use Rattle.byte_fields.proofs.FormatLaws.{Exact, takes, again, passes, number16_exact, byte_exact, part_exact, followed_exact, unless_exact, mapped_exact, IsBytes-behind}
 use Rattle.event_data.specs.declared.content.Mismatch.{Mismatch}
 use Rattle.event_data.specs.declared.content.Mismatch.TheVariants.{Form}
-use Rattle.event_data.specs.Forms.{NodeData, IsNode}
-use Rattle.event_data.specs.Reading.{node, and_more, nodes_within, nodes_in}
+use Rattle.event_data.specs.Names.{IsNode, NodeData, and_more, node, nodes_in, nodes_within}
 use Rattle.event_data.proofs.FormLaws.{AnyFault}
 
 whole_size : (size : ℕ) (rest : ℕ) → ltb size 4 ≡ false → rest ≡ size - 4 → rest + 4 ≡ size

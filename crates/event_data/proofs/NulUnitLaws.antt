@@ -1,6 +1,6 @@
 -- The units before the first that is NUL.
 use Rattle.std.proofs.Common.{◌≡◌, ℕ, ◌-◌, ◌≤◌, ◌<◌, ◌&&◌, false, eqb, List, [], ◌∷◌, ◌++◌, length, take, drop, get_or, refl, sym, ap, ap₂, ◌∙◌, arith, append_assoc, append-nil, length-append, take_at, take_all, take-append-drop}
-use Rattle.event_data.specs.GptForms.{up_to_nul}
+use Rattle.event_data.specs.Names.{up_to_nul}
 
 -- The bytes are a prefix and the rest, and the units of the bytes are the prefix and the units of the rest.
 pub record IsOnWay (bytes rest : List ℕ) : Type 0 where

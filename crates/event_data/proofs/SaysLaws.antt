@@ -5,10 +5,8 @@ use Rattle.std.proofs.lemmas.Bool.{ne_eqb}
 use Rattle.byte_fields.proofs.Steps.{IsBytes}
 use Rattle.event_data.specs.declared.value_reader.ValueForm.{ValueForm}
 use Rattle.event_data.specs.declared.value_reader.ValueForm.TheVariants as forms
-use Rattle.event_data.specs.Forms.{VariableData}
-use Rattle.event_data.specs.ValueForms.{LoadOptionData, SignatureData, ListData, IsLoadOption, IsBootNumber, IsBootOrder, IsSignature, IsSignatureList, AreSignatureLists}
-use Rattle.event_data.specs.ValueReading.{load_option_in, numbers_in, signature_in, lists_in, all_taken}
-use Rattle.event_data.specs.Values.{ValueSays, flag, order, option, lists, signature, unknown, ValueSaysIn, SaysValue, flag_says, says_in, value_form}
+use Rattle.event_data.specs.Names.{AreSignatureLists, IsBootNumber, IsBootOrder, IsLoadOption, IsSignature, IsSignatureList, ListData, LoadOptionData, SaysValue, SignatureData, ValueSays, ValueSaysIn, VariableData, all_taken, flag, flag_says, lists, lists_in, load_option_in, numbers_in, option, order, says_in, signature_in, value_form}
+use Rattle.event_data.specs.Values.{signature, unknown}
 use Rattle.event_data.proofs.TakenLaws.{all_takes, all_again}
 use Rattle.event_data.proofs.ValueLaws.{boot_number_exact, some_number, number_into, number_out, numbers_rest, load_option_takes, load_option_again, signature_takes, signature_again}
 use Rattle.event_data.proofs.ListLaws.{list_exact, some_list, list_into, list_out}

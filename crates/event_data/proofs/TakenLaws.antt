@@ -7,7 +7,7 @@ use Rattle.byte_fields.specs.Items.{AreItems, BeginsWithNoItem}
 use Rattle.byte_fields.proofs.Steps.{IsBytes, ok_not_err}
 use Rattle.byte_fields.proofs.FormatLaws.{Exact, takes, again, IsBytes-behind}
 use Rattle.event_data.specs.declared.content.Mismatch.{Mismatch}
-use Rattle.event_data.specs.ValueReading.{with_more, taken_within, taken_in, all_taken}
+use Rattle.event_data.specs.Names.{all_taken, taken_in, taken_within, with_more}
 use Rattle.event_data.proofs.FormLaws.{AnyFault}
 
 pub empty_fits : IsBytes []

@@ -5,9 +5,7 @@ use Rattle.std.proofs.lemmas.Bool.{eqb-true}
 use Rattle.std.proofs.lemmas.Str.{IsUtf8-from_is_utf8, is_utf8-from_IsUtf8}
 use Rattle.byte_fields.proofs.Steps.{IsBytes}
 use Rattle.byte_fields.proofs.FormatLaws.{IsBytes-behind}
-use Rattle.event_data.specs.Forms.{IsText, IsWideText, has_no_nul}
-use Rattle.event_data.specs.Blobs.{IsGuid, IsLocality}
-use Rattle.event_data.specs.Results.{before_in, text_in, wide_text_in, even_only, guid_in, one_byte, locality_in}
+use Rattle.event_data.specs.Names.{IsGuid, IsLocality, IsText, IsWideText, before_in, even_only, guid_in, has_no_nul, locality_in, one_byte, text_in, wide_text_in}
 use Rattle.event_data.proofs.AffixLaws.{before_finds, after_finds, tested, passed}
 use Rattle.event_data.proofs.Finding.{Finds, alike_finds, then_finds}
 

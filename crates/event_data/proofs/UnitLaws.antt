@@ -7,8 +7,7 @@ use Rattle.byte_fields.proofs.Steps.{ok_not_err}
 use Rattle.byte_fields.proofs.FormatLaws.{Exact}
 use Rattle.event_data.specs.declared.content.Mismatch.{Mismatch}
 use Rattle.event_data.specs.declared.content.Mismatch.TheVariants.{Form}
-use Rattle.event_data.specs.ValueForms.{are_units}
-use Rattle.event_data.specs.ValueReading.{behind, units_at, units}
+use Rattle.event_data.specs.Names.{are_units, behind, units, units_at}
 use Rattle.event_data.proofs.FormLaws.{AnyFault}
 
 not_true : (b : Bool) → not b ≡ true → b ≡ false

@@ -8,8 +8,8 @@ use Rattle.byte_fields.proofs.Steps.{IsBytes}
 use Rattle.byte_fields.proofs.FormatLaws.{Exact, takes, again, fault, number16_exact, number32_exact, part_exact, followed_exact, mapped_exact}
 use Rattle.event_data.specs.declared.content.Mismatch.{Mismatch}
 use Rattle.event_data.specs.declared.content.Mismatch.TheVariants.{Form}
-use Rattle.event_data.specs.ValueForms.{LoadOptionData, IsLoadOption, IsBootNumber, SignatureData, IsSignature}
-use Rattle.event_data.specs.ValueReading.{load_option, load_option_in, boot_number, numbers_in, signature, signature_in, with_more, taken_within}
+use Rattle.event_data.specs.Names.{IsBootNumber, IsLoadOption, IsSignature, LoadOptionData, SignatureData, boot_number, load_option, load_option_in, numbers_in, signature_in, taken_within, with_more}
+use Rattle.event_data.specs.ValueReading.{signature}
 use Rattle.event_data.proofs.FormLaws.{AnyFault}
 use Rattle.event_data.proofs.TakenLaws.{taken_shorter, taken_fits}
 use Rattle.event_data.proofs.UnitLaws.{units_exact}

@@ -17,3 +17,4 @@ pub mod GptReading
 pub mod Entries
 pub mod Gpts
 pub mod ContentReading
+pub mod Names

@@ -3,16 +3,9 @@ use Rattle.std.proofs.Common.{ℕ, List, [], ◌∷◌, length, map, Option, Som
 use Rattle.std.specs.Prelude.{bytes_eq}
 use Rattle.std.specs.List.{AllByRecursion}
 use Rattle.json.specs.Json.{Json}
-use Rattle.event_data.specs.Blobs.{BlobData, TaggedData}
+use Rattle.event_data.specs.Names.{BlobData, Content, GptData, ImageData, ListData, LoadOptionData, PartitionData, SignatureData, TaggedData, ValueSays, VariableData, signatures_of, text_in, value_in}
 use Rattle.event_data.specs.EventForms as forms
-use Rattle.event_data.specs.EventForms.{Content}
-use Rattle.event_data.specs.Forms.{ImageData, VariableData}
-use Rattle.event_data.specs.GptForms.{GptData, PartitionData}
-use Rattle.event_data.specs.Results.{text_in}
-use Rattle.event_data.specs.ValueForms.{ListData, LoadOptionData, SignatureData}
-use Rattle.event_data.specs.ValueReading.{signatures_of}
 use Rattle.event_data.specs.Values as values
-use Rattle.event_data.specs.Values.{ValueSays, value_in}
 use Rattle.event_texts.specs.PathTexts.{path_text}
 use Rattle.event_texts.specs.WideTexts as wide
 use Rattle.event_lines.specs.ContentJson.{IsCountedContent, blob_json, content_json, description_members, gpt_json, image_json, partition_json, tagged_json}

@@ -6,18 +6,9 @@ use Rattle.std.specs.List.{AllByRecursion}
 use Rattle.std.specs.Option.{option_map_or, option_or}
 use Rattle.std.proofs.lemmas.List.{length-append}
 use Rattle.hex.specs.Hex.{IsBytes}
-use Rattle.event_data.specs.BlobReading.{described_blob_in, plain_blob_in, tagged_in}
-use Rattle.event_data.specs.ContentReading.{content_in, form_content, text_content}
+use Rattle.event_data.specs.Names.{AreSignatureLists, AreSignatures, Content, IsSignatureList, IsVariable, ListData, SignatureData, ValueSays, VariableData, all_taken, command_in, content_in, described_blob_in, described_blob_types, flag_says, form_content, form_of, gpt_in, gpt_types, guid_in, image_in, image_types, is_among, is_authority, is_flag, is_lists, is_load_option, is_order, lists_in, load_option_in, locality_in, numbers_in, plain_blob_in, says_in, separator_in, signature_in, signatures_of, tagged_in, text_content, text_in, text_types, value_in, variable_in, variable_types, wide_text_in}
 use Rattle.event_data.specs.EventForms as contents
-use Rattle.event_data.specs.EventForms.{Content, described_blob_types, form_of, gpt_types, image_types, is_among, text_types, variable_types}
-use Rattle.event_data.specs.Forms.{IsVariable, VariableData}
-use Rattle.event_data.specs.GptReading.{gpt_in}
-use Rattle.event_data.specs.Reading.{image_in, separator_in, variable_in}
-use Rattle.event_data.specs.Results.{command_in, guid_in, locality_in, text_in, wide_text_in}
-use Rattle.event_data.specs.ValueForms.{AreSignatureLists, AreSignatures, IsSignatureList, ListData, SignatureData}
-use Rattle.event_data.specs.ValueReading.{all_taken, lists_in, load_option_in, numbers_in, signature_in, signatures_of}
 use Rattle.event_data.specs.Values as values
-use Rattle.event_data.specs.Values.{ValueSays, flag_says, is_authority, is_flag, is_lists, is_load_option, is_order, says_in, value_in}
 use Rattle.event_data.proofs.BlobLaws.{tagged_finds}
 use Rattle.event_data.proofs.FormLaws.{separator_finds, variable_finds}
 use Rattle.event_data.proofs.ListLaws.{list_exact, list_into, list_out, list_signatures, some_list}

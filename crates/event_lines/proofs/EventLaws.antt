@@ -6,12 +6,10 @@ use Rattle.hex.specs.Hex.{IsBytes}
 use Rattle.json.specs.Find.{get}
 use Rattle.pcr_banks.specs.declared.alg.Alg.{Alg}
 use Rattle.pcr_banks.specs.declared.sets.PerBank.{PerBank}
-use Rattle.pcr_banks.specs.Hashing.{algorithm_with, all_algs}
-use Rattle.pcr_banks.specs.Sets.{digest_in}
-use Rattle.boot_log.specs.EventTypes.{event_type_name}
+use Rattle.pcr_banks.specs.Names.{algorithm_with, all_algs, digest_in}
+use Rattle.boot_log.specs.Names.{IsRow, IsSpecification, LogEvent, SpecificationData, event_type_name}
 use Rattle.boot_log.specs.declared.header.DeclaredAlgorithm.{DeclaredAlgorithm}
-use Rattle.boot_log.specs.Spelling.{IsRow, IsSpecification, LogEvent, SpecificationData}
-use Rattle.event_data.specs.ContentReading.{content_in}
+use Rattle.event_data.specs.Names.{content_in}
 use Rattle.measured_data.specs.declared.measured.Part.{Part}
 use Rattle.measured_data.specs.declared.confirmed.Pcr.{Pcr}
 use Rattle.measured_data.specs.Confirming.{confirmed_part}

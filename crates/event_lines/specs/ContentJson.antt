@@ -2,17 +2,11 @@
 -- project's choice.
 use Rattle.std.specs.Prelude.{⊤, ℕ, true, List, [], ◌∷◌, ◌++◌, codes, map, Option, Some, None}
 use Rattle.json.specs.Json.{Json, boolean, string}
-use Rattle.boot_log.specs.Spelling.{LogEvent}
+use Rattle.boot_log.specs.Names.{LogEvent}
 use Rattle.event_data.specs.declared.command.CommandKind.{CommandKind}
 use Rattle.event_data.specs.declared.command.CommandKind.TheVariants.{Grub, Kernel, Module}
-use Rattle.event_data.specs.Blobs.{BlobData, TaggedData}
-use Rattle.event_data.specs.ContentReading.{content_in}
+use Rattle.event_data.specs.Names.{BlobData, CommandData, Content, GptData, ImageData, PartitionData, TaggedData, content_in, text_in, value_in}
 use Rattle.event_data.specs.EventForms as forms
-use Rattle.event_data.specs.EventForms.{Content}
-use Rattle.event_data.specs.Forms.{CommandData, ImageData}
-use Rattle.event_data.specs.GptForms.{GptData, PartitionData}
-use Rattle.event_data.specs.Results.{text_in}
-use Rattle.event_data.specs.Values.{value_in}
 use Rattle.event_lines.specs.ContentTexts.{address_json, guid_json, path_member, text_or_hex, wide_member}
 use Rattle.cells.specs.Values.{IsCount, Member, array_of, number_json, object_of, shown_member}
 use Rattle.event_lines.specs.ValueJson.{IsCountedValue}

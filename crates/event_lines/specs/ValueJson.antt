@@ -3,10 +3,8 @@ use Rattle.std.specs.Prelude.{⊤, ℕ, if◌then◌else◌, List, [], ◌∷◌
 use Rattle.std.specs.Int.{w16, to_be_bytes}
 use Rattle.std.specs.List.{AllByRecursion}
 use Rattle.json.specs.Json.{Json}
-use Rattle.event_data.specs.ValueForms.{ListData, LoadOptionData, SignatureData}
-use Rattle.event_data.specs.ValueReading.{signatures_of}
+use Rattle.event_data.specs.Names.{ListData, LoadOptionData, SignatureData, ValueSays, signatures_of}
 use Rattle.event_data.specs.Values as values
-use Rattle.event_data.specs.Values.{ValueSays}
 use Rattle.event_lines.specs.ContentTexts.{guid_json, path_member, wide_member}
 use Rattle.cells.specs.Values.{IsCount, Member, array_of, hex_json, number_json, object_of}
 

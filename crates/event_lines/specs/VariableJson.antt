@@ -1,8 +1,7 @@
 -- A UEFI variable as JSON. The members and their order are this project's choice.
 use Rattle.std.specs.Prelude.{ℕ, ◌∷◌, codes}
 use Rattle.json.specs.Json.{Json}
-use Rattle.event_data.specs.Forms.{VariableData}
-use Rattle.event_data.specs.Values.{value_in}
+use Rattle.event_data.specs.Names.{VariableData, value_in}
 use Rattle.event_lines.specs.ContentTexts.{guid_json, wide_member}
 use Rattle.cells.specs.Values.{hex_json, object_of}
 use Rattle.event_lines.specs.ValueJson.{value_members}

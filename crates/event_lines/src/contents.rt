@@ -2,13 +2,7 @@
 //! and addresses.
 
 ghost use Rattle.std.specs.Prelude.{[], ◌∷◌, ◌≡◌, ◌++◌, codes, option_map, OnOk, map};
-ghost use Rattle.event_data.specs.Blobs.{blob_of, tagged_of};
-ghost use Rattle.event_data.specs.ContentReading.{content_in};
-ghost use Rattle.event_data.specs.EventForms.{content_of};
-ghost use Rattle.event_data.specs.Forms.{command_of, image_of};
-ghost use Rattle.event_data.specs.Results.{text_in};
-ghost use Rattle.event_data.specs.Entries.{partition_of};
-ghost use Rattle.event_data.specs.Gpts.{gpt_of};
+ghost use Rattle.event_data.specs.Names.{blob_of, command_of, content_in, content_of, gpt_of, image_of, partition_of, tagged_of, text_in};
 ghost use Rattle.cells.specs.Writing.{WritesMembers, WritesValue, WritesItems};
 ghost use Rattle.cells.specs.Cells.{ShowsMembers};
 ghost use Rattle.cells.specs.Values.{line_of};

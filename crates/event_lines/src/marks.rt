@@ -1,7 +1,7 @@
 //! What is measured and confirmed of an event's data.
 
 ghost use Rattle.std.specs.Prelude.{◌≡◌, codes, option_map, Some};
-ghost use Rattle.boot_log.specs.Spelling.{log_event_of};
+ghost use Rattle.boot_log.specs.Names.{log_event_of};
 ghost use Rattle.cells.specs.Cells.{ShowsMembers, members, object_at};
 ghost use Rattle.event_lines.specs.EventCells.{confirmed_cell, is_measured_somewhere, mark_cell, measured_cell, measured_word, part_cell, part_name, parts_cell, unconfirmed_cell};
 

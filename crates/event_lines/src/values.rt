@@ -1,11 +1,7 @@
 //! UEFI variables, and what their values say.
 
 ghost use Rattle.std.specs.Prelude.{[], ◌∷◌, codes, map};
-ghost use Rattle.event_data.specs.Forms.{variable_of};
-ghost use Rattle.event_data.specs.ValueContents.{says_of};
-ghost use Rattle.event_data.specs.ValueReading.{lists_in, numbers_in, signatures_of};
-ghost use Rattle.event_data.specs.ValueRests.{lists_left, numbers_left};
-ghost use Rattle.event_data.specs.ValueViews.{list_of, load_option_of, signature_of};
+ghost use Rattle.event_data.specs.Names.{list_of, lists_in, lists_left, load_option_of, numbers_in, numbers_left, says_of, signature_of, signatures_of, variable_of};
 ghost use Rattle.cells.specs.Values.{array_of};
 ghost use Rattle.event_lines.specs.ValueJson.{list_json, load_option_json, option_number_json, owner_values, owners_after, signature_json, value_members};
 ghost use Rattle.event_lines.specs.VariableJson.{variable_json};

@@ -1,7 +1,7 @@
 -- The texts of nodes, one after another.
 use Rattle.std.proofs.Common.{◌≡◌, ℕ, Bool, false, List, ◌∷◌, ◌++◌, sym, ap, ◌∙◌, append_assoc}
 use Rattle.std.specs.Prelude.{codes, cond}
-use Rattle.event_data.specs.Forms.{NodeData}
+use Rattle.event_data.specs.Names.{NodeData}
 use Rattle.event_texts.specs.PathTexts.{is_end, node_text, nodes_text}
 
 nodes_text_of : (lead : List ℕ) (node : NodeData) (others : List NodeData) → is_end node ≡ false

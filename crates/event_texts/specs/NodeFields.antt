@@ -2,7 +2,7 @@
 use Rattle.std.specs.Prelude.{ℕ, List, [], ◌∷◌, ◌++◌, codes, decimal, drop, take, slice_index, flat_map}
 use Rattle.std.specs.Int.{w16, w32, w64, from_le_bytes}
 use Rattle.hex.specs.Hex.{encode_lower}
-use Rattle.event_data.specs.Forms.{NodeData}
+use Rattle.event_data.specs.Names.{NodeData}
 use Rattle.event_texts.specs.declared.node_row.Field.{Field}
 use Rattle.event_texts.specs.declared.node_row.Field.TheVariants.{Kind, Subtype, U8, U16, U32, U64, Decimal, Guid, Bytes, Rest, Eui, Pnp, Gpt, Mbr}
 use Rattle.event_texts.specs.Guids.{bytes_at, guid_text}

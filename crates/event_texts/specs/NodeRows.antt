@@ -2,7 +2,7 @@
 -- layouts). A row is for a type, a sub-type and an exact size of what follows the node's length.
 use Rattle.std.specs.Prelude.{ℕ, ◌%◌, ◌==◌, ◌&&◌, nat_lt, if◌then◌else◌, List, [], ◌∷◌, ◌++◌, codes, length, slice_index, Option, Some, None}
 use Rattle.std.specs.Int.{w32, from_le_bytes}
-use Rattle.event_data.specs.Forms.{NodeData}
+use Rattle.event_data.specs.Names.{NodeData}
 use Rattle.event_texts.specs.declared.node_row.Field.{Field}
 use Rattle.event_texts.specs.declared.node_row.Field.TheVariants.{Kind, Subtype, U8, U16, U32, U64, Decimal, Guid, Bytes, Rest, Eui, Pnp, Gpt, Mbr}
 use Rattle.event_texts.specs.declared.node_row.NodeRow.{NodeRow}

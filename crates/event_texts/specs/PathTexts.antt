@@ -1,8 +1,7 @@
 -- Device paths as text (UEFI 2.10, section 10.6).
 use Rattle.std.specs.Prelude.{ℕ, ◌-◌, ◌==◌, ◌&&◌, ◌||◌, not, nat_lt, Bool, bytes_eq, if◌then◌else◌, List, [], ◌∷◌, ◌++◌, codes, drop, take, length, Option, Some, None}
 use Rattle.std.specs.List.{list_all}
-use Rattle.event_data.specs.Forms.{NodeData}
-use Rattle.event_data.specs.Reading.{nodes_in}
+use Rattle.event_data.specs.Names.{NodeData, nodes_in}
 use Rattle.event_texts.specs.NodeRows.{row_of, row_text}
 use Rattle.event_texts.specs.WideTexts.{wide_text}
 

@@ -4,7 +4,7 @@ ghost use Rattle.std.specs.Prelude.{◌≡◌, [], ◌∷◌, ◌++◌, OnOk, co
 ghost use Rattle.std.specs.Int.{w16, w32, w64, from_le_bytes};
 ghost use Rattle.std.specs.String.{string_bytes};
 ghost use Rattle.hex.specs.Hex.{encode_lower};
-ghost use Rattle.event_data.specs.PathNodes.{node_of};
+ghost use Rattle.event_data.specs.Names.{node_of};
 ghost use Rattle.event_texts.specs.Guids.{bytes_at};
 ghost use Rattle.event_texts.specs.NodeFields.{dashed, field_text, fields_text};
 ghost use Rattle.event_texts.specs.NodeRows.{acpi_row, drive_row, generic_row, hardware_row, known_row, mac_row, media_row, messaging_row, other_acpi_row, row, row_data, row_of, vendor_row};

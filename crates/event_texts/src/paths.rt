@@ -3,7 +3,7 @@
 ghost use Rattle.std.specs.Prelude.{◌≡◌, ◌++◌, IfOk, OnOk, option_map};
 ghost use Rattle.std.specs.List.{list_all};
 ghost use Rattle.std.specs.String.{string_bytes};
-ghost use Rattle.event_data.specs.PathNodes.{node_of};
+ghost use Rattle.event_data.specs.Names.{node_of};
 ghost use Rattle.event_texts.specs.NodeRows.{row_of, row_text};
 ghost use Rattle.event_texts.specs.PathTexts.{file_text, is_end, is_uri_byte, node_text, path_text, told_text, uri_text};
 

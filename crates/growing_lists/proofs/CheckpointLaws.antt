@@ -16,17 +16,12 @@ use Rattle.pcr_banks.specs.declared.alg.Alg.{Alg}
 use Rattle.pcr_banks.specs.declared.alg.Alg.TheVariants.{Sha1, Sha256, Sha384, Sha512}
 use Rattle.pcr_banks.specs.declared.banks.Banks.{Banks}
 use Rattle.pcr_banks.specs.declared.digest.Digest.{Digest}
-use Rattle.pcr_banks.specs.Hashing.{all_algs, name_of, same_alg, size_of}
-use Rattle.pcr_banks.specs.Digests.{alg_of, bytes_of, digest_of}
-use Rattle.pcr_banks.specs.Registers.{bank_of, is_active, register_count, reset_value, value_at, IsReset}
+use Rattle.pcr_banks.specs.Names.{IsReset, alg_of, all_algs, bank_of, bytes_of, digest_of, has_alg, is_active, name_of, register_count, reset_value, same_alg, size_of, value_at}
 use Rattle.pcr_banks.proofs.AlgLaws.{every_alg, same_alg_is}
 use Rattle.pcr_banks.proofs.BankLaws.{active_bank}
-use Rattle.pcr_banks.specs.Sets.{has_alg}
 use Rattle.pcr_banks.proofs.SetLaws.{bytes_again, has_where}
 use Rattle.pcr_values.specs.declared.expected.Expected.{Expected}
-use Rattle.pcr_values.specs.ExpectedTexts.{IsRegisterLine}
-use Rattle.pcr_values.specs.RegisterTexts.{all_registers, change_line, register_line}
-use Rattle.pcr_values.specs.Lines.{IsSplitOnce}
+use Rattle.pcr_values.specs.Names.{IsRegisterLine, IsSplitOnce, all_registers, change_line, register_line}
 use Rattle.pcr_values.proofs.ExpectedLaws.{Lacks, lacks_from, not_lacked, one_cut, one_line}
 use Rattle.pcr_values.proofs.RegisterLaws as registers
 use Rattle.pcr_values.proofs.WrittenLaws.{IsProper, body, body_shown, body_spells, decimal_above, encoded_above, lacks_feed, line_is, shown, shown_join}

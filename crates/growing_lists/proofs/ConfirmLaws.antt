@@ -2,19 +2,15 @@
 use Rattle.std.proofs.Common.{◌≡◌, ℕ, List, ◌∷◌, ◌++◌, length, take, Option, Some, None, Result, Ok, Err, sym, ap, subst, ◌∙◌}
 use Rattle.std.proofs.lemmas.List.{take-append-le}
 use Rattle.boot_log.specs.declared.header.DeclaredAlgorithm.{DeclaredAlgorithm}
-use Rattle.boot_log.specs.Spelling.{LogEvent, IsLog, algs_in}
+use Rattle.boot_log.specs.Names.{IsLog, LogEvent, algs_in}
 use Rattle.boot_log.proofs.LogLaws.{one_reading}
-use Rattle.ima_list.specs.ListEntry.{ListEntry}
-use Rattle.ima_list.specs.Digesting.{IsGenuine}
-use Rattle.ima_list.specs.Replaying.{AreGenuine}
+use Rattle.ima_list.specs.Names.{AreGenuine, IsGenuine, ListEntry}
 use Rattle.boot_verdict.specs.declared.checkpoint.Checkpoint.{Checkpoint}
 use Rattle.growing_lists.specs.declared.confirmation.Search.{Search}
 use Rattle.boot_verdict.specs.declared.report.Unconfirmed.{Unconfirmed}
 use Rattle.boot_verdict.specs.declared.report.Unconfirmed.TheVariants as unconfirmed
 use Rattle.growing_lists.specs.declared.session.Session.{Session}
-use Rattle.boot_verdict.specs.Checkpoints.{IsMoreFault}
-use Rattle.boot_verdict.specs.ListReplays.{AreTracked, IsReplayedOrForged}
-use Rattle.boot_verdict.specs.Tracking.{After}
+use Rattle.boot_verdict.specs.Names.{After, AreTracked, IsMoreFault, IsReplayedOrForged}
 use Rattle.boot_verdict.proofs.ReplayLaws.{none_forged, one_list}
 use Rattle.growing_lists.specs.Goals.{GoalData}
 use Rattle.growing_lists.specs.Prefixes.{AreUnconfirmed, CameWrong, IsPrefixTaken, IsUnconfirmedFault, TakesUnconfirmed, WatchesPrefix}

@@ -8,15 +8,10 @@ use Rattle.std.specs.Int.{w32, to_le_bytes}
 use Rattle.pcr_banks.specs.declared.alg.Alg.{Alg}
 use Rattle.pcr_banks.specs.declared.banks.Banks.{Banks}
 use Rattle.pcr_banks.specs.declared.digest.Digest.{Digest}
-use Rattle.pcr_banks.specs.Digests.{alg_of, bytes_of}
-use Rattle.pcr_banks.specs.Registers.{bank_of, extended_by_all, in_bank, is_active, value_at}
-use Rattle.ima_list.specs.ListEntry.{AreEntries, IsEntry, IsImaPayload, ListEntry, is_ima}
-use Rattle.ima_list.specs.Replaying.{digests_of, replayed_value}
-use Rattle.ima_list.specs.Spelling.{list_spelling, payload_spelling, spelling}
+use Rattle.pcr_banks.specs.Names.{alg_of, bank_of, bytes_of, extended_by_all, in_bank, is_active, value_at}
+use Rattle.ima_list.specs.Names.{AreEntries, IsEntry, IsImaPayload, ListEntry, digests_of, is_ima, list_spelling, payload_spelling, replayed_value, spelling}
 use Rattle.boot_verdict.specs.declared.checkpoint.Checkpoint.{Checkpoint}
-use Rattle.boot_verdict.specs.Checkpoints.{IsCheckpoint}
-use Rattle.boot_verdict.specs.Verdicts.{recorded_aggregate}
-use Rattle.boot_verdict.specs.Isolation.{first_stray, stray_from}
+use Rattle.boot_verdict.specs.Names.{IsCheckpoint, first_stray, recorded_aggregate, stray_from}
 use Rattle.growing_lists.specs.CheckpointData.{HaveValues, IsCounted, IsPossible, IsStrayOf, LeavesRoom, SameData, SameValues}
 use Rattle.growing_lists.specs.Sessions.{IsOfBoot}
 

@@ -12,15 +12,10 @@ use Rattle.std.proofs.lemmas.List.Sums.{fold-append}
 use Rattle.pcr_banks.specs.declared.alg.Alg.{Alg}
 use Rattle.pcr_banks.specs.declared.banks.Banks.{Banks}
 use Rattle.pcr_banks.specs.declared.sets.AlgSet.{AlgSet}
-use Rattle.pcr_banks.specs.Digests.{alg_of, bytes_of}
-use Rattle.pcr_banks.specs.Registers.{extended_by_all, value_at}
+use Rattle.pcr_banks.specs.Names.{alg_of, bytes_of, extended_by_all, value_at}
 use Rattle.pcr_values.specs.declared.expected.Expected.{Expected}
-use Rattle.boot_log.specs.Replaying.{IsFirmware}
-use Rattle.boot_log.specs.Spelling.{LogEvent}
-use Rattle.ima_list.specs.ListEntry.{IsEntry, ListEntry}
-use Rattle.ima_list.specs.Spelling.{BeginsWith, list_spelling, spelling}
-use Rattle.ima_list.specs.Digesting.{IsGenuine}
-use Rattle.ima_list.specs.Replaying.{AreGenuine, digests_of}
+use Rattle.boot_log.specs.Names.{IsFirmware, LogEvent}
+use Rattle.ima_list.specs.Names.{AreGenuine, BeginsWith, IsEntry, IsGenuine, ListEntry, digests_of, list_spelling, spelling}
 use Rattle.ima_list.proofs.PieceLaws.{reading_to_the_end}
 use Rattle.boot_verdict.specs.declared.checkpoint.Checkpoint.{Checkpoint}
 use Rattle.boot_verdict.specs.declared.report.Unconfirmed.{Unconfirmed}
@@ -30,19 +25,12 @@ use Rattle.growing_lists.specs.declared.confirmation.Prefix.{Prefix}
 use Rattle.boot_verdict.specs.declared.list_replay.ListReplay.{ListReplay}
 use Rattle.boot_verdict.specs.declared.steps.Position.{Position}
 use Rattle.boot_verdict.specs.declared.steps.Position.TheVariants.{Reset, Event, Entry, Nowhere, Absent}
-use Rattle.boot_verdict.specs.Checkpoints.{IsCheckpoint, IsMoreFault}
+use Rattle.boot_verdict.specs.Names.{After, AreAfter, AreTracked, CameFrom, IsCheckpoint, IsMoreFault, IsReplayedOrForged, OfEntry, Replays, ReplaysAll, ReplaysMore, Step, StopsAt, WatchesAll, aggregate_of, entries_as_steps, first_stray, is_good, is_match, is_reached, least_prefix, pcr_after_log_and_list, position_after, recorded_aggregate, row_on, stray_from, value_after}
 use Rattle.boot_verdict.specs.declared.isolation.Stray.{Stray}
-use Rattle.boot_verdict.specs.Isolation.{first_stray, stray_from}
-use Rattle.boot_verdict.specs.ListSources.{CameFrom}
-use Rattle.boot_verdict.specs.Positions.{is_reached, position_after}
-use Rattle.boot_verdict.specs.Steps.{Step, OfEntry, entries_as_steps, least_prefix, value_after}
-use Rattle.boot_verdict.specs.Verdicts.{aggregate_of, is_good, is_match, pcr_after_log_and_list, row_on, recorded_aggregate}
 use Rattle.tpm_quotes.specs.Quoting.{Values}
 use Rattle.growing_lists.specs.declared.confirmation.Goal.{Goal}
 use Rattle.growing_lists.specs.Goals.{GoalData, OfExpected, OfQuote, goal_data, is_confirmed, is_met}
 use Rattle.growing_lists.specs.parts.Confirming.{PrefixIs, IsConfirmingAfter, IsPrefixAt, confirms, prefix_at, is_late, search_after, search_before, size_after, size_more, values_after}
-use Rattle.boot_verdict.specs.Tracking.{After, AreAfter}
-use Rattle.boot_verdict.specs.ListReplays.{AreTracked, IsReplayedOrForged, Replays, ReplaysAll, ReplaysMore, StopsAt, WatchesAll}
 use Rattle.growing_lists.specs.parts.Searches.{FindsPrefix, IsConfirmedAt, Searches, WatchesSearch, checkpoint_at, fault_in, prefix_after, prefix_with, stray_within, whole_after}
 use Rattle.boot_verdict.proofs.PositionLaws.{row_matches, steps_back, steps_to, two_ways}
 use Rattle.boot_verdict.proofs.StepLaws.{TellsLeast, banks_joined, entries_value, followed_by, fun_same, least_more, least_tells, none_taken, or_all, position_of_entry, replayed_after}

@@ -3,11 +3,10 @@ use Rattle.std.proofs.Common.{◌≡◌, ℕ, List, sym, ◌∙◌}
 use Rattle.pcr_banks.specs.declared.banks.Banks.{Banks}
 use Rattle.boot_verdict.specs.declared.checkpoint.Checkpoint.{Checkpoint}
 use Rattle.boot_log.specs.declared.header.DeclaredAlgorithm.{DeclaredAlgorithm}
-use Rattle.boot_log.specs.Replaying.{IsFirmware}
-use Rattle.boot_log.specs.Spelling.{LogEvent, IsLog, algs_in}
+use Rattle.boot_log.specs.Names.{IsFirmware, IsLog, LogEvent, algs_in}
 use Rattle.growing_lists.specs.declared.session.Session.{Session}
 use Rattle.growing_lists.specs.CheckpointData.{AreSameBanks}
-use Rattle.boot_verdict.specs.Checkpoints.{IsCheckpoint}
+use Rattle.boot_verdict.specs.Names.{IsCheckpoint}
 use Rattle.growing_lists.specs.Sessions.{HasTaken, IsOfBoot}
 
 -- ---- sessions

@@ -3,12 +3,10 @@ use Rattle.std.specs.Prelude.{◌≡◌, ℕ, ◌+◌, ◌*◌, ◌^◌, ◌<◌
 use Rattle.hex.specs.Hex.{IsBytes}
 use Rattle.pcr_banks.specs.declared.alg.Alg.{Alg}
 use Rattle.pcr_banks.specs.declared.banks.Banks.{Banks}
-use Rattle.pcr_banks.specs.Hashing.{size_of}
-use Rattle.pcr_banks.specs.Digests.{alg_of, bytes_of}
-use Rattle.pcr_banks.specs.Registers.{register_count, is_active, value_at}
+use Rattle.pcr_banks.specs.Names.{alg_of, bytes_of, is_active, register_count, size_of, value_at}
 use Rattle.boot_verdict.specs.declared.checkpoint.Checkpoint.{Checkpoint}
 use Rattle.boot_verdict.specs.declared.isolation.Stray.{Stray}
-use Rattle.boot_verdict.specs.Isolation.{list_register}
+use Rattle.boot_verdict.specs.Names.{list_register}
 use Rattle.tpm_quotes.specs.Spelling.{TpmQuote}
 use Rattle.growing_lists.specs.declared.saved_state.Boot.{Boot}
 use Rattle.growing_lists.specs.declared.saved_state.SavedState.{SavedState}

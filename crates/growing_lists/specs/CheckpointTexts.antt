@@ -5,13 +5,11 @@ use Rattle.pcr_banks.specs.declared.alg.Alg.{Alg}
 use Rattle.pcr_banks.specs.declared.alg.Alg.TheVariants.{Sha256}
 use Rattle.pcr_banks.specs.declared.banks.Banks.{Banks}
 use Rattle.pcr_banks.specs.declared.digest.Digest.{Digest}
-use Rattle.pcr_banks.specs.Hashing.{all_algs, hash_of, name_of}
-use Rattle.pcr_banks.specs.Digests.{alg_of, bytes_of}
-use Rattle.pcr_banks.specs.Registers.{value_at}
-use Rattle.pcr_values.specs.RegisterTexts.{all_registers, change_line}
+use Rattle.pcr_banks.specs.Names.{alg_of, all_algs, bytes_of, hash_of, name_of, value_at}
+use Rattle.pcr_values.specs.Names.{all_registers, change_line}
 use Rattle.boot_verdict.specs.declared.checkpoint.Checkpoint.{Checkpoint}
 use Rattle.boot_verdict.specs.declared.isolation.Stray.{Stray}
-use Rattle.boot_verdict.specs.Isolation.{list_register}
+use Rattle.boot_verdict.specs.Names.{list_register}
 use Rattle.growing_lists.specs.declared.saved_state.Boot.{Boot}
 use Rattle.growing_lists.specs.declared.saved_state.SavedState.{SavedState}
 

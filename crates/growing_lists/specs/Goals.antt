@@ -3,10 +3,9 @@ use Rattle.std.specs.Prelude.{◌&&◌, Bool, List}
 use Rattle.std.specs.List.{list_all}
 use Rattle.pcr_banks.specs.declared.sets.AlgSet.{AlgSet}
 use Rattle.pcr_values.specs.declared.expected.Expected.{Expected}
-use Rattle.boot_log.specs.Spelling.{LogEvent}
-use Rattle.ima_list.specs.ListEntry.{ListEntry}
-use Rattle.boot_verdict.specs.Positions.{is_reached}
-use Rattle.boot_verdict.specs.Verdicts.{aggregate_of, is_good, matches, pcr_after_log_and_list, recorded_aggregate, verdict_on}
+use Rattle.boot_log.specs.Names.{LogEvent}
+use Rattle.ima_list.specs.Names.{ListEntry}
+use Rattle.boot_verdict.specs.Names.{aggregate_of, is_good, is_reached, matches, pcr_after_log_and_list, recorded_aggregate, verdict_on}
 use Rattle.tpm_quotes.specs.Quoting.{Values, confirms}
 use Rattle.tpm_quotes.specs.Spelling.{TpmQuote, quote_of}
 use Rattle.growing_lists.specs.declared.confirmation.Goal.{Goal}

@@ -2,20 +2,15 @@
 use Rattle.std.specs.Prelude.{◌≡◌, ℕ, ◌<◌, ◌≤◌, true, false, List, ◌++◌, length, take, Option, Some, None, Ok, Err}
 use Rattle.pcr_banks.specs.declared.sets.AlgSet.{AlgSet}
 use Rattle.boot_log.specs.declared.header.DeclaredAlgorithm.{DeclaredAlgorithm}
-use Rattle.boot_log.specs.Spelling.{LogEvent, IsLog, algs_in}
-use Rattle.ima_list.specs.ListEntry.{ListEntry}
-use Rattle.ima_list.specs.ListFaults.{list_fault_entry}
-use Rattle.ima_list.specs.Spelling.{BeginsWith, IsReading, list_spelling}
-use Rattle.ima_list.specs.Replaying.{AreGenuine, IsReplayFault}
+use Rattle.boot_log.specs.Names.{IsLog, LogEvent, algs_in}
+use Rattle.ima_list.specs.Names.{AreGenuine, BeginsWith, IsReading, IsReplayFault, ListEntry, list_fault_entry, list_spelling}
 use Rattle.boot_verdict.specs.declared.report.Unconfirmed.{Unconfirmed}
 use Rattle.boot_verdict.specs.declared.report.Unconfirmed.TheVariants as unconfirmed
 use Rattle.growing_lists.specs.declared.confirmation.Confirmed.{Confirmed}
 use Rattle.growing_lists.specs.declared.session.Session.{Session}
 use Rattle.boot_verdict.specs.declared.verifier.VerifyFault.{VerifyFault}
 use Rattle.boot_verdict.specs.declared.verifier.VerifyFault.TheVariants as faults
-use Rattle.boot_verdict.specs.ListReplays.{AreTracked}
-use Rattle.boot_verdict.specs.ListSources.{CameFrom, CameWhole, IsListFaultAfter}
-use Rattle.boot_verdict.specs.Tracking.{After}
+use Rattle.boot_verdict.specs.Names.{After, AreTracked, CameFrom, CameWhole, IsListFaultAfter}
 use Rattle.growing_lists.specs.Goals.{GoalData, is_confirmed}
 use Rattle.growing_lists.specs.Sessions.{HasTaken, TakesMore, WatchesMore}
 

@@ -1,15 +1,10 @@
 -- The verification of a list that grows.
 use Rattle.std.specs.Prelude.{◌≡◌, ℕ, List, ◌++◌, Option}
 use Rattle.boot_log.specs.declared.header.DeclaredAlgorithm.{DeclaredAlgorithm}
-use Rattle.boot_log.specs.LogViews.{log_bytes}
-use Rattle.boot_log.specs.Replaying.{IsFirmware}
-use Rattle.boot_log.specs.Spelling.{LogEvent, IsLog, algs_in}
+use Rattle.boot_log.specs.Names.{IsFirmware, IsLog, LogEvent, algs_in, log_bytes}
 use Rattle.boot_verdict.specs.declared.checkpoint.Checkpoint.{Checkpoint}
 use Rattle.growing_lists.specs.declared.session.Session.{Session}
-use Rattle.boot_verdict.specs.Checkpoints.{IsCheckpoint}
-use Rattle.boot_verdict.specs.ListReplays.{AreTracked}
-use Rattle.boot_verdict.specs.ListSources.{CameWhole}
-use Rattle.boot_verdict.specs.Tracking.{After}
+use Rattle.boot_verdict.specs.Names.{After, AreTracked, CameWhole, IsCheckpoint}
 
 -- The session is of this log, and has taken this list.
 pub record HasTaken (log list : List ℕ) (session : Session) : Type 0 where

@@ -3,19 +3,13 @@
 ghost use Rattle.std.specs.Prelude.{◌≡◌, ◌<◌, ◌^◌, List, ℕ, Ok, Err, is_some, option_map, IfOk, IfErr, IfSome, IfNone, OnErr};
 ghost use Rattle.byte_streams.specs.Streams.{LosesPrefix};
 ghost use Rattle.pcr_banks.specs.declared.sets.AlgSet.{AlgSet};
-ghost use Rattle.pcr_banks.specs.Digests.{alg_of, bytes_of};
-ghost use Rattle.boot_log.specs.Replaying.{IsFirmware};
-ghost use Rattle.boot_log.specs.Spelling.{LogEvent};
+ghost use Rattle.pcr_banks.specs.Names.{alg_of, bytes_of, value_at};
+ghost use Rattle.boot_log.specs.Names.{IsFirmware, LogEvent};
 ghost use Rattle.boot_verdict.specs.declared.report.Unconfirmed.{Unconfirmed};
-ghost use Rattle.boot_verdict.specs.Checkpoints.{IsCheckpoint, IsMoreFault, most_after};
-ghost use Rattle.boot_verdict.specs.ListSources.{failures_after_list};
-ghost use Rattle.boot_verdict.specs.Verdicts.{aggregate_of, is_good};
+ghost use Rattle.boot_verdict.specs.Names.{AreTracked, IsCheckpoint, IsMoreFault, ReplaysAll, aggregate_of, failures_after_list, is_good, most_after, step_of};
 ghost use Rattle.growing_lists.specs.Goals.{goal_data, are_reached, is_met};
 ghost use Rattle.growing_lists.specs.parts.Confirming.{IsConfirmingAfter, prefix_at, search_after, search_before, size_of_step};
-ghost use Rattle.boot_verdict.specs.ListReplays.{AreTracked, ReplaysAll};
 ghost use Rattle.growing_lists.specs.parts.Searches.{IsNoListFault, Searches, WatchesSearch, fault_in, prefix_after, stray_within, whole_after, wrong_with};
-ghost use Rattle.pcr_banks.specs.Registers.{value_at};
-ghost use Rattle.boot_verdict.specs.Tracking.{step_of};
 
 use crate::session::Session;
 use boot_verdict::{

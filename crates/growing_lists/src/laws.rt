@@ -2,7 +2,7 @@
 
 ghost use Rattle.std.specs.Prelude.{ℕ, List};
 ghost use Rattle.boot_verdict.specs.declared.checkpoint.Checkpoint.{Checkpoint};
-ghost use Rattle.boot_verdict.specs.Checkpoints.{IsCheckpoint};
+ghost use Rattle.boot_verdict.specs.Names.{IsCheckpoint};
 ghost use Rattle.growing_lists.specs.CheckpointData.{HaveValues, IsCounted, IsPossible, LeavesRoom, SameData};
 ghost use Rattle.growing_lists.specs.Sessions.{IsOfBoot};
 

@@ -1,7 +1,7 @@
 //! Whether two sets of registers have the same values.
 
 ghost use Rattle.std.specs.Prelude.{◌≡◌, true};
-ghost use Rattle.pcr_banks.specs.Registers.{is_active};
+ghost use Rattle.pcr_banks.specs.Names.{is_active};
 ghost use Rattle.growing_lists.specs.CheckpointData.{AreSameBanks, SameActive};
 
 use pcr_banks::laws::banks_are_what_they_hold;

@@ -2,14 +2,9 @@
 
 ghost use Rattle.std.specs.Prelude.{◌≡◌, ◌↔◌, IsTrue, List, [], Some, is_some, IsOk, IfOk, IfErr, IsErrOf, OnOk, OnErr, ℕ};
 ghost use Rattle.byte_streams.specs.Streams.{LosesPrefix};
-ghost use Rattle.boot_log.specs.Reading.{log_fault};
+ghost use Rattle.boot_log.specs.Names.{IsLog, LogEvent, log_bytes, log_fault};
 ghost use Rattle.boot_log.specs.declared.header.DeclaredAlgorithm.{DeclaredAlgorithm};
-ghost use Rattle.boot_log.specs.LogViews.{log_bytes};
-ghost use Rattle.boot_log.specs.Spelling.{LogEvent, IsLog};
-ghost use Rattle.boot_verdict.specs.Checkpoints.{IsCheckpoint, IsMoreFault, most_after};
-ghost use Rattle.boot_verdict.specs.ListReplays.{AreTracked};
-ghost use Rattle.boot_verdict.specs.ListSources.{failures_after_list};
-ghost use Rattle.boot_verdict.specs.Verdicts.{ReadsAsLog, IsVerdict, verdict_of};
+ghost use Rattle.boot_verdict.specs.Names.{AreTracked, IsCheckpoint, IsMoreFault, IsVerdict, ReadsAsLog, failures_after_list, most_after, verdict_of};
 ghost use Rattle.growing_lists.specs.CheckpointData.{LeavesRoom};
 
 use crate::same_banks::are_same_banks;

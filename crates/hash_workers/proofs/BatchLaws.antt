@@ -10,15 +10,9 @@ use Rattle.measure_book.specs.declared.origin.Origin.{Origin}
 use Rattle.measure_book.specs.declared.op.Outcome.{Outcome}
 use Rattle.measure_book.specs.declared.fault.BookFault.{BookFault}
 use Rattle.measure_book.specs.declared.fault.BookFault.TheVariants.{Full, Memory}
-use Rattle.measure_book.specs.Operations.{BookOp, BookReceipt, BookOutcome, done, refused, book_outcome_of}
-use Rattle.measure_book.specs.Histories.{refusal_of, op_refusal}
+use Rattle.measure_book.specs.Names.{AccountsForAll, BookOp, BookOutcome, BookReceipt, BookState, HasReceipt, IsNamed, SaysFull, book_outcome_of, done, groups_of, op_refusal, outcome_at, refusal_of, refused}
 use Rattle.measure_book.specs.Groups as groups
-use Rattle.measure_book.specs.Groups.{groups_of, outcome_at, HasReceipt, AccountsForAll, IsNamed, SaysFull}
-use Rattle.measure_book.specs.Books.{BookState}
-use Rattle.hash_workers.specs.parts.Taking.{Took, NumbersRiseForEach}
-use Rattle.hash_workers.specs.Outcomes.{IsOutcomeOf}
-use Rattle.hash_workers.specs.parts.Scattering.{items_of, got_at, ArePairs, AreScattered}
-use Rattle.hash_workers.specs.Batches.{IsReceiptOfJob, IsRefusalOfJob, IsBatchOf}
+use Rattle.hash_workers.specs.Names.{ArePairs, AreScattered, IsBatchOf, IsOutcomeOf, IsReceiptOfJob, IsRefusalOfJob, NumbersRiseForEach, Took, got_at, items_of}
 use Rattle.hash_workers.proofs.ListLaws.{at_list, at_map, equal_of, in_mapped, list_at, map_at, within_at}
 use Rattle.hash_workers.proofs.TakingLaws.{TakeEach}
 

@@ -10,8 +10,8 @@ use Rattle.atomic_table.specs.Table.{State, Me, step, keeps, stepped, Allows, Sp
 use Rattle.atomic_table.proofs.Lists.{at_set, at_snoc, set_again, set_else}
 use Rattle.hash_workers.specs.declared.claims.view.SeatView.{SeatView}
 use Rattle.hash_workers.specs.declared.claims.view.Allotment.{Allotment}
-use Rattle.hash_workers.specs.Claims.{HandsOutEach, times}
-use Rattle.hash_workers.specs.parts.ClaimRule.{KeepsRule, AreClaimed, IsViewOf, view_of, spent, draws_of, places_of, ended_places_of, total, giver, taker, merged, drawn_view, emptied_view, MayDraw, MayDrawAll, Looks}
+use Rattle.hash_workers.specs.Names.{AreClaimed, HandsOutEach, IsViewOf, KeepsRule, Looks, MayDraw, MayDrawAll, drawn_view, emptied_view, ended_places_of, giver, merged, places_of, spent, taker, times, total, view_of}
+use Rattle.hash_workers.specs.parts.ClaimRule.{draws_of}
 use Rattle.hash_workers.proofs.ClaimSums.{total-set, total-push, total_at, ended_within, times_of, times-append, times-range, times-concat, once_below, below_one_more, is_below, each_once, hands_out}
 
 abbrev Holder : Type 0

@@ -8,8 +8,8 @@ use mathlib.Core.Option.{some, some-injective, some-ne-none}
 use native.Mathlib.Decide.{dec_le}
 use lib.ListN.{get_elem?}
 use Rattle.hash_workers.specs.declared.claims.view.SeatView.{SeatView}
-use Rattle.hash_workers.specs.Claims.{DrawsMore, HandsOutEach, times}
-use Rattle.hash_workers.specs.parts.ClaimRule.{total, draws_of, places_of, ended_places_of}
+use Rattle.hash_workers.specs.Names.{DrawsMore, HandsOutEach, ended_places_of, places_of, times, total}
+use Rattle.hash_workers.specs.parts.ClaimRule.{draws_of}
 
 -- ---- sums
 

@@ -9,8 +9,7 @@ use Rattle.hash_workers.specs.contracts.work.End as ends
 use Rattle.hash_workers.specs.declared.work.End.{End}
 use Rattle.hash_workers.specs.declared.work.Work.{Work}
 use Rattle.hash_workers.specs.declared.work.Unmade.{Unmade}
-use Rattle.hash_workers.specs.parts.Ending.{IsFrom}
-use Rattle.hash_workers.specs.parts.Seats.{HasEnd, HasUnmade, HasNoEnd, IsEarlier, IsLeastUnmade}
+use Rattle.hash_workers.specs.Names.{HasEnd, HasNoEnd, HasUnmade, IsEarlier, IsFrom, IsLeastUnmade}
 
 pub has_end_here : (works : List Work) (end : End) (i : ℕ) (work : Work) (b : Bool) → i < length works → work ≡ get_or works i work
     → b ≡ sameb ends.the_type work.end end → b ≡ true → HasEnd works end

@@ -5,10 +5,10 @@ use Rattle.std.specs.Result.{IsErrAnd}
 use Rattle.measure_book.specs.declared.origin.Origin.{Origin}
 use Rattle.measure_book.specs.declared.fault.BookFault.{BookFault}
 use Rattle.measure_book.specs.declared.fault.BookFault.TheVariants.{Memory}
-use Rattle.measure_book.specs.Histories.{open_refusal_of}
+use Rattle.measure_book.specs.Names.{open_refusal_of}
 use Rattle.hash_workers.specs.declared.batch.Batch.{Batch}
 use Rattle.hash_workers.specs.declared.fault.JobsFault.{JobsFault}
-use Rattle.hash_workers.specs.Faults.{IsNumberOfWorkers, MayBegin, IsAgentFaultOf, IsJobsFaultOf, fault_of_book, jobs_fault_of_book}
+use Rattle.hash_workers.specs.Names.{IsAgentFaultOf, IsJobsFaultOf, IsNumberOfWorkers, MayBegin, fault_of_book, jobs_fault_of_book}
 
 never_memory : (origin : Origin) → open_refusal_of origin ≡ Some Memory → ⊥
 never_memory origin is = grind arith

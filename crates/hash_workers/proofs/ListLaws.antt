@@ -4,7 +4,7 @@ use Rattle.std.specs.Prelude.{◌⊎◌, slice_get, option_and_then}
 use Rattle.std.proofs.lemmas.Bool.{cases_lt}
 use Rattle.std.proofs.lemmas.Grind.{common_steps}
 use Rattle.std.proofs.lemmas.Option.{gets, same_Some, none-some, slice_get_cases}
-use Rattle.hash_workers.specs.parts.Scattering.{got_at}
+use Rattle.hash_workers.specs.Names.{got_at}
 
 -- Two numbers are equal if neither is below the other.
 pub equal_of : (m n : ℕ) → (m < n → ⊥) → (n < m → ⊥) → m ≡ n

@@ -5,10 +5,9 @@ use Rattle.std.specs.declared.alloc.Global.{Global}
 use Rattle.std.proofs.lemmas.Bool.{cases_lt}
 use Rattle.std.proofs.lemmas.Grind.{common_steps}
 use Rattle.std.proofs.lemmas.Option.{gets, same_Some, slice_get_read}
-use Rattle.hash_workers.specs.parts.Taking.{NumbersRise, NumbersRiseForEach}
+use Rattle.hash_workers.specs.Names.{AreBelow, AreKept, ArePlaced, AreScattered, NumbersRise, NumbersRiseForEach, items_of}
 use Rattle.hash_workers.proofs.ListLaws.{at_last, at_list, at_longer, at_map}
 use Rattle.hash_workers.proofs.TakingLaws.{TakeEach}
-use Rattle.hash_workers.specs.parts.Scattering.{items_of, AreBelow, ArePlaced, AreKept, AreScattered}
 
 -- ---- lists
 

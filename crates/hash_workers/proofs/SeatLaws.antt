@@ -6,18 +6,14 @@ use Rattle.std.proofs.lemmas.List.{append-nil, append_assoc, length-map, map_pus
 use Rattle.std.proofs.lemmas.Option.{none-some, same_Some, slice_get_within, get_or_from_slice_get}
 use Rattle.measure_book.specs.declared.origin.Origin.{Origin}
 use Rattle.measure_book.specs.declared.op.Outcome.{Outcome}
-use Rattle.measure_book.specs.Operations.{BookOp, book_outcome_of}
+use Rattle.measure_book.specs.Names.{BookOp, book_outcome_of}
 use Rattle.hash_workers.specs.declared.work.End.{End}
 use Rattle.hash_workers.specs.declared.fault.JobFault.{JobFault}
 use Rattle.hash_workers.specs.declared.work.End.TheVariants.{NoneLeft, OutOfMemory, ForeignBook, NoOperation}
 use Rattle.hash_workers.specs.declared.work.Unmade.{Unmade}
 use Rattle.hash_workers.specs.declared.work.Work.{Work}
-use Rattle.hash_workers.specs.Claims.{ClaimsState, SeatState, HandsOutEach}
-use Rattle.hash_workers.specs.parts.Taking.{NumbersRiseForEach}
-use Rattle.hash_workers.specs.parts.Ending.{AnyReason, IsEnd, IsTakenUnmade}
-use Rattle.hash_workers.specs.parts.Scattering.{ArePairs}
-use Rattle.hash_workers.specs.parts.Seats.{AreWorksOf, HandBack, HasNoEnd, HaveUnmade, IsLeastUnmade, IsSeatEnd, IsSinglePlace, draws_of, outcomes_of, seat_of, some_ended, taken_of}
-use Rattle.hash_workers.specs.parts.Settling.{AreTakenBefore, IsUnmadeOf}
+use Rattle.hash_workers.specs.Names.{AnyReason, ArePairs, AreTakenBefore, AreWorksOf, ClaimsState, HandBack, HandsOutEach, HasNoEnd, HaveUnmade, IsEnd, IsLeastUnmade, IsSeatEnd, IsSinglePlace, IsTakenUnmade, IsUnmadeOf, NumbersRiseForEach, SeatState, outcomes_of, seat_of, some_ended, taken_of}
+use Rattle.hash_workers.specs.parts.Seats.{draws_of}
 use Rattle.hash_workers.proofs.ListLaws.{at_list, at_map, in_either, in_mapped, map_at, within_at}
 use Rattle.hash_workers.proofs.EndLaws.{some_unmade}
 use Rattle.hash_workers.proofs.TakingLaws.{drawn_by}

@@ -8,9 +8,7 @@ use Rattle.measure_book.specs.declared.origin.Origin.{Origin}
 use Rattle.measure_book.specs.declared.op.Outcome.{Outcome}
 use Rattle.measure_book.specs.declared.gathers.GatherFault.{GatherFault}
 use Rattle.measure_book.specs.declared.gathers.GatherFault.TheVariants as gathers
-use Rattle.measure_book.specs.Operations.{BookOp, BookOutcome, book_outcome_of}
-use Rattle.measure_book.specs.Groups.{groups_of, outcome_at, IsFirstFault}
-use Rattle.measure_book.specs.Books.{BookState, IsBook}
+use Rattle.measure_book.specs.Names.{BookOp, BookOutcome, BookState, IsBook, IsFirstFault, book_outcome_of, groups_of, outcome_at}
 use Rattle.hash_workers.specs.declared.batch.Batch.{Batch}
 use Rattle.hash_workers.specs.declared.fault.AgentFault.{AgentFault}
 use Rattle.hash_workers.specs.declared.fault.AgentFault.TheVariants as agents
@@ -22,17 +20,8 @@ use Rattle.hash_workers.specs.declared.work.End.TheVariants.{NoOperation}
 use Rattle.hash_workers.specs.declared.work.Unmade.{Unmade}
 use Rattle.hash_workers.specs.declared.work.Work.{Work}
 use Rattle.hash_workers.specs.declared.work.all.AllWork.{AllWork}
-use Rattle.hash_workers.specs.parts.Faults.{fault_for, fault_of_unmade}
-use Rattle.hash_workers.specs.Faults.{fault_of_gather, MayBegin, IsAgentFaultOf, IsJobsFaultOf}
+use Rattle.hash_workers.specs.Names.{AllMadeUnlessMemory, AreTakenBefore, AreWorksOf, ClaimsState, HandsOutEach, HasNoEnd, IsAgentFaultOf, IsAllWork, IsFirstReason, IsFirstUnmade, IsFound, IsHad, IsJobsFaultOf, IsLeastUnmade, IsMadeOf, IsMadeUnlessMemory, IsOutcomeOf, IsReasonOf, IsUnmadeOf, IsUnsettled, MayBegin, Took, fault_for, fault_of_gather, fault_of_unmade, items_of, job_at, outcomes_by_worker, outcomes_of, taken_of, takings_of}
 use Rattle.std.specs.List.{concat}
-use Rattle.hash_workers.specs.Claims.{ClaimsState, HandsOutEach}
-use Rattle.hash_workers.specs.parts.Taking.{Took, job_at}
-use Rattle.hash_workers.specs.Outcomes.{IsOutcomeOf}
-use Rattle.hash_workers.specs.parts.Ending.{IsFound, IsHad}
-use Rattle.hash_workers.specs.parts.Scattering.{items_of}
-use Rattle.hash_workers.specs.parts.Seats.{AreWorksOf, HasNoEnd, IsLeastUnmade, outcomes_of, taken_of}
-use Rattle.hash_workers.specs.parts.Settling.{AreTakenBefore, IsAllWork, IsFirstReason, IsUnmadeOf, IsMadeOf, IsUnsettled, outcomes_by_worker, takings_of}
-use Rattle.hash_workers.specs.Reasons.{AllMadeUnlessMemory, IsReasonOf, IsFirstUnmade, IsMadeUnlessMemory}
 use Rattle.hash_workers.proofs.ListLaws.{at_map, in_mapped}
 use Rattle.hash_workers.proofs.SeatLaws.{rises_of, pairs_of}
 use Rattle.hash_workers.proofs.BatchLaws.{from_groups, job_for}

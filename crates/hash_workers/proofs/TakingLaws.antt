@@ -6,8 +6,7 @@ use Rattle.std.proofs.lemmas.Bool.Decides.{nat_tests}
 use Rattle.std.proofs.lemmas.Option.{same_Some, none-some}
 use mathlib.Core.Logic.{dite}
 use native.Mathlib.Decide.{dec_le, ℕ_discrete}
-use Rattle.hash_workers.specs.Claims.{HandsOutEach, times}
-use Rattle.hash_workers.specs.parts.Taking.{IsTaken, Took}
+use Rattle.hash_workers.specs.Names.{HandsOutEach, IsTaken, Took, times}
 use Rattle.hash_workers.proofs.ClaimSums.{hit, times-append}
 use Rattle.hash_workers.proofs.ListLaws.{at_list, equal_of, list_at}
 

@@ -10,25 +10,17 @@ use Rattle.std.proofs.lemmas.Option.{slice_get-map, slice_get_read, slice_get_wi
 use Rattle.measure_book.specs.declared.origin.Origin.{Origin}
 use Rattle.measure_book.specs.declared.fault.BookFault.{BookFault}
 use Rattle.measure_book.specs.declared.fault.BookFault.TheVariants.{Memory}
-use Rattle.measure_book.specs.Operations.{BookOp, BookRecord, BookOutcome, done, refused, book_outcome_of}
-use Rattle.measure_book.specs.Histories.{refusal_of}
-use Rattle.measure_book.specs.Runs.{records_after}
-use Rattle.measure_book.specs.Books.{BookState}
+use Rattle.measure_book.specs.Names.{BookOp, BookOutcome, BookRecord, BookState, book_outcome_of, done, records_after, refusal_of, refused}
 use Rattle.hash_workers.specs.declared.work.End.{End}
 use Rattle.hash_workers.specs.declared.work.End.TheVariants.{NoneLeft, OutOfMemory, NoOperation}
 use Rattle.hash_workers.specs.declared.work.End.TheVariants as ends
 use Rattle.hash_workers.specs.declared.job.Job.{Job}
-use Rattle.hash_workers.specs.Jobs.{operation_of, operations_of}
-use Rattle.hash_workers.specs.parts.Taking.{NumbersRise}
-use Rattle.hash_workers.specs.Outcomes.{MayBecome}
-use Rattle.hash_workers.specs.Reasons.{IsMadeUnlessMemory}
-use Rattle.hash_workers.specs.parts.Working.{IsWorked, IsEntered, Records, IsDoneAfter, AreDoneInOrder}
+use Rattle.hash_workers.specs.Names.{AreDoneInOrder, AreHad, AreMadeUnlessMemory, Becomes, IsDoneAfter, IsEntered, IsHad, IsMadeUnlessMemory, IsNoted, IsTakenUnmade, IsTurnAfter, IsUnmadeAfter, IsWorked, KeepsOne, MayBecome, NumbersRise, Records, StopsFor, TakesOne, TellsAll, TellsOp, TurnsPrivateBook, operation_of, operations_of}
 use Rattle.hash_workers.specs.declared.fault.JobFault.{JobFault}
 use Rattle.hash_workers.specs.declared.fault.JobFault.TheVariants as reasons
 use Rattle.hash_workers.specs.declared.work.Turn.{Turn}
 use Rattle.hash_workers.specs.declared.work.Turn.TheVariants.{Next, Last}
 use Rattle.hash_workers.specs.declared.work.Unmade.{Unmade}
-use Rattle.hash_workers.specs.parts.Ending.{AreHad, AreMadeUnlessMemory, Becomes, IsHad, IsTakenUnmade, IsUnmadeAfter, IsTurnAfter, IsNoted, TellsOp, KeepsOne, TakesOne, TellsAll, StopsFor, TurnsPrivateBook}
 use Rattle.hash_workers.proofs.ListLaws.{at_last, at_longer, slice_get_snoc, length_snoc, within_at}
 
 -- ---- one operation

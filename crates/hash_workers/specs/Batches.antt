@@ -3,10 +3,7 @@ use Rattle.std.specs.Prelude.{◌≡◌, ◌≢◌, ℕ, ◌<◌, List, length, 
 use Rattle.measure_book.specs.declared.origin.Origin.{Origin}
 use Rattle.measure_book.specs.declared.fault.BookFault.{BookFault}
 use Rattle.measure_book.specs.declared.fault.BookFault.TheVariants.{Memory}
-use Rattle.measure_book.specs.Operations.{BookOp, BookReceipt, BookOutcome, done, refused}
-use Rattle.measure_book.specs.Histories.{refusal_of}
-use Rattle.measure_book.specs.Groups.{NamesRecord}
-use Rattle.measure_book.specs.Books.{BookState}
+use Rattle.measure_book.specs.Names.{BookOp, BookOutcome, BookReceipt, BookState, NamesRecord, done, refusal_of, refused}
 use Rattle.hash_workers.specs.Outcomes.{IsAt}
 
 -- The job is done, with this receipt.

@@ -5,7 +5,7 @@ use Rattle.measure_book.specs.declared.fault.BookFault.TheVariants as books
 use Rattle.measure_book.specs.declared.gathers.GatherFault.{GatherFault}
 use Rattle.measure_book.specs.declared.gathers.GatherFault.TheVariants as gathers
 use Rattle.measure_book.specs.declared.origin.Origin.{Origin}
-use Rattle.measure_book.specs.Histories.{open_refusal_of}
+use Rattle.measure_book.specs.Names.{open_refusal_of}
 use Rattle.hash_workers.specs.declared.fault.AgentFault.{AgentFault}
 use Rattle.hash_workers.specs.declared.fault.AgentFault.TheVariants as agents
 use Rattle.hash_workers.specs.declared.fault.JobsFault.{JobsFault}

@@ -1,8 +1,8 @@
 -- The operation that a job is recorded as (this project's choice).
 use Rattle.std.specs.Prelude.{List, map}
 use Rattle.pcr_banks.specs.declared.alg.Alg.{Alg}
-use Rattle.pcr_banks.specs.Hashing.{hash_of}
-use Rattle.measure_book.specs.Operations.{BookOp, measure, violation, read}
+use Rattle.pcr_banks.specs.Names.{hash_of}
+use Rattle.measure_book.specs.Names.{BookOp, measure, read, violation}
 use Rattle.hash_workers.specs.declared.job.Job.{Job}
 use Rattle.hash_workers.specs.declared.job.Job.TheVariants as jobs
 

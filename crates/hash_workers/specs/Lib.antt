@@ -5,3 +5,4 @@ pub mod Claims
 pub mod Reasons
 pub mod Outcomes
 pub mod parts
+pub mod Names

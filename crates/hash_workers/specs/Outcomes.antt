@@ -2,8 +2,7 @@
 use Rattle.std.specs.Prelude.{◌≡◌, ◌⊎◌, ℕ, ◌<◌, List, slice_get, Some}
 use Rattle.measure_book.specs.declared.origin.Origin.{Origin}
 use Rattle.measure_book.specs.declared.fault.BookFault.TheVariants.{Memory}
-use Rattle.measure_book.specs.Operations.{BookOp, BookOutcome, done, refused}
-use Rattle.measure_book.specs.Histories.{refusal_of}
+use Rattle.measure_book.specs.Names.{BookOp, BookOutcome, done, refusal_of, refused}
 
 -- Which operation a job becomes is a relation, `Makes`, by the job's number: some jobs may become one of several, such as a file
 -- whose content is not told.

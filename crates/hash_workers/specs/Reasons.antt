@@ -3,9 +3,7 @@
 use Rattle.std.specs.Prelude.{◌≡◌, ◌⊎◌, ℕ, ◌<◌, List, length, Some}
 use Rattle.measure_book.specs.declared.origin.Origin.{Origin}
 use Rattle.measure_book.specs.declared.gathers.GatherFault.{GatherFault}
-use Rattle.measure_book.specs.Operations.{BookOp, BookOutcome}
-use Rattle.measure_book.specs.Groups.{outcome_at, IsFirstFault}
-use Rattle.measure_book.specs.Books.{BookState, IsBook}
+use Rattle.measure_book.specs.Names.{BookOp, BookOutcome, BookState, IsBook, IsFirstFault, outcome_at}
 use Rattle.hash_workers.specs.declared.fault.JobFault.{JobFault}
 use Rattle.hash_workers.specs.declared.fault.JobFault.TheVariants.{Memory}
 use Rattle.hash_workers.specs.Outcomes.{IsAt, IsOutcomeOf}

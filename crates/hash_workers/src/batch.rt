@@ -3,10 +3,7 @@
 ghost use Rattle.std.specs.Prelude.{◌≡◌, ◌≢◌, ℕ, ◌↔◌, ◌<◌, ◌^◌, length, map, Some, Err, IfOk, IfErr, MatchResult};
 ghost use Rattle.measure_book.specs.declared.fault.BookFault.{BookFault};
 ghost use Rattle.measure_book.specs.declared.gathers.GatherFault.{GatherFault};
-ghost use Rattle.measure_book.specs.Operations.{book_outcome_of};
-ghost use Rattle.measure_book.specs.Groups.{AccountsForAll, IsFirstFault, groups_of};
-ghost use Rattle.measure_book.specs.Books.{IsBook};
-ghost use Rattle.measure_book.specs.Histories.{open_refusal_of};
+ghost use Rattle.measure_book.specs.Names.{AccountsForAll, IsBook, IsFirstFault, book_outcome_of, groups_of, open_refusal_of};
 ghost use Rattle.hash_workers.specs.Jobs.{operations_of};
 ghost use Rattle.hash_workers.specs.declared.fault.JobFault.{JobFault};
 ghost use Rattle.hash_workers.specs.declared.fault.JobFault.TheVariants.{Memory};

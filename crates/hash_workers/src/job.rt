@@ -1,7 +1,7 @@
 //! Jobs, and the operations that they become.
 
 ghost use Rattle.std.specs.Prelude.{◌≡◌, IfOk};
-ghost use Rattle.measure_book.specs.Operations.{book_op_of};
+ghost use Rattle.measure_book.specs.Names.{book_op_of};
 ghost use Rattle.hash_workers.specs.Jobs.{operation_of};
 
 use ima_list::Sig;

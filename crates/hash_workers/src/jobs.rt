@@ -1,7 +1,7 @@
 //! The jobs that workers take.
 
 ghost use Rattle.std.specs.Prelude.{◌≡◌, ◌<◌, ℕ, MatchResult, length};
-ghost use Rattle.measure_book.specs.Operations.{BookOp, book_op_of};
+ghost use Rattle.measure_book.specs.Names.{BookOp, book_op_of};
 ghost use Rattle.pcr_banks.specs.declared.alg.Alg.{Alg};
 ghost use Rattle.hash_workers.specs.declared.fault.JobFault.{JobFault};
 ghost use Rattle.hash_workers.specs.declared.fault.JobFault.TheVariants.{Memory};

@@ -2,7 +2,7 @@
 
 ghost use Rattle.std.specs.Prelude.{◌≡◌, ◌≢◌, ◌<◌, ℕ, None, Some, map, IfOk, IfSome, OnErr, OnOk, MatchResult, option_map};
 ghost use Rattle.std.specs.Option.{option_copied};
-ghost use Rattle.measure_book.specs.Operations.{book_op_of, book_outcome_of};
+ghost use Rattle.measure_book.specs.Names.{book_op_of, book_outcome_of};
 ghost use Rattle.hash_workers.specs.parts.Taking.{NumbersRise};
 ghost use Rattle.hash_workers.specs.parts.Working.{IsWorked};
 ghost use Rattle.hash_workers.specs.declared.fault.JobFault.TheVariants.{Memory};

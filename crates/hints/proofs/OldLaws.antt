@@ -5,18 +5,14 @@ use Rattle.std.proofs.lemmas.Bool.{cases_lt}
 use Rattle.std.proofs.lemmas.List.Concat.{flat_map-cons}
 use Rattle.pcr_banks.specs.declared.alg.Alg.{Alg}
 use Rattle.pcr_banks.specs.declared.banks.Banks.{Banks}
-use Rattle.pcr_banks.specs.Registers.{in_bank, value_at}
+use Rattle.pcr_banks.specs.Names.{in_bank, value_at}
 use Rattle.boot_log.proofs.LogLaws.{one_reading}
-use Rattle.boot_log.specs.Spelling.{algs_in}
+use Rattle.boot_log.specs.Names.{algs_in}
 use Rattle.ima_list.specs.declared.fault.ListFault.{ListFault}
-use Rattle.ima_list.specs.Aggregates.{joined_values}
-use Rattle.ima_list.specs.ListEntry.{ListEntry}
-use Rattle.ima_list.specs.ListFaults.{list_fault_entry}
-use Rattle.ima_list.specs.Pieces.{AreComplete, FailsFor}
-use Rattle.ima_list.specs.Spelling.{BeginsWith, HasListFault, IsLongest, IsReading, list_spelling, spelling}
+use Rattle.ima_list.specs.Names.{AreComplete, BeginsWith, FailsFor, HasListFault, IsLongest, IsReading, ListEntry, joined_values, list_fault_entry, list_spelling, spelling}
 use Rattle.ima_list.proofs.ListLaws.{same_entries}
 use Rattle.ima_list.proofs.PieceLaws.{begins_on, fault_number}
-use Rattle.boot_verdict.specs.Verdicts.{pcr_after_log, recorded_in}
+use Rattle.boot_verdict.specs.Names.{pcr_after_log, recorded_in}
 use Rattle.agent_inputs.specs.Loading.{Inputs}
 use Rattle.judging.specs.declared.request.Answer.TheVariants as answers
 use Rattle.judging.specs.declared.request.Answered.{Answered}

@@ -1,13 +1,13 @@
 -- What a person is told to do next. No line advises to expect or to require less.
 use Rattle.std.specs.Prelude.{ℕ, ◌++◌, ◌∷◌, ◌&&◌, ◌||◌, Bool, true, false, if◌then◌else◌, List, [], codes, decimal, Option, None, Some, option_map, is_some}
-use Rattle.pcr_banks.specs.Hashing.{name_of}
+use Rattle.pcr_banks.specs.Names.{name_of}
 use Rattle.pcr_values.specs.declared.expected.Expected.{Expected}
 use Rattle.attestations.specs.declared.expected.ExpectedValues.{ExpectedValues}
 use Rattle.attestations.specs.declared.expected.ExpectedValues.TheVariants as values
 use Rattle.boot_verdict.specs.declared.report.Aggregate.{Aggregate}
 use Rattle.boot_verdict.specs.declared.report.Aggregate.TheVariants as aggregates
 use Rattle.boot_verdict.specs.declared.isolation.Stray.{Stray}
-use Rattle.boot_verdict.specs.Isolation.{are_none}
+use Rattle.boot_verdict.specs.Names.{are_none}
 use Rattle.pcr_banks.specs.declared.alg.Alg.{Alg}
 use Rattle.pcr_banks.specs.declared.alg.Alg.TheVariants.{Sha1}
 use Rattle.hints.specs.declared.reasons.Causes.{Causes}

@@ -1,7 +1,7 @@
 -- Why an answer is that something differs, by which a person is told what to do next.
 use Rattle.std.specs.Prelude.{◌≡◌, ℕ, ◌==◌, ◌&&◌, not, Bool, true, false, if◌then◌else◌, List, length, map, find, Option, None, Some, option_map, option_and_then, is_some, IsSomeAnd, IfSome, ◌⊎◌, slice_get}
 use Rattle.pcr_banks.specs.declared.alg.Alg.{Alg}
-use Rattle.pcr_banks.specs.Hashing.{all_algs}
+use Rattle.pcr_banks.specs.Names.{all_algs}
 use Rattle.pcr_values.specs.declared.expected.Expected.{Expected}
 use Rattle.pcr_values.specs.declared.selection.BankRange.{BankRange}
 use Rattle.boot_verdict.specs.declared.isolation.Strays.{Strays}
@@ -12,8 +12,7 @@ use Rattle.boot_verdict.specs.declared.report.Report.{Report}
 use Rattle.boot_verdict.specs.declared.report.Row.{Row}
 use Rattle.boot_verdict.specs.declared.report.State.{State}
 use Rattle.boot_verdict.specs.declared.report.State.TheVariants as states
-use Rattle.boot_verdict.specs.Isolation.{list_register}
-use Rattle.boot_verdict.specs.Requirements.{is_missing}
+use Rattle.boot_verdict.specs.Names.{is_missing, list_register}
 use Rattle.tpm_quotes.specs.Spelling.{all_registers}
 use Rattle.attestations.specs.declared.report.AttestReport.{AttestReport}
 use Rattle.agent_inputs.specs.Loading.{Inputs}

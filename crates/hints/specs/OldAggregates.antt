@@ -4,13 +4,11 @@ use Rattle.std.specs.Prelude.{◌≡◌, ◌⊎◌, ℕ, ◌<◌, Bool, true, fa
 use Rattle.std.specs.Option.{option_map_or}
 use Rattle.pcr_banks.specs.declared.alg.Alg.{Alg}
 use Rattle.pcr_banks.specs.declared.banks.Banks.{Banks}
-use Rattle.pcr_banks.specs.Hashing.{hash_of}
+use Rattle.pcr_banks.specs.Names.{hash_of}
 use Rattle.boot_log.specs.declared.header.DeclaredAlgorithm.{DeclaredAlgorithm}
-use Rattle.boot_log.specs.Spelling.{IsLog, LogEvent, algs_in}
-use Rattle.ima_list.specs.Aggregates.{joined_values}
-use Rattle.ima_list.specs.ListEntry.{ListEntry}
-use Rattle.ima_list.specs.Spelling.{BeginsWith, spelling}
-use Rattle.boot_verdict.specs.Verdicts.{pcr_after_log, recorded_in}
+use Rattle.boot_log.specs.Names.{IsLog, LogEvent, algs_in}
+use Rattle.ima_list.specs.Names.{BeginsWith, ListEntry, joined_values, spelling}
+use Rattle.boot_verdict.specs.Names.{pcr_after_log, recorded_in}
 use Rattle.agent_inputs.specs.declared.fault.RunFault.{RunFault}
 use Rattle.agent_inputs.specs.declared.fault.RunFault.TheVariants.{Memory}
 use Rattle.agent_inputs.specs.Loading.{Inputs, OfInput}

@@ -2,7 +2,7 @@
 
 ghost use Rattle.std.specs.Prelude.{◌≡◌, ◌++◌, ◌∷◌, [], codes, decimal, flat_map, take, true, string_bytes, IfOk, OnOk};
 ghost use Rattle.std.specs.List.{list_all};
-ghost use Rattle.pcr_banks.specs.Hashing.{name_of};
+ghost use Rattle.pcr_banks.specs.Names.{name_of};
 ghost use Rattle.hints.specs.Escaping.{escape, is_shown};
 ghost use Rattle.hints.specs.HintTexts.{absent_hint, entry_hint, event_hint, hint_line, hints_of_causes, is_grown, last_words, list_hint, log_hint, missing_hint, mistake_words, of_option, shown_hint, unknown_hint, values_hint};
 

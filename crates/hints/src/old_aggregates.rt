@@ -1,8 +1,7 @@
 //! Boot aggregates as older kernels record them.
 
 ghost use Rattle.std.specs.Prelude.{◌≡◌, ◌↔◌, option_map, IfOk, IsTrue};
-ghost use Rattle.pcr_banks.specs.Digests.{alg_of, bytes_of, digest_of};
-ghost use Rattle.pcr_banks.specs.Registers.{value_at};
+ghost use Rattle.pcr_banks.specs.Names.{alg_of, bytes_of, digest_of, value_at};
 ghost use Rattle.hints.specs.OldAggregates.{BeginsWithOld, IsSaidOld, LogLeaves, is_old, old_aggregate, registers_in};
 ghost use Rattle.hints.specs.Refused.{list_of, log_of};
 

@@ -11,14 +11,11 @@ use Rattle.std.proofs.lemmas.Slice.Eq.{bytes_eq-Decides}
 use Rattle.pcr_banks.specs.declared.alg.Alg.TheVariants.{Sha1}
 use Rattle.pcr_banks.specs.declared.banks.Banks.{Banks}
 use Rattle.pcr_banks.specs.declared.sets.AlgSet.{AlgSet}
-use Rattle.pcr_banks.specs.Digests.{alg_of, bytes_of}
-use Rattle.pcr_banks.specs.Hashing.{same_alg}
+use Rattle.pcr_banks.specs.Names.{alg_of, bytes_of, same_alg, value_at}
 use Rattle.pcr_banks.proofs.AlgLaws.{same_alg_here, same_alg_is}
 use Rattle.pcr_values.specs.declared.expected.Expected.{Expected}
-use Rattle.boot_log.specs.Replaying.{IsFirmware}
-use Rattle.boot_log.specs.Spelling.{LogEvent}
-use Rattle.pcr_banks.specs.Registers.{value_at}
-use Rattle.boot_verdict.specs.Verdicts.{ReadsAsLog, is_value, pcr_after_log}
+use Rattle.boot_log.specs.Names.{IsFirmware, LogEvent}
+use Rattle.boot_verdict.specs.Names.{ReadsAsLog, is_value, pcr_after_log}
 use Rattle.cells.specs.declared.writer.Form.{Form}
 use Rattle.cells.specs.declared.writer.Form.TheVariants.{Json, Text}
 use Rattle.measured_data.specs.declared.confirmed.Pcr.{Pcr}

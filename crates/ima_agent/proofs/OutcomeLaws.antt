@@ -26,8 +26,7 @@ use Rattle.questions.specs.Questions.{known_by}
 use Rattle.ima_agent.specs.Program.{Answers, IsFaultOf, IsOutcome, IsOutputFor, SendsOutput, SendsText, Streams, status_after}
 use Rattle.measured_data.specs.declared.confirmed.Pcr.{Pcr}
 use Rattle.ima_agent.specs.Matching.{AreMatched, IsKnownFor}
-use Rattle.ima_list.specs.ListEntry.{ListEntry}
-use Rattle.ima_list.specs.Lines.{line_of}
+use Rattle.ima_list.specs.Names.{ListEntry, line_of}
 use Rattle.entry_lines.specs.ListLines.{entry_line}
 use Rattle.ima_agent.specs.Showing.{AreAllEntries, IsReported, ShowsEntriesOf, ShowsSoundList, entry_lines, numbered_lines}
 use Rattle.ima_agent.specs.ShowingEvents.{Form, ShowsEventsIn, ShowsPlainEventsIn, ShowsToldOf, plain_lines}

@@ -8,13 +8,11 @@ use Rattle.byte_streams.specs.Streams.{Sends, SinkState}
 use Rattle.byte_streams.proofs.SinkLaws.{Sends-none, Sends-ok, Sends-same, Sends-then}
 use Rattle.boot_log.specs.declared.fault.LogFault.{LogFault}
 use Rattle.boot_log.specs.declared.header.DeclaredAlgorithm.{DeclaredAlgorithm}
-use Rattle.boot_log.specs.Spelling.{LogEvent}
+use Rattle.boot_log.specs.Names.{LogEvent}
 use Rattle.ima_list.specs.declared.fault.ListFault.{ListFault}
 use Rattle.ima_list.specs.declared.fault.ListFault.TheVariants as lists
-use Rattle.ima_list.specs.ListEntry.{ListEntry}
-use Rattle.ima_list.specs.ListFaults.{list_fault_entry}
-use Rattle.ima_list.specs.Spelling.{BeginsWith, IsReading, list_spelling}
-use Rattle.boot_verdict.specs.ListSources.{CameFrom, FailsFor}
+use Rattle.ima_list.specs.Names.{BeginsWith, IsReading, ListEntry, list_fault_entry, list_spelling}
+use Rattle.boot_verdict.specs.Names.{CameFrom, FailsFor}
 use Rattle.entry_lines.specs.declared.entry_lines.EntriesFault.{EntriesFault}
 use Rattle.entry_lines.specs.declared.entry_lines.EntriesFault.TheVariants as entries
 use Rattle.event_lines.specs.declared.event_lines.EventsFault.{EventsFault}

@@ -6,16 +6,14 @@ use Rattle.std.specs.Option.{option_map_or}
 use Rattle.pcr_banks.specs.declared.alg.Alg.{Alg}
 use Rattle.pcr_banks.specs.declared.alg.Alg.TheVariants.{Sha1}
 use Rattle.pcr_banks.specs.declared.sets.AlgSet.{AlgSet}
-use Rattle.pcr_banks.specs.Hashing.{same_alg}
-use Rattle.pcr_banks.specs.Digests.{alg_of, bytes_of}
-use Rattle.pcr_values.specs.ExpectedTexts.{IsExpectedText}
+use Rattle.pcr_banks.specs.Names.{alg_of, bytes_of, same_alg}
+use Rattle.pcr_values.specs.Names.{IsExpectedText}
 use Rattle.pcr_values.specs.declared.expected.Expected.{Expected}
 use Rattle.tpm_quotes.specs.Spelling.{BankSelection, all_registers, is_selected}
 use Rattle.attestations.specs.Quoted.{stated_of}
 use Rattle.boot_log.specs.declared.header.DeclaredAlgorithm.{DeclaredAlgorithm}
-use Rattle.boot_log.specs.Spelling.{IsLog, LogEvent, algs_in}
-use Rattle.boot_verdict.specs.Isolation.{list_register}
-use Rattle.boot_verdict.specs.Verdicts.{is_value, ReadsAsLog, pcr_after_log}
+use Rattle.boot_log.specs.Names.{IsLog, LogEvent, algs_in}
+use Rattle.boot_verdict.specs.Names.{ReadsAsLog, is_value, list_register, pcr_after_log}
 use Rattle.cells.specs.declared.writer.Form.{Form}
 use Rattle.cells.specs.declared.writer.Form.TheVariants as told
 use Rattle.measured_data.specs.declared.confirmed.Pcr.{Pcr}

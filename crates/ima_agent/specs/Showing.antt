@@ -2,9 +2,8 @@
 use Rattle.std.specs.Prelude.{◌≡◌, ℕ, ◌≤◌, ◌⊎◌, ◌==◌, ◌||◌, not, Bool, List, ◌++◌, codes, filter, length, Option, Some, Ok, Err, IsErr}
 use Rattle.hex.specs.Hex.{decode_of}
 use Rattle.ima_list.specs.declared.fault.ListFault.{ListFault}
-use Rattle.ima_list.specs.ListEntry.{ListEntry}
-use Rattle.ima_list.specs.Spelling.{BeginsWith, IsReading}
-use Rattle.boot_verdict.specs.Verdicts.{ReadsAsLog}
+use Rattle.ima_list.specs.Names.{BeginsWith, IsReading, ListEntry}
+use Rattle.boot_verdict.specs.Names.{ReadsAsLog}
 pub use Rattle.cells.specs.ItemLines.{numbered_lines, EndsWithFault}
 pub use Rattle.entry_lines.specs.ListLines.{entry_lines, list_lines, AreAllEntries, FailsAfterEntries}
 use Rattle.entry_lines.specs.SentEntries.{AreAllIn}

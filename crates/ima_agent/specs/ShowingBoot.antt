@@ -1,7 +1,7 @@
 -- What is answered on a boot.
 use Rattle.std.specs.Prelude.{◌≡◌, ◌⊎◌, ℕ, List, [], ◌++◌, Option, None, Some}
 use Rattle.boot_log.specs.declared.header.DeclaredAlgorithm.{DeclaredAlgorithm}
-use Rattle.boot_log.specs.Spelling.{IsLog, LogEvent}
+use Rattle.boot_log.specs.Names.{IsLog, LogEvent}
 use Rattle.measured_data.specs.declared.confirmed.Pcr.{Pcr}
 use Rattle.boot_texts.specs.BootLines.{AreBootLines}
 use Rattle.boot_texts.specs.Differences.{AreDifferenceLines}

@@ -1,7 +1,7 @@
 -- How the events of a log are shown.
 use Rattle.std.specs.Prelude.{◌≡◌, ℕ, Bool, true, false, ◌⊎◌, List, [], Option, Some, None}
 use Rattle.boot_log.specs.declared.header.DeclaredAlgorithm.{DeclaredAlgorithm}
-use Rattle.boot_log.specs.Spelling.{BeginsWith, LogEvent}
+use Rattle.boot_log.specs.Names.{BeginsWith, LogEvent}
 use Rattle.measured_data.specs.declared.confirmed.Pcr.{Pcr}
 use Rattle.event_lines.specs.EventTexts.{events_text}
 pub use Rattle.cells.specs.declared.writer.Form.{Form}

@@ -4,8 +4,7 @@ ghost use Rattle.std.specs.Prelude.{◌≡◌, ◌⊎◌, ℕ, List, ◌++◌, o
 ghost use Rattle.agent_plans.specs.declared.plan.Task.TheVariants as tasks;
 ghost use Rattle.agent_inputs.specs.declared.fault.RunFault.TheVariants.{Memory};
 ghost use Rattle.boot_log.specs.declared.header.DeclaredAlgorithm.{DeclaredAlgorithm};
-ghost use Rattle.boot_log.specs.LogViews.{log_bytes};
-ghost use Rattle.boot_log.specs.Spelling.{IsLog, LogEvent};
+ghost use Rattle.boot_log.specs.Names.{IsLog, LogEvent, log_bytes};
 ghost use Rattle.ima_agent.specs.Program.{IsFaultOf, IsOutputFor};
 ghost use Rattle.ima_agent.specs.ShowingBoot.{AreCompared, IsNoBootFor, IsNoEarlierLog, ShowsBoot, places_of};
 

@@ -3,11 +3,10 @@
 ghost use Rattle.std.specs.Prelude.{◌≡◌, ◌↔◌, List, IfOk, IfErr, Some, option_map, string_bytes};
 ghost use Rattle.std.specs.List.{Contains};
 ghost use Rattle.agent_plans.specs.declared.plan.ConfirmedBy.TheVariants as confirmed;
-ghost use Rattle.boot_verdict.specs.Verdicts.{ReadsAsLog};
+ghost use Rattle.boot_verdict.specs.Names.{ReadsAsLog};
 ghost use Rattle.boot_log.specs.declared.header.DeclaredAlgorithm.{DeclaredAlgorithm};
-ghost use Rattle.boot_log.specs.LogViews.{log_bytes};
-ghost use Rattle.boot_log.specs.Spelling.{LogEvent, IsLog, algs_in};
-ghost use Rattle.pcr_banks.specs.Registers.{value_at};
+ghost use Rattle.boot_log.specs.Names.{IsLog, LogEvent, algs_in, log_bytes};
+ghost use Rattle.pcr_banks.specs.Names.{value_at};
 ghost use Rattle.measured_data.specs.declared.confirmed.Pcr.{Pcr};
 ghost use Rattle.ima_agent.specs.Showing.{IsLogFaultOf};
 ghost use Rattle.ima_agent.specs.Matching.{AreMatched, AreNotExpected, IsKnownFor, IsMatched, IsNotTold, counts, has_value, is_refuted, matched_among, matched_places, place_of, refutes};

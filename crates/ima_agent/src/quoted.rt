@@ -3,7 +3,7 @@
 ghost use Rattle.std.specs.Prelude.{◌≡◌, ◌++◌, map, option_map, IfErr, IfOk, OnOk};
 ghost use Rattle.agent_plans.specs.declared.plan.ConfirmedBy.TheVariants as confirmed;
 ghost use Rattle.attestations.specs.Quoted.{bank_selection_of};
-ghost use Rattle.boot_verdict.specs.Verdicts.{ReadsAsLog};
+ghost use Rattle.boot_verdict.specs.Names.{ReadsAsLog};
 ghost use Rattle.judging.specs.Inputs.{BytesOf};
 ghost use Rattle.judging.specs.Requests.{Attests};
 ghost use Rattle.rendering.specs.Rendering.{IsRefusalOn};

@@ -8,12 +8,9 @@ use Rattle.pcr_banks.specs.declared.alg.Alg.{Alg}
 use Rattle.pcr_banks.specs.declared.banks.Banks.{Banks}
 use Rattle.pcr_banks.specs.declared.digest.Digest.{Digest}
 use Rattle.pcr_banks.specs.declared.hasher.Hasher.{Hasher}
-use Rattle.pcr_banks.specs.Hashing.{hash_of}
-use Rattle.pcr_banks.specs.Digests.{bytes_of, digest_of}
-use Rattle.pcr_banks.specs.Hashers.{HasTaken}
-use Rattle.pcr_banks.specs.Registers.{bank_of, is_active, value_at}
+use Rattle.pcr_banks.specs.Names.{HasTaken, bank_of, bytes_of, digest_of, hash_of, is_active, value_at}
 use Rattle.pcr_banks.proofs.BankLaws.{some_digest, no_digest, read_value, read_none, active_bank}
-use Rattle.ima_list.specs.Aggregates.{aggregate_register_count, all_joined, joined_values, boot_aggregate_of}
+use Rattle.ima_list.specs.Names.{aggregate_register_count, all_joined, boot_aggregate_of, joined_values}
 
 -- ---- values joined
 

@@ -8,7 +8,8 @@ use Rattle.byte_fields.specs.Spelling.{sized32}
 use Rattle.byte_fields.proofs.Steps.{IsBytes}
 use Rattle.byte_fields.proofs.FormatLaws.{IsBytes-behind, again, sized_exact, takes}
 use Rattle.ima_list.specs.declared.kernel_field.KernelField.{KernelField}
-use Rattle.ima_list.specs.KernelFields.{AreFields, FieldData, IsField, FieldsRead, and_more, content_at, field_at, fields_at, if_content, is_content, is_end}
+use Rattle.ima_list.specs.KernelFields.{content_at, field_at}
+use Rattle.ima_list.specs.Names.{AreFields, FieldData, FieldsRead, IsField, and_more, fields_at, if_content, is_content, is_end}
 
 -- ---- one field
 

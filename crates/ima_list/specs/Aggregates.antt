@@ -4,8 +4,7 @@ use Rattle.std.specs.List.{range_with_len}
 use Rattle.pcr_banks.specs.declared.alg.Alg.{Alg}
 use Rattle.pcr_banks.specs.declared.alg.Alg.TheVariants.{Sha1}
 use Rattle.pcr_banks.specs.declared.banks.Banks.{Banks}
-use Rattle.pcr_banks.specs.Hashing.{hash_of, same_alg}
-use Rattle.pcr_banks.specs.Registers.{value_at}
+use Rattle.pcr_banks.specs.Names.{hash_of, same_alg, value_at}
 
 -- The path of that entry (the kernel's security/integrity/ima/ima_init.c, boot_aggregate_name).
 abbrev pub boot_aggregate_path : List ℕ

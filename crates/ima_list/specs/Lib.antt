@@ -14,5 +14,6 @@ pub mod Pieces
 pub mod EntriesIn
 pub mod Equality
 pub mod parts
+pub mod Names
 pub use Rattle.byte_streams.specs.Streams
 pub use Rattle.byte_streams.specs.Memory

@@ -1,6 +1,5 @@
 ghost use Rattle.std.specs.Prelude.{◌≡◌, option_map, is_some};
-ghost use Rattle.pcr_banks.specs.Digests.{digest_of};
-ghost use Rattle.pcr_banks.specs.Registers.{is_active};
+ghost use Rattle.pcr_banks.specs.Names.{digest_of, is_active};
 ghost use Rattle.ima_list.specs.Aggregates.{aggregate_register_count, boot_aggregate_of};
 
 use pcr_banks::{Alg, Banks, Digest, Hasher};

@@ -1,7 +1,7 @@
 //! The fields of the kernel's other templates: entries with them are read, and never made.
 
 ghost use Rattle.std.specs.Prelude.{◌≡◌, option_map};
-ghost use Rattle.pcr_banks.specs.Digests.{alg_of, bytes_of};
+ghost use Rattle.pcr_banks.specs.Names.{alg_of, bytes_of};
 ghost use Rattle.ima_list.specs.KernelFields.{is_content, kernel_row, typed_digest_in, typed_digest_by, type_prefix};
 
 use crate::field_kind::{digest_in_field, path_in_field};

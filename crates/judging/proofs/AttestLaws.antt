@@ -4,7 +4,7 @@ use Rattle.std.specs.Prelude.{IfErr, IfOk, IfSome, IsSomeAnd, Result, is_some}
 use Rattle.std.proofs.lemmas.Bool.{both_ways, true≢false}
 use Rattle.pcr_values.specs.declared.selection.BankRange.{BankRange}
 use Rattle.pcr_values.proofs.SelectionLaws.{ranges_once}
-use Rattle.boot_verdict.specs.Requirements.{IsRequirementText}
+use Rattle.boot_verdict.specs.Names.{IsRequirementText}
 use Rattle.attestations.specs.declared.policy.PolicyFault.{PolicyFault}
 use Rattle.attestations.specs.Policies.{policy_fault}
 use Rattle.agent_inputs.specs.declared.fault.RunFault.{RunFault}

@@ -6,20 +6,17 @@ use Rattle.std.proofs.lemmas.List.{length-append}
 use Rattle.byte_streams.specs.Streams.{SourceState}
 use Rattle.pcr_values.specs.declared.expected.Expected.{Expected}
 use Rattle.boot_log.specs.declared.header.DeclaredAlgorithm.{DeclaredAlgorithm}
-use Rattle.boot_log.specs.Spelling.{IsLog, LogEvent, algs_in}
+use Rattle.boot_log.specs.Names.{IsLog, LogEvent, algs_in}
 use Rattle.boot_log.proofs.LogLaws.{one_reading}
 use Rattle.ima_list.specs.declared.fault.ListFault.{ListFault}
 use Rattle.ima_list.specs.declared.fault.ListFault.TheVariants as lists
-use Rattle.ima_list.specs.ListEntry.{ListEntry}
-use Rattle.ima_list.specs.Spelling.{BeginsWith, IsReading, list_spelling}
+use Rattle.ima_list.specs.Names.{BeginsWith, IsReading, ListEntry, list_spelling}
 use Rattle.ima_list.proofs.PieceLaws.{reading_to_the_end}
 use Rattle.boot_verdict.specs.declared.report.Report.{Report}
 use Rattle.boot_verdict.specs.declared.verifier.VerifyFault.{VerifyFault}
 use Rattle.boot_verdict.specs.declared.verifier.VerifyFault.TheVariants as verdicts
 use Rattle.boot_verdict.specs.declared.checkpoint.Checkpoint.{Checkpoint}
-use Rattle.boot_verdict.specs.Checkpoints.{IsMoreFault, most_after}
-use Rattle.boot_verdict.specs.ListSources.{CameFrom, CameWhole, FailsFor, IsListFaultAfter}
-use Rattle.boot_verdict.specs.Verdicts.{ReadsAsLog, IsVerdict, IsVerifyFaultFrom, Verdict, verdict_of, verdict_on}
+use Rattle.boot_verdict.specs.Names.{CameFrom, CameWhole, FailsFor, IsListFaultAfter, IsMoreFault, IsVerdict, IsVerifyFaultFrom, ReadsAsLog, Verdict, most_after, verdict_of, verdict_on}
 use Rattle.boot_verdict.proofs.ReplayLaws.{one_list}
 use Rattle.boot_verdict.specs.declared.report.Unconfirmed.{Unconfirmed}
 use Rattle.boot_verdict.specs.declared.report.Unconfirmed.TheVariants as unconfirmed

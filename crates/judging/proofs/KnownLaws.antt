@@ -5,9 +5,8 @@ use Rattle.std.proofs.lemmas.Bool.{false≢true}
 use Rattle.std.proofs.Math.Seq.{take-suc}
 use Rattle.std.proofs.lemmas.List.{get_or-map, length-map, length-take-le}
 use Rattle.pcr_values.specs.declared.expected.Expected.{Expected}
-use Rattle.ima_list.specs.ListEntry.{ListEntry}
-use Rattle.boot_verdict.specs.ListReplays.{AreTracked}
-use Rattle.boot_verdict.specs.ListVerdicts.{IsListVerdict, ListVerdict}
+use Rattle.ima_list.specs.Names.{ListEntry}
+use Rattle.boot_verdict.specs.Names.{AreTracked, IsListVerdict, ListVerdict}
 use Rattle.known_files.specs.declared.known.KnownFiles.{KnownFiles}
 use Rattle.known_files.specs.declared.unknown.UnknownFiles.{UnknownFiles}
 use Rattle.known_files.specs.declared.unknown.UnknownEntries.{UnknownEntries}

@@ -3,8 +3,8 @@ use Rattle.std.proofs.Common.{◌≡◌, List, [], Option, None, Some, ap, refl}
 use Rattle.agent_inputs.specs.Loading.{Inputs}
 use Rattle.agent_plans.specs.declared.plan.Scope.TheVariants.{Whole}
 use Rattle.boot_verdict.specs.declared.checkpoint.Checkpoint.{Checkpoint}
-use Rattle.boot_verdict.specs.Verdicts.{ReadsAsLog}
-use Rattle.ima_list.specs.ListEntry.{ListEntry}
+use Rattle.boot_verdict.specs.Names.{ReadsAsLog}
+use Rattle.ima_list.specs.Names.{ListEntry}
 use Rattle.known_files.specs.declared.unknown.UnknownFiles.{UnknownFiles}
 use Rattle.judging.specs.declared.request.Answer.{Answer}
 use Rattle.judging.specs.declared.request.Answered.{Answered}

@@ -2,9 +2,8 @@
 use Rattle.std.proofs.Common.{◌≡◌, ℕ, List, refl, sym, ◌∙◌}
 use Rattle.pcr_banks.specs.declared.alg.Alg.{Alg}
 use Rattle.pcr_banks.specs.declared.banks.Banks.{Banks}
-use Rattle.ima_list.specs.ListEntry.{ListEntry}
-use Rattle.ima_list.specs.Replaying.{IsReplayed, replayed_value}
-use Rattle.boot_verdict.specs.Replays.{IsListStart}
+use Rattle.ima_list.specs.Names.{IsReplayed, ListEntry, replayed_value}
+use Rattle.boot_verdict.specs.Names.{IsListStart}
 
 same_values : (first second : Banks) (entries : List ListEntry) → IsListStart first → IsListStart second → (a : Alg) (r : ℕ)
     → replayed_value first entries a r ≡ replayed_value second entries a r

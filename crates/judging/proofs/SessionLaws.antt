@@ -2,7 +2,7 @@
 use Rattle.std.proofs.Common.{◌≡◌, ℕ, List, [], length, refl, ap, ◌∙◌}
 use Rattle.boot_verdict.specs.declared.checkpoint.Checkpoint.{Checkpoint}
 use Rattle.growing_lists.specs.declared.session.Session.{Session}
-use Rattle.boot_verdict.specs.Checkpoints.{most_after}
+use Rattle.boot_verdict.specs.Names.{most_after}
 use Rattle.boot_verdict.proofs.ReplayLaws.{none_listed}
 use Rattle.growing_lists.specs.Sessions.{HasTaken}
 use Rattle.judging.specs.Inputs.{FileOf, BytesOf, Where, limit_of}

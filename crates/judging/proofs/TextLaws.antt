@@ -2,7 +2,7 @@
 use Rattle.std.proofs.Common.{◌≡◌, ◌⊎◌, ℕ, List, ◌∙◌, ap, inl, inr}
 use Rattle.pcr_values.specs.declared.expected.ExpectFault.{ExpectFault}
 use Rattle.pcr_values.specs.declared.expected.ExpectFault.TheVariants as expects
-use Rattle.pcr_values.specs.ExpectedTexts.{BeginsWithRegister, HasFirstFault}
+use Rattle.pcr_values.specs.Names.{BeginsWithRegister, HasFirstFault}
 use Rattle.known_files.specs.declared.fault.KnownFault.{KnownFault}
 use Rattle.known_files.specs.declared.fault.KnownFault.TheVariants as known
 use Rattle.known_files.specs.Listing.{BeginsWithGood, HasFaultOfFirst}

@@ -6,25 +6,14 @@ use Rattle.pcr_values.specs.declared.expected.Expected.{Expected}
 use Rattle.pcr_values.specs.declared.selection.BankRange.{BankRange}
 use Rattle.pcr_values.specs.declared.expected.ExpectFault.{ExpectFault}
 use Rattle.pcr_values.specs.declared.expected.ExpectFault.TheVariants.{NoRegister}
-use Rattle.pcr_values.specs.ExpectedTexts.{BeginsWithRegister, HasFirstFault, IsExpectedText}
-use Rattle.pcr_values.specs.PrintedTexts.{HasPrintedFault, IsPrintedText, PrintsRegister}
-use Rattle.pcr_values.specs.Selections.{BeginsWithBankRange, SpellsRanges, those_selected}
+use Rattle.pcr_values.specs.Names.{BeginsWithBankRange, BeginsWithRegister, HasFirstFault, HasPrintedFault, IsExpectedText, IsPrintedText, PrintsRegister, SpellsRanges, those_selected}
 use Rattle.boot_log.specs.declared.header.DeclaredAlgorithm.{DeclaredAlgorithm}
-use Rattle.boot_log.specs.Spelling.{IsLog, LogEvent, algs_in}
-use Rattle.ima_list.specs.ListEntry.{ListEntry}
-use Rattle.ima_list.specs.ListFaults.{list_fault_entry}
-use Rattle.ima_list.specs.Replaying.{AreGenuine, IsReplayed}
-use Rattle.ima_list.specs.Spelling.{BeginsWith, IsReading, list_spelling}
+use Rattle.boot_log.specs.Names.{IsFirmware, IsLog, LogEvent, algs_in, startup_locality}
+use Rattle.ima_list.specs.Names.{AreGenuine, BeginsWith, IsReading, IsReplayed, ListEntry, list_fault_entry, list_spelling}
 use Rattle.boot_verdict.specs.declared.checkpoint.Checkpoint.{Checkpoint}
 use Rattle.boot_verdict.specs.declared.verifier.VerifyFault.{VerifyFault}
 use Rattle.boot_verdict.specs.declared.verifier.VerifyFault.TheVariants as verdicts
-use Rattle.boot_verdict.specs.Checkpoints.{IsCheckpoint, most_after}
-use Rattle.boot_verdict.specs.ListReplays.{AreTracked}
-use Rattle.boot_verdict.specs.ListSources.{IsSound}
-use Rattle.boot_verdict.specs.ListVerdicts.{IsListVerdict, list_verdict_of, list_matches, required_list_matches}
-use Rattle.boot_verdict.specs.Positions.{AreLocated, all_found}
-use Rattle.boot_verdict.specs.Requirements.{is_complete, IsRequirementText, required_found, required_matches}
-use Rattle.boot_verdict.specs.Verdicts.{IsForged, ReadsAsLog, IsVerdict, verdict_of, verdict_on, Verdict, matches}
+use Rattle.boot_verdict.specs.Names.{AreLocated, AreTracked, IsCheckpoint, IsForged, IsListStart, IsListVerdict, IsRequirementText, IsSound, IsVerdict, ReadsAsLog, Verdict, all_found, is_complete, list_matches, list_verdict_of, matches, most_after, required_found, required_list_matches, required_matches, verdict_of, verdict_on}
 use Rattle.boot_verdict.specs.declared.report.PrefixReport.{PrefixReport}
 use Rattle.known_files.specs.declared.fault.KnownFault.{KnownFault}
 use Rattle.known_files.specs.declared.known.KnownFiles.{KnownFiles}
@@ -74,9 +63,7 @@ use Rattle.judging.specs.declared.request.ScopedReport.TheVariants as judged
 use Rattle.judging.specs.Requests.{AttestRequested, Attests, Judgement, ListVerdictOf, PositionsOf, VerdictOf, Requested, Compared, Compares, ExpectedOf, KeyOf, ListRegistersOf, LogRegistersOf, Nothing, Requires, These, held_bytes, log_of, resume_of, takes_known}
 use Rattle.judging.specs.Inputs.{IsFaultAt, IsNotOpened, MayFail, OfInput, Where, held_in, limit_of, Holds, IsInputFault}
 use Rattle.pcr_banks.specs.declared.banks.Banks.{Banks}
-use Rattle.pcr_banks.specs.Registers.{IsReset, value_at}
-use Rattle.boot_log.specs.Replaying.{IsFirmware, startup_locality}
-use Rattle.boot_verdict.specs.Replays.{IsListStart}
+use Rattle.pcr_banks.specs.Names.{IsReset, value_at}
 use Rattle.growing_lists.specs.CheckpointTexts.{IsOfOtherVersion, IsOfThisVersion, checkpoint_text}
 use Rattle.judging.specs.declared.request.Answered.{Answered}
 use Rattle.judging.specs.declared.answers.Evidence.{Evidence as HeldEvidence}

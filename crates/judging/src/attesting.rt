@@ -2,8 +2,8 @@
 
 ghost use Rattle.std.specs.Prelude.{◌≡◌, ◌↔◌, ◌⊎◌, List, None, option_map, IfOk, IfErr, IfSome, IsTrue};
 ghost use Rattle.pcr_values.specs.declared.selection.BankRange.{BankRange};
-ghost use Rattle.pcr_values.specs.Selections.{BeginsWithBankRange};
-ghost use Rattle.boot_verdict.specs.Requirements.{IsRequirementText};
+ghost use Rattle.pcr_values.specs.Names.{BeginsWithBankRange};
+ghost use Rattle.boot_verdict.specs.Names.{IsRequirementText};
 ghost use Rattle.tpm_quotes.specs.Spelling.{IsQuote, quote_of};
 ghost use Rattle.attestations.specs.declared.policy.QuoteRefusal.{QuoteRefusal};
 ghost use Rattle.attestations.specs.Attesting.{IsQuoteRefusal};

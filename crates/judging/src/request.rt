@@ -1,7 +1,7 @@
 //! Requests on logs, lists, quotes, printed PCR values and keys, and their answers before they are written.
 
 ghost use Rattle.std.specs.Prelude.{◌≡◌, None, if◌then◌else◌, option_map};
-ghost use Rattle.boot_verdict.specs.Verdicts.{verdict_of};
+ghost use Rattle.boot_verdict.specs.Names.{verdict_of};
 ghost use Rattle.judging.specs.Answering.{alone, is_good, is_match, is_success, state_after};
 ghost use Rattle.judging.specs.Requests.{requires_of, requested_of, on_prefix};
 

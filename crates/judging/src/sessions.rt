@@ -1,7 +1,7 @@
 //! Verdicts on a log and a list, which may go on from a checkpoint.
 
 ghost use Rattle.std.specs.Prelude.{◌≡◌, ℕ, List, Option, option_map, IfOk, IfErr};
-ghost use Rattle.boot_verdict.specs.Verdicts.{IsVerdict, verdict_of};
+ghost use Rattle.boot_verdict.specs.Names.{IsVerdict, verdict_of};
 ghost use Rattle.growing_lists.specs.Goals.{goal_data};
 ghost use Rattle.growing_lists.specs.Sessions.{HasTaken};
 ghost use Rattle.agent_inputs.specs.declared.fault.RunFault.TheVariants as runs;

@@ -3,21 +3,17 @@ use Rattle.std.proofs.Common.{◌≡◌, ℕ, Bool, true, false, ◌&&◌, not, 
 use Rattle.std.specs.Prelude.{is_some}
 use Rattle.std.proofs.lemmas.Bool.{true≢false}
 use Rattle.pcr_banks.specs.declared.sets.AlgSet.{AlgSet}
-use Rattle.pcr_banks.specs.Registers.{value_at}
+use Rattle.pcr_banks.specs.Names.{value_at}
 use Rattle.pcr_values.specs.declared.expected.Expected.{Expected}
 use Rattle.boot_log.specs.declared.header.DeclaredAlgorithm.{DeclaredAlgorithm}
-use Rattle.boot_log.specs.Replaying.{IsFirmware}
-use Rattle.boot_log.specs.Spelling.{LogEvent, IsLog, algs_in}
+use Rattle.boot_log.specs.Names.{IsFirmware, IsLog, LogEvent, algs_in}
 use Rattle.boot_log.proofs.LogLaws.{one_reading}
-use Rattle.ima_list.specs.ListEntry.{ListEntry}
-use Rattle.ima_list.specs.Replaying.{AreGenuine, IsReplayed}
-use Rattle.ima_list.specs.Spelling.{IsReading, list_spelling}
+use Rattle.ima_list.specs.Names.{AreGenuine, IsReading, IsReplayed, ListEntry, list_spelling}
 use Rattle.ima_list.proofs.ListLaws.{written_reading}
 use Rattle.boot_verdict.specs.declared.checkpoint.Checkpoint.{Checkpoint}
 use Rattle.boot_verdict.specs.declared.report.PrefixReport.{PrefixReport}
 use Rattle.boot_verdict.specs.declared.report.Report.{Report}
-use Rattle.boot_verdict.specs.Isolation.{are_none, first_extending, first_stray}
-use Rattle.boot_verdict.specs.Verdicts.{IsVerdict, Verdict, aggregate_of, is_good, pcr_after_log_and_list, recorded_aggregate, verdict_of, verdict_on}
+use Rattle.boot_verdict.specs.Names.{IsVerdict, Verdict, aggregate_of, are_none, first_extending, first_stray, is_good, pcr_after_log_and_list, recorded_aggregate, verdict_of, verdict_on}
 use Rattle.boot_verdict.proofs.ReplayLaws.{one_list}
 use Rattle.known_files.specs.Unknown.{has_no_unknown}
 use Rattle.tpm_quotes.specs.Quoting.{confirms}

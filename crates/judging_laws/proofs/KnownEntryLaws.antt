@@ -5,13 +5,11 @@ use Rattle.std.proofs.lemmas.Bool.{true≢false}
 use Rattle.std.proofs.lemmas.Bool.Decides.{nat_tests}
 use Rattle.std.proofs.lemmas.List.{nil_from_length}
 use Rattle.std.specs.List.{AllByRecursion}
-use Rattle.ima_list.specs.ListEntry.{ListEntry}
-use Rattle.ima_list.specs.Spelling.{BeginsWith}
+use Rattle.ima_list.specs.Names.{BeginsWith, ListEntry}
 use Rattle.boot_verdict.specs.declared.checkpoint.Checkpoint.{Checkpoint}
 use Rattle.boot_verdict.specs.declared.report.PrefixReport.{PrefixReport}
 use Rattle.boot_verdict.specs.declared.report.Report.{Report}
-use Rattle.boot_verdict.specs.ListVerdicts.{ListVerdict}
-use Rattle.boot_verdict.specs.Verdicts.{Verdict, verdict_of}
+use Rattle.boot_verdict.specs.Names.{ListVerdict, Verdict, verdict_of}
 use Rattle.boot_verdict.proofs.ReplayLaws.{one_list}
 use Rattle.known_files.specs.declared.known.KnownFiles.{KnownFiles}
 use Rattle.known_files.specs.declared.unknown.UnknownFiles.{UnknownFiles}

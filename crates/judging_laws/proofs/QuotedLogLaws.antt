@@ -5,12 +5,10 @@ use Rattle.std.specs.Prelude.{option_map}
 use Rattle.std.proofs.lemmas.Bool.{ne_eqb}
 use Rattle.pcr_banks.specs.declared.alg.Alg.{Alg}
 use Rattle.pcr_banks.specs.declared.sets.AlgSet.{AlgSet}
-use Rattle.pcr_banks.specs.Registers.{extended_by_all}
-use Rattle.boot_log.specs.Spelling.{LogEvent}
-use Rattle.ima_list.specs.ListEntry.{ListEntry}
-use Rattle.ima_list.specs.Replaying.{digests_of}
-use Rattle.boot_verdict.specs.Isolation.{list_register}
-use Rattle.boot_verdict.specs.Verdicts.{pcr_after_log, pcr_after_log_and_list}
+use Rattle.pcr_banks.specs.Names.{extended_by_all}
+use Rattle.boot_log.specs.Names.{LogEvent}
+use Rattle.ima_list.specs.Names.{ListEntry, digests_of}
+use Rattle.boot_verdict.specs.Names.{list_register, pcr_after_log, pcr_after_log_and_list}
 
 none_of_list : (entries : List ListEntry) (alg : Alg) (register : ℕ) → (register ≡ list_register → ⊥)
     → AllByRecursion (λ entry. entry.register ≡ list_register) entries → digests_of entries alg register ≡ []

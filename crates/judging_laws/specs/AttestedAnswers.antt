@@ -1,7 +1,6 @@
 -- What an answer by a quote tells, if all is well with it: a log and a list are attested, or a log and the confirmed prefix of a list.
 use Rattle.std.specs.Prelude.{◌≡◌, ◌⊎◌, ℕ, Bool, true, false, List, is_some}
-use Rattle.ima_list.specs.ListEntry.{ListEntry}
-use Rattle.ima_list.specs.Spelling.{BeginsWith, list_spelling}
+use Rattle.ima_list.specs.Names.{BeginsWith, ListEntry, list_spelling}
 use Rattle.attestations.specs.declared.report.AttestReport.{AttestReport}
 use Rattle.attestations.specs.Attesting.{IsAttested}
 use Rattle.attestations.specs.Judging.{Attestation}

@@ -1,8 +1,7 @@
 -- What an answer tells where files have to be known, if all is well with it: each entry that it is on is known.
 use Rattle.std.specs.Prelude.{◌≡◌, ◌⊎◌, ℕ, List, [], ◌∷◌, length, drop, max, true, Option, None, Some}
 use Rattle.std.specs.List.{AllByRecursion}
-use Rattle.ima_list.specs.ListEntry.{ListEntry}
-use Rattle.ima_list.specs.Spelling.{BeginsWith}
+use Rattle.ima_list.specs.Names.{BeginsWith, ListEntry}
 use Rattle.boot_verdict.specs.declared.checkpoint.Checkpoint.{Checkpoint}
 use Rattle.known_files.specs.declared.unknown.UnknownFiles.{UnknownFiles}
 use Rattle.known_files.specs.EntryFiles.{IsKnown, is_aggregate}

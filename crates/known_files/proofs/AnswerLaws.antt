@@ -5,8 +5,8 @@ use Rattle.std.specs.List.{AllByRecursion}
 use Rattle.std.proofs.lemmas.Bool.{ne_eqb}
 use Rattle.pcr_banks.specs.declared.alg.Alg.TheVariants as algs
 use Rattle.pcr_banks.specs.declared.digest.Digest.{Digest}
-use Rattle.pcr_banks.specs.Digests.{alg_of}
-use Rattle.ima_list.specs.ListEntry.{ListEntry}
+use Rattle.pcr_banks.specs.Names.{alg_of}
+use Rattle.ima_list.specs.Names.{ListEntry}
 use Rattle.known_files.specs.DigestLines.{IsDigestLine}
 use Rattle.known_files.specs.EntryFiles.{IsKnown, is_aggregate, is_known}
 use Rattle.known_files.specs.Listing.{IsGoodLine, IsGoodText, IsListed, OneSays, lines_of}

@@ -8,8 +8,7 @@ use Rattle.hex.specs.declared.error.FromHexError.{FromHexError}
 use Rattle.hex.proofs.HexLemmas.{decode_of-ok}
 use Rattle.pcr_banks.specs.declared.alg.Alg.{Alg}
 use Rattle.pcr_banks.specs.declared.digest.Digest.{Digest}
-use Rattle.pcr_banks.specs.Hashing.{all_algs, size_of}
-use Rattle.pcr_banks.specs.Digests.{alg_of, bytes_of, digest_of}
+use Rattle.pcr_banks.specs.Names.{alg_of, all_algs, bytes_of, digest_of, size_of}
 use Rattle.pcr_banks.proofs.AlgLaws.{every_alg}
 use Rattle.pcr_banks.proofs.SetLaws.{digest_again}
 use Rattle.pcr_values.proofs.ExpectedLaws.{Lacks}

@@ -10,8 +10,7 @@ use Rattle.hex.specs.Hex.{decode_of, is_hex_digit}
 use Rattle.hex.proofs.HexLemmas.{decode_of-ok, decode_of-same}
 use Rattle.pcr_banks.specs.declared.alg.Alg.{Alg}
 use Rattle.pcr_banks.specs.declared.digest.Digest.{Digest}
-use Rattle.pcr_banks.specs.Hashing.{all_algs, size_of}
-use Rattle.pcr_banks.specs.Digests.{alg_of, bytes_of, digest_of}
+use Rattle.pcr_banks.specs.Names.{alg_of, all_algs, bytes_of, digest_of, size_of}
 use Rattle.pcr_banks.proofs.SetLaws.{digest_again}
 use Rattle.known_files.specs.DigestLines.{IsDigestLine, IsEscape, IsMark, begins_with_mark, digest_by, digest_on, without_escape}
 use Rattle.pcr_values.proofs.ExpectedLaws.{Lacks, one_cut}

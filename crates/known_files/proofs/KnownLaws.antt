@@ -3,10 +3,8 @@ use Rattle.std.proofs.Common.{◌≡◌, ◌↔◌, ℕ, Bool, true, false, List
 use Rattle.std.specs.Prelude.{◌&&◌, ◌==◌, not, bytes_eq}
 use Rattle.std.proofs.lemmas.Bool.{and_parts, and_from, eqb-true, eq-eqb, false_from_ne_true}
 use Rattle.std.proofs.lemmas.Slice.Eq.{bytes_eq-Decides}
-use Rattle.ima_list.specs.ListEntry.{ListEntry}
-use Rattle.ima_list.specs.Aggregates.{boot_aggregate_path}
-use Rattle.ima_list.specs.Digesting.{is_violation}
-use Rattle.boot_verdict.specs.Isolation.{list_register}
+use Rattle.ima_list.specs.Names.{ListEntry, boot_aggregate_path, is_violation}
+use Rattle.boot_verdict.specs.Names.{list_register}
 use Rattle.known_files.specs.EntryFiles.{FileTold, IsKnown, file_of, is_known, is_known_file}
 use Rattle.known_files.specs.Listing.{IsListed, is_listed}
 use Rattle.known_files.proofs.ListingLaws.{listed_iff}

@@ -1,7 +1,7 @@
 -- Where a text is cut, and its lines.
 use Rattle.std.proofs.Common.{rules, ◌≡◌, ℕ, List, [], ◌∷◌, ◌++◌, refl, ap, ◌∙◌, arith}
 use Rattle.std.specs.Str.Iter.{LacksByte}
-use Rattle.pcr_values.specs.Lines.{IsSplitOnce}
+use Rattle.pcr_values.specs.Names.{IsSplitOnce}
 use Rattle.pcr_values.proofs.ExpectedLaws.{Lacks, lacks_from}
 use Rattle.known_files.specs.Listing.{lines_of}
 

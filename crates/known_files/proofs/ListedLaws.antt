@@ -7,7 +7,7 @@ use Rattle.std.proofs.lemmas.List.Elements.{filter_map-append}
 use Rattle.std.proofs.lemmas.List.Folds.{list_any-append}
 use Rattle.std.proofs.Math.Bool.{or-false}
 use Rattle.pcr_banks.specs.declared.alg.Alg.TheVariants.{Sha1, Sha256, Sha384, Sha512}
-use Rattle.pcr_banks.specs.Digests.{alg_of, bytes_of}
+use Rattle.pcr_banks.specs.Names.{alg_of, bytes_of}
 use Rattle.known_files.specs.declared.fault.KnownFault.{KnownFault}
 use Rattle.known_files.specs.declared.listed.ListedFiles.{ListedFiles}
 use Rattle.known_files.specs.DigestLines.{digest_on}

@@ -6,8 +6,7 @@ use Rattle.std.proofs.lemmas.Bool.{or_cases, or_left, or_right}
 use Rattle.std.proofs.lemmas.Slice.Eq.{bytes_eq-Decides}
 use Rattle.pcr_banks.specs.declared.alg.Alg.{Alg}
 use Rattle.pcr_banks.specs.declared.digest.Digest.{Digest}
-use Rattle.pcr_banks.specs.Hashing.{same_alg}
-use Rattle.pcr_banks.specs.Digests.{alg_of, bytes_of, digest_of}
+use Rattle.pcr_banks.specs.Names.{alg_of, bytes_of, digest_of, same_alg}
 use Rattle.pcr_banks.proofs.AlgLaws.{same_alg_here, same_alg_is}
 use Rattle.pcr_banks.proofs.SetLaws.{digest_again}
 use Rattle.known_files.specs.DigestLines.{IsDigestLine, digest_on}

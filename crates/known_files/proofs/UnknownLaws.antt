@@ -5,12 +5,10 @@ use Rattle.std.specs.Borrow.{Bor}
 use Rattle.std.specs.List.{filter}
 use Rattle.std.proofs.lemmas.Bool.{cases_lt, le-leb, le-ltb, lt-leb, lt-ltb}
 use Rattle.std.proofs.lemmas.List.Elements.{filter-append}
-use Rattle.ima_list.specs.ListEntry.{ListEntry}
+use Rattle.ima_list.specs.Names.{ListEntry}
 use Rattle.boot_verdict.specs.declared.steps.Position.{Position}
 use Rattle.boot_verdict.specs.declared.steps.Position.TheVariants.{Absent, Entry, Event, Nowhere, Reset}
-use Rattle.boot_verdict.specs.ListReplays.{AreTracked}
-use Rattle.boot_verdict.specs.Positions.{position_after}
-use Rattle.boot_verdict.specs.Steps.{OfEntry, OfEvent, Step, entries_as_steps}
+use Rattle.boot_verdict.specs.Names.{AreTracked, OfEntry, OfEvent, Step, entries_as_steps, position_after}
 use Rattle.boot_verdict.proofs.StepLaws.{position_of_entry}
 use Rattle.known_files.specs.declared.known.KnownFiles.{KnownFiles}
 use Rattle.known_files.specs.declared.unknown.UnknownEntries.{UnknownEntries}

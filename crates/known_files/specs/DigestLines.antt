@@ -5,8 +5,7 @@ use Rattle.std.specs.Result.{result_ok}
 use Rattle.hex.specs.Hex.{decode_of}
 use Rattle.pcr_banks.specs.declared.alg.Alg.{Alg}
 use Rattle.pcr_banks.specs.declared.digest.Digest.{Digest}
-use Rattle.pcr_banks.specs.Hashing.{all_algs, size_of}
-use Rattle.pcr_banks.specs.Digests.{alg_of, bytes_of, digest_of}
+use Rattle.pcr_banks.specs.Names.{alg_of, all_algs, bytes_of, digest_of, size_of}
 
 -- What the tools print first where the name has a backslash or a line feed, which they escape: a backslash. Else nothing.
 abbrev pub IsEscape : List ℕ → Type 0

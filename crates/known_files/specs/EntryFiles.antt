@@ -3,18 +3,13 @@ use Rattle.std.specs.Prelude.{◌≡◌, ℕ, ◌&&◌, ◌==◌, Bool, false, n
 use Rattle.std.specs.Borrow.{Bor}
 use Rattle.pcr_banks.specs.declared.alg.Alg.{Alg}
 use Rattle.pcr_banks.specs.declared.digest.Digest.{Digest}
-use Rattle.pcr_banks.specs.Digests.{digest_of}
+use Rattle.pcr_banks.specs.Names.{digest_of}
 use Rattle.ima_list.specs.declared.kernel_field.DigestType.{DigestType}
 use Rattle.ima_list.specs.declared.kernel_field.DigestType.TheVariants.{Ima}
 use Rattle.ima_list.specs.declared.kernel_field.KernelField.{KernelField}
 use Rattle.ima_list.specs.declared.kernel_field.KernelField.TheVariants.{NamedDigest, TypedDigest}
-use Rattle.ima_list.specs.ListEntry.{ListEntry}
-use Rattle.ima_list.specs.Aggregates.{boot_aggregate_path}
-use Rattle.ima_list.specs.Digesting.{is_violation}
-use Rattle.ima_list.specs.FieldKinds.{FileFields, digest_in_field, path_in_field}
-use Rattle.ima_list.specs.Fields.{fields_of}
-use Rattle.ima_list.specs.KernelFields.{FieldData, kernel_fields_of, typed_digest_in}
-use Rattle.boot_verdict.specs.Isolation.{list_register}
+use Rattle.ima_list.specs.Names.{FieldData, FileFields, ListEntry, boot_aggregate_path, digest_in_field, fields_of, is_violation, kernel_fields_of, path_in_field, typed_digest_in}
+use Rattle.boot_verdict.specs.Names.{list_register}
 use Rattle.known_files.specs.Listing.{IsListed, is_listed}
 
 -- What an entry says of a file: the digest of its content, and its path. By the template `ima-buf` these are the digest of the bytes that

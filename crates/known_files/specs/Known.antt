@@ -4,7 +4,7 @@ use Rattle.std.specs.List.{list_any}
 use Rattle.pcr_banks.specs.declared.alg.Alg.{Alg}
 use Rattle.pcr_banks.specs.declared.alg.Alg.TheVariants.{Sha1, Sha256, Sha384, Sha512}
 use Rattle.pcr_banks.specs.declared.digest.Digest.{Digest}
-use Rattle.pcr_banks.specs.Digests.{alg_of, bytes_of}
+use Rattle.pcr_banks.specs.Names.{alg_of, bytes_of}
 use Rattle.known_files.specs.declared.known.KnownFiles.{KnownFiles}
 use Rattle.known_files.specs.declared.listed.ListedFiles.{ListedFiles}
 use Rattle.known_files.specs.Listing.{bytes_by, is_listed, said_by}

@@ -4,8 +4,7 @@ use Rattle.std.specs.List.{AllByRecursion, filter_map, list_any}
 use Rattle.pcr_banks.specs.declared.alg.Alg.{Alg}
 use Rattle.pcr_banks.specs.declared.alg.Alg.TheVariants as algs
 use Rattle.pcr_banks.specs.declared.digest.Digest.{Digest}
-use Rattle.pcr_banks.specs.Hashing.{same_alg}
-use Rattle.pcr_banks.specs.Digests.{alg_of, bytes_of}
+use Rattle.pcr_banks.specs.Names.{alg_of, bytes_of, same_alg}
 use Rattle.known_files.specs.declared.fault.KnownFault.{KnownFault}
 use Rattle.known_files.specs.declared.fault.KnownFault.TheVariants.{Malformed, Memory, WeakHash}
 use Rattle.known_files.specs.DigestLines.{IsDigestLine, digest_on}

@@ -1,10 +1,9 @@
 -- The entries of a list that are not known.
 use Rattle.std.specs.Prelude.{◌≡◌, ◌⊎◌, ◌<◌, ℕ, ◌+◌, ◌&&◌, ◌==◌, nat_le, Bool, true, false, not, if◌then◌else◌, List, [], ◌∷◌, ◌++◌, length, drop, Option, None, Some, option_map}
-use Rattle.ima_list.specs.ListEntry.{ListEntry}
+use Rattle.ima_list.specs.Names.{ListEntry}
 use Rattle.boot_verdict.specs.declared.steps.Position.{Position}
 use Rattle.boot_verdict.specs.declared.steps.Position.TheVariants.{Reset, Event, Entry, Nowhere, Absent}
-use Rattle.boot_verdict.specs.Positions.{position_after}
-use Rattle.boot_verdict.specs.Steps.{Step, OfEntry, OfEvent}
+use Rattle.boot_verdict.specs.Names.{OfEntry, OfEvent, Step, position_after}
 use Rattle.known_files.specs.declared.known.KnownFiles.{KnownFiles}
 use Rattle.known_files.specs.declared.unknown.UnknownFiles.{UnknownFiles}
 use Rattle.known_files.specs.declared.unknown.UnknownEntries.{UnknownEntries}

@@ -2,7 +2,7 @@
 
 ghost use Rattle.std.specs.Prelude.{◌≡◌, ◌↔◌, slice_get, Some};
 ghost use Rattle.std.specs.List.{filter_map};
-ghost use Rattle.pcr_banks.specs.Hashing.{all_algs};
+ghost use Rattle.pcr_banks.specs.Names.{all_algs};
 ghost use Rattle.pcr_banks.specs.declared.digest.Digest.{Digest};
 ghost use Rattle.known_files.specs.DigestLines.{IsDigestLine, begins_with_mark, digest_by, digest_on, without_escape};
 

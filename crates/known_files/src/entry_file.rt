@@ -1,7 +1,7 @@
 //! Which file an entry is of.
 
 ghost use Rattle.std.specs.Prelude.{◌≡◌, option_map};
-ghost use Rattle.ima_list.specs.KernelFields.{fields_left};
+ghost use Rattle.ima_list.specs.Names.{fields_left};
 ghost use Rattle.known_files.specs.EntryFiles.{digest_by_kind, file_of, told_by_fields, told_of};
 
 use ima_list::{

@@ -4,8 +4,8 @@ ghost use Rattle.std.specs.Prelude.{◌≡◌, ◌⊎◌, ℕ, ◌<◌, max, tru
 ghost use Rattle.std.specs.List.{AllByRecursion};
 ghost use Rattle.pcr_banks.specs.declared.alg.Alg.TheVariants as algs;
 ghost use Rattle.pcr_banks.specs.declared.digest.Digest.{Digest};
-ghost use Rattle.pcr_banks.specs.Digests.{alg_of};
-ghost use Rattle.ima_list.specs.ListEntry.{ListEntry};
+ghost use Rattle.pcr_banks.specs.Names.{alg_of};
+ghost use Rattle.ima_list.specs.Names.{ListEntry};
 ghost use Rattle.known_files.specs.EntryFiles.{IsKnown, is_aggregate};
 ghost use Rattle.known_files.specs.Listing.{IsGoodText, IsListed};
 ghost use Rattle.known_files.specs.Unknown.{AreUnknown, unknown_in};

@@ -5,7 +5,7 @@ ghost use Rattle.known_files.specs.declared.listed.ListedFiles.{ListedFiles};
 ghost use Rattle.pcr_banks.specs.declared.alg.Alg.{Alg};
 ghost use Rattle.pcr_banks.specs.declared.alg.Alg.TheVariants as algs;
 ghost use Rattle.pcr_banks.specs.declared.digest.Digest.{Digest};
-ghost use Rattle.pcr_banks.specs.Digests.{alg_of};
+ghost use Rattle.pcr_banks.specs.Names.{alg_of};
 ghost use Rattle.known_files.specs.declared.fault.KnownFault.TheVariants.{Memory};
 ghost use Rattle.known_files.specs.Listing.{BeginsWithGood, HasFaultOfFirst, IsFaultOfLine, IsGoodLine, IsGoodText, lines_of};
 ghost use Rattle.known_files.specs.Known.{AddsDigest, AddsLines, HoldsAll, HoldsMore, HoldsSame, counts_of};

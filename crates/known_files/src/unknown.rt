@@ -3,8 +3,8 @@
 ghost use Rattle.std.specs.Prelude.{◌≡◌, ◌≤◌, ℕ, false, true, nat_lt, List, [], ◌∷◌, ◌++◌, length, take, Option, None, Some, option_copied, option_map, IfOk, IfErr};
 ghost use Rattle.std.specs.List.{filter};
 ghost use Rattle.std.specs.Option.{IsSomeAnd};
-ghost use Rattle.ima_list.specs.ListEntry.{ListEntry};
-ghost use Rattle.boot_verdict.specs.ListReplays.{AreTracked};
+ghost use Rattle.ima_list.specs.Names.{ListEntry};
+ghost use Rattle.boot_verdict.specs.Names.{AreTracked};
 ghost use Rattle.known_files.specs.declared.known.KnownFiles.{KnownFiles};
 ghost use Rattle.known_files.specs.declared.unknown.UnknownEntries.{UnknownEntries};
 ghost use Rattle.known_files.specs.Known.{Knows};

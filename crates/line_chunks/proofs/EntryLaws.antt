@@ -8,10 +8,7 @@ use Rattle.agent_inputs.specs.Faults.{fault_of_list}
 use Rattle.cells.specs.declared.writer.Form.{Form}
 use Rattle.cells.specs.declared.writer.Form.TheVariants.{Json, Text}
 use Rattle.ima_list.specs.declared.fault.ListFault.{ListFault}
-use Rattle.ima_list.specs.Lines.{line_of}
-use Rattle.ima_list.specs.ListEntry.{ListEntry}
-use Rattle.ima_list.specs.ListFaults.{list_fault_entry}
-use Rattle.ima_list.specs.Spelling.{BeginsWith, IsReading, list_spelling}
+use Rattle.ima_list.specs.Names.{BeginsWith, IsReading, ListEntry, line_of, list_fault_entry, list_spelling}
 use Rattle.entry_lines.specs.EntryJson.{entry_json}
 use Rattle.cells.specs.Values as json
 use Rattle.entry_lines.specs.ListLines.{AreAllEntries, entry_lines, last_line}

@@ -9,17 +9,14 @@ use Rattle.line_chunks.specs.declared.piece.LineOffset.{LineOffset}
 use Rattle.agent_inputs.specs.Faults.{fault_of_list, fault_of_log}
 use Rattle.cells.specs.declared.writer.Form.{Form}
 use Rattle.cells.specs.declared.writer.Form.TheVariants.{Json, Text}
-use Rattle.ima_list.specs.Lines.{line_of}
-use Rattle.ima_list.specs.ListEntry.{ListEntry}
-use Rattle.ima_list.specs.Spelling.{BeginsWith, IsReading}
+use Rattle.ima_list.specs.Names.{BeginsWith, IsReading, ListEntry, line_of}
 use Rattle.entry_lines.specs.EntryJson.{entry_json}
 use Rattle.cells.specs.Values as json
 use Rattle.entry_lines.specs.ListLines as shown
 use Rattle.event_lines.specs.LogLines as logged
 use Rattle.boot_log.specs.declared.header.DeclaredAlgorithm.{DeclaredAlgorithm}
-use Rattle.boot_log.specs.Reading.{specification_in}
+use Rattle.boot_log.specs.Names.{LogEvent, specification_in}
 use Rattle.boot_log.specs.Spelling as logs
-use Rattle.boot_log.specs.Spelling.{LogEvent}
 use Rattle.event_lines.specs.EventJson.{header_json, event_json}
 use Rattle.cells.specs.declared.writer.Form.TheVariants as events
 use Rattle.event_lines.specs.SentEvents as sent

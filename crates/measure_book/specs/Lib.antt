@@ -6,3 +6,4 @@ pub mod Books
 pub mod Equality
 pub mod Groups
 pub mod parts
+pub mod Names

@@ -6,9 +6,8 @@ use Rattle.std.specs.Option.{option_map_or}
 use Rattle.std.proofs.lemmas.Bool.Decides.{Decides-and, Decides-eqb, Decides-not}
 use Rattle.std.proofs.lemmas.Slice.Eq.{bytes_eq-Decides}
 use Rattle.pcr_banks.specs.declared.alg.Alg.{Alg}
-use Rattle.pcr_banks.specs.Hashing.{hash_of}
-use Rattle.pcr_banks.specs.Sets.{digest_in}
-use Rattle.boot_log.specs.Spelling.{LogEvent, no_action}
+use Rattle.pcr_banks.specs.Names.{digest_in, hash_of}
+use Rattle.boot_log.specs.Names.{LogEvent, no_action}
 use Rattle.measured_data.specs.declared.measured.Part.{Part}
 use Rattle.measured_data.specs.Measuring.{IsMeasured, has_digest_of, is_measured, part_in}
 use Rattle.byte_fields.specs.Spelling.{IsBytes}

@@ -4,10 +4,8 @@ use Rattle.std.specs.Prelude.{find, option_map}
 use Rattle.std.specs.Bool.{Decides}
 use Rattle.std.proofs.lemmas.Bool.{eqb-true, eq-eqb}
 use Rattle.byte_fields.specs.Spelling.{IsBytes}
-use Rattle.boot_log.specs.Spelling.{LogEvent}
-use Rattle.event_data.specs.Forms.{CommandData, VariableData}
-use Rattle.event_data.specs.Reading.{variable_in}
-use Rattle.event_data.specs.Results.{command_in}
+use Rattle.boot_log.specs.Names.{LogEvent}
+use Rattle.event_data.specs.Names.{CommandData, VariableData, command_in, variable_in}
 use Rattle.event_data.proofs.CommandLaws.{command_finds}
 use Rattle.event_data.proofs.FormLaws.{variable_finds}
 use Rattle.measured_data.specs.declared.measured.Part.{Part}

@@ -4,13 +4,9 @@ use Rattle.std.specs.Prelude.{◌≡◌, ℕ, ◌<◌, ◌&&◌, ◌==◌, Bool,
 use Rattle.std.specs.Str.{bytes_eq}
 use Rattle.std.specs.Option.{option_map_or}
 use Rattle.pcr_banks.specs.declared.alg.Alg.{Alg}
-use Rattle.pcr_banks.specs.Hashing.{hash_of}
-use Rattle.pcr_banks.specs.Sets.{digest_in}
-use Rattle.boot_log.specs.Replaying.{is_extended}
-use Rattle.boot_log.specs.Spelling.{LogEvent, no_action}
-use Rattle.event_data.specs.Forms.{CommandData, IsCommand, VariableData, IsVariable}
-use Rattle.event_data.specs.Reading.{variable_in}
-use Rattle.event_data.specs.Results.{command_in}
+use Rattle.pcr_banks.specs.Names.{digest_in, hash_of}
+use Rattle.boot_log.specs.Names.{LogEvent, is_extended, no_action}
+use Rattle.event_data.specs.Names.{CommandData, IsCommand, IsVariable, VariableData, command_in, variable_in}
 use Rattle.measured_data.specs.declared.measured.Part.{Part}
 use Rattle.measured_data.specs.declared.measured.Part.TheVariants.{Whole, Value, Command}
 

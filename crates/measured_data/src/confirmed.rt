@@ -2,8 +2,8 @@
 
 ghost use Rattle.std.specs.Prelude.{◌≡◌, ◌↔◌, ◌&&◌, ◌||◌, IsTrue, not};
 ghost use Rattle.std.specs.List.{list_all, list_any};
-ghost use Rattle.pcr_banks.specs.Hashing.{all_algs};
-ghost use Rattle.boot_log.specs.Spelling.{log_event_of};
+ghost use Rattle.pcr_banks.specs.Names.{all_algs};
+ghost use Rattle.boot_log.specs.Names.{log_event_of};
 ghost use Rattle.measured_data.specs.Measuring.{IsFirstPart, has_digest_of};
 ghost use Rattle.measured_data.specs.Confirming.{IsConfirmed, confirmed_part, counts, has_pcr, is_confirmed};
 

@@ -3,7 +3,7 @@
 ghost use Rattle.std.specs.Prelude.{List};
 ghost use Rattle.pcr_banks.specs.declared.alg.Alg.{Alg};
 ghost use Rattle.byte_fields.specs.Spelling.{IsBytes};
-ghost use Rattle.boot_log.specs.Spelling.{LogEvent};
+ghost use Rattle.boot_log.specs.Names.{LogEvent};
 ghost use Rattle.measured_data.specs.declared.confirmed.Pcr.{Pcr};
 ghost use Rattle.measured_data.specs.Confirming.{IsConfirmed, confirmed_part};
 ghost use Rattle.measured_data.specs.Measuring.{IsFirstPart, IsMeasured, measured_part};

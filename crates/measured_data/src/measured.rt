@@ -2,7 +2,7 @@
 
 ghost use Rattle.std.specs.Prelude.{◌≡◌, ◌↔◌, IsTrue, option_map};
 ghost use Rattle.byte_fields.specs.Spelling.{IsBytes};
-ghost use Rattle.boot_log.specs.Spelling.{log_event_of};
+ghost use Rattle.boot_log.specs.Names.{log_event_of};
 ghost use Rattle.measured_data.specs.Measuring.{IsFirstPart, IsMeasured, has_digest_of, is_measured, measured_part, part_in};
 
 use boot_log::Event;

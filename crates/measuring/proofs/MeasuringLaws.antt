@@ -7,19 +7,17 @@ use Rattle.std.proofs.lemmas.List.{length-map}
 use Rattle.std.proofs.lemmas.Option.{slice_get-get_or}
 use Rattle.agent_plans.specs.declared.plan.Measurement.{Measurement}
 use Rattle.boot_log.specs.declared.header.DeclaredAlgorithm.{DeclaredAlgorithm}
-use Rattle.boot_log.specs.Replaying.{IsFirmware}
-use Rattle.boot_log.specs.Spelling.{LogEvent, IsLog, algs_in}
+use Rattle.boot_log.specs.Names.{IsFirmware, IsLog, LogEvent, algs_in}
 use Rattle.measure_book.specs.declared.origin.Origin.{Origin}
 use Rattle.measure_book.specs.declared.op.Outcome.{Outcome}
 use Rattle.measure_book.specs.declared.op.Outcome.TheVariants.{Done}
 use Rattle.measure_book.specs.declared.op.Receipt.{Receipt}
-use Rattle.measure_book.specs.Operations.{measure, book_outcome_of}
+use Rattle.measure_book.specs.Names.{book_outcome_of, measure}
 use Rattle.pcr_banks.specs.declared.alg.Alg.{Alg}
 use Rattle.pcr_banks.specs.declared.banks.Banks.{Banks}
 use Rattle.pcr_banks.specs.declared.digest.Digest.{Digest}
-use Rattle.pcr_banks.specs.Digests.{digest_of}
-use Rattle.pcr_banks.specs.Hashing.{hash_of}
-use Rattle.ima_list.specs.FieldKinds.{measured}
+use Rattle.pcr_banks.specs.Names.{digest_of, hash_of}
+use Rattle.ima_list.specs.Names.{measured}
 use Rattle.hash_workers.proofs.ListLaws.{at_map, within_at}
 use Rattle.agent_inputs.specs.declared.fault.RunFault.{RunFault}
 use Rattle.agent_inputs.specs.declared.fault.RunFault.TheVariants.{Memory}

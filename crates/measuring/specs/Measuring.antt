@@ -3,21 +3,16 @@ use Rattle.std.specs.Prelude.{◌≡◌, ℕ, ◌<◌, ◌≤◌, ◌^◌, ◌�
 use Rattle.std.specs.List.{slice_split}
 use Rattle.std.specs.Str.{IsUtf8}
 use Rattle.pcr_banks.specs.declared.alg.Alg.{Alg}
-use Rattle.pcr_banks.specs.Hashing.{hash_of}
-use Rattle.pcr_banks.specs.Registers.{IsReset}
+use Rattle.pcr_banks.specs.Names.{IsReset, hash_of}
 use Rattle.boot_log.specs.declared.header.DeclaredAlgorithm.{DeclaredAlgorithm}
-use Rattle.boot_log.specs.Spelling.{LogEvent, IsLog, algs_in}
-use Rattle.boot_log.specs.Replaying.{IsFirmware, startup_locality}
+use Rattle.boot_log.specs.Names.{IsFirmware, IsLog, LogEvent, algs_in, startup_locality}
 use Rattle.measure_book.specs.declared.origin.Origin.{Origin}
 use Rattle.measure_book.specs.declared.fault.BookFault.{BookFault}
 use Rattle.measure_book.specs.declared.gathers.GatherFault.{GatherFault}
-use Rattle.measure_book.specs.Operations.{BookOp, BookOutcome, measure, refused}
-use Rattle.measure_book.specs.Books.{BookState, IsBook}
+use Rattle.measure_book.specs.Names.{BookOp, BookOutcome, BookState, IsBook, measure, refused}
 use Rattle.hash_workers.specs.declared.fault.AgentFault.{AgentFault}
 use Rattle.hash_workers.specs.declared.fault.AgentFault.TheVariants as agents
-use Rattle.hash_workers.specs.Batches.{IsBatchOf}
-use Rattle.hash_workers.specs.Faults.{IsAgentFaultOf}
-use Rattle.hash_workers.specs.Reasons.{IsReasonOf}
+use Rattle.hash_workers.specs.Names.{IsAgentFaultOf, IsBatchOf, IsReasonOf}
 use Rattle.agent_plans.specs.declared.plan.Measurement.{Measurement}
 use Rattle.agent_plans.specs.declared.plan.NameEnd.{NameEnd}
 use Rattle.agent_plans.specs.declared.plan.NameEnd.TheVariants.{LineFeed, Nul}

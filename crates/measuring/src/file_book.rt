@@ -1,8 +1,8 @@
 //! Records the files of given names in a book over a log.
 
 ghost use Rattle.std.specs.Prelude.{◌≡◌, ◌<◌, ◌⊎◌, ◌^◌, length, map, None, IfOk, IfErr, IfSome, IfNone};
-ghost use Rattle.boot_log.specs.LogViews.{log_bytes};
-ghost use Rattle.measure_book.specs.Operations.{book_outcome_of};
+ghost use Rattle.boot_log.specs.Names.{log_bytes};
+ghost use Rattle.measure_book.specs.Names.{book_outcome_of};
 ghost use Rattle.agent_inputs.specs.Faults.{fault_of_job};
 ghost use Rattle.measuring.specs.Measuring.{AreDone, AreLog, HasRecorded, IsFileFault, IsFirstRefusal, fault_of_workers};
 ghost use Rattle.measuring.specs.Measuring.{IsMeasuredOver, IsNotRecorded, IsRecordingFault};

@@ -5,7 +5,7 @@ use Rattle.std.specs.List.{list_all, list_any, AllByRecursion}
 use Rattle.std.proofs.lemmas.Bool.{and_parts, and_from, or_cases, or_left, or_right, eqb-true, eq-eqb, both_ways, false_from_ne_true, cases_Bool}
 use Rattle.pcr_banks.specs.declared.alg.Alg.{Alg}
 use Rattle.pcr_banks.specs.declared.alg.Alg.TheVariants.{Sha1, Sha256, Sha384, Sha512}
-use Rattle.pcr_banks.specs.Hashing.{name_of, tpm_id_of, all_algs, algorithm_with, same_alg}
+use Rattle.pcr_banks.specs.Names.{algorithm_with, all_algs, name_of, same_alg, tpm_id_of}
 
 -- What holds of each algorithm in the list holds of every one.
 pub every_alg : (P : Alg → Type 0) → AllByRecursion P all_algs → (alg : Alg) → P alg

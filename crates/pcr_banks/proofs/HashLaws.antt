@@ -4,7 +4,7 @@ use Rattle.sha1.specs.Sha1 as sha1
 use Rattle.sha2.specs.Sha256 as sha256
 use Rattle.sha2.specs.Sha512 as sha512
 use Rattle.pcr_banks.specs.declared.alg.Alg.{Alg}
-use Rattle.pcr_banks.specs.Hashing.{hash_of, size_of}
+use Rattle.pcr_banks.specs.Names.{hash_of, size_of}
 use Rattle.pcr_banks.proofs.AlgLaws.{every_alg}
 
 pub hash_size : (alg : Alg) (bytes : List ℕ) → length (hash_of alg bytes) ≡ size_of alg

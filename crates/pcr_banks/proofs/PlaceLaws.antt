@@ -6,7 +6,7 @@ use Rattle.std.proofs.lemmas.Bool.{cases_Bool, eqb-true, eq-eqb, both_ways}
 use Rattle.std.proofs.lemmas.Option.{slice_get-get_or, slice_get_past}
 use Rattle.std.proofs.lemmas.List.{get_or-set_same, get_or-set_other, length-set}
 use Rattle.pcr_banks.specs.declared.alg.Alg.{Alg}
-use Rattle.pcr_banks.specs.Registers.{register_count, ExtendsBank, extended_value, extended_by, in_bank}
+use Rattle.pcr_banks.specs.Names.{ExtendsBank, extended_by, extended_value, in_bank, register_count}
 
 -- An item that was set is found.
 set_here : (xs : List (List ℕ)) (i : ℕ) (y : List ℕ) → i < length xs → slice_get (set xs i y) i ≡ Some y

@@ -7,8 +7,7 @@ use Rattle.pcr_banks.specs.declared.sets.AlgSet.{AlgSet}
 use Rattle.pcr_banks.specs.declared.sets.PerBank.{PerBank}
 use Rattle.pcr_banks.specs.declared.digest.Digest.{Digest}
 use Rattle.pcr_banks.specs.declared.digest.Digest.TheVariants as digests
-use Rattle.pcr_banks.specs.Digests.{alg_of, bytes_of, digest_of}
-use Rattle.pcr_banks.specs.Sets.{has_alg, algs_where, digest_for, digest_in, per_bank}
+use Rattle.pcr_banks.specs.Names.{alg_of, algs_where, bytes_of, digest_for, digest_in, digest_of, has_alg, per_bank}
 use Rattle.pcr_banks.proofs.AlgLaws.{every_alg}
 
 -- A set is determined by the algorithms that it has.

@@ -5,3 +5,4 @@ pub mod Registers
 pub mod Hashers
 pub mod Equality
 pub mod parts
+pub mod Names

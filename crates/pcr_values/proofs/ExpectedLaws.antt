@@ -7,17 +7,12 @@ use Rattle.std.specs.Str.Parse.{AllDigits}
 use Rattle.std.proofs.lemmas.Fmt.{decimal_is_IsNumeral, decimal_injective}
 use Rattle.std.proofs.lemmas.Str.Parse.{digit_from_value}
 use Rattle.pcr_banks.specs.declared.alg.Alg.{Alg}
-use Rattle.pcr_banks.specs.Hashing.{name_of, size_of}
-use Rattle.pcr_banks.specs.Digests.{bytes_of}
-use Rattle.pcr_banks.specs.Registers.{register_count}
+use Rattle.pcr_banks.specs.Names.{bytes_of, name_of, register_count, size_of}
 use Rattle.pcr_banks.proofs.AlgLaws.{every_alg, same_name_is}
 use Rattle.hex.specs.Hex.{is_hex_digit}
 use Rattle.hex.proofs.HexLemmas.{decode_of-ok}
 use Rattle.pcr_values.specs.declared.expected.Expected.{Expected}
-use Rattle.pcr_values.specs.StatedRegisters.{split_at_feeds, lines_of, without_return}
-use Rattle.pcr_values.specs.ExpectedTexts.{IsRegisterLine, Spells}
-use Rattle.pcr_values.specs.Lines.{IsSplitOnce}
-use Rattle.pcr_values.specs.parts.StatedLines.{SaysOnce}
+use Rattle.pcr_values.specs.Names.{IsRegisterLine, IsSplitOnce, SaysOnce, Spells, lines_of, split_at_feeds, without_return}
 use Rattle.pcr_values.proofs.StatedLaws.{same_expected}
 
 -- ---- a byte that a text lacks

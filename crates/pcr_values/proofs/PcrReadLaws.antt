@@ -6,14 +6,12 @@ use Rattle.std.proofs.lemmas.Bool.{and_parts, cases_lt}
 use Rattle.std.proofs.lemmas.List.{length-append, append_cancel_right}
 use Rattle.std.proofs.lemmas.Fmt.{decimal_digit, decimal_step, decimal_injective}
 use Rattle.pcr_banks.specs.declared.alg.Alg.{Alg}
-use Rattle.pcr_banks.specs.Hashing.{name_of, size_of}
-use Rattle.pcr_banks.specs.Digests.{bytes_of}
+use Rattle.pcr_banks.specs.Names.{bytes_of, name_of, size_of}
 use Rattle.pcr_banks.proofs.AlgLaws.{same_name_is}
 use Rattle.hex.specs.Hex.{is_hex_digit}
 use Rattle.hex.proofs.HexLemmas.{decode_of-ok}
 use Rattle.pcr_values.specs.declared.expected.Expected.{Expected}
-use Rattle.pcr_values.specs.PcrReadTexts.{Begins, GivesValue, IsBankLine, IsSkipped, IsValueLine, Position, Says, is_name_byte, two_columns}
-use Rattle.pcr_values.specs.parts.StatedLines.{SaysOnce}
+use Rattle.pcr_values.specs.Names.{Begins, GivesValue, IsBankLine, IsSkipped, IsValueLine, Position, Says, SaysOnce, is_name_byte, two_columns}
 use Rattle.pcr_values.proofs.StatedLaws.{same_expected}
 
 -- ---- prefixes

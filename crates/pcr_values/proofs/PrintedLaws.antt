@@ -6,10 +6,7 @@ use Rattle.pcr_values.specs.declared.expected.ExpectFault.{ExpectFault}
 use Rattle.pcr_values.specs.declared.expected.ExpectFault.TheVariants.{Memory, NoRegister, NotSigned}
 use Rattle.pcr_values.specs.declared.printed.PrintedPart.{PrintedPart}
 use Rattle.pcr_values.specs.declared.printed.PrintedPart.TheVariants.{Printed, Quoted, Signed}
-use Rattle.pcr_values.specs.PcrReadTexts.{Begins, GivesValue, IsSkipped, Position, Says}
-use Rattle.pcr_values.specs.PrintedTexts.{ArePrinted, IsPrintedText, MayEnd, PrintedPosition, Prints, PrintsIn, Turns}
-use Rattle.pcr_values.specs.StatedRegisters.{lines_of}
-use Rattle.pcr_values.specs.parts.StatedLines.{SaysOnce}
+use Rattle.pcr_values.specs.Names.{ArePrinted, Begins, GivesValue, IsPrintedText, IsSkipped, MayEnd, Position, PrintedPosition, Prints, PrintsIn, Says, SaysOnce, Turns, lines_of}
 use Rattle.pcr_values.proofs.PcrReadLaws.{says_once}
 use Rattle.pcr_values.proofs.StatedLaws.{ends_once}
 

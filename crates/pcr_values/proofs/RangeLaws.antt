@@ -3,10 +3,9 @@ use Rattle.std.proofs.Common.{rules, ◌≡◌, ℕ, ◌^◌, ◌<◌, ◌≤◌
 use Rattle.std.specs.Str.Parse.{AllDigits}
 use Rattle.std.proofs.lemmas.Fmt.{decimal_is_IsNumeral, decimal_injective}
 use Rattle.std.proofs.lemmas.Str.Parse.{digit_from_value}
-use Rattle.pcr_banks.specs.Registers.{register_count}
+use Rattle.pcr_banks.specs.Names.{register_count}
 use Rattle.pcr_values.specs.declared.selection.RegisterRange.{RegisterRange}
-use Rattle.pcr_values.specs.RegisterRanges.{IsNumberedRange, IsRangeText}
-use Rattle.pcr_values.specs.parts.RangeEnds.{AreEnds}
+use Rattle.pcr_values.specs.Names.{AreEnds, IsNumberedRange, IsRangeText}
 use Rattle.pcr_values.proofs.ExpectedLaws.{Lacks, lacks_from, not_lacked, one_cut}
 
 digits_lack_hyphen : (digits : List ℕ) → AllDigits 10 digits → Lacks 45 digits

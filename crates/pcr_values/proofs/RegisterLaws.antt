@@ -6,8 +6,8 @@ use Rattle.std.proofs.lemmas.List.{get_or-map, length-append, length-map, length
 use Rattle.std.proofs.lemmas.List.Concat.{get_or-flat_map}
 use Rattle.pcr_banks.specs.declared.alg.Alg.{Alg}
 use Rattle.pcr_banks.specs.declared.alg.Alg.TheVariants.{Sha1}
-use Rattle.pcr_banks.specs.Hashing.{all_algs}
-use Rattle.pcr_values.specs.RegisterTexts.{all_registers, every_register}
+use Rattle.pcr_banks.specs.Names.{all_algs}
+use Rattle.pcr_values.specs.Names.{all_registers, every_register}
 
 pub register_count : length all_registers ≡ 24
 unfolding all_registers

@@ -6,14 +6,11 @@ use Rattle.std.specs.Str.Iter.{LacksByte}
 use Rattle.std.proofs.lemmas.Bool.{both_ways, cases_Bool}
 use Rattle.std.proofs.lemmas.List.{length-drop}
 use Rattle.pcr_banks.specs.declared.alg.Alg.{Alg}
-use Rattle.pcr_banks.specs.Hashing.{name_of}
+use Rattle.pcr_banks.specs.Names.{name_of}
 use Rattle.pcr_banks.proofs.AlgLaws.{every_alg, same_name_is}
 use Rattle.pcr_values.specs.declared.selection.RegisterRange.{RegisterRange}
 use Rattle.pcr_values.specs.declared.selection.BankRange.{BankRange}
-use Rattle.pcr_values.specs.RegisterRanges.{IsRangeText}
-use Rattle.pcr_values.specs.Selections.{AreBankRanges, BeginsWithBankRange, IsBankRangeText, IsFirstWrong, IsNamedRange, SpellsRanges, bank_after, is_separator, parts_length, split_at_separators}
-use Rattle.pcr_values.specs.Lines.{IsSplitOnce}
-use Rattle.pcr_values.specs.parts.SelectionParts.{parts_left}
+use Rattle.pcr_values.specs.Names.{AreBankRanges, BeginsWithBankRange, IsBankRangeText, IsFirstWrong, IsNamedRange, IsRangeText, IsSplitOnce, SpellsRanges, bank_after, is_separator, parts_left, parts_length, split_at_separators}
 use Rattle.pcr_values.proofs.ExpectedLaws.{Lacks, lacks_from, not_lacked, one_cut}
 use Rattle.pcr_values.proofs.RangeLaws.{range_lacks_colon, range_once}
 

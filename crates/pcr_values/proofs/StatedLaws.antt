@@ -5,15 +5,14 @@ use Rattle.std.specs.List.{AllByRecursion, IsDistinct, list_any}
 use Rattle.std.proofs.lemmas.List.{length-append}
 use Rattle.pcr_banks.specs.declared.alg.Alg.{Alg}
 use Rattle.pcr_banks.specs.declared.digest.Digest.{Digest}
-use Rattle.pcr_banks.specs.Digests.{alg_of, bytes_of, digest_of}
+use Rattle.pcr_banks.specs.Names.{alg_of, bytes_of, digest_of}
 use Rattle.pcr_banks.proofs.SetLaws.{digest_again}
 use Rattle.hex.specs.Hex.{decode_of}
 use Rattle.hex.proofs.HexLemmas.{decode_of-same}
 use Rattle.pcr_values.specs.declared.expected.Expected.{Expected}
 use Rattle.pcr_values.specs.declared.expected.ExpectFault.{ExpectFault}
 use Rattle.pcr_values.specs.declared.expected.ExpectFault.TheVariants.{BadLine, DoubleLine, Memory, NoRegister, NotChecked, NotSigned}
-use Rattle.pcr_values.specs.StatedRegisters.{AreStated, BeginsWithStated, HasFaultOfFirst, IsFaultOfLine, SayAll, Saying, States, lines_of, same_register}
-use Rattle.pcr_values.specs.parts.StatedLines.{AddsStated, IsAdded, SaysOnce, StatesAnother, lines_left}
+use Rattle.pcr_values.specs.Names.{AddsStated, AreStated, BeginsWithStated, HasFaultOfFirst, IsAdded, IsFaultOfLine, SayAll, Saying, SaysOnce, States, StatesAnother, lines_left, lines_of, same_register}
 
 -- ---- one register
 

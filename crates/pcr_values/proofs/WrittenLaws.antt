@@ -10,17 +10,11 @@ use Rattle.std.proofs.lemmas.Fmt.{decimal_is_IsNumeral}
 use Rattle.std.proofs.lemmas.Str.Parse.{digit_from_value}
 use Rattle.hex.specs.Hex.{IsBytes, encode_lower, encode_with, hex_digit_value}
 use Rattle.hex.proofs.HexLemmas.{IsDigits-lower_digits, decode_of-encode_lower, decode_of-ok}
-use Rattle.pcr_banks.specs.Hashing.{name_of, size_of}
-use Rattle.pcr_banks.specs.Digests.{alg_of, bytes_of}
-use Rattle.pcr_banks.specs.Registers.{register_count}
+use Rattle.pcr_banks.specs.Names.{alg_of, bytes_of, name_of, register_count, size_of}
 use Rattle.pcr_values.specs.declared.expected.Expected.{Expected}
-use Rattle.pcr_values.specs.StatedRegisters.{SayAll, lines_of, same_register, without_return}
-use Rattle.pcr_values.specs.ExpectedTexts.{IsExpectedText, IsRegisterLine, Spells}
+use Rattle.pcr_values.specs.Names.{GivesValue, IsExpectedText, IsPrintedText, IsRegisterLine, Position, PrintedPosition, Prints, PrintsIn, SayAll, Spells, expected_line, expected_text, lines_of, same_register, without_return}
 use Rattle.pcr_values.specs.declared.printed.PrintedPart.{PrintedPart}
 use Rattle.pcr_values.specs.declared.printed.PrintedPart.TheVariants.{Printed, Quoted, Signed}
-use Rattle.pcr_values.specs.PcrReadTexts.{GivesValue, Position}
-use Rattle.pcr_values.specs.PrintedTexts.{IsPrintedText, PrintedPosition, Prints, PrintsIn}
-use Rattle.pcr_values.specs.WrittenTexts.{expected_line, expected_text}
 use Rattle.pcr_values.proofs.ExpectedLaws.{AllAbove, Lacks, feed_cuts, name_above}
 
 -- ---- what is left of a list

@@ -1,9 +1,7 @@
 -- Expected registers, as text.
 use Rattle.std.specs.Prelude.{◌≡◌, ℕ, ◌<◌, List, [], ◌++◌, length, codes, decimal, Option, Some, None, Ok}
 use Rattle.hex.specs.Hex.{decode_of}
-use Rattle.pcr_banks.specs.Hashing.{name_of, size_of}
-use Rattle.pcr_banks.specs.Digests.{alg_of, bytes_of}
-use Rattle.pcr_banks.specs.Registers.{register_count}
+use Rattle.pcr_banks.specs.Names.{alg_of, bytes_of, name_of, register_count, size_of}
 use Rattle.pcr_values.specs.declared.expected.Expected.{Expected}
 use Rattle.pcr_values.specs.declared.expected.ExpectFault.{ExpectFault}
 use Rattle.pcr_values.specs.StatedRegisters.{BeginsWithStated, HasFaultOfFirst, States}

@@ -9,3 +9,4 @@ pub mod PrintedTexts
 pub mod RegisterRanges
 pub mod Selections
 pub mod WrittenTexts
+pub mod Names

@@ -5,9 +5,7 @@ use Rattle.std.specs.Char.{is_ascii_alphanumeric}
 use Rattle.std.specs.List.{list_all}
 use Rattle.hex.specs.Hex.{decode_of}
 use Rattle.pcr_banks.specs.declared.alg.Alg.{Alg}
-use Rattle.pcr_banks.specs.Hashing.{name_of, size_of}
-use Rattle.pcr_banks.specs.Digests.{alg_of, bytes_of}
-use Rattle.pcr_banks.specs.Registers.{register_count}
+use Rattle.pcr_banks.specs.Names.{alg_of, bytes_of, name_of, register_count, size_of}
 use Rattle.pcr_values.specs.declared.expected.Expected.{Expected}
 
 -- ---- one line

@@ -1,6 +1,6 @@
 -- Ranges of registers, and how a text spells them.
 use Rattle.std.specs.Prelude.{◌≡◌, ◌⊎◌, ℕ, ◌<◌, ◌≤◌, ◌&&◌, nat_le, Bool, List, ◌++◌, codes, decimal}
-use Rattle.pcr_banks.specs.Registers.{register_count}
+use Rattle.pcr_banks.specs.Names.{register_count}
 use Rattle.pcr_values.specs.declared.selection.RegisterRange.{RegisterRange}
 
 -- Whether the register is one of the range: neither below its first nor above its last.

@@ -4,8 +4,7 @@ use Rattle.std.specs.List.{range_with_len}
 use Rattle.hex.specs.Hex.{encode_lower}
 use Rattle.pcr_banks.specs.declared.alg.Alg.{Alg}
 use Rattle.pcr_banks.specs.declared.banks.Banks.{Banks}
-use Rattle.pcr_banks.specs.Hashing.{name_of, all_algs}
-use Rattle.pcr_banks.specs.Registers.{register_count, value_at}
+use Rattle.pcr_banks.specs.Names.{all_algs, name_of, register_count, value_at}
 
 -- A register line: algorithm, register in decimal, value in lower case hexadecimal.
 abbrev pub register_line : Alg → ℕ → List ℕ → List ℕ

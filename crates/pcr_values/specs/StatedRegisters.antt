@@ -1,7 +1,7 @@
 -- Texts whose lines state registers, whatever the form of the lines.
 use Rattle.std.specs.Prelude.{◌≡◌, ℕ, ◌-◌, ◌<◌, ◌&&◌, ◌==◌, Bool, IsTrue, if◌then◌else◌, List, [], ◌∷◌, ◌++◌, length, take, drop, map, bytes_eq, Option, Some, option_to_list}
 use Rattle.std.specs.List.{IsDistinct, list_any}
-use Rattle.pcr_banks.specs.Hashing.{same_alg}
+use Rattle.pcr_banks.specs.Names.{same_alg}
 use Rattle.pcr_values.specs.declared.expected.Expected.{Expected}
 use Rattle.pcr_values.specs.declared.expected.ExpectFault.{ExpectFault}
 use Rattle.pcr_values.specs.declared.expected.ExpectFault.TheVariants.{BadLine, DoubleLine}

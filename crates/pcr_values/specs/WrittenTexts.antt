@@ -1,6 +1,6 @@
 -- Expected registers, written as text.
 use Rattle.std.specs.Prelude.{ℕ, List, flat_map}
-use Rattle.pcr_banks.specs.Digests.{bytes_of}
+use Rattle.pcr_banks.specs.Names.{bytes_of}
 use Rattle.pcr_values.specs.declared.expected.Expected.{Expected}
 use Rattle.pcr_values.specs.RegisterTexts.{register_line}
 

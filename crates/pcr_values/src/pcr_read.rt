@@ -2,8 +2,7 @@
 
 ghost use Rattle.std.specs.Prelude.{◌≡◌, ◌<◌, ℕ, List, ◌++◌, option_map, IfSome, IfNone};
 ghost use Rattle.std.specs.List.{list_all};
-ghost use Rattle.pcr_banks.specs.Hashing.{name_of};
-ghost use Rattle.pcr_banks.specs.Registers.{register_count};
+ghost use Rattle.pcr_banks.specs.Names.{name_of, register_count};
 ghost use Rattle.pcr_values.specs.declared.expected.Expected.{Expected};
 ghost use Rattle.pcr_values.specs.PcrReadTexts.{IsBankLine, IsValueLine, Position, Says, is_name_byte, two_columns};
 

@@ -3,7 +3,7 @@
 ghost use Rattle.std.specs.Prelude.{◌≡◌, ◌<◌, ℕ, List, ◌∷◌, ◌++◌, length, decimal, option_map, IfSome, IfNone};
 ghost use Rattle.std.specs.Str.{bytes_eq};
 ghost use Rattle.std.specs.Str.Iter.{LacksByte};
-ghost use Rattle.pcr_banks.specs.Registers.{register_count};
+ghost use Rattle.pcr_banks.specs.Names.{register_count};
 ghost use Rattle.pcr_values.specs.StatedRegisters.{lines_of, without_return};
 ghost use Rattle.pcr_values.specs.Lines.{IsSplitOnce};
 ghost use Rattle.pcr_values.specs.parts.StatedLines.{lines_left};

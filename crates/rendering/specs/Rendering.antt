@@ -1,7 +1,7 @@
 -- Answers as text or JSON, and their exit statuses.
 use Rattle.std.specs.Prelude.{ℕ, Bool, true, false, List, Option, Some, None, flat_map, ◌≡◌, ◌⊎◌, if◌then◌else◌, []}
 use Rattle.pcr_values.specs.declared.selection.BankRange.{BankRange}
-use Rattle.boot_verdict.specs.ListVerdicts.{list_verdict_of}
+use Rattle.boot_verdict.specs.Names.{list_verdict_of, verdict_of}
 use Rattle.known_files.specs.declared.unknown.UnknownFiles.{UnknownFiles}
 use Rattle.attestations.specs.Reports.{attest_verdict_of}
 use Rattle.cells.specs.Cells.{Cell, rendered}
@@ -11,7 +11,6 @@ use Rattle.answers.specs.KeyCells.{key_cell}
 use Rattle.answers.specs.PositionCells.{positions_cell}
 use Rattle.answers.specs.RegisterCells.{expected_cell, registers_cell}
 use Rattle.answers.specs.ReportCells.{list_report_cell, prefix_cell, report_cell}
-use Rattle.boot_verdict.specs.Verdicts.{verdict_of}
 use Rattle.judging.specs.declared.request.Answer.{Answer}
 use Rattle.judging.specs.declared.request.Answer.TheVariants.{Attestation, Report, Prefix, Positions, ListReport, Registers, Expected, Key}
 use Rattle.judging.specs.declared.request.Answered.{Answered}
@@ -21,7 +20,7 @@ use Rattle.agent_plans.specs.declared.plan.Print.{Print}
 use Rattle.agent_plans.specs.declared.plan.Print.TheVariants as prints
 use Rattle.ima_list.specs.Lines.{line_of as entry_text}
 use Rattle.entry_lines.specs.ListLines.{entry_lines}
-use Rattle.measure_book.specs.Books.{exported}
+use Rattle.measure_book.specs.Names.{exported}
 use Rattle.measuring.specs.declared.file_book.Measured.{Measured}
 use Rattle.growing_lists.specs.declared.saved_state.SavedState.{SavedState}
 use Rattle.growing_lists.specs.CheckpointTexts.{checkpoint_text}

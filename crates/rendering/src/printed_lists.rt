@@ -1,10 +1,10 @@
 //! What is printed of a measurement.
 
 ghost use Rattle.std.specs.Prelude.{◌≡◌, flat_map, Some, IfOk};
-ghost use Rattle.ima_list.specs.Lines.{line_of};
+ghost use Rattle.ima_list.specs.Names.{line_of};
 ghost use Rattle.cells.specs.declared.writer.Form.TheVariants.{Json};
 ghost use Rattle.entry_lines.specs.ListLines.{entry_lines};
-ghost use Rattle.measure_book.specs.Books.{exported};
+ghost use Rattle.measure_book.specs.Names.{exported};
 ghost use Rattle.rendering.specs.Rendering.{print_measured};
 
 use crate::outputs::{Output, render};

@@ -11,7 +11,7 @@ use Rattle.byte_fields.proofs.Steps.{IsBytes, bind_ok, ok_is, ok_or_ok}
 use Rattle.byte_fields.proofs.FormatLaws.{Exact, IsBytes-behind, big16_exact, big32_exact, either_exact, followed_exact, mapped_exact, viewed_exact, whole_again, whole_takes}
 use Rattle.pcr_banks.specs.declared.alg.Alg.{Alg}
 use Rattle.pcr_banks.specs.declared.alg.Alg.TheVariants.{Sha1, Sha256, Sha384, Sha512}
-use Rattle.pcr_banks.specs.Hashing.{tpm_id_of, all_algs}
+use Rattle.pcr_banks.specs.Names.{all_algs, tpm_id_of}
 use Rattle.tpm_quotes.specs.Reading.{alg_with}
 use Rattle.tpm_quotes.specs.Spelling.{sized16}
 use Rattle.tpm_keys.specs.declared.area.Cipher.{Cipher}

@@ -3,7 +3,7 @@
 use Rattle.std.specs.Prelude.{◌≡◌, ℕ, ◌*◌, Bool, true, false, not, ◌==◌, nat_lt, List, [], ◌∷◌, ◌++◌, length, find, Option, Some, None, option_map, Result, Ok, Err}
 use Rattle.std.specs.Int.{bit_at}
 use Rattle.pcr_banks.specs.declared.alg.Alg.TheVariants.{Sha1}
-use Rattle.pcr_banks.specs.Hashing.{same_alg}
+use Rattle.pcr_banks.specs.Names.{same_alg}
 use Rattle.std.specs.Option.{option_map_or}
 use Rattle.tpm_keys.specs.declared.fault.KeyFault.{KeyFault}
 use Rattle.tpm_keys.specs.declared.fault.KeyFault.TheVariants.{WeakName, LeavesTpm, LeavesParent, NotMadeByTpm, Unrestricted, ShortKey, DoesNotSign, Decrypts, NoSigningScheme, WeakHash, Signs, DoesNotDecrypt}

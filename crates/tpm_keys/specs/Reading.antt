@@ -7,7 +7,7 @@ use Rattle.byte_fields.specs.Reading.{◌>>=◌}
 use Rattle.byte_fields.specs.Formats.{Format, big_number, ◌followed_by◌, viewed, unless, mapped, either, sized_by, whole}
 use Rattle.pcr_banks.specs.declared.alg.Alg.{Alg}
 use Rattle.pcr_banks.specs.declared.alg.Alg.TheVariants.{Sha1}
-use Rattle.pcr_banks.specs.Hashing.{tpm_id_of}
+use Rattle.pcr_banks.specs.Names.{tpm_id_of}
 use Rattle.tpm_quotes.specs.Reading.{alg_with}
 use Rattle.tpm_keys.specs.declared.area.Cipher.{Cipher}
 use Rattle.tpm_keys.specs.declared.area.Scheme.{Scheme}

@@ -5,8 +5,7 @@ use Rattle.std.specs.String.{string_bytes}
 use Rattle.hex.specs.Hex.{encode_lower}
 use Rattle.pcr_banks.specs.declared.alg.Alg.{Alg}
 use Rattle.pcr_banks.specs.declared.digest.Digest.{Digest}
-use Rattle.pcr_banks.specs.Digests.{alg_of, bytes_of, digest_of}
-use Rattle.pcr_banks.specs.Hashing.{hash_of, name_of, tpm_id_of}
+use Rattle.pcr_banks.specs.Names.{alg_of, bytes_of, digest_of, hash_of, name_of, tpm_id_of}
 use Rattle.tpm_keys.specs.declared.area.Scheme.{Scheme}
 use Rattle.tpm_keys.specs.declared.kinds.KeyPart.{KeyPart}
 use Rattle.tpm_keys.specs.declared.kinds.KeyPart.TheVariants as parts

@@ -3,7 +3,7 @@
 use Rattle.std.specs.Prelude.{◌≡◌, ℕ, ◌^◌, ◌*◌, ◌<◌, ◌≤◌, ◌⊎◌, List, [], ◌++◌, length, slice_index, Option, Some, None, is_some}
 use Rattle.std.specs.Int.{w16, w32, to_be_bytes}
 use Rattle.pcr_banks.specs.declared.alg.Alg.{Alg}
-use Rattle.pcr_banks.specs.Hashing.{tpm_id_of}
+use Rattle.pcr_banks.specs.Names.{tpm_id_of}
 use Rattle.tpm_quotes.specs.Spelling.{sized16}
 use Rattle.tpm_keys.specs.declared.area.Cipher.{Cipher}
 use Rattle.tpm_keys.specs.declared.area.PublicArea.{PublicArea}

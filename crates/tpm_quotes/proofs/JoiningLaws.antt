@@ -9,9 +9,7 @@ use Rattle.std.proofs.lemmas.Grind.{flat_map-append}
 use Rattle.pcr_banks.specs.declared.alg.Alg.{Alg}
 use Rattle.pcr_banks.specs.declared.digest.Digest.{Digest}
 use Rattle.pcr_banks.specs.declared.hasher.Hasher.{Hasher}
-use Rattle.pcr_banks.specs.Hashers.{HasTaken}
-use Rattle.pcr_banks.specs.Hashing.{hash_of}
-use Rattle.pcr_banks.specs.Digests.{bytes_of, digest_of}
+use Rattle.pcr_banks.specs.Names.{HasTaken, bytes_of, digest_of, hash_of}
 use Rattle.pcr_banks.proofs.BankLaws.{some_digest, no_digest}
 use Rattle.pcr_banks.proofs.SetLaws.{bytes_again}
 use Rattle.tpm_quotes.specs.declared.selection.QuotedSelection.{QuotedSelection}

@@ -11,7 +11,7 @@ use Rattle.byte_fields.proofs.Steps.{IsBytes, ok_is, ok_or_ok}
 use Rattle.byte_fields.proofs.FormatLaws.{Exact, big16_exact, big32_exact, big64_exact, byte_exact, passes, part_exact, sized_by_exact, followed_exact, unless_exact, mapped_exact, viewed_exact, whole_again, whole_takes}
 use Rattle.pcr_banks.specs.declared.alg.Alg.TheVariants.{Sha256, Sha384, Sha512}
 use Rattle.pcr_banks.specs.declared.digest.Digest.{Digest}
-use Rattle.pcr_banks.specs.Digests.{bytes_of, digest_of}
+use Rattle.pcr_banks.specs.Names.{bytes_of, digest_of}
 use Rattle.tpm_quotes.specs.declared.fault.QuoteFault.{QuoteFault}
 use Rattle.tpm_quotes.specs.declared.fault.QuoteFault.TheVariants.{Truncated, NotQuote, BadClock, DigestSize, Trailing}
 use Rattle.tpm_quotes.specs.declared.quote.Quote.{Quote}

@@ -9,7 +9,7 @@ use Rattle.byte_fields.proofs.Steps.{ok_is}
 use Rattle.byte_fields.proofs.FormatLaws.{Exact, big16_exact, big32_exact, passes, joined_spellings, byte_exact, sized_by_exact, followed_exact, unless_exact, mapped_exact, viewed_exact, counted_exact}
 use Rattle.pcr_banks.specs.declared.alg.Alg.{Alg}
 use Rattle.pcr_banks.specs.declared.alg.Alg.TheVariants.{Sha1, Sha256, Sha384, Sha512}
-use Rattle.pcr_banks.specs.Hashing.{tpm_id_of}
+use Rattle.pcr_banks.specs.Names.{tpm_id_of}
 use Rattle.tpm_quotes.specs.declared.fault.QuoteFault.{QuoteFault}
 use Rattle.tpm_quotes.specs.declared.fault.QuoteFault.TheVariants.{Truncated, UnknownBank, BankTwice, ManyBanks, BadRegister, NothingSelected}
 use Rattle.tpm_quotes.specs.Spelling.{BankSelection, IsSelection, AreSelections, is_low, most_banks, selection_spelling, selects_some}

@@ -2,8 +2,7 @@
 use Rattle.std.specs.Prelude.{ℕ, Bool, false, List, [], ◌∷◌, ◌++◌, map, bytes_eq, Option, Some, option_map, option_and_then}
 use Rattle.std.specs.Option.{option_map_or}
 use Rattle.pcr_banks.specs.declared.alg.Alg.{Alg}
-use Rattle.pcr_banks.specs.Hashing.{hash_of}
-use Rattle.pcr_banks.specs.Digests.{alg_of, bytes_of}
+use Rattle.pcr_banks.specs.Names.{alg_of, bytes_of, hash_of}
 use Rattle.tpm_quotes.specs.Spelling.{TpmQuote, selected}
 
 -- The value of each register of each bank, where there is one.

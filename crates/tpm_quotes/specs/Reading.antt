@@ -6,8 +6,7 @@ use Rattle.std.specs.List.{list_any}
 use Rattle.byte_fields.specs.Formats.{Format, big_number, part, byte, ◌followed_by◌, viewed, unless, mapped, sized_by, counted, whole}
 use Rattle.pcr_banks.specs.declared.alg.Alg.{Alg}
 use Rattle.pcr_banks.specs.declared.digest.Digest.{Digest}
-use Rattle.pcr_banks.specs.Hashing.{tpm_id_of, all_algs}
-use Rattle.pcr_banks.specs.Digests.{bytes_of}
+use Rattle.pcr_banks.specs.Names.{all_algs, bytes_of, tpm_id_of}
 use Rattle.tpm_quotes.specs.declared.quote.Clock.{Clock}
 use Rattle.tpm_quotes.specs.declared.fault.QuoteFault.{QuoteFault}
 use Rattle.tpm_quotes.specs.declared.fault.QuoteFault.TheVariants.{Truncated, NotQuote, BadClock, UnknownBank, BankTwice, ManyBanks, BadRegister, NothingSelected, DigestSize, Trailing}

@@ -6,9 +6,7 @@ use Rattle.std.specs.List.{list_any, list_all, range_with_len, AllByRecursion, I
 use Rattle.pcr_banks.specs.declared.alg.Alg.{Alg}
 use Rattle.pcr_banks.specs.declared.alg.Alg.TheVariants.{Sha256, Sha384, Sha512}
 use Rattle.pcr_banks.specs.declared.digest.Digest.{Digest}
-use Rattle.pcr_banks.specs.Hashing.{tpm_id_of}
-use Rattle.pcr_banks.specs.Digests.{bytes_of, digest_of}
-use Rattle.pcr_banks.specs.Registers.{register_count}
+use Rattle.pcr_banks.specs.Names.{bytes_of, digest_of, register_count, tpm_id_of}
 use Rattle.tpm_quotes.specs.declared.quote.Clock.{Clock}
 use Rattle.tpm_quotes.specs.declared.quote.Quote.{Quote}
 use Rattle.tpm_quotes.specs.declared.selection.QuotedSelection.{QuotedSelection}

@@ -3,14 +3,11 @@
 ghost use Rattle.std.specs.Prelude.{◌≡◌, ℕ, List, map, Some, Ok, option_map, IfOk, IfErr};
 ghost use Rattle.byte_fields.specs.Reading.{Reads};
 ghost use Rattle.pcr_banks.specs.declared.alg.Alg.{Alg};
-ghost use Rattle.pcr_banks.specs.Digests.{bytes_of, digest_of};
-ghost use Rattle.pcr_banks.specs.Hashers.{HasTaken};
-ghost use Rattle.pcr_banks.specs.Hashing.{hash_of};
+ghost use Rattle.pcr_banks.specs.Names.{HasTaken, bytes_of, digest_of, hash_of, value_at};
 ghost use Rattle.tpm_quotes.specs.Spelling.{IsQuote, TpmQuote, digest_with, quote_of, selected, selected_in, selection_of};
 ghost use Rattle.tpm_quotes.specs.Quoting.{Values, joined};
 ghost use Rattle.tpm_quotes.specs.parts.Hashing.{Takes};
 ghost use Rattle.tpm_quotes.specs.Reading.{clock, digest, flag, origin, quote, quote_fault, quote_in, sized, times};
-ghost use Rattle.pcr_banks.specs.Registers.{value_at};
 
 use crate::fault::QuoteFault;
 use crate::selection::{QuotedSelection, Selections, selections_at};

@@ -3,7 +3,7 @@
 ghost use Rattle.std.specs.Prelude.{◌≡◌, ◌≤◌, map, []};
 ghost use Rattle.byte_fields.specs.Reading.{Reads};
 ghost use Rattle.byte_fields.specs.Formats.{counted};
-ghost use Rattle.pcr_banks.specs.Hashing.{tpm_id_of};
+ghost use Rattle.pcr_banks.specs.Names.{tpm_id_of};
 ghost use Rattle.tpm_quotes.specs.Spelling.{is_low, is_selected, most_banks, selection_of, selects_one, selects_some};
 ghost use Rattle.tpm_quotes.specs.Reading.{bank, selection, selections, selects_bank};
 

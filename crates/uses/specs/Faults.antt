@@ -1,10 +1,10 @@
 -- Why a use of the libraries fails.
 use Rattle.std.specs.Prelude.{◌≡◌, ◌⊎◌, ℕ, List}
 use Rattle.pcr_values.specs.declared.expected.ExpectFault.TheVariants as expectations
-use Rattle.pcr_values.specs.ExpectedTexts.{HasFirstFault}
+use Rattle.pcr_values.specs.Names.{HasFirstFault}
 use Rattle.boot_log.specs.declared.fault.LogFault.TheVariants as logs
-use Rattle.boot_log.specs.Spelling.{HasLogFault}
-use Rattle.boot_verdict.specs.Verdicts.{ReadsAsLog, IsVerifyFault}
+use Rattle.boot_log.specs.Names.{HasLogFault}
+use Rattle.boot_verdict.specs.Names.{IsVerifyFault, ReadsAsLog}
 use Rattle.uses.specs.declared.fault.UseFault.{UseFault}
 use Rattle.uses.specs.declared.fault.UseFault.TheVariants as faults
 

@@ -4,22 +4,16 @@ use Rattle.pcr_banks.specs.declared.alg.Alg.{Alg}
 use Rattle.pcr_banks.specs.declared.alg.Alg.TheVariants.{Sha256}
 use Rattle.pcr_banks.specs.declared.banks.Banks.{Banks}
 use Rattle.pcr_banks.specs.declared.digest.Digest.{Digest}
-use Rattle.pcr_banks.specs.Digests.{digest_of}
-use Rattle.pcr_banks.specs.Hashing.{hash_of}
+use Rattle.pcr_banks.specs.Names.{digest_of, hash_of}
 use Rattle.pcr_values.specs.declared.expected.Expected.{Expected}
-use Rattle.pcr_values.specs.ExpectedTexts.{IsExpectedText}
+use Rattle.pcr_values.specs.Names.{IsExpectedText}
 use Rattle.boot_log.specs.declared.header.DeclaredAlgorithm.{DeclaredAlgorithm}
-use Rattle.boot_log.specs.Spelling.{LogEvent, IsLog, algs_in}
-use Rattle.boot_log.specs.Replaying.{IsFirmware}
+use Rattle.boot_log.specs.Names.{IsFirmware, IsLog, LogEvent, algs_in}
 use Rattle.ima_list.specs.declared.template.Template.TheVariants.{ImaNg}
 use Rattle.measure_book.specs.declared.origin.Origin.{Origin}
-use Rattle.measure_book.specs.Operations.{BookOp, BookOutcome, BookRecord, measure}
-use Rattle.measure_book.specs.Histories.{IsOpening}
-use Rattle.measure_book.specs.Runs.{RunsTo}
-use Rattle.measure_book.specs.Books.{BookState, IsBook}
-use Rattle.measure_book.specs.Groups.{AccountsForAll}
-use Rattle.hash_workers.specs.Batches.{IsBatch}
-use Rattle.boot_verdict.specs.Verdicts.{Verdict, IsVerdict, pcr_after_log, matches}
+use Rattle.measure_book.specs.Names.{AccountsForAll, BookOp, BookOutcome, BookRecord, BookState, IsBook, IsOpening, RunsTo, measure}
+use Rattle.hash_workers.specs.Names.{IsBatch}
+use Rattle.boot_verdict.specs.Names.{IsVerdict, Verdict, matches, pcr_after_log}
 
 -- The bytes are a log, and this is what its events make of a register: none where the log has no such bank, or there is no such register.
 pub record IsRegisterAfter (log : List ℕ) (alg : Alg) (register : ℕ) (value : Option Digest) : Type 0 where

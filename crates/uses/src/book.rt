@@ -1,9 +1,8 @@
 //! A book of measurements, and receipts that account for it.
 
 ghost use Rattle.std.specs.Prelude.{◌≡◌, ◌⊎◌, map, IfOk, IfErr};
-ghost use Rattle.boot_log.specs.Spelling.{HasLogFault};
-ghost use Rattle.measure_book.specs.Operations.{book_op_of};
-ghost use Rattle.measure_book.specs.Groups.{groups_of};
+ghost use Rattle.boot_log.specs.Names.{HasLogFault};
+ghost use Rattle.measure_book.specs.Names.{book_op_of, groups_of};
 ghost use Rattle.uses.specs.Faults.{IsNotRecorded};
 ghost use Rattle.uses.specs.Uses.{IsOriginAfter, IsShared, measurement_op};
 

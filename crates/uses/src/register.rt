@@ -1,7 +1,7 @@
 //! A register, as a firmware event log makes it.
 
 ghost use Rattle.std.specs.Prelude.{◌≡◌, ◌⊎◌, IfOk, IfErr};
-ghost use Rattle.boot_log.specs.Spelling.{HasLogFault};
+ghost use Rattle.boot_log.specs.Names.{HasLogFault};
 ghost use Rattle.uses.specs.Uses.{IsRegisterAfter};
 
 use boot_log::{LogFault, read_log};

@@ -2,8 +2,8 @@
 
 ghost use Rattle.std.specs.Prelude.{◌<◌, ◌^◌, length, map, IfOk, IfErr};
 ghost use Rattle.pcr_banks.specs.declared.alg.Alg.TheVariants.{Sha256};
-ghost use Rattle.measure_book.specs.Operations.{book_outcome_of};
-ghost use Rattle.hash_workers.specs.Jobs.{operations_of};
+ghost use Rattle.measure_book.specs.Names.{book_outcome_of};
+ghost use Rattle.hash_workers.specs.Names.{operations_of};
 ghost use Rattle.uses.specs.Faults.{IsNotRecorded};
 ghost use Rattle.uses.specs.Uses.{IsSharedByWorkers};
 

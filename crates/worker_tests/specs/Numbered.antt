@@ -1,8 +1,8 @@
 -- What the jobs of the tests' own become.
 use Rattle.std.specs.Prelude.{ℕ, ◌+◌, ◌/◌, ◌%◌, List, [], ◌∷◌}
 use Rattle.pcr_banks.specs.declared.alg.Alg.{Alg}
-use Rattle.pcr_banks.specs.Hashing.{hash_of}
-use Rattle.measure_book.specs.Operations.{BookOp, measure}
+use Rattle.pcr_banks.specs.Names.{hash_of}
+use Rattle.measure_book.specs.Names.{BookOp, measure}
 
 -- The path of a number: a slash, and its last four decimal digits.
 abbrev pub path_of_number : ℕ → List ℕ

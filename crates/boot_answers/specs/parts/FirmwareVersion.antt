@@ -1,8 +1,8 @@
 -- What one bank tells of the firmware's version.
 use Rattle.std.specs.Prelude.{List}
 use Rattle.pcr_banks.specs.declared.alg.Alg.{Alg}
-use Rattle.boot_log.specs.Spelling.{LogEvent}
-use Rattle.event_data.specs.EventForms.{Content}
+use Rattle.boot_log.specs.Names.{LogEvent}
+use Rattle.event_data.specs.Names.{Content}
 use Rattle.measured_data.specs.declared.confirmed.Pcr.{Pcr}
 use Rattle.boot_answers.specs.Extending.{IsAnswering}
 use Rattle.boot_answers.specs.FirmwareVersion.{TellsVersion, firmware_register}

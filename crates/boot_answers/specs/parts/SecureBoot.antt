@@ -1,7 +1,7 @@
 -- What one bank, and what one event, tells of Secure Boot.
 use Rattle.std.specs.Prelude.{ℕ, List}
 use Rattle.pcr_banks.specs.declared.alg.Alg.{Alg}
-use Rattle.boot_log.specs.Spelling.{LogEvent}
+use Rattle.boot_log.specs.Names.{LogEvent}
 use Rattle.boot_answers.specs.declared.secure_boot_state.SecureBoot.{SecureBoot}
 use Rattle.boot_answers.specs.declared.secure_boot_state.SecureBoot.TheVariants.{On, Off, Unknown}
 use Rattle.measured_data.specs.declared.confirmed.Pcr.{Pcr}

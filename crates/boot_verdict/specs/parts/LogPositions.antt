@@ -2,10 +2,9 @@
 use Rattle.std.specs.Prelude.{◌≡◌, ℕ, if◌then◌else◌, List, length, map, Option, Some, None}
 use Rattle.pcr_banks.specs.declared.banks.Banks.{Banks}
 use Rattle.pcr_banks.specs.declared.sets.AlgSet.{AlgSet}
-use Rattle.pcr_banks.specs.Registers.{IsReset, value_at}
+use Rattle.pcr_banks.specs.Names.{IsReset, value_at}
 use Rattle.pcr_values.specs.declared.expected.Expected.{Expected}
-use Rattle.boot_log.specs.Spelling.{LogEvent}
-use Rattle.boot_log.specs.Replaying.{startup_locality}
+use Rattle.boot_log.specs.Names.{LogEvent, startup_locality}
 use Rattle.boot_verdict.specs.declared.steps.Located.{Located}
 use Rattle.boot_verdict.specs.declared.steps.Position.{Position}
 use Rattle.boot_verdict.specs.declared.steps.Position.TheVariants.{Reset, Nowhere, Absent}

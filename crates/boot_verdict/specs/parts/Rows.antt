@@ -1,6 +1,6 @@
 -- The row of an expected register, as the verifier makes it.
 use Rattle.pcr_banks.specs.declared.banks.Banks.{Banks}
-use Rattle.pcr_banks.specs.Registers.{value_at}
+use Rattle.pcr_banks.specs.Names.{value_at}
 use Rattle.pcr_values.specs.declared.expected.Expected.{Expected}
 use Rattle.boot_verdict.specs.declared.report.Row.{Row}
 use Rattle.boot_verdict.specs.Verdicts.{row_state}

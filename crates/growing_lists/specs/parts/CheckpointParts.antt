@@ -2,8 +2,7 @@
 use Rattle.std.specs.Prelude.{◌≡◌, ℕ, ◌<◌, ◌&&◌, ◌==◌, List, IsSome, if◌then◌else◌, nat_lt, option_map}
 use Rattle.pcr_banks.specs.declared.alg.Alg.{Alg}
 use Rattle.pcr_banks.specs.declared.banks.Banks.{Banks}
-use Rattle.pcr_banks.specs.Hashing.{same_alg}
-use Rattle.pcr_banks.specs.Registers.{register_count, value_at}
+use Rattle.pcr_banks.specs.Names.{register_count, same_alg, value_at}
 
 -- The banks have one of this algorithm, and its registers.
 abbrev pub HasBank : Banks → Alg → Type 0

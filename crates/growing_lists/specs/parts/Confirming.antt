@@ -1,8 +1,8 @@
 -- The search for the confirmed prefix, step by step.
 use Rattle.std.specs.Prelude.{◌≡◌, ℕ, ◌+◌, ◌-◌, ◌^◌, min, nat_le, ◌==◌, ◌&&◌, Bool, false, if◌then◌else◌, List, length, fold, Option, Some, None}
 use Rattle.pcr_banks.specs.declared.banks.Banks.{Banks}
-use Rattle.pcr_banks.specs.Registers.{value_at}
-use Rattle.ima_list.specs.Spelling.{spelling}
+use Rattle.pcr_banks.specs.Names.{value_at}
+use Rattle.ima_list.specs.Names.{spelling}
 use Rattle.boot_verdict.specs.declared.checkpoint.Checkpoint.{Checkpoint}
 use Rattle.tpm_quotes.specs.Quoting.{Values}
 use Rattle.growing_lists.specs.declared.confirmation.Goal.{Goal}
@@ -10,9 +10,7 @@ use Rattle.growing_lists.specs.declared.confirmation.Confirming.{Confirming}
 use Rattle.growing_lists.specs.declared.confirmation.Prefix.{Prefix}
 use Rattle.boot_verdict.specs.declared.steps.Position.{Position}
 use Rattle.boot_verdict.specs.declared.steps.Position.TheVariants.{Reset, Event, Entry, Nowhere, Absent}
-use Rattle.boot_verdict.specs.Positions.{position_after}
-use Rattle.boot_verdict.specs.Steps.{Step, OfEvent, OfEntry, least_prefix, value_after}
-use Rattle.boot_verdict.specs.Tracking.{AreAfter}
+use Rattle.boot_verdict.specs.Names.{AreAfter, OfEntry, OfEvent, Step, least_prefix, position_after, value_after}
 use Rattle.growing_lists.specs.Goals.{goal_data, is_met}
 
 -- The values after these steps.

@@ -1,10 +1,8 @@
 -- What a search for the confirmed prefix found.
 use Rattle.std.specs.Prelude.{◌≡◌, ℕ, ◌+◌, ◌-◌, ◌^◌, min, nat_le, Bool, if◌then◌else◌, List, ◌++◌, length, take, Option, Some, None, Result, Ok, Err}
 use Rattle.pcr_banks.specs.declared.sets.AlgSet.{AlgSet}
-use Rattle.boot_log.specs.Replaying.{IsFirmware}
-use Rattle.boot_log.specs.Spelling.{LogEvent}
-use Rattle.ima_list.specs.ListEntry.{ListEntry}
-use Rattle.ima_list.specs.Spelling.{BeginsWith, IsReading, list_spelling}
+use Rattle.boot_log.specs.Names.{IsFirmware, LogEvent}
+use Rattle.ima_list.specs.Names.{BeginsWith, IsReading, ListEntry, list_spelling}
 use Rattle.boot_verdict.specs.declared.checkpoint.Checkpoint.{Checkpoint}
 use Rattle.growing_lists.specs.declared.confirmation.Search.{Search}
 use Rattle.boot_verdict.specs.declared.isolation.Stray.{Stray}
@@ -15,12 +13,9 @@ use Rattle.growing_lists.specs.declared.confirmation.Prefix.{Prefix}
 use Rattle.boot_verdict.specs.declared.list_replay.ListReplay.{ListReplay}
 use Rattle.boot_verdict.specs.declared.verifier.VerifyFault.{VerifyFault}
 use Rattle.boot_verdict.specs.declared.verifier.VerifyFault.TheVariants as faults
-use Rattle.boot_verdict.specs.Checkpoints.{IsCheckpoint}
+use Rattle.boot_verdict.specs.Names.{After, CameFrom, CameWhole, IsCheckpoint, IsReplayedOrForged}
 use Rattle.growing_lists.specs.Goals.{GoalData}
 use Rattle.growing_lists.specs.Prefixes.{AreUnconfirmed, CameWrong, IsConfirmed, IsUnconfirmedFault}
-use Rattle.boot_verdict.specs.ListReplays.{IsReplayedOrForged}
-use Rattle.boot_verdict.specs.ListSources.{CameFrom, CameWhole}
-use Rattle.boot_verdict.specs.Tracking.{After}
 
 -- The checkpoint of a confirmed prefix of these bytes and of these entries.
 pub record IsConfirmedAt (algs : AlgSet) (events : List LogEvent) (goal : GoalData) (known : Checkpoint) (bytes : List ℕ) (entries : List ListEntry) (at : Checkpoint)

@@ -1,11 +1,11 @@
 //! The text of a checkpoint.
 
 ghost use Rattle.std.specs.Prelude.{◌≡◌, ◌++◌, IfOk};
-ghost use Rattle.pcr_banks.specs.Digests.{bytes_of};
+ghost use Rattle.pcr_banks.specs.Names.{bytes_of};
 ghost use Rattle.hex.specs.Hex.{encode_lower};
 ghost use Rattle.byte_streams.specs.Streams.{Sends};
 ghost use Rattle.std.specs.Prelude.{codes, decimal, flat_map};
-ghost use Rattle.pcr_values.specs.RegisterTexts.{all_registers};
+ghost use Rattle.pcr_values.specs.Names.{all_registers};
 ghost use Rattle.growing_lists.specs.CheckpointTexts.{bank_lines, banks_lines, boot_lines, checkpoint_body, checkpoint_text, data_lines, number_line, seal_line, recorded_line, stray_entry, stray_register, value_line};
 
 use crate::saved_state::{Boot, SavedState};

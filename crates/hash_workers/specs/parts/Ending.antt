@@ -2,9 +2,7 @@
 use Rattle.std.specs.Prelude.{◌≡◌, ◌≢◌, ◌⊎◌, ℕ, ◌<◌, ◌≤◌, List, [], ◌∷◌, ◌++◌, All, true, Option, Some, None, IfSome, slice_get}
 use Rattle.measure_book.specs.declared.origin.Origin.{Origin}
 use Rattle.measure_book.specs.declared.fault.BookFault.TheVariants.{Memory}
-use Rattle.measure_book.specs.Operations.{BookOp, BookOutcome, refused}
-use Rattle.measure_book.specs.Runs.{records_after}
-use Rattle.measure_book.specs.Books.{BookState, IsBook}
+use Rattle.measure_book.specs.Names.{BookOp, BookOutcome, BookState, IsBook, records_after, refused}
 use Rattle.hash_workers.specs.declared.work.End.{End}
 use Rattle.hash_workers.specs.declared.work.End.TheVariants.{NoneLeft, OutOfMemory, ForeignBook, NoOperation}
 use Rattle.hash_workers.specs.declared.work.Unmade.{Unmade}

@@ -3,7 +3,7 @@ use Rattle.std.specs.Prelude.{◌≡◌, ◌≢◌, ℕ, ◌<◌, ◌≤◌, ◌
 use Rattle.std.specs.List.{concat}
 use Rattle.measure_book.specs.declared.origin.Origin.{Origin}
 use Rattle.measure_book.specs.declared.op.Outcome.{Outcome}
-use Rattle.measure_book.specs.Operations.{BookOp, book_outcome_of}
+use Rattle.measure_book.specs.Names.{BookOp, book_outcome_of}
 use Rattle.hash_workers.specs.declared.fault.JobFault.{JobFault}
 use Rattle.hash_workers.specs.declared.work.End.{End}
 use Rattle.hash_workers.specs.declared.work.End.TheVariants.{NoneLeft, NoOperation}

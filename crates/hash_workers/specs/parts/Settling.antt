@@ -4,9 +4,7 @@ use Rattle.std.specs.List.{concat}
 use Rattle.measure_book.specs.declared.origin.Origin.{Origin}
 use Rattle.measure_book.specs.declared.gathers.GatherFault.{GatherFault}
 use Rattle.measure_book.specs.declared.gathers.GatherFault.TheVariants as gathers
-use Rattle.measure_book.specs.Operations.{BookOp, BookOutcome}
-use Rattle.measure_book.specs.Groups.{outcome_at, groups_of, IsFirstFault}
-use Rattle.measure_book.specs.Books.{BookState, IsBook}
+use Rattle.measure_book.specs.Names.{BookOp, BookOutcome, BookState, IsBook, IsFirstFault, groups_of, outcome_at}
 use Rattle.hash_workers.specs.declared.fault.JobFault.{JobFault}
 use Rattle.hash_workers.specs.declared.fault.JobsFault.{JobsFault}
 use Rattle.hash_workers.specs.declared.work.End.TheVariants.{OutOfMemory, ForeignBook, NoOperation}

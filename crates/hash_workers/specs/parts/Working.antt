@@ -2,9 +2,7 @@
 use Rattle.std.specs.Prelude.{◌≡◌, ◌≢◌, ◌⊎◌, ℕ, List, [], ◌∷◌, length, slice_get, Option, Some}
 use Rattle.measure_book.specs.declared.origin.Origin.{Origin}
 use Rattle.measure_book.specs.declared.fault.BookFault.TheVariants.{Memory}
-use Rattle.measure_book.specs.Operations.{BookOp, BookRecord, BookOutcome, refused}
-use Rattle.measure_book.specs.Runs.{RunsTo, IsOutcome, records_after}
-use Rattle.measure_book.specs.Books.{BookState, IsBook}
+use Rattle.measure_book.specs.Names.{BookOp, BookOutcome, BookRecord, BookState, IsBook, IsOutcome, RunsTo, records_after, refused}
 use Rattle.hash_workers.specs.Outcomes.{IsOutcomeOf}
 
 -- Each job that was taken has one outcome of its own.

@@ -2,7 +2,7 @@
 
 ghost use Rattle.std.specs.Prelude.{◌≡◌};
 ghost use Rattle.hex.specs.Hex.{encode_lower};
-ghost use Rattle.pcr_banks.specs.Digests.{bytes_of};
+ghost use Rattle.pcr_banks.specs.Names.{bytes_of};
 
 use pcr_banks::{Digest, MOST_DIGITS};
 

@@ -2,7 +2,7 @@
 
 ghost use Rattle.std.specs.Prelude.{◌≡◌, ℕ, List, Option, option_map};
 ghost use Rattle.pcr_banks.specs.declared.alg.Alg.{Alg};
-ghost use Rattle.pcr_banks.specs.Digests.{alg_of, bytes_of, digest_of};
+ghost use Rattle.pcr_banks.specs.Names.{alg_of, bytes_of, digest_of};
 ghost use Rattle.byte_streams.specs.Streams.{Sends};
 ghost use Rattle.pcr_values.specs.RegisterTexts.{register_line, register_change, change_line, registers_text};
 

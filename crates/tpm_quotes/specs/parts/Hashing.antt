@@ -2,7 +2,7 @@
 use Rattle.std.specs.Prelude.{◌≡◌, ℕ, List, ◌++◌, Option, Some, None}
 use Rattle.pcr_banks.specs.declared.alg.Alg.{Alg}
 use Rattle.pcr_banks.specs.declared.hasher.Hasher.{Hasher}
-use Rattle.pcr_banks.specs.Hashers.{HasTaken}
+use Rattle.pcr_banks.specs.Names.{HasTaken}
 
 -- The hasher has also taken these bytes, if there are any; there are none where the call fails.
 pub record TakesMore (hasher : Hasher) (alg : Alg) (taken : List ℕ) (bytes : Option (List ℕ)) : Type 0 where

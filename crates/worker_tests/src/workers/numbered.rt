@@ -1,7 +1,7 @@
 //! Jobs of the tests' own, each made of its number alone.
 
 ghost use Rattle.std.specs.Prelude.{◌≡◌, ◌⊎◌, IfOk, IfSome, Contains};
-ghost use Rattle.measure_book.specs.Operations.{book_op_of};
+ghost use Rattle.measure_book.specs.Names.{book_op_of};
 ghost use Rattle.hash_workers.specs.declared.fault.JobFault.TheVariants.{Memory};
 ghost use Rattle.worker_tests.specs.Numbered.{operation_of_number, path_of_number};
 

@@ -1,5 +1,5 @@
 use Rattle.std.proofs.Common.{sym}
-use Rattle.boot_verdict.specs.Verdicts.{matches}
+use Rattle.boot_verdict.specs.Names.{matches}
 use Rattle.answers.proofs.TextLaws.{expected_lines, key_lines, plain_positions, plain_report, registers_lines}
 use Rattle.answers.proofs.laws.sent_texts_are_of_cells.Goals as goal
 

@@ -1,5 +1,5 @@
 use Rattle.std.proofs.Common.{arith}
-use Rattle.pcr_values.specs.RegisterTexts.{all_registers}
+use Rattle.pcr_values.specs.Names.{all_registers}
 use Rattle.pcr_values.proofs.RegisterLaws.{register_at, register_count}
 use Rattle.attestations.specs.Quoted.{bank_selection_of}
 use Rattle.answers.specs.AttestationCells.{number_cell}

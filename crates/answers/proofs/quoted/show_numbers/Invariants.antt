@@ -1,5 +1,5 @@
 use Rattle.std.proofs.Common.{take}
-use Rattle.pcr_values.specs.RegisterTexts.{all_registers}
+use Rattle.pcr_values.specs.Names.{all_registers}
 use Rattle.attestations.specs.Quoted.{bank_selection_of}
 use Rattle.json.specs.Tree.{json_tokens}
 use Rattle.cells.proofs.CellLaws.{HasEach}

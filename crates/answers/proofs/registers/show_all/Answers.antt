@@ -1,5 +1,5 @@
 use Rattle.std.proofs.Common.{arith}
-use Rattle.pcr_banks.specs.Digests.{bytes_of}
+use Rattle.pcr_banks.specs.Names.{bytes_of}
 use Rattle.answers.specs.RegisterCells.{value_cell}
 use Rattle.cells.proofs.CellLaws.{all_shown, no_rows, one_more}
 use Rattle.answers.proofs.registers.show_all.Goals as goal

@@ -1,5 +1,5 @@
 use Rattle.std.proofs.Common.{take}
-use Rattle.pcr_banks.specs.Digests.{bytes_of}
+use Rattle.pcr_banks.specs.Names.{bytes_of}
 use Rattle.json.specs.Tree.{json_tokens}
 use Rattle.cells.proofs.CellLaws.{HasEach}
 use Rattle.answers.specs.RegisterCells.{value_cell}

@@ -1,6 +1,6 @@
 use Rattle.std.proofs.Common.{take}
 use Rattle.json.specs.Tree.{json_tokens}
-use Rattle.pcr_values.specs.RegisterTexts.{every_register}
+use Rattle.pcr_values.specs.Names.{every_register}
 use Rattle.cells.proofs.CellLaws.{HasEach}
 use Rattle.answers.specs.RegisterCells.{change_cell}
 use Rattle.answers.proofs.registers.show_changed.Given as goal

@@ -1,5 +1,5 @@
 use Rattle.std.proofs.Common.{arith, map}
-use Rattle.pcr_values.specs.RegisterTexts.{every_register}
+use Rattle.pcr_values.specs.Names.{every_register}
 use Rattle.pcr_values.proofs.RegisterLaws.{every_count}
 use Rattle.answers.specs.RowCells.{if_missing}
 use Rattle.cells.proofs.CellLaws.{all_shown, no_rows, one_more}

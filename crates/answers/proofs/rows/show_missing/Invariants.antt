@@ -1,6 +1,6 @@
 use Rattle.std.proofs.Common.{map, take}
 use Rattle.json.specs.Tree.{json_tokens}
-use Rattle.pcr_values.specs.RegisterTexts.{every_register}
+use Rattle.pcr_values.specs.Names.{every_register}
 use Rattle.cells.proofs.CellLaws.{HasEach}
 use Rattle.answers.specs.RowCells.{if_missing}
 use Rattle.answers.proofs.rows.show_missing.Given as goal

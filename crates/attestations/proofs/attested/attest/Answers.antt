@@ -1,7 +1,7 @@
 use Rattle.std.proofs.Common.{◌≡◌, None, Err, ap, sym, ◌∙◌}
 use Rattle.std.proofs.lemmas.Result.{err_from_is_err_and}
 use Rattle.byte_fields.proofs.Steps.{ok_is}
-use Rattle.boot_log.specs.Spelling.{algs_in}
+use Rattle.boot_log.specs.Names.{algs_in}
 use Rattle.boot_verdict.specs.declared.verifier.VerifyFault.{VerifyFault}
 use Rattle.boot_verdict.proofs.ReplayLaws.{one_list}
 use Rattle.boot_verdict.proofs.VerdictLaws.{log_viewed}

@@ -1,6 +1,6 @@
 use Rattle.std.proofs.Common.{Option, sym, ap, ◌∙◌}
 use Rattle.std.specs.Option.{option_or}
-use Rattle.boot_log.specs.Spelling.{algs_in}
+use Rattle.boot_log.specs.Names.{algs_in}
 use Rattle.tpm_quotes.specs.Spelling.{quote_of}
 use Rattle.attestations.specs.declared.attested.Cause.{Cause}
 use Rattle.attestations.specs.Judging.{cause_in_registers}

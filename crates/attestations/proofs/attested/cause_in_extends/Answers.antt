@@ -1,7 +1,7 @@
 use Rattle.std.proofs.Common.{◌≡◌, Option, Some, None, sym, ap, ◌∙◌}
 use Rattle.std.specs.Prelude.{option_map}
 use Rattle.boot_verdict.specs.declared.isolation.Stray.{Stray}
-use Rattle.boot_verdict.specs.Isolation.{first_extending, first_stray}
+use Rattle.boot_verdict.specs.Names.{first_extending, first_stray}
 use Rattle.attestations.specs.declared.attested.Cause.{Cause}
 use Rattle.attestations.specs.declared.attested.Cause.TheVariants.{LogExtends, ListExtends}
 use Rattle.attestations.proofs.JudgeLaws.{found_first, found_next}

@@ -1,6 +1,6 @@
 use Rattle.std.proofs.Common.{sym, ap, ◌∙◌, refl}
-use Rattle.boot_log.specs.Spelling.{algs_in}
-use Rattle.boot_verdict.specs.Verdicts.{aggregate_of, is_good}
+use Rattle.boot_log.specs.Names.{algs_in}
+use Rattle.boot_verdict.specs.Names.{aggregate_of, is_good}
 use Rattle.tpm_quotes.specs.Spelling.{quote_of}
 use Rattle.attestations.proofs.JudgeLaws.{values_same}
 use Rattle.attestations.proofs.attested.cause_in_registers.Goals as goal

@@ -3,7 +3,7 @@ use Rattle.std.specs.Prelude.{find, is_some, option_map}
 use Rattle.std.proofs.lemmas.Iterator.{YieldsList-from_slice}
 use Rattle.std.proofs.lemmas.Iterator.Search.{find_from_yields_List}
 use Rattle.pcr_banks.specs.declared.alg.Alg.{Alg}
-use Rattle.pcr_banks.specs.Hashing.{all_algs}
+use Rattle.pcr_banks.specs.Names.{all_algs}
 use Rattle.tpm_quotes.specs.Spelling.{quote_of}
 use Rattle.attestations.specs.Policies.{unselected_in}
 use Rattle.attestations.proofs.policy.first_unselected.Goals as goal

@@ -4,7 +4,7 @@ use Rattle.std.proofs.lemmas.Iterator.{YieldsList-from_range}
 use Rattle.std.proofs.lemmas.Iterator.Adapters.{option_map_id}
 use Rattle.std.proofs.lemmas.Iterator.Search.{find_from_yields_List}
 use Rattle.pcr_banks.specs.declared.alg.Alg.TheVariants.{Sha1}
-use Rattle.pcr_values.specs.Selections.{names}
+use Rattle.pcr_values.specs.Names.{names}
 use Rattle.tpm_quotes.specs.Spelling.{all_registers}
 use Rattle.attestations.specs.Policies.{is_named_beside_sha1}
 use Rattle.attestations.proofs.policy.first_weak.Goals as goal

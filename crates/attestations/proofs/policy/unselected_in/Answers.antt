@@ -3,7 +3,7 @@ use Rattle.std.specs.Prelude.{not}
 use Rattle.std.proofs.lemmas.Iterator.{YieldsList-from_range}
 use Rattle.std.proofs.lemmas.Iterator.Adapters.{option_map_id}
 use Rattle.std.proofs.lemmas.Iterator.Search.{find_from_yields_List}
-use Rattle.pcr_values.specs.Selections.{names}
+use Rattle.pcr_values.specs.Names.{names}
 use Rattle.tpm_quotes.specs.Spelling.{all_registers, quote_of, selects}
 use Rattle.attestations.proofs.policy.unselected_in.Goals as goal
 

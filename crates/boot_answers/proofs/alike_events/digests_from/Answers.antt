@@ -1,7 +1,7 @@
 use Rattle.std.proofs.Common.{◌≤◌, ◌<◌, [], ◌∷◌, ◌++◌, List, Option, length, ap, ◌∙◌, arith}
 use Rattle.std.proofs.lemmas.List.{length-append}
 use Rattle.pcr_banks.specs.declared.digest.Digest.{Digest}
-use Rattle.boot_log.specs.Spelling.{log_event_of}
+use Rattle.boot_log.specs.Names.{log_event_of}
 use Rattle.boot_answers.proofs.CommonLaws.{all_compared, first_compared, next_digest, passed_digest}
 use Rattle.boot_answers.proofs.alike_events.digests_from.Goals as goal
 

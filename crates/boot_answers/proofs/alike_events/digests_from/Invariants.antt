@@ -1,7 +1,6 @@
 use Rattle.std.proofs.Common.{◌≡◌, ◌-◌, ◌≤◌, List, length, map, drop}
-use Rattle.pcr_banks.specs.Sets.{digest_for}
-use Rattle.boot_log.specs.LogViews.{log_bytes}
-use Rattle.boot_log.specs.Spelling.{LogEvent}
+use Rattle.pcr_banks.specs.Names.{digest_for}
+use Rattle.boot_log.specs.Names.{LogEvent, log_bytes}
 use Rattle.boot_answers.specs.RegisterEvents.{HasGiven, unread_of}
 use Rattle.boot_answers.proofs.alike_events.digests_from.Given as goal
 

@@ -1,6 +1,6 @@
 use Rattle.std.proofs.Common.{[], ◌∷◌, ◌++◌, ap, sym, ◌∙◌, arith, append-nil}
 use Rattle.std.proofs.lemmas.List.{length-append}
-use Rattle.boot_log.specs.Spelling.{log_event_of}
+use Rattle.boot_log.specs.Names.{log_event_of}
 use Rattle.boot_answers.specs.Differences.{digests_in}
 use Rattle.boot_answers.specs.Extending.{extended_events}
 use Rattle.boot_answers.proofs.DifferenceLaws.{differ, known_longer, same_longer}

@@ -1,7 +1,6 @@
 use Rattle.std.proofs.Common.{◌≡◌, List, length}
 use Rattle.std.specs.List.{AllByRecursion}
-use Rattle.boot_log.specs.LogViews.{log_bytes}
-use Rattle.boot_log.specs.Spelling.{LogEvent}
+use Rattle.boot_log.specs.Names.{LogEvent, log_bytes}
 use Rattle.boot_answers.specs.Differences.{IsKnown, digests_in}
 use Rattle.boot_answers.specs.RegisterEvents.{HasGiven, unread_of}
 use Rattle.boot_answers.proofs.differences.first_difference.Given as goal

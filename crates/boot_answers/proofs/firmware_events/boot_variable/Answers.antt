@@ -1,6 +1,6 @@
-use Rattle.event_data.specs.Forms.{IsVariable, variable_of}
+use Rattle.event_data.specs.Names.{IsVariable, variable_of}
 use Rattle.boot_answers.specs.BootVariables.{IsBootVariable}
-use Rattle.boot_log.specs.Spelling.{log_event_of}
+use Rattle.boot_log.specs.Names.{log_event_of}
 use Rattle.boot_answers.proofs.ReadLaws.{none_there}
 use Rattle.boot_answers.proofs.firmware_events.boot_variable.Goals as goal
 

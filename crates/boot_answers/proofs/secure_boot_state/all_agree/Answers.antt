@@ -3,7 +3,7 @@ use Rattle.std.specs.List.{AllByRecursion}
 use Rattle.std.proofs.lemmas.List.{take_all}
 use Rattle.pcr_banks.specs.declared.alg.Alg.{Alg}
 use Rattle.pcr_banks.specs.declared.alg.Alg.TheVariants.{Sha1}
-use Rattle.pcr_banks.specs.Hashing.{all_algs}
+use Rattle.pcr_banks.specs.Names.{all_algs}
 use Rattle.pcr_banks.proofs.AlgLaws.{every_alg, one_more}
 use Rattle.boot_answers.specs.parts.SecureBoot.{Agrees}
 use Rattle.boot_answers.proofs.FailingTestLaws.{not_told}

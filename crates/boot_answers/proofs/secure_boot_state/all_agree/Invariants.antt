@@ -1,9 +1,8 @@
 use Rattle.std.proofs.Common.{List, take}
 use Rattle.std.specs.List.{AllByRecursion}
-use Rattle.pcr_banks.specs.Hashing.{all_algs}
+use Rattle.pcr_banks.specs.Names.{all_algs}
 use Rattle.boot_log.specs.declared.header.DeclaredAlgorithm.{DeclaredAlgorithm}
-use Rattle.boot_log.specs.LogViews.{log_bytes}
-use Rattle.boot_log.specs.Spelling.{IsLog, LogEvent}
+use Rattle.boot_log.specs.Names.{IsLog, LogEvent, log_bytes}
 use Rattle.boot_answers.specs.parts.SecureBoot.{Agrees}
 use Rattle.boot_answers.proofs.secure_boot_state.all_agree.Given as goal
 

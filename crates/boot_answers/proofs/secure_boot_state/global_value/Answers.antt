@@ -1,5 +1,5 @@
 use Rattle.std.proofs.Common.{◌≡◌, true}
-use Rattle.event_data.specs.Forms.{variable_of}
+use Rattle.event_data.specs.Names.{variable_of}
 use Rattle.boot_answers.specs.Variables.{global_guid}
 use Rattle.boot_answers.proofs.VariableLaws.{none_of_other, value_of_same}
 use Rattle.boot_answers.proofs.secure_boot_state.global_value.Goals as goal

@@ -1,4 +1,4 @@
-use Rattle.boot_log.specs.Spelling.{log_event_of}
+use Rattle.boot_log.specs.Names.{log_event_of}
 use Rattle.boot_answers.proofs.SecureBootLaws.{ends_of}
 use Rattle.boot_answers.proofs.secure_boot_state.told_by.Goals as goal
 

@@ -1,5 +1,5 @@
 use Rattle.std.proofs.Common.{[], ◌∷◌, ◌++◌}
-use Rattle.boot_log.specs.Spelling.{log_event_of}
+use Rattle.boot_log.specs.Names.{log_event_of}
 use Rattle.boot_answers.specs.SecureBoot.{IsBefore, policy_register}
 use Rattle.boot_answers.proofs.EventLaws.{added_last}
 use Rattle.boot_answers.proofs.SecureBootLaws.{told_at, told_nowhere}

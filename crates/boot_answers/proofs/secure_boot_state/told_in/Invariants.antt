@@ -1,7 +1,6 @@
 use Rattle.std.proofs.Common.{List, length}
 use Rattle.std.specs.List.{AllByRecursion}
-use Rattle.boot_log.specs.LogViews.{log_bytes}
-use Rattle.boot_log.specs.Spelling.{LogEvent}
+use Rattle.boot_log.specs.Names.{LogEvent, log_bytes}
 use Rattle.boot_answers.specs.RegisterEvents.{HasGiven, unread_of}
 use Rattle.boot_answers.specs.SecureBoot.{IsBefore, policy_register}
 use Rattle.boot_answers.proofs.secure_boot_state.told_in.Given as goal

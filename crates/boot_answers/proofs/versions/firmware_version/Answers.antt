@@ -1,5 +1,5 @@
 use Rattle.std.proofs.Common.{option_map}
-use Rattle.event_data.specs.EventForms.{content_of}
+use Rattle.event_data.specs.Names.{content_of}
 use Rattle.boot_answers.proofs.FailingTestLaws.{not_told}
 use Rattle.boot_answers.proofs.VersionLaws.{told_by_all, told_by_none, told_by_some}
 use Rattle.boot_answers.proofs.versions.firmware_version.Goals as goal

@@ -1,5 +1,5 @@
 use Rattle.std.proofs.Common.{refl}
-use Rattle.event_data.specs.EventForms.{content_of}
+use Rattle.event_data.specs.Names.{content_of}
 use Rattle.boot_answers.proofs.VersionLaws.{any_told}
 use Rattle.boot_answers.proofs.versions.tells_any.Goals as goal
 

@@ -1,6 +1,6 @@
 use Rattle.std.proofs.Common.{[], option_map}
-use Rattle.boot_log.specs.Spelling.{log_event_of}
-use Rattle.event_data.specs.EventForms.{content_of}
+use Rattle.boot_log.specs.Names.{log_event_of}
+use Rattle.event_data.specs.Names.{content_of}
 use Rattle.boot_answers.specs.FirmwareVersion.{firmware_register}
 use Rattle.boot_answers.proofs.VersionLaws.{version_at, version_nowhere}
 use Rattle.boot_answers.proofs.versions.version_in.Goals as goal

@@ -1,5 +1,5 @@
 use Rattle.std.proofs.Common.{List, ℕ, [], ◌∷◌, ◌++◌, ◌≡◌, ◌+◌, ◌-◌, ◌≤◌, ◌<◌, cond, drop, false, get_or, ap, append-nil, arith, sym, ◌∙◌}
-use Rattle.boot_log.specs.Spelling.{LogEvent, log_event_of}
+use Rattle.boot_log.specs.Names.{LogEvent, log_event_of}
 use Rattle.boot_log.proofs.LogLaws.{one_reading}
 use Rattle.boot_texts.specs.Differences.{event_line, lines_from}
 use Rattle.boot_texts.proofs.DifferenceLaws.{count_of, first_mark_is, joined, later_marks, no_lines, other_count, other_lines, own_count, passed_lines, told_lines}

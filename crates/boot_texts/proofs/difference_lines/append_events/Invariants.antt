@@ -1,6 +1,5 @@
 use Rattle.std.proofs.Common.{◌≡◌, ◌++◌, ◌-◌, List, drop, length}
-use Rattle.boot_log.specs.LogViews.{HasBorrowed, log_bytes, unread}
-use Rattle.boot_log.specs.Spelling.{LogEvent}
+use Rattle.boot_log.specs.Names.{HasBorrowed, LogEvent, log_bytes, unread}
 use Rattle.boot_texts.specs.Differences.{lines_from}
 use Rattle.boot_texts.proofs.DifferenceLaws.{count_of}
 use Rattle.boot_texts.proofs.difference_lines.append_events.Given as goal

@@ -1,7 +1,6 @@
 use Rattle.std.proofs.Common.{◌≡◌, ◌++◌, List, length}
 use Rattle.boot_log.specs.declared.header.DeclaredAlgorithm.{DeclaredAlgorithm}
-use Rattle.boot_log.specs.LogViews.{log_bytes}
-use Rattle.boot_log.specs.Spelling.{IsLog, LogEvent}
+use Rattle.boot_log.specs.Names.{IsLog, LogEvent, log_bytes}
 use Rattle.boot_texts.specs.declared.differences.Difference.{Difference}
 use Rattle.boot_texts.specs.Differences.{AreOfRegisters, difference_lines}
 use Rattle.boot_texts.proofs.differences.append_registers.Given as goal

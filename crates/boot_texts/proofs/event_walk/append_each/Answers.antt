@@ -1,5 +1,5 @@
 use Rattle.boot_log.proofs.LogLaws.{one_reading}
-use Rattle.boot_log.specs.Spelling.{log_event_of}
+use Rattle.boot_log.specs.Names.{log_event_of}
 use Rattle.boot_texts.proofs.TellingLaws.{more_told, told_to, told_to_end}
 use Rattle.boot_texts.proofs.event_walk.append_each.Goals as goal
 

@@ -1,5 +1,5 @@
 use Rattle.std.proofs.Common.{length}
-use Rattle.boot_log.specs.LogViews.{log_bytes, unread}
+use Rattle.boot_log.specs.Names.{log_bytes, unread}
 use Rattle.boot_texts.specs.Telling.{IsEventLine}
 use Rattle.boot_texts.proofs.TellingLaws.{HasTold}
 use Rattle.boot_texts.proofs.event_walk.append_each.Given as goal

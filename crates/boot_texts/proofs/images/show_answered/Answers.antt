@@ -1,5 +1,5 @@
 use Rattle.std.proofs.Common.{arith}
-use Rattle.pcr_banks.specs.Hashing.{all_algs}
+use Rattle.pcr_banks.specs.Names.{all_algs}
 use Rattle.cells.specs.Cells.{if_some}
 use Rattle.cells.proofs.CellLaws.{all_shown, no_rows, one_more}
 use Rattle.boot_texts.specs.AnswerCells.{answered_digest, digest_cell}

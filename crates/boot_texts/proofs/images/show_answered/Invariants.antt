@@ -1,5 +1,5 @@
 use Rattle.std.proofs.Common.{take}
-use Rattle.pcr_banks.specs.Hashing.{all_algs}
+use Rattle.pcr_banks.specs.Names.{all_algs}
 use Rattle.cells.specs.Cells.{if_some}
 use Rattle.cells.specs.Values.{member_tokens}
 use Rattle.cells.proofs.CellLaws.{HasEach}

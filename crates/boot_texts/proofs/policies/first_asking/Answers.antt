@@ -1,7 +1,7 @@
 use Rattle.std.proofs.Common.{[], ◌∷◌, ◌++◌, refl, sym, subst, ◌∙◌, arith}
 use Rattle.std.specs.List.{AllByRecursion}
 use Rattle.std.proofs.lemmas.List.{length-append}
-use Rattle.boot_log.specs.Spelling.{log_event_of}
+use Rattle.boot_log.specs.Names.{log_event_of}
 use Rattle.boot_log.proofs.LogLaws.{one_reading}
 use Rattle.boot_answers.proofs.EventLaws.{added_last, other_adds_nothing, own_is_next}
 use Rattle.boot_answers.proofs.FailingTestLaws.{not_told}

@@ -1,7 +1,6 @@
 use Rattle.std.proofs.Common.{List, length}
 use Rattle.std.specs.List.{AllByRecursion}
-use Rattle.boot_log.specs.LogViews.{HasBorrowed, log_bytes, unread}
-use Rattle.boot_log.specs.Spelling.{LogEvent}
+use Rattle.boot_log.specs.Names.{HasBorrowed, LogEvent, log_bytes, unread}
 use Rattle.boot_answers.specs.Extending.{extended_events}
 use Rattle.boot_texts.specs.Policies.{Passes}
 use Rattle.boot_texts.proofs.policies.first_asking.Given as goal

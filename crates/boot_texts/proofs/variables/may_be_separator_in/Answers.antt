@@ -3,9 +3,9 @@ use Rattle.std.specs.List.{AllByRecursion}
 use Rattle.std.proofs.lemmas.List.{take_all}
 use Rattle.pcr_banks.specs.declared.alg.Alg.{Alg}
 use Rattle.pcr_banks.specs.declared.alg.Alg.TheVariants.{Sha1}
-use Rattle.pcr_banks.specs.Hashing.{all_algs}
+use Rattle.pcr_banks.specs.Names.{all_algs}
 use Rattle.pcr_banks.proofs.AlgLaws.{every_alg, one_more}
-use Rattle.boot_log.specs.Spelling.{log_event_of}
+use Rattle.boot_log.specs.Names.{log_event_of}
 use Rattle.boot_answers.proofs.FailingTestLaws.{not_told}
 use Rattle.boot_texts.specs.Telling.{IsSeparatorBy}
 use Rattle.boot_texts.proofs.variables.may_be_separator_in.Goals as goal

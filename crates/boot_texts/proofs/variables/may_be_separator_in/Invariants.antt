@@ -1,7 +1,7 @@
 use Rattle.std.proofs.Common.{take}
 use Rattle.std.specs.List.{AllByRecursion}
-use Rattle.pcr_banks.specs.Hashing.{all_algs}
-use Rattle.boot_log.specs.Spelling.{log_event_of}
+use Rattle.pcr_banks.specs.Names.{all_algs}
+use Rattle.boot_log.specs.Names.{log_event_of}
 use Rattle.boot_texts.specs.Telling.{IsSeparatorBy}
 use Rattle.boot_texts.proofs.variables.may_be_separator_in.Given as goal
 

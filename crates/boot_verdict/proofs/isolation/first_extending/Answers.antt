@@ -1,8 +1,8 @@
 use Rattle.std.proofs.Common.{◌≡◌, ℕ, ◌+◌, length, Some, [], ◌∷◌, ◌++◌, ap, sym, ◌∙◌, arith}
 use Rattle.std.proofs.lemmas.List.{length-append}
-use Rattle.boot_log.specs.Spelling.{log_event_of}
+use Rattle.boot_log.specs.Names.{log_event_of}
 use Rattle.boot_log.proofs.LogLaws.{one_reading}
-use Rattle.boot_verdict.specs.Isolation.{first_extending}
+use Rattle.boot_verdict.specs.Names.{first_extending}
 use Rattle.boot_verdict.proofs.IsolationLaws.{extending_here, extending_never}
 use Rattle.boot_verdict.proofs.isolation.first_extending.Goals as goal
 

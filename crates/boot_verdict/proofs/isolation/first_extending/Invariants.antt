@@ -1,7 +1,6 @@
 use Rattle.std.proofs.Common.{◌≡◌, List, length, None}
-use Rattle.boot_log.specs.LogViews.{HasBorrowed, log_bytes, unread}
-use Rattle.boot_log.specs.Spelling.{LogEvent}
-use Rattle.boot_verdict.specs.Isolation.{first_extending}
+use Rattle.boot_log.specs.Names.{HasBorrowed, LogEvent, log_bytes, unread}
+use Rattle.boot_verdict.specs.Names.{first_extending}
 use Rattle.boot_verdict.proofs.isolation.first_extending.Given as goal
 
 abbrev pub invariant-loop-event : goal.invariant-loop-event

@@ -1,6 +1,5 @@
 use Rattle.std.proofs.Common.{length, ap}
-use Rattle.boot_verdict.specs.Positions.{is_found}
-use Rattle.boot_verdict.specs.Steps.{pcr_at_reset, steps_of}
+use Rattle.boot_verdict.specs.Names.{is_found, pcr_at_reset, steps_of}
 use Rattle.boot_verdict.proofs.PositionLaws.{all_steps, match_found, position_tells}
 use Rattle.boot_verdict.proofs.laws.position_is_where_the_value_is_first.Goals as goal
 

@@ -1,9 +1,7 @@
 use Rattle.std.proofs.Common.{◌∙◌, Ok, List, [], ap, refl, subst, sym, inl, inr}
 use Rattle.std.proofs.lemmas.Result.{err_from_is_err_and}
-use Rattle.ima_list.specs.ListEntry.{ListEntry}
-use Rattle.boot_verdict.specs.ListReplays.{AreTracked}
-use Rattle.boot_verdict.specs.ListVerdicts.{list_verdict_on}
-use Rattle.boot_verdict.specs.Replays.{IsListStart}
+use Rattle.ima_list.specs.Names.{ListEntry}
+use Rattle.boot_verdict.specs.Names.{AreTracked, IsListStart, list_verdict_on}
 use Rattle.boot_verdict.proofs.ListVerdictLaws.{list_verdict_same}
 use Rattle.boot_verdict.proofs.ReplayLaws.{list_not_read, none_listed, same_entries}
 use Rattle.boot_verdict.proofs.list_verifier.verify_list_from.Goals as goal

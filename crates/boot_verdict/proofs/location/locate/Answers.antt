@@ -1,8 +1,8 @@
 use Rattle.std.proofs.Common.{List, Ok, ap, sym, ◌∙◌, inr}
 use Rattle.std.proofs.lemmas.Result.{err_from_is_err_and}
-use Rattle.boot_log.specs.Spelling.{algs_in}
-use Rattle.ima_list.specs.ListEntry.{ListEntry}
-use Rattle.boot_verdict.specs.Positions.{located_on}
+use Rattle.boot_log.specs.Names.{algs_in}
+use Rattle.ima_list.specs.Names.{ListEntry}
+use Rattle.boot_verdict.specs.Names.{located_on}
 use Rattle.boot_verdict.proofs.PositionLaws.{located_all, located_in}
 use Rattle.boot_verdict.proofs.ReplayLaws.{one_list}
 use Rattle.boot_verdict.proofs.VerdictLaws.{log_viewed}

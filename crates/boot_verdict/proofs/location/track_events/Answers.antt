@@ -1,9 +1,9 @@
 use Rattle.std.proofs.Common.{◌≡◌, ℕ, ◌+◌, ◌∷◌, ◌++◌, [], List, length, arith, refl, ap, subst, ◌∙◌}
 use Rattle.std.proofs.lemmas.List.{length-append, length-map}
 use Rattle.boot_log.proofs.LogLaws.{one_reading}
-use Rattle.boot_log.specs.Spelling.{LogEvent, log_event_of}
+use Rattle.boot_log.specs.Names.{LogEvent, log_event_of}
 use Rattle.boot_verdict.specs.declared.steps.Position.TheVariants.{Event}
-use Rattle.boot_verdict.specs.Steps.{Step, OfEvent, events_as_steps}
+use Rattle.boot_verdict.specs.Names.{OfEvent, Step, events_as_steps}
 use Rattle.boot_verdict.proofs.StepLaws.{event_position, events_joined}
 use Rattle.boot_verdict.proofs.location.track_events.Goals as goal
 

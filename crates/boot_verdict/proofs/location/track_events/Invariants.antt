@@ -1,8 +1,7 @@
 use Rattle.std.proofs.Common.{ℕ, List, [], length}
 use Rattle.boot_log.specs.declared.header.DeclaredAlgorithm.{DeclaredAlgorithm}
-use Rattle.boot_log.specs.LogViews.{HasBorrowed, unread}
-use Rattle.boot_log.specs.Spelling.{LogEvent, IsLog}
-use Rattle.boot_verdict.specs.Steps.{events_as_steps}
+use Rattle.boot_log.specs.Names.{HasBorrowed, IsLog, LogEvent, unread}
+use Rattle.boot_verdict.specs.Names.{events_as_steps}
 use Rattle.boot_verdict.proofs.location.track_events.Given as goal
 
 abbrev pub invariant-loop-event : goal.invariant-loop-event

@@ -1,7 +1,7 @@
 use Rattle.std.proofs.Common.{sym, ◌∙◌, rules, tests}
 use Rattle.std.proofs.lemmas.Iterator.{YieldsList-from_slice}
 use Rattle.std.proofs.lemmas.Iterator.Search.{any_from_yields_List}
-use Rattle.boot_verdict.specs.Requirements.{is_of}
+use Rattle.boot_verdict.specs.Names.{is_of}
 use Rattle.boot_verdict.proofs.RequirementLaws.{any_of_map}
 use Rattle.boot_verdict.proofs.requirement.states.Goals as goal
 

@@ -1,7 +1,7 @@
 use Rattle.std.proofs.Common.{Option, option_map, sym, ap, ◌∙◌}
 use Rattle.pcr_banks.specs.declared.digest.Digest.{Digest}
-use Rattle.pcr_banks.specs.Digests.{alg_of, bytes_of}
-use Rattle.boot_verdict.specs.Verdicts.{aggregate_of}
+use Rattle.pcr_banks.specs.Names.{alg_of, bytes_of}
+use Rattle.boot_verdict.specs.Names.{aggregate_of}
 use Rattle.boot_verdict.proofs.VerdictLaws.{aggregate_same}
 use Rattle.boot_verdict.proofs.verifier.aggregate_of.Goals as goal
 

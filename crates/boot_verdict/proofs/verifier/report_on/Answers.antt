@@ -1,6 +1,6 @@
 use Rattle.std.proofs.Common.{ap, ◌∙◌}
-use Rattle.boot_log.specs.Spelling.{algs_in}
-use Rattle.boot_verdict.specs.Verdicts.{aggregate_of}
+use Rattle.boot_log.specs.Names.{algs_in}
+use Rattle.boot_verdict.specs.Names.{aggregate_of}
 use Rattle.boot_verdict.proofs.VerdictLaws.{rows_same}
 use Rattle.boot_verdict.proofs.verifier.report_on.Goals as goal
 

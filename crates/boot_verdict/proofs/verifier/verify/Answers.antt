@@ -1,9 +1,9 @@
 use Rattle.std.proofs.Common.{◌≡◌, ◌∙◌, Ok, Err, List, ap, inl, inr, refl, sym}
 use Rattle.std.proofs.lemmas.Result.{err_from_is_err_and}
-use Rattle.boot_log.specs.Spelling.{algs_in}
-use Rattle.ima_list.specs.ListEntry.{ListEntry}
+use Rattle.boot_log.specs.Names.{algs_in}
+use Rattle.ima_list.specs.Names.{ListEntry}
 use Rattle.boot_verdict.specs.declared.verifier.VerifyFault.TheVariants.{Memory}
-use Rattle.boot_verdict.specs.Verdicts.{verdict_on}
+use Rattle.boot_verdict.specs.Names.{verdict_on}
 use Rattle.boot_verdict.proofs.ReplayLaws.{one_list}
 use Rattle.boot_verdict.proofs.VerdictLaws.{log_viewed, verdict_by}
 use Rattle.boot_verdict.proofs.VerdictLaws.{log_first, log_not_memory}

@@ -1,8 +1,8 @@
 use Rattle.std.proofs.Common.{◌∙◌, Ok, List, [], ap, inl, inr, refl, sym}
 use Rattle.std.proofs.lemmas.Result.{err_from_is_err_and}
-use Rattle.boot_log.specs.Spelling.{algs_in}
-use Rattle.ima_list.specs.ListEntry.{ListEntry}
-use Rattle.boot_verdict.specs.Verdicts.{verdict_on}
+use Rattle.boot_log.specs.Names.{algs_in}
+use Rattle.ima_list.specs.Names.{ListEntry}
+use Rattle.boot_verdict.specs.Names.{verdict_on}
 use Rattle.boot_verdict.proofs.ReplayLaws.{list_not_read, same_entries}
 use Rattle.boot_verdict.proofs.VerdictLaws.{log_viewed, refused_from, verdict_by}
 use Rattle.boot_verdict.proofs.VerdictLaws.{log_first_from, log_not_memory}

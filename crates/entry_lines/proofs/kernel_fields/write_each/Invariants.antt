@@ -1,5 +1,5 @@
 use Rattle.std.proofs.Common.{◌≡◌, ◌++◌, length}
-use Rattle.ima_list.specs.KernelFields.{fields_left, left_of}
+use Rattle.ima_list.specs.Names.{fields_left, left_of}
 use Rattle.entry_lines.specs.KernelFieldJson.{fields_members}
 use Rattle.cells.specs.Writing.{members_written}
 use Rattle.entry_lines.proofs.kernel_fields.write_each.Given as goal

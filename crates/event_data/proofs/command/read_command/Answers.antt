@@ -1,5 +1,5 @@
 use Rattle.std.proofs.Common.{rules, ◌∙◌}
-use Rattle.event_data.specs.Forms.{command_of}
+use Rattle.event_data.specs.Names.{command_of}
 use Rattle.event_data.proofs.CommandLaws.{command_finds}
 use Rattle.event_data.proofs.Finding.{view_is}
 use Rattle.event_data.proofs.command.read_command.Goals as goal

@@ -1,6 +1,6 @@
 use Rattle.std.proofs.Common.{arith, rules, subst, sym}
 use Rattle.byte_fields.proofs.Steps.{IsBytes}
-use Rattle.event_data.specs.EventForms.{Content, Says}
+use Rattle.event_data.specs.Names.{Content, Says}
 use Rattle.event_data.proofs.ContentLaws.{says_found}
 use Rattle.event_data.proofs.content.event_content.Goals as goal
 

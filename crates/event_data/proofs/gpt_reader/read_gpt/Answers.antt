@@ -1,6 +1,6 @@
 use Rattle.std.proofs.Common.{arith, rules, ◌∙◌}
 use Rattle.byte_fields.proofs.Steps.{IsBytes}
-use Rattle.event_data.specs.Gpts.{gpt_of}
+use Rattle.event_data.specs.Names.{gpt_of}
 use Rattle.event_data.proofs.Finding.{view_is}
 use Rattle.event_data.proofs.GptLaws.{gpt_finds, gpt_only}
 use Rattle.event_data.proofs.gpt_reader.read_gpt.Goals as goal

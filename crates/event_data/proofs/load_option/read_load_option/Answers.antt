@@ -1,6 +1,6 @@
 use Rattle.std.proofs.Common.{ap, arith, sym, ◌∙◌}
 use Rattle.byte_fields.proofs.Steps.{IsBytes}
-use Rattle.event_data.specs.ValueViews.{load_option_of}
+use Rattle.event_data.specs.Names.{load_option_of}
 use Rattle.event_data.proofs.ValueLaws.{option_with_rest, load_option_takes, load_option_again}
 use Rattle.event_data.proofs.load_option.read_load_option.Goals as goal
 

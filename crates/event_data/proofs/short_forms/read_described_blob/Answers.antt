@@ -1,6 +1,6 @@
 use Rattle.std.proofs.Common.{arith, rules, ◌∙◌, sym}
 use Rattle.byte_fields.proofs.Steps.{IsBytes}
-use Rattle.event_data.specs.Blobs.{blob_of}
+use Rattle.event_data.specs.Names.{blob_of}
 use Rattle.event_data.proofs.BlobLaws.{described_blob_finds}
 use Rattle.event_data.proofs.short_forms.read_described_blob.Goals as goal
 

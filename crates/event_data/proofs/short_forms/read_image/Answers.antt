@@ -1,6 +1,6 @@
 use Rattle.std.proofs.Common.{arith, rules, ◌∙◌, sym}
 use Rattle.byte_fields.proofs.Steps.{IsBytes}
-use Rattle.event_data.specs.Forms.{image_of}
+use Rattle.event_data.specs.Names.{image_of}
 use Rattle.event_data.proofs.FormLaws.{image_finds}
 use Rattle.event_data.proofs.short_forms.read_image.Goals as goal
 

@@ -1,6 +1,6 @@
 use Rattle.std.proofs.Common.{arith, rules, ◌∙◌, sym}
 use Rattle.byte_fields.proofs.Steps.{IsBytes}
-use Rattle.event_data.specs.Blobs.{tagged_of}
+use Rattle.event_data.specs.Names.{tagged_of}
 use Rattle.event_data.proofs.BlobLaws.{tagged_finds}
 use Rattle.event_data.proofs.short_forms.read_tagged.Goals as goal
 

@@ -3,7 +3,7 @@ use Rattle.std.proofs.lemmas.Bool.Decides.{Decides-eqb}
 use Rattle.std.proofs.lemmas.Slice.Eq.{strip_prefix_is}
 use Rattle.event_data.proofs.AffixLaws.{if_absent, if_found, after_finds}
 use Rattle.event_data.proofs.Finding.{same_finds}
-use Rattle.event_data.specs.Results.{after_in}
+use Rattle.event_data.specs.Names.{after_in}
 use Rattle.event_data.proofs.text.after_prefix.Goals as goal
 
 pub returns-clause-found : goal.returns-clause-found

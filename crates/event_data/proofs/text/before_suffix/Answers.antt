@@ -3,7 +3,7 @@ use Rattle.std.proofs.lemmas.Bool.Decides.{Decides-eqb}
 use Rattle.std.proofs.lemmas.Slice.Eq.{strip_suffix_is}
 use Rattle.event_data.proofs.AffixLaws.{if_absent, if_found, before_finds}
 use Rattle.event_data.proofs.Finding.{same_finds}
-use Rattle.event_data.specs.Results.{before_in}
+use Rattle.event_data.specs.Names.{before_in}
 use Rattle.event_data.proofs.text.before_suffix.Goals as goal
 
 pub returns-clause-found : goal.returns-clause-found

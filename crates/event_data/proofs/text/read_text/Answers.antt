@@ -1,5 +1,5 @@
 use Rattle.std.proofs.Common.{rules, ◌≡◌, ◌∙◌, sym, true}
-use Rattle.event_data.specs.Forms.{has_no_nul}
+use Rattle.event_data.specs.Names.{has_no_nul}
 use Rattle.event_data.proofs.TextLaws.{text_finds, read_ok, read_err}
 use Rattle.event_data.proofs.text.read_text.Goals as goal
 

@@ -1,6 +1,5 @@
 use Rattle.std.proofs.Common.{◌≡◌, length}
-use Rattle.event_data.specs.ValueReading.{lists_in}
-use Rattle.event_data.specs.ValueRests.{lists_left}
+use Rattle.event_data.specs.Names.{lists_in, lists_left}
 use Rattle.event_data.proofs.value_reader.are_lists.Given as goal
 
 abbrev pub invariant-loop : goal.invariant-loop

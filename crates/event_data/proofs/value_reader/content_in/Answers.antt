@@ -1,7 +1,7 @@
 use Rattle.std.proofs.Common.{arith}
 use Rattle.byte_fields.proofs.Steps.{IsBytes}
 use Rattle.event_data.specs.declared.value_reader.ValueForm.TheVariants as forms
-use Rattle.event_data.specs.ValueContents.{says_of}
+use Rattle.event_data.specs.Names.{says_of}
 use Rattle.event_data.proofs.SaysLaws.{says_as}
 use Rattle.event_data.proofs.value_reader.content_in.Goals as goal
 

@@ -1,6 +1,6 @@
 use Rattle.std.proofs.Common.{arith}
 use Rattle.byte_fields.proofs.Steps.{IsBytes}
-use Rattle.event_data.specs.ValueRests.{numbers_left}
+use Rattle.event_data.specs.Names.{numbers_left}
 use Rattle.event_data.proofs.SaysLaws.{odd_order, even_order}
 use Rattle.event_data.proofs.value_reader.order_content.Goals as goal
 

@@ -1,6 +1,6 @@
 use Rattle.std.proofs.Common.{arith, rules, ◌∙◌, sym}
 use Rattle.byte_fields.proofs.Steps.{IsBytes}
-use Rattle.event_data.specs.Forms.{variable_of}
+use Rattle.event_data.specs.Names.{variable_of}
 use Rattle.event_data.proofs.FormLaws.{variable_finds}
 use Rattle.event_data.proofs.value_reader.read_variable.Goals as goal
 

@@ -1,5 +1,5 @@
 use Rattle.std.proofs.Common.{List, ap, map}
-use Rattle.event_data.specs.GptForms.{PartitionData}
+use Rattle.event_data.specs.Names.{PartitionData}
 use Rattle.event_lines.specs.ContentJson.{partition_json}
 use Rattle.cells.proofs.WrittenLaws.{none_left, one_item, some_written}
 use Rattle.event_lines.proofs.contents.write_partitions.Goals as goal

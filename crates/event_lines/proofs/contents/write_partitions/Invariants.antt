@@ -1,5 +1,5 @@
 use Rattle.std.proofs.Common.{length, map}
-use Rattle.event_data.specs.Gpts.{gpt_of, partitions_left}
+use Rattle.event_data.specs.Names.{gpt_of, partitions_left}
 use Rattle.event_lines.specs.ContentJson.{partition_json}
 use Rattle.cells.proofs.WrittenLaws.{HasLeft}
 use Rattle.event_lines.proofs.contents.write_partitions.Given as goal

@@ -1,6 +1,6 @@
 use Rattle.std.proofs.Common.{arith}
-use Rattle.pcr_banks.specs.Hashing.{all_algs}
-use Rattle.boot_log.specs.Spelling.{log_event_of}
+use Rattle.pcr_banks.specs.Names.{all_algs}
+use Rattle.boot_log.specs.Names.{log_event_of}
 use Rattle.measured_data.specs.Measuring.{measured_part}
 use Rattle.cells.proofs.CellLaws.{all_shown, no_rows, one_more}
 use Rattle.event_lines.specs.EventCells.{part_cell}

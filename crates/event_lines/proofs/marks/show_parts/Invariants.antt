@@ -1,6 +1,6 @@
 use Rattle.std.proofs.Common.{take}
-use Rattle.pcr_banks.specs.Hashing.{all_algs}
-use Rattle.boot_log.specs.Spelling.{log_event_of}
+use Rattle.pcr_banks.specs.Names.{all_algs}
+use Rattle.boot_log.specs.Names.{log_event_of}
 use Rattle.measured_data.specs.Measuring.{measured_part}
 use Rattle.cells.specs.Values.{member_tokens}
 use Rattle.cells.proofs.CellLaws.{HasEach}

@@ -1,5 +1,5 @@
 use Rattle.std.proofs.Common.{ℕ, List, ap, map}
-use Rattle.event_data.specs.ValueForms.{ListData}
+use Rattle.event_data.specs.Names.{ListData}
 use Rattle.event_lines.specs.ValueJson.{list_json}
 use Rattle.cells.proofs.WrittenLaws.{none_left, one_item, some_written}
 use Rattle.event_lines.proofs.values.write_each_list.Goals as goal

@@ -1,6 +1,5 @@
 use Rattle.std.proofs.Common.{length, map}
-use Rattle.event_data.specs.ValueReading.{lists_in}
-use Rattle.event_data.specs.ValueRests.{lists_left}
+use Rattle.event_data.specs.Names.{lists_in, lists_left}
 use Rattle.event_lines.specs.ValueJson.{list_json}
 use Rattle.cells.proofs.WrittenLaws.{HasLeft}
 use Rattle.event_lines.proofs.values.write_each_list.Given as goal

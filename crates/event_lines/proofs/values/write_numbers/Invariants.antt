@@ -1,6 +1,5 @@
 use Rattle.std.proofs.Common.{length, map}
-use Rattle.event_data.specs.ValueReading.{numbers_in}
-use Rattle.event_data.specs.ValueRests.{numbers_left}
+use Rattle.event_data.specs.Names.{numbers_in, numbers_left}
 use Rattle.event_lines.specs.ValueJson.{option_number_json}
 use Rattle.cells.proofs.WrittenLaws.{HasLeft}
 use Rattle.event_lines.proofs.values.write_numbers.Given as goal

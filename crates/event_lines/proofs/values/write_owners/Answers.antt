@@ -1,5 +1,5 @@
 use Rattle.std.proofs.Common.{ℕ, List, ap}
-use Rattle.event_data.specs.ValueForms.{SignatureData}
+use Rattle.event_data.specs.Names.{SignatureData}
 use Rattle.event_lines.specs.ValueJson.{owners_after}
 use Rattle.cells.proofs.WrittenLaws.{none_left, some_written}
 use Rattle.event_lines.proofs.values.write_owners.Goals as goal

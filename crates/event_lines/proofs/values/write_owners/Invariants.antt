@@ -1,7 +1,5 @@
 use Rattle.std.proofs.Common.{[], length}
-use Rattle.event_data.specs.ValueReading.{signatures_in, signatures_of}
-use Rattle.event_data.specs.ValueRests.{signatures_left, size_of}
-use Rattle.event_data.specs.ValueViews.{list_of}
+use Rattle.event_data.specs.Names.{list_of, signatures_in, signatures_left, signatures_of, size_of}
 use Rattle.event_lines.specs.ValueJson.{owners_after}
 use Rattle.cells.proofs.WrittenLaws.{HasLeft}
 use Rattle.event_lines.proofs.values.write_owners.Given as goal

@@ -1,7 +1,7 @@
 use Rattle.std.proofs.Common.{◌≡◌, ◌++◌, take}
 use Rattle.std.specs.Prelude.{codes, flat_map}
 use Rattle.std.specs.String.{string_bytes}
-use Rattle.event_data.specs.PathNodes.{node_of}
+use Rattle.event_data.specs.Names.{node_of}
 use Rattle.event_texts.specs.NodeFields.{field_text}
 use Rattle.event_texts.proofs.node_row.push_fields.Given as goal
 

@@ -1,9 +1,6 @@
 use Rattle.std.proofs.Common.{rules, List, [], ℕ, ap, sym, ◌∙◌}
 use Rattle.std.specs.String.{string_bytes}
-use Rattle.event_data.specs.Forms.{NodeData}
-use Rattle.event_data.specs.Reading.{nodes_in}
-use Rattle.event_data.specs.Paths.{left_of}
-use Rattle.event_data.specs.PathNodes.{node_of}
+use Rattle.event_data.specs.Names.{NodeData, left_of, node_of, nodes_in}
 use Rattle.event_texts.specs.PathTexts.{nodes_text}
 use Rattle.event_texts.proofs.PathLaws.{told_more}
 use Rattle.event_texts.proofs.paths.path_text.Goals as goal

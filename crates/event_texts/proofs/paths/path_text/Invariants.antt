@@ -2,8 +2,7 @@ use Rattle.std.proofs.Common.{◌≡◌, ◌++◌, [], length}
 use Rattle.std.specs.String.{string_bytes}
 use denote.Shadow.{shadow}
 use denote.Text.{Utf8}
-use Rattle.event_data.specs.Reading.{nodes_in}
-use Rattle.event_data.specs.Paths.{left_of}
+use Rattle.event_data.specs.Names.{left_of, nodes_in}
 use Rattle.event_texts.specs.PathTexts.{nodes_text}
 use Rattle.event_texts.proofs.paths.path_text.Given as goal
 

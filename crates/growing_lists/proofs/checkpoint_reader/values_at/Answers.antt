@@ -1,5 +1,5 @@
 use Rattle.std.proofs.Common.{arith, subst, ℕ, ◌≡◌, ◌<◌}
-use Rattle.pcr_banks.specs.Registers.{register_count}
+use Rattle.pcr_banks.specs.Names.{register_count}
 use Rattle.growing_lists.proofs.CheckpointLaws.{AreTaken, all_taken, none_taken, not_ended, takes_more}
 use Rattle.growing_lists.proofs.checkpoint_reader.values_at.Goals as goal
 

@@ -1,7 +1,7 @@
 use Rattle.std.proofs.Common.{List, Err, arith, ap, subst, ◌∙◌}
 use Rattle.std.proofs.lemmas.Result.{err_from_is_err_and}
-use Rattle.ima_list.specs.ListEntry.{ListEntry}
-use Rattle.boot_verdict.specs.ListReplays.{AreTracked}
+use Rattle.ima_list.specs.Names.{ListEntry}
+use Rattle.boot_verdict.specs.Names.{AreTracked}
 use Rattle.boot_verdict.proofs.ReplayLaws.{one_list}
 use Rattle.growing_lists.specs.parts.Confirming.{search_before}
 use Rattle.growing_lists.proofs.PrefixLaws.{searches_part, searches_whole, watches_part, watches_whole}

@@ -1,5 +1,5 @@
 use Rattle.std.proofs.lemmas.List.{length-map}
-use Rattle.hash_workers.specs.Jobs.{operation_of}
+use Rattle.hash_workers.specs.Names.{operation_of}
 use Rattle.hash_workers.proofs.batch.measure_files.Goals as goal
 
 pub returns-in-Ok-clause-batch : goal.returns-in-Ok-clause-batch

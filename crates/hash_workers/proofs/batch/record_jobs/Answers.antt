@@ -1,5 +1,5 @@
 use Rattle.std.proofs.Common.{arith}
-use Rattle.hash_workers.specs.Faults.{IsNumberOfWorkers}
+use Rattle.hash_workers.specs.Names.{IsNumberOfWorkers}
 use Rattle.hash_workers.proofs.FaultLaws.{opening_fault}
 use Rattle.hash_workers.proofs.SettlingLaws.{settled_reason, settled_fault, settled_job, settled_number}
 use Rattle.hash_workers.proofs.batch.record_jobs.Goals as goal

@@ -2,8 +2,7 @@ use Rattle.std.proofs.Common.{refl, sym, inl, ◌∙◌, arith}
 use Rattle.std.proofs.lemmas.Bool.{true≢false}
 use Rattle.std.proofs.lemmas.List.{length-map}
 use Rattle.measure_book.specs.declared.gathers.GatherFault.TheVariants.{ForeignBook}
-use Rattle.hash_workers.specs.parts.Scattering.{items_of}
-use Rattle.hash_workers.specs.parts.Settling.{takings_of}
+use Rattle.hash_workers.specs.Names.{items_of, takings_of}
 use Rattle.hash_workers.proofs.BatchLaws.{batch_of}
 use Rattle.hash_workers.proofs.TakingLaws.{take_each}
 use Rattle.hash_workers.proofs.batch.settle.Goals as goal

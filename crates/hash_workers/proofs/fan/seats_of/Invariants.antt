@@ -1,7 +1,6 @@
 use Rattle.std.proofs.Common.{◌≡◌, ◌+◌, [], false, vec_len}
 use Rattle.std.specs.List.{All}
-use Rattle.hash_workers.specs.Claims.{IsSeat}
-use Rattle.hash_workers.specs.parts.Seats.{IsNewSeat}
+use Rattle.hash_workers.specs.Names.{IsNewSeat, IsSeat}
 use Rattle.hash_workers.proofs.fan.seats_of.Given as goal
 
 abbrev pub invariant-loop-rest : goal.invariant-loop-rest

@@ -1,7 +1,7 @@
 use Rattle.std.proofs.Common.{◌≡◌, ◌≤◌, ℕ, length, vec_len, Some}
 use Rattle.std.specs.Prelude.{slice_get}
 use Rattle.measure_book.specs.declared.op.Outcome.{Outcome}
-use Rattle.hash_workers.specs.parts.Scattering.{AreKept, ArePlaced}
+use Rattle.hash_workers.specs.Names.{AreKept, ArePlaced}
 use Rattle.hash_workers.proofs.scatter.place.Given as goal
 
 abbrev pub invariant-loop-outcome : goal.invariant-loop-outcome

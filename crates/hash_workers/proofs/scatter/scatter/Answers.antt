@@ -1,6 +1,6 @@
 use Rattle.std.proofs.Common.{◌≡◌, ◌+◌, length, map, vec_len, Some, ◌∙◌, ap, arith}
 use Rattle.std.specs.Prelude.{slice_get}
-use Rattle.hash_workers.specs.parts.Scattering.{items_of}
+use Rattle.hash_workers.specs.Names.{items_of}
 use Rattle.hash_workers.proofs.ListLaws.{at_map}
 use Rattle.hash_workers.proofs.ScatterLaws.{items_here, below_of, rise_of, prefix_less, prefix_last, scattered_more}
 use Rattle.hash_workers.proofs.TakingLaws.{take_each}

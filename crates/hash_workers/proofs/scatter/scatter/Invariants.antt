@@ -2,7 +2,7 @@ use Rattle.std.proofs.Common.{◌≡◌, ◌≤◌, ℕ, length, map, vec_len, S
 use Rattle.std.specs.Prelude.{slice_get, Vec}
 use Rattle.std.specs.declared.alloc.Global.{Global}
 use Rattle.measure_book.specs.declared.op.Outcome.{Outcome}
-use Rattle.hash_workers.specs.parts.Scattering.{AreScattered, items_of}
+use Rattle.hash_workers.specs.Names.{AreScattered, items_of}
 use Rattle.hash_workers.proofs.scatter.scatter.Given as goal
 
 abbrev pub invariant-loop-group : goal.invariant-loop-group

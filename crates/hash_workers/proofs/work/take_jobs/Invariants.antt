@@ -1,11 +1,8 @@
 use Rattle.std.proofs.Common.{◌≡◌, ◌-◌, false, length, map}
 use Rattle.std.specs.Prelude.{IfSome}
-use Rattle.measure_book.specs.Operations.{book_outcome_of}
+use Rattle.measure_book.specs.Names.{book_outcome_of}
 use Rattle.hash_workers.specs.declared.work.End.TheVariants.{NoneLeft}
-use Rattle.hash_workers.specs.Claims.{IsSeat}
-use Rattle.hash_workers.specs.parts.Taking.{NumbersRise}
-use Rattle.hash_workers.specs.parts.Working.{IsWorked}
-use Rattle.hash_workers.specs.parts.Ending.{AreHad, AreMadeUnlessMemory, IsTakenUnmade, TellsAll}
+use Rattle.hash_workers.specs.Names.{AreHad, AreMadeUnlessMemory, IsSeat, IsTakenUnmade, IsWorked, NumbersRise, TellsAll}
 use Rattle.hash_workers.proofs.work.take_jobs.Given as goal
 
 abbrev pub invariant-loop-number : goal.invariant-loop-number

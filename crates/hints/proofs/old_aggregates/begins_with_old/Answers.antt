@@ -1,5 +1,5 @@
 use Rattle.std.proofs.Common.{[], ap, refl, ◌∙◌}
-use Rattle.pcr_banks.specs.Registers.{value_at}
+use Rattle.pcr_banks.specs.Names.{value_at}
 use Rattle.hints.specs.OldAggregates.{is_old}
 use Rattle.hints.proofs.OldLaws.{begins_here, decided_complete, decided_faulty, decided_first}
 use Rattle.hints.proofs.old_aggregates.begins_with_old.Goals as goal

@@ -1,8 +1,6 @@
 use Rattle.std.proofs.Common.{ap, arith, sym, ◌∙◌}
 use Rattle.std.specs.Prelude.{option_map}
-use Rattle.pcr_banks.specs.Digests.{digest_of}
-use Rattle.pcr_banks.specs.Hashing.{hash_of}
-use Rattle.pcr_banks.specs.Registers.{bank_of}
+use Rattle.pcr_banks.specs.Names.{bank_of, digest_of, hash_of}
 use Rattle.ima_list.proofs.AggregateLaws.{joined_at_first, joined_next}
 use Rattle.hints.proofs.OldLaws.{not_active}
 use Rattle.hints.proofs.old_aggregates.old_aggregate.Goals as goal

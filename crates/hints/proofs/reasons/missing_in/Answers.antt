@@ -2,7 +2,7 @@ use Rattle.std.proofs.Common.{refl, rules, tests, sym, map, ◌∙◌}
 use Rattle.std.proofs.lemmas.Iterator.{YieldsList-from_range}
 use Rattle.std.proofs.lemmas.Iterator.Adapters.{option_map_id}
 use Rattle.std.proofs.lemmas.Iterator.Search.{find_from_yields_List}
-use Rattle.boot_verdict.specs.Requirements.{is_missing}
+use Rattle.boot_verdict.specs.Names.{is_missing}
 use Rattle.tpm_quotes.specs.Spelling.{all_registers}
 use Rattle.hints.proofs.reasons.missing_in.Goals as goal
 

@@ -1,5 +1,5 @@
 use Rattle.std.proofs.Common.{List, ℕ, subst, sym}
-use Rattle.boot_log.specs.Spelling.{IsLog}
+use Rattle.boot_log.specs.Names.{IsLog}
 use Rattle.ima_agent.proofs.boot.append_compared.Goals as goal
 
 pub returns-clause-lines : goal.returns-clause-lines

@@ -1,7 +1,7 @@
 use Rattle.std.proofs.Common.{Bor, List, ℕ, Option, Vec, Global, ap, inl, inr, refl, subst, sym, ◌++◌, ◌∙◌}
 use Rattle.std.specs.Prelude.{option_map}
 use Rattle.std.proofs.lemmas.Result.{err_from_is_err_and}
-use Rattle.boot_log.specs.Spelling.{IsLog}
+use Rattle.boot_log.specs.Names.{IsLog}
 use Rattle.measured_data.specs.declared.confirmed.Pcr.{Pcr}
 use Rattle.ima_agent.proofs.BootLaws.{not_told}
 use Rattle.ima_agent.proofs.boot.boot_output.Goals as goal

@@ -1,5 +1,5 @@
 use Rattle.std.proofs.Common.{List, ℕ, [], refl, sym, subst, inl, inr}
-use Rattle.boot_log.specs.Spelling.{IsLog}
+use Rattle.boot_log.specs.Names.{IsLog}
 use Rattle.byte_streams.proofs.SinkLaws.{Sends-none}
 use Rattle.event_lines.specs.EventTexts.{events_text}
 use Rattle.ima_agent.proofs.OutcomeLaws.{text_sent}

@@ -1,5 +1,5 @@
 use Rattle.std.proofs.Common.{◌≡◌, take}
-use Rattle.pcr_banks.specs.Registers.{value_at}
+use Rattle.pcr_banks.specs.Names.{value_at}
 use Rattle.ima_agent.specs.Matching.{matched_among}
 use Rattle.ima_agent.proofs.matches.matched_among.Given as goal
 

@@ -1,5 +1,5 @@
 use Rattle.std.proofs.Common.{◌∙◌, ap}
-use Rattle.boot_log.specs.Spelling.{algs_in}
+use Rattle.boot_log.specs.Names.{algs_in}
 use Rattle.ima_agent.specs.Matching.{Values, matched_among}
 use Rattle.ima_agent.proofs.MatchingLaws.{firmware_values, matched_are}
 use Rattle.ima_agent.proofs.matches.matched_places.Goals as goal

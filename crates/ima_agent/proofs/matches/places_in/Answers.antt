@@ -1,6 +1,6 @@
 use Rattle.std.proofs.Common.{List, ℕ, inr, refl, subst, sym}
 use Rattle.std.proofs.lemmas.Result.{err_from_is_err_and}
-use Rattle.boot_log.specs.Spelling.{IsLog}
+use Rattle.boot_log.specs.Names.{IsLog}
 use Rattle.ima_agent.proofs.matches.places_in.Goals as goal
 
 pub returns-clause-matched : goal.returns-clause-matched

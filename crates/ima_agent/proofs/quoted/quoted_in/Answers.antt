@@ -1,6 +1,6 @@
 use Rattle.std.proofs.Common.{inl, inr, refl, subst}
 use Rattle.std.proofs.lemmas.Result.{err_from_is_err_and}
-use Rattle.boot_verdict.specs.Verdicts.{ReadsAsLog}
+use Rattle.boot_verdict.specs.Names.{ReadsAsLog}
 use Rattle.judging.proofs.LogLaws.{log_attested}
 use Rattle.judging.specs.Answering.{IsAttestation, IsNoAttestation}
 use Rattle.judging.specs.Inputs.{BytesOf}

@@ -1,6 +1,6 @@
 use Rattle.std.proofs.Common.{ap, sym, ◌∙◌}
 use Rattle.std.specs.Prelude.{option_map}
-use Rattle.pcr_banks.specs.Digests.{digest_of}
+use Rattle.pcr_banks.specs.Names.{digest_of}
 use Rattle.ima_list.proofs.AggregateLaws.{joined_at_first, joined_next, lacks_none}
 use Rattle.ima_list.proofs.aggregate.boot_aggregate.Goals as goal
 

@@ -1,6 +1,6 @@
 use Rattle.std.proofs.Common.{◌≡◌, ◌∙◌, ap, subst, sym, true}
-use Rattle.boot_log.specs.Spelling.{algs_in}
-use Rattle.boot_verdict.specs.Verdicts.{pcr_after_log_and_list}
+use Rattle.boot_log.specs.Names.{algs_in}
+use Rattle.boot_verdict.specs.Names.{pcr_after_log_and_list}
 use Rattle.tpm_quotes.specs.Quoting.{confirms}
 use Rattle.tpm_quotes.specs.Spelling.{TpmQuote}
 use Rattle.attestations.specs.Judging.{Attestation}

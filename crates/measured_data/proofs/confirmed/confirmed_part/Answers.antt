@@ -1,4 +1,4 @@
-use Rattle.boot_log.specs.Spelling.{log_event_of}
+use Rattle.boot_log.specs.Names.{log_event_of}
 use Rattle.measured_data.specs.Confirming.{IsConfirmed}
 use Rattle.measured_data.proofs.PartLaws.{no_part}
 use Rattle.measured_data.proofs.confirmed.confirmed_part.Goals as goal

@@ -1,6 +1,6 @@
 use Rattle.std.proofs.Common.{false, ◌∙◌}
 use Rattle.std.proofs.lemmas.Bool.Decides.{Decides-at}
-use Rattle.boot_log.specs.Spelling.{log_event_of}
+use Rattle.boot_log.specs.Names.{log_event_of}
 use Rattle.measured_data.specs.Confirming.{is_confirmed}
 use Rattle.measured_data.proofs.ConfirmedLaws.{confirmed_bytes, confirmed_none, confirmed_told}
 use Rattle.measured_data.proofs.confirmed.is_confirmed.Goals as goal

@@ -1,7 +1,7 @@
 use Rattle.std.proofs.Common.{List, ℕ, Option, false, ap, ◌∙◌}
 use Rattle.std.specs.Option.{option_map_or}
 use Rattle.std.proofs.lemmas.Bool.Decides.{Decides-at}
-use Rattle.boot_log.specs.Spelling.{log_event_of}
+use Rattle.boot_log.specs.Names.{log_event_of}
 use Rattle.measured_data.specs.Measuring.{has_digest_of, is_measured}
 use Rattle.measured_data.proofs.MeasuredLaws.{measured_told}
 use Rattle.measured_data.proofs.measured.is_measured.Goals as goal

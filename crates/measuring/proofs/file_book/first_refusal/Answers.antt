@@ -1,7 +1,7 @@
 use Rattle.std.proofs.Common.{length, refl, arith}
 use Rattle.std.proofs.lemmas.List.{length-map}
 use Rattle.std.proofs.lemmas.Option.{slice_get_read}
-use Rattle.measure_book.specs.Operations.{book_outcome_of}
+use Rattle.measure_book.specs.Names.{book_outcome_of}
 use Rattle.measuring.proofs.MeasuringLaws.{one_more_done}
 use Rattle.measuring.proofs.file_book.first_refusal.Goals as goal
 

@@ -1,5 +1,5 @@
 use Rattle.std.proofs.Common.{map}
-use Rattle.measure_book.specs.Operations.{book_outcome_of}
+use Rattle.measure_book.specs.Names.{book_outcome_of}
 use Rattle.measuring.specs.Measuring.{AreDone}
 use Rattle.measuring.proofs.file_book.first_refusal.Given as goal
 

@@ -1,5 +1,5 @@
 use Rattle.std.proofs.Common.{◌≡◌, ℕ, ◌<◌, Some, length, slice_get}
-use Rattle.pcr_banks.specs.Registers.{register_count, reset_bytes}
+use Rattle.pcr_banks.specs.Names.{register_count, reset_bytes}
 use Rattle.pcr_banks.proofs.banks.reset_registers.Given as goal
 
 -- The registers below the index are set.

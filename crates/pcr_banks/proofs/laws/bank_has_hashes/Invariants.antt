@@ -1,8 +1,7 @@
 use Rattle.std.proofs.Common.{◌≡◌, ℕ, ◌<◌, length}
 use Rattle.std.specs.Prelude.{IsTrue, IsSome, IfSome}
 use Rattle.hex.specs.Hex.{IsBytes}
-use Rattle.pcr_banks.specs.Hashing.{size_of}
-use Rattle.pcr_banks.specs.Registers.{is_active, value_at}
+use Rattle.pcr_banks.specs.Names.{is_active, size_of, value_at}
 use Rattle.pcr_banks.proofs.laws.bank_has_hashes.Given as goal
 
 -- The registers below the index are looked at.

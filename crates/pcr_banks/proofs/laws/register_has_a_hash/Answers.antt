@@ -1,4 +1,4 @@
-use Rattle.pcr_banks.specs.Registers.{value_at}
+use Rattle.pcr_banks.specs.Names.{value_at}
 use Rattle.pcr_banks.proofs.BankLaws.{read_hash}
 use Rattle.pcr_banks.proofs.laws.register_has_a_hash.Goals as goal
 

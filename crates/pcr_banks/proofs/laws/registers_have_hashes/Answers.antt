@@ -2,8 +2,7 @@ use Rattle.std.proofs.Common.{◌≡◌, ℕ, ◌<◌, length}
 use Rattle.std.specs.Prelude.{IsTrue, IsSome, IfSome}
 use Rattle.hex.specs.Hex.{IsBytes}
 use Rattle.pcr_banks.specs.declared.alg.Alg.{Alg}
-use Rattle.pcr_banks.specs.Hashing.{size_of}
-use Rattle.pcr_banks.specs.Registers.{is_active, register_count, value_at}
+use Rattle.pcr_banks.specs.Names.{is_active, register_count, size_of, value_at}
 use Rattle.pcr_banks.proofs.AlgLaws.{every_alg}
 use Rattle.pcr_banks.proofs.laws.registers_have_hashes.Goals as goal
 

@@ -1,4 +1,4 @@
-use Rattle.pcr_values.specs.Selections.{names}
+use Rattle.pcr_values.specs.Names.{names}
 use Rattle.pcr_values.proofs.WrittenLaws.{all_read_back, those_read_back}
 use Rattle.pcr_values.proofs.laws.expected_lines_read_back.Goals as goal
 

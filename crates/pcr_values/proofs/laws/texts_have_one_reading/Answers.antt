@@ -1,4 +1,4 @@
-use Rattle.pcr_values.specs.ExpectedTexts.{Spells}
+use Rattle.pcr_values.specs.Names.{Spells}
 use Rattle.pcr_values.proofs.ExpectedLaws.{spells_once}
 use Rattle.pcr_values.proofs.PrintedLaws.{printed_once}
 use Rattle.pcr_values.proofs.RangeLaws.{range_once}

@@ -1,4 +1,4 @@
-use Rattle.pcr_banks.specs.Hashing.{name_of}
+use Rattle.pcr_banks.specs.Names.{name_of}
 use Rattle.pcr_values.proofs.LineLaws.{if_none}
 use Rattle.pcr_values.proofs.PcrReadLaws.{after_columns, no_value_in}
 use Rattle.pcr_values.proofs.pcr_read.value_on.Goals as goal

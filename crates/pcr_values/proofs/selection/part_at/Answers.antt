@@ -1,5 +1,5 @@
 use Rattle.std.proofs.Common.{◌∷◌, ◌∙◌, ap, arith, take}
-use Rattle.pcr_values.specs.Selections.{split_at_separators}
+use Rattle.pcr_values.specs.Names.{split_at_separators}
 use Rattle.pcr_values.proofs.SelectionLaws.{cut_first, rest_whole, uncut}
 use Rattle.pcr_values.proofs.selection.part_at.Goals as goal
 

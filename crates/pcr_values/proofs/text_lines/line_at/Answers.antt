@@ -1,5 +1,5 @@
 use Rattle.std.proofs.Common.{List, ℕ, ◌∷◌, [], sym, ap, ◌∙◌}
-use Rattle.pcr_values.specs.StatedRegisters.{lines_of}
+use Rattle.pcr_values.specs.Names.{lines_of}
 use Rattle.pcr_values.proofs.ExpectedLaws.{first_line, only_line}
 use Rattle.pcr_values.proofs.text_lines.line_at.Goals as goal
 

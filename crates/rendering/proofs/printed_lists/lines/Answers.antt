@@ -1,5 +1,5 @@
 use Rattle.std.proofs.Common.{ℕ, List, Some, ◌++◌, get_or, ap, ◌∙◌}
-use Rattle.ima_list.specs.ListEntry.{ListEntry}
+use Rattle.ima_list.specs.Names.{ListEntry}
 use Rattle.cells.specs.declared.writer.Form.TheVariants.{Json}
 use Rattle.entry_lines.specs.EntryJson.{entry_json}
 use Rattle.entry_lines.specs.ListLines.{entry_line}

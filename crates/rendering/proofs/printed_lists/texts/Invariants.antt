@@ -1,6 +1,6 @@
 use Rattle.std.proofs.Common.{◌≡◌, take}
 use Rattle.std.specs.Prelude.{flat_map}
-use Rattle.ima_list.specs.Lines.{line_of}
+use Rattle.ima_list.specs.Names.{line_of}
 use Rattle.rendering.proofs.printed_lists.texts.Given as goal
 
 abbrev pub invariant-loop-entry : goal.invariant-loop-entry

@@ -1,8 +1,7 @@
 use Rattle.std.proofs.Common.{[], ap, sym, ◌∙◌}
 use Rattle.std.specs.Prelude.{option_map}
 use Rattle.pcr_banks.specs.declared.alg.Alg.TheVariants.{Sha1}
-use Rattle.pcr_banks.specs.Digests.{digest_of}
-use Rattle.pcr_banks.specs.Hashing.{hash_of}
+use Rattle.pcr_banks.specs.Names.{digest_of, hash_of}
 use Rattle.tpm_quotes.specs.declared.selection.QuotedSelection.{QuotedSelection}
 use Rattle.tpm_quotes.proofs.JoiningLaws.{joins_at, lacks_at}
 use Rattle.tpm_quotes.proofs.quote.hash_of.Goals as goal

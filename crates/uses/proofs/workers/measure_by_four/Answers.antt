@@ -1,10 +1,8 @@
 use Rattle.std.proofs.Common.{◌≡◌, ℕ, List, ap, map}
 use Rattle.pcr_banks.specs.declared.alg.Alg.TheVariants.{Sha256}
 use Rattle.measure_book.specs.declared.origin.Origin.{Origin}
-use Rattle.measure_book.specs.Operations.{BookOp, BookOutcome, book_outcome_of}
-use Rattle.measure_book.specs.Books.{BookState}
-use Rattle.hash_workers.specs.Batches.{IsBatch}
-use Rattle.hash_workers.specs.Jobs.{operations_of}
+use Rattle.measure_book.specs.Names.{BookOp, BookOutcome, BookState, book_outcome_of}
+use Rattle.hash_workers.specs.Names.{IsBatch, operations_of}
 use Rattle.uses.proofs.workers.measure_by_four.Goals as goal
 
 -- A batch of one origin is one of the same origin by another name.

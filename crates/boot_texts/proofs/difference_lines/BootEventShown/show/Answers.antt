@@ -1,4 +1,4 @@
-use Rattle.pcr_banks.specs.Sets.{digest_in}
+use Rattle.pcr_banks.specs.Names.{digest_in}
 use Rattle.pcr_banks.proofs.SetLaws.{same_bytes}
 use Rattle.cells.proofs.CellLaws.{joined}
 use Rattle.boot_texts.proofs.difference_lines.BootEventShown.show.Goals as goal

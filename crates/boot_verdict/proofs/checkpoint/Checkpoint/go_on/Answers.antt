@@ -1,8 +1,8 @@
 use Rattle.std.proofs.Common.{List, ◌++◌, arith, subst, sym}
 use Rattle.std.proofs.lemmas.Result.{err_from_is_err_and}
 use Rattle.std.proofs.lemmas.List.{length-append}
-use Rattle.ima_list.specs.ListEntry.{ListEntry}
-use Rattle.boot_verdict.specs.ListReplays.{AreTracked}
+use Rattle.ima_list.specs.Names.{ListEntry}
+use Rattle.boot_verdict.specs.Names.{AreTracked}
 use Rattle.boot_verdict.proofs.checkpoint.Checkpoint.go_on.Goals as goal
 
 pub returns-in_err-count-clause-known : goal.returns-in_err-count-clause-known

@@ -1,6 +1,6 @@
 use Rattle.std.proofs.Common.{ap, ◌∙◌}
 use Rattle.std.proofs.lemmas.List.{map-id}
-use Rattle.boot_verdict.specs.Requirements.{is_complete}
+use Rattle.boot_verdict.specs.Names.{is_complete}
 use Rattle.boot_verdict.proofs.requirement.Requirement.is_met.Goals as goal
 
 pub returns : goal.returns

@@ -2,8 +2,8 @@ use Rattle.std.proofs.Common.{map, refl, rules, tests}
 use Rattle.std.specs.Prelude.{not}
 use Rattle.std.proofs.lemmas.Iterator.{YieldsList-from_range}
 use Rattle.std.proofs.lemmas.Iterator.Search.{all_from_yields_List}
-use Rattle.pcr_values.specs.RegisterTexts.{all_registers}
-use Rattle.boot_verdict.specs.Requirements.{is_missing}
+use Rattle.pcr_values.specs.Names.{all_registers}
+use Rattle.boot_verdict.specs.Names.{is_missing}
 use Rattle.boot_verdict.proofs.requirement.Requirement.is_met_in.Goals as goal
 
 pub returns : goal.returns

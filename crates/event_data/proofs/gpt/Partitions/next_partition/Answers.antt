@@ -1,5 +1,5 @@
 use Rattle.std.proofs.Common.{refl}
-use Rattle.event_data.specs.Entries.{partition_of}
+use Rattle.event_data.specs.Names.{partition_of}
 use Rattle.event_data.proofs.EntryLaws.{entry_takes}
 use Rattle.event_data.proofs.GptLaws.{more_left, last_left}
 use Rattle.event_data.proofs.gpt.Partitions.next_partition.Goals as goal

@@ -1,5 +1,5 @@
 use Rattle.std.proofs.Common.{refl}
-use Rattle.event_data.specs.ValueForms.{IsBootNumber}
+use Rattle.event_data.specs.Names.{IsBootNumber}
 use Rattle.event_data.proofs.TakenLaws.{item_taken, item_missing, taken_fits, taken_more, taken_last}
 use Rattle.event_data.proofs.ValueLaws.{boot_number_exact, some_number, number_into, number_out}
 use Rattle.event_data.proofs.load_option.BootOrder.next_number.Goals as goal

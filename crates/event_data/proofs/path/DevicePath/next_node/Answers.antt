@@ -1,5 +1,5 @@
 use Rattle.std.proofs.Common.{refl}
-use Rattle.event_data.specs.PathNodes.{node_of}
+use Rattle.event_data.specs.Names.{node_of}
 use Rattle.event_data.proofs.NodeLaws.{node_takes, node_missing, nodes_more, nodes_last}
 use Rattle.event_data.proofs.path.DevicePath.next_node.Goals as goal
 

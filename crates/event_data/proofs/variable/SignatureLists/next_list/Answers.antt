@@ -1,6 +1,5 @@
 use Rattle.std.proofs.Common.{refl}
-use Rattle.event_data.specs.ValueForms.{IsSignatureList}
-use Rattle.event_data.specs.ValueViews.{list_of}
+use Rattle.event_data.specs.Names.{IsSignatureList, list_of}
 use Rattle.event_data.proofs.TakenLaws.{item_taken, item_missing, taken_fits, taken_shorter, taken_more, taken_last}
 use Rattle.event_data.proofs.ListLaws.{list_exact, some_list, list_into, list_out}
 use Rattle.event_data.proofs.variable.SignatureLists.next_list.Goals as goal

@@ -1,6 +1,5 @@
 use Rattle.std.proofs.Common.{refl}
-use Rattle.event_data.specs.ValueForms.{IsSignatureOf}
-use Rattle.event_data.specs.ValueViews.{signature_of}
+use Rattle.event_data.specs.Names.{IsSignatureOf, signature_of}
 use Rattle.event_data.proofs.TakenLaws.{item_taken, item_missing, taken_fits, taken_shorter, taken_more, taken_last}
 use Rattle.event_data.proofs.ListLaws.{of_size, size_out}
 use Rattle.event_data.proofs.ValueLaws.{signature_exact, some_signature}

@@ -3,7 +3,7 @@ use Rattle.std.specs.Prelude.{is_some, not}
 use Rattle.std.specs.Option.{option_or}
 use Rattle.growing_lists.specs.declared.confirmation.Confirming.{Confirming}
 use Rattle.growing_lists.specs.declared.confirmation.Prefix.{Prefix}
-use Rattle.boot_verdict.specs.Tracking.{step_of}
+use Rattle.boot_verdict.specs.Names.{step_of}
 use Rattle.growing_lists.proofs.PrefixLaws.{search_more}
 use Rattle.growing_lists.proofs.confirmation.ConfirmingTracker.step.Goals as goal
 

@@ -1,6 +1,6 @@
 use Rattle.byte_streams.proofs.PieceLaws.{item_sent, item_fails}
 use Rattle.pcr_banks.specs.declared.alg.Alg.TheVariants.{Sha1}
-use Rattle.pcr_banks.specs.Hashing.{all_algs}
+use Rattle.pcr_banks.specs.Names.{all_algs}
 use Rattle.growing_lists.specs.CheckpointTexts.{bank_lines}
 use Rattle.growing_lists.proofs.texts.checkpoint.write_banks.Goals as goal
 

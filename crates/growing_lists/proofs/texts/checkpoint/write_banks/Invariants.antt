@@ -1,6 +1,6 @@
 use Rattle.std.proofs.Common.{take}
 use Rattle.std.specs.Prelude.{flat_map}
-use Rattle.pcr_banks.specs.Hashing.{all_algs}
+use Rattle.pcr_banks.specs.Names.{all_algs}
 use Rattle.byte_streams.proofs.SinkLaws.{Sent}
 use Rattle.growing_lists.specs.CheckpointTexts.{bank_lines}
 use Rattle.growing_lists.proofs.texts.checkpoint.write_banks.Given as goal

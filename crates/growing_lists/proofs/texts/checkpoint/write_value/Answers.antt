@@ -1,5 +1,5 @@
 use Rattle.std.proofs.Common.{None, refl}
-use Rattle.pcr_banks.specs.Registers.{value_at}
+use Rattle.pcr_banks.specs.Names.{value_at}
 use Rattle.growing_lists.proofs.texts.checkpoint.write_value.Goals as goal
 
 pub returns : goal.returns

@@ -1,6 +1,6 @@
 use Rattle.std.proofs.Common.{◌<◌, length, arith}
 use Rattle.byte_streams.proofs.PieceLaws.{item_sent, item_fails, all_sent}
-use Rattle.pcr_values.specs.RegisterTexts.{all_registers}
+use Rattle.pcr_values.specs.Names.{all_registers}
 use Rattle.pcr_values.proofs.RegisterLaws.{register_count, register_at}
 use Rattle.growing_lists.specs.CheckpointTexts.{value_line}
 use Rattle.growing_lists.proofs.texts.checkpoint.write_values.Goals as goal

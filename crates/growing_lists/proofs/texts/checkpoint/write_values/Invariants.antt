@@ -1,7 +1,7 @@
 use Rattle.std.proofs.Common.{take}
 use Rattle.std.specs.Prelude.{flat_map}
 use Rattle.byte_streams.proofs.SinkLaws.{Sent}
-use Rattle.pcr_values.specs.RegisterTexts.{all_registers}
+use Rattle.pcr_values.specs.Names.{all_registers}
 use Rattle.growing_lists.specs.CheckpointTexts.{value_line}
 use Rattle.growing_lists.proofs.texts.checkpoint.write_values.Given as goal
 

@@ -1,6 +1,6 @@
 use Rattle.std.proofs.Common.{ℕ, ◌++◌, ◌-◌, arith, sym, ap, ◌∙◌}
 use Rattle.std.specs.List.{range_with_len}
-use Rattle.hash_workers.specs.Claims.{ClaimsState, SeatState}
+use Rattle.hash_workers.specs.Names.{ClaimsState, SeatState}
 use Rattle.hash_workers.specs.declared.claims.view.Allotment.{Allotment}
 use Rattle.hash_workers.specs.declared.claims.view.SeatView.{SeatView}
 use Rattle.hash_workers.proofs.ClaimSums.{draws_more}

@@ -1,5 +1,5 @@
 use Rattle.std.proofs.Common.{arith, sym, ap, ◌∙◌}
-use Rattle.hash_workers.specs.Claims.{ClaimsState, SeatState}
+use Rattle.hash_workers.specs.Names.{ClaimsState, SeatState}
 use Rattle.hash_workers.specs.declared.claims.view.Allotment.{Allotment}
 use Rattle.hash_workers.proofs.ClaimLaws.{joins, looks}
 use Rattle.hash_workers.proofs.claims.Claims.join.Goals as goal

@@ -1,4 +1,4 @@
-use Rattle.hash_workers.specs.parts.Seats.{IsLeastUnmade}
+use Rattle.hash_workers.specs.Names.{IsLeastUnmade}
 use Rattle.hash_workers.proofs.work.all.first_unmade.Given as goal
 
 abbrev pub invariant-loop-work : goal.invariant-loop-work

@@ -1,4 +1,4 @@
-use Rattle.hash_workers.specs.parts.Seats.{HasNoEnd}
+use Rattle.hash_workers.specs.Names.{HasNoEnd}
 use Rattle.hash_workers.proofs.work.all.has_end.Given as goal
 
 abbrev pub invariant-loop-work : goal.invariant-loop-work

@@ -1,6 +1,5 @@
 use Rattle.std.proofs.Common.{◌≡◌, map}
-use Rattle.hash_workers.specs.parts.Seats.{outcomes_of, seat_of, taken_of}
-use Rattle.hash_workers.specs.parts.Scattering.{items_of}
+use Rattle.hash_workers.specs.Names.{items_of, outcomes_of, seat_of, taken_of}
 use Rattle.hash_workers.proofs.work.all.split.Given as goal
 
 abbrev pub invariant-loop-work : goal.invariant-loop-work

@@ -2,7 +2,7 @@ use Rattle.std.proofs.Common.{arith}
 use Rattle.std.proofs.lemmas.Result.{err_from_is_err_and}
 use Rattle.byte_fields.proofs.Steps.{IsBytes, fault_is}
 use Rattle.ima_list.specs.declared.fault.ListFault.TheVariants.{Memory}
-use Rattle.ima_list.specs.parts.Reading.{list_entry_in}
+use Rattle.ima_list.specs.Names.{list_entry_in}
 use Rattle.ima_list.proofs.EntryLaws.{entry_takes, entry_fault_is, nothing_truncated}
 use Rattle.ima_list.proofs.ListLaws.{entry_shortens, never_memory}
 use Rattle.ima_list.proofs.PieceLaws.{read_goes_on, read_fails, fault_number}

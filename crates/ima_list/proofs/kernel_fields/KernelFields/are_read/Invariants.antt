@@ -1,5 +1,5 @@
 use Rattle.std.proofs.Common.{◌≡◌, length}
-use Rattle.ima_list.specs.KernelFields.{is_read, left_of}
+use Rattle.ima_list.specs.Names.{is_read, left_of}
 use Rattle.ima_list.proofs.kernel_fields.KernelFields.are_read.Given as goal
 
 abbrev pub invariant-loop : goal.invariant-loop

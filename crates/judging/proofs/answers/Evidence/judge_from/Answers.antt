@@ -4,7 +4,7 @@ use Rattle.std.proofs.lemmas.Bool.{false≢true}
 use Rattle.std.proofs.lemmas.Result.{err_from_is_err_and}
 use Rattle.agent_inputs.proofs.LoadingLemmas.{source_failed}
 use Rattle.boot_verdict.specs.declared.checkpoint.Checkpoint.{Checkpoint}
-use Rattle.boot_verdict.specs.ListReplays.{AreTracked}
+use Rattle.boot_verdict.specs.Names.{AreTracked}
 use Rattle.growing_lists.specs.declared.session.Session.{Session}
 use Rattle.growing_lists.specs.Sessions.{HasTaken}
 use Rattle.known_files.specs.declared.unknown.UnknownEntries.{UnknownEntries}

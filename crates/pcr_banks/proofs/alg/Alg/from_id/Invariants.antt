@@ -1,6 +1,6 @@
 use Rattle.std.proofs.Common.{◌≢◌, take}
 use Rattle.std.specs.List.{AllByRecursion}
-use Rattle.pcr_banks.specs.Hashing.{all_algs, tpm_id_of}
+use Rattle.pcr_banks.specs.Names.{all_algs, tpm_id_of}
 use Rattle.pcr_banks.proofs.alg.Alg.from_id.Given as goal
 
 -- No algorithm before the index has the identifier.

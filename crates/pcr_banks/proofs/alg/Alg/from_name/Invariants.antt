@@ -1,6 +1,6 @@
 use Rattle.std.proofs.Common.{◌≢◌, take}
 use Rattle.std.specs.List.{AllByRecursion}
-use Rattle.pcr_banks.specs.Hashing.{all_algs, name_of}
+use Rattle.pcr_banks.specs.Names.{all_algs, name_of}
 use Rattle.pcr_banks.proofs.alg.Alg.from_name.Given as goal
 
 -- No algorithm before the index has the name.

@@ -1,6 +1,6 @@
 use Rattle.std.proofs.Common.{sym, ◌∙◌}
 use Rattle.std.proofs.lemmas.Bool.{not-true, not_from_false}
-use Rattle.pcr_banks.specs.Sets.{has_alg}
+use Rattle.pcr_banks.specs.Names.{has_alg}
 use Rattle.pcr_banks.proofs.AlgLaws.{none_passes, list_lacks}
 use Rattle.pcr_banks.proofs.sets.AlgSet.is_empty.Goals as goal
 

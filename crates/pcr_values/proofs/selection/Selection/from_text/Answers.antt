@@ -1,6 +1,6 @@
 use Rattle.std.proofs.Common.{inl, inr, refl, sym, arith, length, ◌-◌, None}
 use Rattle.std.proofs.lemmas.Result.{err_from_is_err_and}
-use Rattle.pcr_values.specs.Selections.{IsBankRangeText, bank_after}
+use Rattle.pcr_values.specs.Names.{IsBankRangeText, bank_after}
 use Rattle.pcr_values.proofs.SelectionLaws.{bank_after_more, begins_with_range, first_wrong, part_selects, reads_more, reads_none}
 use Rattle.pcr_values.proofs.selection.Selection.from_text.Goals as goal
 

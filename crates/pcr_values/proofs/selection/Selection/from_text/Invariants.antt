@@ -1,5 +1,5 @@
 use Rattle.std.proofs.Common.{◌≡◌, None}
-use Rattle.pcr_values.specs.Selections.{bank_after}
+use Rattle.pcr_values.specs.Names.{bank_after}
 use Rattle.pcr_values.proofs.SelectionLaws.{ReadsParts}
 use Rattle.pcr_values.proofs.StatedLaws.{left_count}
 use Rattle.pcr_values.proofs.selection.Selection.from_text.Given as goal

@@ -1,6 +1,6 @@
 use Rattle.std.proofs.Common.{arith}
 use Rattle.byte_streams.proofs.PieceLaws.{all_sent, item_fails, item_sent}
-use Rattle.pcr_values.specs.WrittenTexts.{expected_line}
+use Rattle.pcr_values.specs.Names.{expected_line}
 use Rattle.pcr_values.proofs.texts.expected.write_expected.Goals as goal
 
 pub returns-in_err-write_line : goal.returns-in_err-write_line

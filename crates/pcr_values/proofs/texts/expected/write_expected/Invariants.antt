@@ -1,7 +1,7 @@
 use Rattle.std.proofs.Common.{take}
 use Rattle.std.specs.Prelude.{flat_map}
 use Rattle.byte_streams.proofs.SinkLaws.{Sent}
-use Rattle.pcr_values.specs.WrittenTexts.{expected_line}
+use Rattle.pcr_values.specs.Names.{expected_line}
 use Rattle.pcr_values.proofs.texts.expected.write_expected.Given as goal
 
 abbrev pub invariant-loop-register : goal.invariant-loop-register

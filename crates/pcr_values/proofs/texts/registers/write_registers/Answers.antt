@@ -1,6 +1,6 @@
 use Rattle.std.proofs.Common.{◌<◌, length, arith}
 use Rattle.byte_streams.proofs.PieceLaws.{item_sent, item_fails, all_sent}
-use Rattle.pcr_values.specs.RegisterTexts.{every_register, register_change}
+use Rattle.pcr_values.specs.Names.{every_register, register_change}
 use Rattle.pcr_values.proofs.RegisterLaws.{every_count}
 use Rattle.pcr_values.proofs.texts.registers.write_registers.Goals as goal
 

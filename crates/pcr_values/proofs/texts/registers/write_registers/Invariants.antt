@@ -1,7 +1,7 @@
 use Rattle.std.proofs.Common.{take}
 use Rattle.std.specs.Prelude.{flat_map}
 use Rattle.byte_streams.proofs.SinkLaws.{Sent}
-use Rattle.pcr_values.specs.RegisterTexts.{every_register, register_change}
+use Rattle.pcr_values.specs.Names.{every_register, register_change}
 use Rattle.pcr_values.proofs.texts.registers.write_registers.Given as goal
 
 abbrev pub invariant-loop-number : goal.invariant-loop-number

@@ -1,7 +1,7 @@
 use Rattle.std.proofs.Common.{eqb, ◌&&◌, rules, tests}
 use Rattle.std.proofs.lemmas.Iterator.{YieldsList-from_slice}
 use Rattle.std.proofs.lemmas.Iterator.Search.{any_from_yields_List}
-use Rattle.pcr_banks.specs.Hashing.{tpm_id_of}
+use Rattle.pcr_banks.specs.Names.{tpm_id_of}
 use Rattle.tpm_quotes.specs.Spelling.{is_selected}
 use Rattle.tpm_quotes.specs.declared.selection.QuotedSelection.{QuotedSelection}
 use Rattle.tpm_quotes.proofs.SelectionLaws.{list_any_map}
