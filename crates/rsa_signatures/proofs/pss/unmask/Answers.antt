@@ -24,5 +24,7 @@ returns c =
     let seed = c.args.seed.now in
     let sized : length l.bytes ≡ length xs = omega arith in
     ext_get_or 0 l.bytes (unmasked c.args.hash seed 0 xs) (sized ∙ sym (length-unmasked c.args.hash seed 0 xs))
-    (λ k h. let inside : k < length xs = omega arith in let e : 0 + k ≡ k = omega arith in
-    l.invariant.done k (omega arith) ∙ ap (λ t. bit_xor (get_or xs k 0) (mask_byte c.args.hash seed t)) (sym e) ∙ sym (get_or-unmasked c.args.hash seed 0 xs k inside))
+    (λ k h. let inside : k < length xs = omega arith in
+    let e : 0 + k ≡ k = omega arith in
+    l.invariant.done k (omega arith) ∙ ap (λ t. bit_xor (get_or xs k 0) (mask_byte c.args.hash seed t)) (sym e)
+    ∙ sym (get_or-unmasked c.args.hash seed 0 xs k inside))
