@@ -5,7 +5,7 @@ ghost use Rattle.rsa_signatures.specs.Hashes.{digest_size};
 ghost use Rattle.rsa_signatures.specs.Pkcs1.{IsModulus, IsSigned, Opens, digest_prefix, padded};
 
 use crate::hashes::{Hash, MOST_DIGEST_BYTES};
-use crate::recovery::{FEWEST_MODULUS_BYTES, MOST_MODULUS_BYTES, recover};
+use crate::recovery::{MOST_MODULUS_BYTES, have_sizes, recover};
 
 /// How many bytes stand before the digest in a DigestInfo.
 const PREFIX_BYTES: usize = 19;
@@ -16,11 +16,7 @@ const PREFIX_BYTES: usize = 19;
 pub fn verify(hash: Hash, modulus: &[u8], message: &[u8], signature: &[u8]) -> bool
     ensures { IsTrue result ↔ (IsModulus modulus.now × IsSigned hash modulus.now message.now signature.now) }
 {
-    if modulus.len() < FEWEST_MODULUS_BYTES
-        || modulus.len() > MOST_MODULUS_BYTES
-        || modulus[0] == 0
-        || signature.len() != modulus.len()
-    {
+    if !have_sizes(modulus, signature) || modulus[0] == 0 {
         return false;
     }
     let mut digest_room = [0; MOST_DIGEST_BYTES];

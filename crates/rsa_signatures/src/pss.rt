@@ -5,7 +5,7 @@ ghost use Rattle.rsa_signatures.specs.Hashes.{digest_size};
 ghost use Rattle.rsa_signatures.specs.Pss.{IsEncoded, IsFullModulus, IsSalted, IsSignedPss, OpensPss, is_set, mask_block, unmasked};
 
 use crate::hashes::{Hash, MOST_DIGEST_BYTES};
-use crate::recovery::{FEWEST_MODULUS_BYTES, MOST_MODULUS_BYTES, recover};
+use crate::recovery::{MOST_MODULUS_BYTES, have_sizes, recover};
 
 /// The last byte of an encoded message.
 const TRAILER: u8 = 0xBC;
@@ -25,11 +25,7 @@ const ZEROS: [u8; 8] = [0; 8];
 pub fn verify_pss(hash: Hash, modulus: &[u8], message: &[u8], signature: &[u8]) -> bool
     ensures { IsTrue result ↔ (IsFullModulus modulus.now × IsSignedPss hash modulus.now message.now signature.now) }
 {
-    if modulus.len() < FEWEST_MODULUS_BYTES
-        || modulus.len() > MOST_MODULUS_BYTES
-        || modulus[0] < FIRST_BIT
-        || signature.len() != modulus.len()
-    {
+    if !have_sizes(modulus, signature) || modulus[0] < FIRST_BIT {
         return false;
     }
     let mut digest_room = [0; MOST_DIGEST_BYTES];
