@@ -6,7 +6,7 @@ ghost use Rattle.rsa_signatures.specs.Hashes.{digest_of, digest_size};
 use sha2::{Digest, Sha256, Sha384, Sha512};
 
 /// The hash function of a signature.
-#[derive(Clone, Copy, Drop)]
+#[derive(Clone, Copy)]
 pub enum Hash {
     /// SHA-256.
     Sha256,
