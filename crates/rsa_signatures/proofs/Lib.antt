@@ -1,0 +1,4 @@
+pub mod BytesLaws
+pub mod LimbLaws
+pub mod MaskLaws
+pub mod ModuloLaws

@@ -1,0 +1,5 @@
+pub mod Limbs
+pub mod Hashes
+pub mod Recovery
+pub mod Pkcs1
+pub mod Pss

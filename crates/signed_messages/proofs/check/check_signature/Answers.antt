@@ -1,0 +1,21 @@
+use Rattle.std.proofs.Common.{inl, inr}
+use Rattle.tpm_signatures.specs.Spelling.{signature_of}
+use Rattle.signed_messages.specs.Keys.{key_of}
+use Rattle.signed_messages.specs.Signing.{stated}
+use Rattle.signed_messages.proofs.SigningLaws.{not_refused, read_has_no_fault, stated_so}
+use Rattle.signed_messages.proofs.check.check_signature.Goals as goal
+
+pub returns-in_err-read_signature-clause-only : goal.returns-in_err-read_signature-clause-only
+returns-in_err-read_signature-clause-only c =
+    λ is. absurd (read_has_no_fault _ _ (c.in_err-read_signature.ensures.only (stated is.scheme is.number)
+    (stated_so (key_of c.args.key) c.args.message.now c.args.signature.now
+    c.if-signature-key.false is)))
+
+pub returns-in_err-scheme-clause-only : goal.returns-in_err-scheme-clause-only
+returns-in_err-scheme-clause-only c =
+    λ is. let not = not_refused (key_of c.args.key) c.args.message.now c.args.signature.now (signature_of c.in_ok-read_signature.field-0)
+    c.if-signature-key.false c.in_ok-read_signature.ensures.found is in
+    elim c.in_err-scheme.ensures.refusal [
+      | inl scheme ↦ absurd (not.0 scheme.1)
+      | inr hash ↦ absurd (not.1 hash.1)
+    ]

@@ -1,0 +1,52 @@
+-- When a message is signed by a key.
+use Rattle.std.specs.Prelude.{◌≡◌, ℕ, ◌⊎◌, List, Option, Some, None}
+use Rattle.pcr_banks.specs.declared.alg.Alg.{Alg}
+use Rattle.pcr_banks.specs.declared.alg.Alg.TheVariants as algs
+use Rattle.rsa_signatures.specs.declared.hashes.Hash.{Hash}
+use Rattle.rsa_signatures.specs.declared.hashes.Hash.TheVariants as hashes
+use Rattle.rsa_signatures.specs.Pkcs1.{IsModulus, IsSigned}
+use Rattle.rsa_signatures.specs.Pss.{IsFullModulus, IsSignedPss}
+use Rattle.tpm_signatures.specs.Spelling.{IsSignature, TpmNumbers, RsassaNumber, RsapssNumber, TpmSignature}
+use Rattle.signed_messages.specs.declared.key.RsaScheme.{RsaScheme}
+use Rattle.signed_messages.specs.declared.key.RsaScheme.TheVariants.{Pkcs1, Pss}
+use Rattle.signed_messages.specs.declared.key.SigningScheme.{SigningScheme}
+use Rattle.signed_messages.specs.Keys.{RsaKey}
+
+-- The number is a signature of the message (RFC 8017, sections 8.2.2 and 8.1.2).
+abbrev pub IsValid : RsaScheme → Hash → List ℕ → List ℕ → List ℕ → Type 0
+IsValid Pkcs1 hash modulus message number = IsModulus modulus × IsSigned hash modulus message number
+IsValid Pss hash modulus message number = IsFullModulus modulus × IsSignedPss hash modulus message number
+
+-- The key takes signatures by this scheme: it is the key's, or nothing is known of that.
+abbrev pub Takes : Option SigningScheme → SigningScheme → Type 0
+Takes None scheme = Unit {0}
+Takes (Some its) scheme = its ≡ scheme
+
+-- ---- how a signature is spelled
+
+abbrev pub alg_of : Hash → Alg
+alg_of hashes.Sha256 = algs.Sha256
+alg_of hashes.Sha384 = algs.Sha384
+alg_of hashes.Sha512 = algs.Sha512
+
+abbrev pub numbers_by : RsaScheme → List ℕ → TpmNumbers
+numbers_by Pkcs1 number = RsassaNumber number
+numbers_by Pss number = RsapssNumber number
+
+-- What a TPM states of a signature by this scheme with this number.
+abbrev pub stated : SigningScheme → List ℕ → TpmSignature
+stated scheme number = record { hash = alg_of scheme.hash; numbers = numbers_by scheme.kind number }
+
+-- The bytes are a signature by this scheme with this number: the number alone, or as a TPM states it.
+abbrev pub IsSpelled : SigningScheme → List ℕ → List ℕ → Type 0
+IsSpelled scheme number bytes = (bytes ≡ number) ⊎ IsSignature bytes (stated scheme number)
+
+-- ---- the signature
+
+-- The bytes are a signature of the message by this key.
+pub record IsSignedBy (key : RsaKey) (message bytes : List ℕ) : Type 0 where
+  pub scheme : SigningScheme
+  pub number : List ℕ
+  pub taken : Takes key.scheme scheme
+  pub spelled : IsSpelled scheme number bytes
+  pub valid : IsValid scheme.kind scheme.hash key.modulus message number
