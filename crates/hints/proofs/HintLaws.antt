@@ -13,7 +13,7 @@ use Rattle.agent_plans.specs.declared.plan.Task.TheVariants as tasks
 use Rattle.judging.specs.Requests.{Requested}
 use Rattle.hints.specs.Heads.{IsHead, head_size}
 use Rattle.hints.specs.Hints.{IsNotSeen}
-use Rattle.questions.specs.Questions.{requested_by}
+use Rattle.judging.specs.Queries.{requested_by}
 use Rattle.hints.specs.Saying.{TellsOf}
 
 -- All bytes of a source are its first.

@@ -16,10 +16,10 @@ use Rattle.hints.specs.Hints.{IsGrown, IsNotGrown, IsNotSeen, IsSeen}
 use Rattle.hints.specs.HintTexts.{hints_of_causes, mistake_words, shown_hint}
 use Rattle.hints.specs.Mistakes.{mistake_in}
 use Rattle.hints.specs.OldAggregates.{IsSaidOld}
-use Rattle.questions.specs.Questions.{requested_by, with_known}
+use Rattle.judging.specs.Queries.{requested_by, with_known}
 use Rattle.hints.specs.Refused.{list_of, log_of, refused_input}
-use Rattle.questions.specs.declared.progress.Failure.{Failure}
-use Rattle.questions.specs.declared.progress.Failure.TheVariants as failures
+use Rattle.run_progress.specs.declared.progress.Failure.{Failure}
+use Rattle.run_progress.specs.declared.progress.Failure.TheVariants as failures
 
 -- What a question asks, without known files.
 abbrev pub without_known : Query → Requested

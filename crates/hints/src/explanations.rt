@@ -12,7 +12,7 @@ use attestations::{Policy, PolicyFault};
 use boot_verdict::Requirement;
 use command_line::refusal_of;
 use pcr_values::{Selection, SelectionFault};
-use questions::Failure;
+use run_progress::Failure;
 use std::alloc::{AllocError, Global};
 use std::fs::File;
 use std::io;

@@ -3,7 +3,7 @@
 use crate::explanations::explanation;
 use crate::rejudge::hint_on_failure;
 use measuring::FileProgress;
-use questions::{Failure, Progress};
+use run_progress::{Failure, Progress};
 use std::alloc::Global;
 use std::io;
 use std::rt::{Clock, Files as FileSystem};

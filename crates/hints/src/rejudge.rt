@@ -16,8 +16,8 @@ use crate::task_inputs::refused_input;
 use crate::wrong_input::mistake_in;
 use agent_inputs::{AgentFiles, RunFault};
 use agent_plans::Task;
-use judging::{Request, answer_request, on_prefix};
-use questions::{Failure, known_inputs, request_of};
+use judging::{Request, answer_request, known_inputs, on_prefix, request_of};
+use run_progress::Failure;
 use std::alloc::{AllocError, Global};
 use std::rt::Files as FileSystem;
 

@@ -22,7 +22,7 @@ use Rattle.rendering.specs.declared.outputs.Output.{Output}
 use Rattle.ima_agent.specs.declared.streams.StreamFault.{StreamFault}
 use Rattle.ima_agent.specs.declared.streams.StreamFault.TheVariants as streams
 use Rattle.rendering.specs.FaultTexts.{IsFailure}
-use Rattle.questions.specs.Questions.{known_by}
+use Rattle.judging.specs.Queries.{known_by}
 use Rattle.ima_agent.specs.Program.{Answers, IsFaultOf, IsOutcome, IsOutputFor, SendsOutput, SendsText, Streams, status_after}
 use Rattle.measured_data.specs.declared.confirmed.Pcr.{Pcr}
 use Rattle.ima_agent.specs.Matching.{AreMatched, IsKnownFor}

@@ -29,7 +29,7 @@ use Rattle.rendering.specs.Rendering.{IsRefusalOn, answer_status}
 use Rattle.agent_inputs.specs.declared.fault.RunFault.{RunFault}
 use Rattle.agent_inputs.specs.Faults.{HasLogFault}
 use Rattle.agent_inputs.specs.Loading.{Inputs, IsInputFault, OfInput}
-use Rattle.questions.specs.Questions.{attested_with}
+use Rattle.judging.specs.Queries.{attested_with}
 use Rattle.ima_agent.specs.Showing.{IsLogFaultOf}
 
 -- The register that is expected to have a value.

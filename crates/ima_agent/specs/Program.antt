@@ -24,7 +24,7 @@ use Rattle.entry_lines.specs.declared.entry_lines.EntriesFault.TheVariants as en
 use Rattle.ima_agent.specs.declared.streams.StreamFault.{StreamFault}
 use Rattle.ima_agent.specs.declared.streams.StreamFault.TheVariants as streams
 use Rattle.rendering.specs.FaultTexts.{fault_line, fault_status, IsFailure, IsReportedAsJson}
-use Rattle.questions.specs.Questions.{known_by, requested_by, save_by}
+use Rattle.judging.specs.Queries.{known_by, requested_by, save_by}
 use Rattle.ima_agent.specs.Showing.{AreAllEntries, BreaksOffAfterEntries, EndsWithFault, IsNoneInFile, IsRefusedFor, IsReported, IsWholeList, ShowsEntries, ShowsHexadecimal, StopsInFile, version_text}
 use Rattle.ima_agent.specs.ShowingBoot.{IsNoBootFor, ShowsBoot}
 use Rattle.ima_agent.specs.ShowingEvents.{BreaksOffAfterEvents, IsNoneShownFor, ShowsEvents, plain_lines}

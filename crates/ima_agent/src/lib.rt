@@ -35,5 +35,5 @@ pub use pcr_values::{
     read_printed, write_expected, write_registers,
 };
 pub use program::{exit_code, read_words, run, run_with_progress};
-pub use questions::{Failure, NoProgress, Progress};
 pub use rendering::{Output, json_fault_line, json_memory_line, status_of, write_fault};
+pub use run_progress::{Failure, NoProgress, Progress};

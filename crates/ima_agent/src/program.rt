@@ -19,11 +19,12 @@ use crate::version::version_text;
 use agent_inputs::{AgentFiles, RunFault};
 use agent_plans::{Form, Measurement, Plan, Query, Task};
 use byte_streams::{Failed, Sink, send};
+use judging::{known_inputs, request_of, save_of};
 use measuring::measure;
-use questions::{Failure, NoProgress, Progress, known_inputs, request_of, save_of};
 use rendering::{
     json_fault_line, json_memory_line, output_for, print_measured, status_of, write_fault,
 };
+use run_progress::{Failure, NoProgress, Progress};
 use std::alloc::{AllocError, Global};
 use std::io;
 use std::process::ExitCode;

@@ -7,7 +7,7 @@ ghost use Rattle.boot_verdict.specs.Names.{ReadsAsLog};
 ghost use Rattle.judging.specs.Inputs.{BytesOf};
 ghost use Rattle.judging.specs.Requests.{Attests};
 ghost use Rattle.rendering.specs.Rendering.{IsRefusalOn};
-ghost use Rattle.questions.specs.Questions.{attested_with};
+ghost use Rattle.judging.specs.Queries.{attested_with};
 ghost use Rattle.ima_agent.specs.Matching.{AreMatched, is_of_log, places_by, places_in, quoted_places};
 
 use crate::matches::Matched;
@@ -15,10 +15,9 @@ use agent_inputs::{AgentFiles, RunFault};
 use agent_plans::Quoting;
 use attestations::Selected;
 use boot_verdict::LIST_REGISTER;
-use judging::{Answer, Answered, Input, Request, answer_request};
+use judging::{Answer, Answered, Input, Request, answer_request, attesting_by};
 use measured_data::Pcr;
 use pcr_banks::REGISTERS;
-use questions::attesting_by;
 use rendering::status_of_answer;
 use std::alloc::{AllocError, Global};
 

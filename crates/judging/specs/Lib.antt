@@ -1,3 +1,4 @@
 pub mod Inputs
 pub mod Requests
 pub mod Answering
+pub mod Queries

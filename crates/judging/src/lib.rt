@@ -6,12 +6,14 @@ mod attesting;
 mod inputs;
 mod keys;
 mod printed_registers;
+mod queries;
 mod registers;
 mod request;
 mod sessions;
 
 pub use answers::answer_request;
 pub use inputs::Input;
+pub use queries::{attesting_by, known_inputs, request_of, save_of};
 pub use request::{
     Answer, Answered, AttestRequest, Comparison, Registers, ReportKind, Request, Required,
     on_prefix,

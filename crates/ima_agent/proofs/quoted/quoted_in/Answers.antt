@@ -5,7 +5,7 @@ use Rattle.judging.proofs.LogLaws.{log_attested}
 use Rattle.judging.specs.Answering.{IsAttestation, IsNoAttestation}
 use Rattle.judging.specs.Inputs.{BytesOf}
 use Rattle.judging.specs.Requests.{AttestRequested}
-use Rattle.questions.specs.Questions.{attested_with}
+use Rattle.judging.specs.Queries.{attested_with}
 use Rattle.ima_agent.proofs.quoted.quoted_in.Goals as goal
 
 pub returns-in_err-given-clause-fault : goal.returns-in_err-given-clause-fault

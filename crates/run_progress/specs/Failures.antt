@@ -3,8 +3,8 @@ use Rattle.std.specs.Prelude.{Bool, false, ◌||◌}
 use Rattle.agent_plans.specs.declared.plan.Query.TheVariants as queries
 use Rattle.agent_plans.specs.declared.plan.Task.{Task}
 use Rattle.agent_plans.specs.declared.plan.Task.TheVariants as tasks
-use Rattle.questions.specs.declared.progress.Failure.{Failure}
-use Rattle.questions.specs.declared.progress.Failure.TheVariants as failures
+use Rattle.run_progress.specs.declared.progress.Failure.{Failure}
+use Rattle.run_progress.specs.declared.progress.Failure.TheVariants as failures
 
 -- The task asks to say what to do next.
 abbrev pub is_explained : Task → Bool

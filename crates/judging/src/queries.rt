@@ -1,11 +1,12 @@
-//! What questions ask of their inputs.
+//! What queries of the command line ask of their inputs.
 
 ghost use Rattle.std.specs.Prelude.{◌≡◌, [], map, option_map, IfOk, OnErr};
 ghost use Rattle.judging.specs.Requests.{requested_of, location_of, attested_of, compared_of, judgement_of, requires_of};
-ghost use Rattle.questions.specs.Questions.{attested_with, requested_by, file_of, files_of, known_by, attested_by, compared_by, judgement_by, requires_by, save_by, with_known};
+ghost use Rattle.judging.specs.Queries.{attested_with, requested_by, file_of, files_of, known_by, attested_by, compared_by, judgement_by, requires_by, save_by, with_known};
 
+use crate::inputs::Input;
+use crate::request::{AttestRequest, Comparison, ReportKind, Request, Required};
 use agent_plans::{AttestOptions, ComparisonKind, ComparisonOptions, Query, Quoting, Scope};
-use judging::{AttestRequest, Comparison, Input, ReportKind, Request, Required};
 use std::alloc::{AllocError, Global};
 
 /// The texts of known files that a question names.

@@ -1,7 +1,7 @@
 //! Who is told of the progress of a measurement, and of failures.
 
 ghost use Rattle.std.specs.Prelude.{◌≡◌};
-ghost use Rattle.questions.specs.Failures.{is_asked_for, is_explained, is_said};
+ghost use Rattle.run_progress.specs.Failures.{is_asked_for, is_explained, is_said};
 
 use agent_inputs::RunFault;
 use agent_plans::{Query, Task};

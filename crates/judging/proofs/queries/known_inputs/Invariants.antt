@@ -1,7 +1,7 @@
 use Rattle.std.proofs.Common.{◌≡◌, map, take}
 use Rattle.judging.specs.Requests.{location_of}
-use Rattle.questions.specs.Questions.{file_of}
-use Rattle.questions.proofs.requests.known_inputs.Given as goal
+use Rattle.judging.specs.Queries.{file_of}
+use Rattle.judging.proofs.queries.known_inputs.Given as goal
 
 -- The inputs are the files of the names so far.
 abbrev pub invariant-loop-name : goal.invariant-loop-name

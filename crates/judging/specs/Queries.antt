@@ -1,4 +1,4 @@
--- What questions ask of their inputs.
+-- What queries of the command line ask of their inputs.
 use Rattle.std.specs.Prelude.{ℕ, List, [], map, string_bytes, Option, None, Some, option_map, String}
 use Rattle.std.specs.Global.{Global, Vec}
 use Rattle.agent_plans.specs.declared.plan.Scope.TheVariants.{Whole}

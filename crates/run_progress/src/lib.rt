@@ -1,0 +1,6 @@
+//! Who is told of the progress of a run, and of its failures.
+#![tactic(auto)]
+
+mod progress;
+
+pub use progress::{Failure, NoProgress, Progress};
