@@ -1,7 +1,8 @@
 //! The answer to what is asked for, by one path.
 
-ghost use Rattle.std.specs.Prelude.{◌≡◌, ◌⊎◌, [], true, IfOk, IfErr, IsSomeAnd, MatchOption};
-ghost use Rattle.judging.specs.Answering.{HasNoEvidence, IsAnswer, IsComparison, IsEvidence, IsResumedState, IsNoCheckpoint, IsNoComparison, IsNotCompared, IsNotRequired, IsRefusal, IsRequired, checkpoint_of, evidence_of, Finds, FindsFrom};
+ghost use Rattle.std.specs.Prelude.{◌≡◌, ◌⊎◌, [], true, None, if◌then◌else◌, option_map, IfOk, IfErr, IsSomeAnd, MatchOption};
+ghost use Rattle.boot_verdict.specs.Names.{verdict_of};
+ghost use Rattle.judging.specs.Answering.{HasNoEvidence, IsAnswer, IsComparison, IsEvidence, IsResumedState, IsNoCheckpoint, IsNoComparison, IsNotCompared, IsNotRequired, IsRefusal, IsRequired, checkpoint_of, evidence_of, is_good, is_match, is_success, state_after, Finds, FindsFrom};
 ghost use Rattle.judging.specs.Requests.{ListVerdictOf, requested_of, compared_of, held_bytes, judgement_of, log_of, location_of, requires_of, resume_of, takes_known};
 ghost use Rattle.judging.specs.Inputs.{Holds, IsInputFault, OfInput};
 
@@ -11,15 +12,17 @@ use crate::keys::told_of_key;
 use crate::printed_registers::printed_registers;
 use crate::registers::{after_list, after_log};
 use crate::request::{
-    Answer, Answered, Answering, Comparison, Found, ReportKind, Request, Required, answered_with,
+    Answer, Answered, Answering, Comparison, Found, ReportKind, Request, Required,
 };
 use crate::sessions::checkpoint_in;
 use agent_inputs::{AgentFiles, RunFault, not_read};
 use attestations::ExpectedValues;
-use boot_verdict::{Checkpoint, Requirement, locate_from, verify_list_from};
+use boot_verdict::{
+    Checkpoint, Report, Requirement, all_found, locate_from, required_found, verify_list_from,
+};
 use byte_streams::{Failed, SliceSource, Source};
-use growing_lists::SavedState;
-use known_files::{KnownFiles, UnknownEntries};
+use growing_lists::{Boot, SavedState};
+use known_files::{KnownFiles, UnknownEntries, has_no_unknown};
 use pcr_values::{Expected, SelectionFault, read_expected};
 use std::alloc::Global;
 use tpm_quotes::Quote;
@@ -291,5 +294,78 @@ impl Evidence<'_> {
             }
             Err(fault) => Err(refusal(alloc, list, fault)),
         }
+    }
+}
+
+/// What was found, and what it is worth where this has to be among the expected registers, of which the text spells these. If all is well,
+/// another goes on from the checkpoint, if there is one, in this boot.
+pub(crate) fn answered_with(
+    required: Required<'_>,
+    requirement: Option<Requirement>,
+    found: Found,
+    boot: Option<Boot>,
+) -> Answered
+    ensures answer { result.answer ≡ found.answer }
+    ensures requirement { result.requirement ≡ requirement }
+    ensures unknown { result.unknown ≡ found.unknown }
+    ensures success { result.is_success ≡ is_success (requires_of required.entry) requirement found.unknown found.answer }
+    ensures next { result.next ≡ (if result.is_success then state_after boot found.next else None) }
+{
+    let Found {
+        answer,
+        next,
+        unknown,
+    } = found;
+    let is_success = has_no_unknown(unknown.as_ref())
+        && is_good(required, requirement.as_ref(), &answer);
+    Answered {
+        answer,
+        requirement,
+        unknown,
+        is_success,
+        next: if is_success {
+            state_after(boot, next)
+        } else {
+            None
+        },
+    }
+}
+
+// The checkpoint, if there is one, with this boot.
+fn state_after(boot: Option<Boot>, next: Option<Checkpoint>) -> Option<SavedState>
+    ensures { result ≡ state_after boot next }
+{
+    match next {
+        None => None,
+        Some(checkpoint) => Some(SavedState { checkpoint, boot }),
+    }
+}
+
+// Whether the answer is good where this has to be among the expected registers, of which the text spells these; so is an answer that
+// compares nothing.
+fn is_good(required: Required<'_>, ranges: Option<&Requirement>, answer: &Answer) -> bool
+    ensures { result ≡ is_good (requires_of required.entry) (option_map (λ ranges. ranges.now) ranges.entry) answer.now }
+{
+    match (answer, ranges) {
+        (Answer::Report(report), None) => is_match(required, report),
+        (Answer::Report(report), Some(requirement)) => report.meets(requirement),
+        (Answer::Prefix(prefix), None) => prefix.report.matches(),
+        (Answer::Prefix(prefix), Some(requirement)) => prefix.report.meets(requirement),
+        (Answer::Positions(positions), None) => all_found(positions),
+        (Answer::Positions(positions), Some(requirement)) => required_found(positions, requirement),
+        (Answer::ListReport(report), None) => report.matches(),
+        (Answer::ListReport(report), Some(requirement)) => report.meets(requirement),
+        (Answer::Attestation(report), _) => report.is_signed && report.is_attested(),
+        (Answer::Registers(_) | Answer::Expected(_) | Answer::Key { .. }, _) => true,
+    }
+}
+
+// Whether the verdict is `match` where no text spells what is required.
+fn is_match(required: Required<'_>, report: &Report) -> bool
+    ensures { result ≡ is_match (requires_of required.entry) (verdict_of report.now) }
+{
+    match required {
+        Required::Nothing => report.matches(),
+        Required::Any | Required::These(_) => report.matches() && !report.rows.is_empty(),
     }
 }

@@ -14,11 +14,9 @@ ghost use Rattle.agent_inputs.specs.declared.fault.RunFault.TheVariants as runs;
 ghost use Rattle.judging.specs.Answering.{AreCounted, AreTaken, IsAskedFor, IsAttestation, IsResumedState, IsNoAttestation, IsNotJudgedBy, IsNoResumedState, IsNotStated, IsOfQuote, told_by};
 ghost use Rattle.judging.specs.Requests.{VerdictOf, attested_of, judgement_of, location_of, resume_of};
 
-use crate::answers::{Evidence, checkpoint_of, state_in};
+use crate::answers::{Evidence, answered_with, checkpoint_of, state_in};
 use crate::inputs::{Input, known_in, load_at};
-use crate::request::{
-    Answering, AttestRequest, Comparison, ReportKind, Required, ScopedReport, answered_with,
-};
+use crate::request::{Answering, AttestRequest, Comparison, ReportKind, Required, ScopedReport};
 use agent_inputs::{AgentFiles, NotResumed, RunFault};
 use attestations::{
     AttestReport, ExpectedValues, Policy, Quoted, Whole, keep_confirmed, quote_for,

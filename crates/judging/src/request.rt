@@ -1,19 +1,16 @@
 //! Requests on logs, lists, quotes, printed PCR values and keys, and their answers before they are written.
 
-ghost use Rattle.std.specs.Prelude.{◌≡◌, None, if◌then◌else◌, option_map};
-ghost use Rattle.boot_verdict.specs.Names.{verdict_of};
-ghost use Rattle.judging.specs.Answering.{alone, is_good, is_match, is_success, state_after};
-ghost use Rattle.judging.specs.Requests.{requires_of, requested_of, on_prefix};
+ghost use Rattle.std.specs.Prelude.{◌≡◌, option_map};
+ghost use Rattle.judging.specs.Answering.{alone};
+ghost use Rattle.judging.specs.Requests.{requested_of, on_prefix};
 
 use crate::inputs::Input;
 use agent_inputs::RunFault;
 use agent_plans::Scope;
 use attestations::AttestReport;
-use boot_verdict::{
-    Checkpoint, ListReport, Located, PrefixReport, Report, Requirement, all_found, required_found,
-};
-use growing_lists::{Boot, SavedState};
-use known_files::{UnknownFiles, has_no_unknown};
+use boot_verdict::{Checkpoint, ListReport, Located, PrefixReport, Report, Requirement};
+use growing_lists::SavedState;
+use known_files::UnknownFiles;
 use pcr_banks::Banks;
 use pcr_values::Expected;
 use tpm_keys::{KeyPart, KeyReport, Purpose};
@@ -127,6 +124,47 @@ pub enum Request<'a> {
     },
 }
 
+/// What asks the same of the shortest prefix of the list that matches; `None` where it is not asked of a whole list.
+pub fn on_prefix(request: Request<'_>) -> Option<Request<'_>>
+    ensures { option_map requested_of result ≡ on_prefix (requested_of request.entry) }
+{
+    match request {
+        Request::Comparison(
+            Comparison {
+                wanted: ReportKind::Verdict {
+                    log,
+                    scope: Scope::Whole,
+                    resume,
+                },
+                list,
+                expected,
+                required,
+                known,
+            },
+        ) => Some(Request::Comparison(Comparison {
+            wanted: ReportKind::Verdict {
+                log,
+                scope: Scope::Prefix,
+                resume,
+            },
+            list,
+            expected,
+            required,
+            known,
+        })),
+        Request::Attestation(
+            asked @ AttestRequest {
+                scope: Scope::Whole,
+                ..
+            },
+        ) => Some(Request::Attestation(AttestRequest {
+            scope: Scope::Prefix,
+            ..asked
+        })),
+        _ => None,
+    }
+}
+
 /// What is answered.
 #[derive(Drop)]
 pub enum Answer {
@@ -213,118 +251,4 @@ pub(crate) struct Found {
     pub next: Option<Checkpoint>,
     /// The entries that are not known; none without known files.
     pub unknown: Option<UnknownFiles>,
-}
-
-/// What was found, and what it is worth where this has to be among the expected registers, of which the text spells these. If all is well,
-/// another goes on from the checkpoint, if there is one, in this boot.
-pub(crate) fn answered_with(
-    required: Required<'_>,
-    requirement: Option<Requirement>,
-    found: Found,
-    boot: Option<Boot>,
-) -> Answered
-    ensures answer { result.answer ≡ found.answer }
-    ensures requirement { result.requirement ≡ requirement }
-    ensures unknown { result.unknown ≡ found.unknown }
-    ensures success { result.is_success ≡ is_success (requires_of required.entry) requirement found.unknown found.answer }
-    ensures next { result.next ≡ (if result.is_success then state_after boot found.next else None) }
-{
-    let Found {
-        answer,
-        next,
-        unknown,
-    } = found;
-    let is_success = has_no_unknown(unknown.as_ref())
-        && is_good(required, requirement.as_ref(), &answer);
-    Answered {
-        answer,
-        requirement,
-        unknown,
-        is_success,
-        next: if is_success {
-            state_after(boot, next)
-        } else {
-            None
-        },
-    }
-}
-
-// The checkpoint, if there is one, with this boot.
-fn state_after(boot: Option<Boot>, next: Option<Checkpoint>) -> Option<SavedState>
-    ensures { result ≡ state_after boot next }
-{
-    match next {
-        None => None,
-        Some(checkpoint) => Some(SavedState { checkpoint, boot }),
-    }
-}
-
-// Whether the answer is good where this has to be among the expected registers, of which the text spells these; so is an answer that
-// compares nothing.
-fn is_good(required: Required<'_>, ranges: Option<&Requirement>, answer: &Answer) -> bool
-    ensures { result ≡ is_good (requires_of required.entry) (option_map (λ ranges. ranges.now) ranges.entry) answer.now }
-{
-    match (answer, ranges) {
-        (Answer::Report(report), None) => is_match(required, report),
-        (Answer::Report(report), Some(requirement)) => report.meets(requirement),
-        (Answer::Prefix(prefix), None) => prefix.report.matches(),
-        (Answer::Prefix(prefix), Some(requirement)) => prefix.report.meets(requirement),
-        (Answer::Positions(positions), None) => all_found(positions),
-        (Answer::Positions(positions), Some(requirement)) => required_found(positions, requirement),
-        (Answer::ListReport(report), None) => report.matches(),
-        (Answer::ListReport(report), Some(requirement)) => report.meets(requirement),
-        (Answer::Attestation(report), _) => report.is_signed && report.is_attested(),
-        (Answer::Registers(_) | Answer::Expected(_) | Answer::Key { .. }, _) => true,
-    }
-}
-
-// Whether the verdict is `match` where no text spells what is required.
-fn is_match(required: Required<'_>, report: &Report) -> bool
-    ensures { result ≡ is_match (requires_of required.entry) (verdict_of report.now) }
-{
-    match required {
-        Required::Nothing => report.matches(),
-        Required::Any | Required::These(_) => report.matches() && !report.rows.is_empty(),
-    }
-}
-
-/// What asks the same of the shortest prefix of the list that matches; `None` where it is not asked of a whole list.
-pub fn on_prefix(request: Request<'_>) -> Option<Request<'_>>
-    ensures { option_map requested_of result ≡ on_prefix (requested_of request.entry) }
-{
-    match request {
-        Request::Comparison(
-            Comparison {
-                wanted: ReportKind::Verdict {
-                    log,
-                    scope: Scope::Whole,
-                    resume,
-                },
-                list,
-                expected,
-                required,
-                known,
-            },
-        ) => Some(Request::Comparison(Comparison {
-            wanted: ReportKind::Verdict {
-                log,
-                scope: Scope::Prefix,
-                resume,
-            },
-            list,
-            expected,
-            required,
-            known,
-        })),
-        Request::Attestation(
-            asked @ AttestRequest {
-                scope: Scope::Whole,
-                ..
-            },
-        ) => Some(Request::Attestation(AttestRequest {
-            scope: Scope::Prefix,
-            ..asked
-        })),
-        _ => None,
-    }
 }
