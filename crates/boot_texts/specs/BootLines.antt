@@ -10,8 +10,8 @@ use Rattle.boot_answers.specs.Images.{image_register}
 use Rattle.boot_answers.specs.SecureBoot.{IsSecureBoot}
 use Rattle.cells.specs.declared.writer.Form.{Form}
 use Rattle.boot_texts.specs.declared.policies.ImaPolicy.{ImaPolicy}
-use Rattle.boot_texts.specs.declared.event_walk.BootQuestion.{BootQuestion}
-use Rattle.boot_texts.specs.declared.event_walk.BootQuestion.TheVariants.{Images, Commands, Variables}
+use Rattle.boot_texts.specs.declared.boot_lines.BootQuestion.{BootQuestion}
+use Rattle.boot_texts.specs.declared.boot_lines.BootQuestion.TheVariants.{Images, Commands, Variables}
 use Rattle.boot_texts.specs.Answering.{Chosen, is_answered}
 use Rattle.cells.specs.Cells.{rendered}
 use Rattle.boot_texts.specs.AnswerCells.{secure_boot_cell, unknown_command_cell, version_cell, word_cell}

@@ -16,8 +16,8 @@ use Rattle.boot_answers.specs.Commands.{CommandSaid, told_text}
 use Rattle.boot_answers.specs.Images.{MayBeImage, image_register}
 use Rattle.boot_answers.specs.Separators.{MayBeSeparator}
 use Rattle.cells.specs.declared.writer.Form.{Form}
-use Rattle.boot_texts.specs.declared.event_walk.BootQuestion.{BootQuestion}
-use Rattle.boot_texts.specs.declared.event_walk.BootQuestion.TheVariants.{Images, Commands, Variables}
+use Rattle.boot_texts.specs.declared.boot_lines.BootQuestion.{BootQuestion}
+use Rattle.boot_texts.specs.declared.boot_lines.BootQuestion.TheVariants.{Images, Commands, Variables}
 use Rattle.cells.specs.Cells.{rendered}
 use Rattle.boot_texts.specs.AnswerCells.{command_cell, image_cell, unknown_command_cell, variable_cell}
 

@@ -9,7 +9,6 @@ mod boot_lines;
 mod commands;
 mod difference_lines;
 mod differences;
-mod event_walk;
 mod images;
 pub mod laws;
 mod policies;
