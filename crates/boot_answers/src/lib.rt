@@ -49,9 +49,9 @@ pub use alike_events::{Common, MOST_COMPARED, common_events};
 pub use commands::{COMMAND_REGISTERS, CommandText, told_text};
 pub use differences::first_difference;
 pub use firmware_events::{
-    SETTINGS_REGISTER, boot_variable, image_digest, may_be_image, may_be_separator,
+    IMAGE_REGISTER, boot_variable, image_digest, may_be_image, may_be_separator,
 };
 pub use ima_options::{asks_to_measure, may_set_ima_policy};
 pub use register_events::{RegisterEvents, is_answering};
 pub use secure_boot_state::{SecureBoot, secure_boot};
-pub use versions::firmware_version;
+pub use versions::{EV_S_CRTM_VERSION, firmware_version};

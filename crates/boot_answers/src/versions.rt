@@ -16,7 +16,8 @@ use pcr_banks::Alg;
 /// The register of the firmware's code.
 const FIRMWARE_REGISTER: u32 = 0;
 
-const EV_S_CRTM_VERSION: u32 = 0x0000_0008;
+/// The type of an event with the firmware's version.
+pub const EV_S_CRTM_VERSION: u32 = 0x0000_0008;
 
 // Whether a separator has this value.
 fn is_separator_value(value: u32) -> bool

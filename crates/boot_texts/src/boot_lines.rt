@@ -11,19 +11,16 @@ ghost use Rattle.boot_texts.specs.Telling.{AreEventLines, IsEventLine};
 
 use crate::answering_banks::is_answered;
 use crate::commands::{UnknownCommandLine, append_if_command};
-use crate::images::{IMAGE_REGISTER, append_if_image};
+use crate::images::append_if_image;
 use crate::policies::{GRUB_REGISTER, STUB_REGISTER, append_policy};
 use crate::variables::append_if_variable;
-use boot_answers::{SETTINGS_REGISTER, SecureBoot, firmware_version, secure_boot};
+use boot_answers::{EV_S_CRTM_VERSION, IMAGE_REGISTER, SecureBoot, firmware_version, secure_boot};
 use boot_log::{Event, LogView};
 use cells::{CellWriter, Form, Shown, Written, append};
 use event_data::EventContent;
 use event_lines::show_form;
-use measured_data::Pcr;
+use measured_data::{Pcr, SETTINGS_REGISTER};
 use std::alloc::{AllocError, Global};
-
-/// The type of an event with the firmware's version.
-const EV_S_CRTM_VERSION: u32 = 0x0000_0008;
 
 /// Appends the lines of all answers on the boot that the log tells, by the registers in `matched`, those that match. A bank answers for a register
 /// that matches in it, if it is no bank of SHA-1 ([`boot_answers::is_answering`]). Each line is an object of JSON; or, for people

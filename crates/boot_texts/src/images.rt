@@ -8,16 +8,13 @@ ghost use Rattle.boot_texts.specs.AnswerCells.{answered_cell, answered_digest, d
 ghost use Rattle.boot_texts.specs.Telling.{IsImageBy, MayBeImageIn, IsImageLine};
 
 use crate::answering_banks::answers;
-use boot_answers::may_be_image;
+use boot_answers::{IMAGE_REGISTER, may_be_image};
 use boot_log::Event;
 use cells::{CellWriter, Form, Shown, Written, append};
 use event_lines::show_content;
 use measured_data::Pcr;
 use pcr_banks::{Alg, Digest, PerBank};
 use std::alloc::Global;
-
-/// The register of the images that the firmware starts.
-pub(crate) const IMAGE_REGISTER: u32 = 4;
 
 // Whether the event may be an image by some bank that answers.
 fn may_be_image_in(event: &Event<'_>, matched: &[Pcr]) -> bool

@@ -11,12 +11,12 @@ ghost use Rattle.boot_texts.specs.AnswerCells.{variable_cell};
 ghost use Rattle.boot_texts.specs.Telling.{IsSeparatorBy, MayBeSeparatorIn, IsSettingLine, IsVariableLine, allows_variable, is_boot_variable, is_told_variable, told_variable};
 
 use crate::answering_banks::answers;
-use boot_answers::{SETTINGS_REGISTER, may_be_separator};
+use boot_answers::may_be_separator;
 use boot_log::Event;
 use cells::{CellWriter, Form, Shown, Written, append};
 use event_data::{ValueForm, Variable, read_variable, value_form};
 use event_lines::show_content;
-use measured_data::{Part, Pcr, is_measured};
+use measured_data::{Part, Pcr, SETTINGS_REGISTER, is_measured};
 use pcr_banks::Alg;
 use std::alloc::{AllocError, Global};
 

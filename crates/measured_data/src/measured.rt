@@ -21,7 +21,7 @@ pub enum Part {
 }
 
 /// The register of the firmware's settings, into which the values of variables are extended without their names.
-const SETTINGS_REGISTER: u32 = 1;
+pub const SETTINGS_REGISTER: u32 = 1;
 
 /// The register of GRUB's commands.
 const COMMANDS_REGISTER: u32 = 8;
