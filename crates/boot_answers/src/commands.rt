@@ -6,10 +6,13 @@ ghost use Rattle.boot_answers.specs.Commands.{said_of, told_text};
 
 use boot_log::Event;
 use event_data::{Command, read_command, read_wide_text};
-use measured_data::{Part, Pcr, confirmed_part};
+use measured_data::{GRUB_REGISTER, Part, Pcr, confirmed_part};
+
+/// The register of systemd-stub's command line.
+pub const STUB_REGISTER: u32 = 12;
 
 /// The registers of commands: that of GRUB's, and that of systemd-stub's command line.
-pub const COMMAND_REGISTERS: [u32; 2] = [8, 12];
+pub const COMMAND_REGISTERS: [u32; 2] = [GRUB_REGISTER, STUB_REGISTER];
 
 /// A text that a boot loader measured.
 #[derive(Clone, Copy)]

@@ -26,14 +26,16 @@
 //!   for a policy proves neither that Linux has one nor that it measures files. That no text asks proves nothing either: no event says which
 //!   boot loader made it, and a kernel gets options also from a boot loader that measures none, by its EFI stub, by kexec, by bootconfig, or
 //!   built in. Root may extend register 10 under a policy too; a policy keeps only what Linux measured from being taken out.
+//! - [`ima_policy`]: the first text of register 8, or else of register 12, that asks this, of those that are told.
 //! - [`boot_variable`]: a variable whose value, or whose data, was hashed. Vendor and name are always claimed, also where all of the data is
 //!   measured: root can set a variable to the bytes of another one. They are told up to the first event that may be a separator, which may
 //!   be a BootOrder ([`may_be_separator`]); what comes after it is unknown, not absent.
 //! - [`first_difference`]: how far two boots extended a register alike, by their digests alone. An event without a digest is like none.
 //! - [`common_events`]: which of the next events they have in common, by their digests alone too.
 //!
-//! `matched` has the registers of a bank whose value is the log's. Each call goes over the log once, or for each bank once or twice, and
-//! but for [`common_events`] allocates nothing. The crate `answer_laws` has the laws that say what the answers tell of the machine.
+//! `matched` has the registers of a bank whose value is the log's. Each call goes over the log once, or for each bank once or twice;
+//! [`ima_policy`] goes over it four times at most. [`common_events`] and [`ima_policy`] take memory, the others none. The crate `answer_laws`
+//! has the laws that say what the answers tell of the machine.
 #![tactic(auto)]
 
 mod alike_events;
@@ -41,17 +43,19 @@ mod commands;
 mod differences;
 mod firmware_events;
 mod ima_options;
+mod policies;
 mod register_events;
 mod secure_boot_state;
 mod versions;
 
 pub use alike_events::{Common, MOST_COMPARED, common_events};
-pub use commands::{COMMAND_REGISTERS, CommandText, told_text};
+pub use commands::{COMMAND_REGISTERS, CommandText, STUB_REGISTER, told_text};
 pub use differences::first_difference;
 pub use firmware_events::{
     IMAGE_REGISTER, boot_variable, image_digest, may_be_image, may_be_separator,
 };
 pub use ima_options::{asks_to_measure, may_set_ima_policy};
+pub use policies::{ImaPolicy, ima_policy};
 pub use register_events::{RegisterEvents, is_answering};
 pub use secure_boot_state::{SecureBoot, secure_boot};
 pub use versions::{EV_S_CRTM_VERSION, firmware_version};

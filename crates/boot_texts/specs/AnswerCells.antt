@@ -8,6 +8,8 @@ use Rattle.boot_log.specs.Names.{LogEvent}
 use Rattle.event_data.specs.Names.{Content, content_in}
 use Rattle.measured_data.specs.declared.confirmed.Pcr.{Pcr}
 use Rattle.measured_data.specs.Confirming.{counts}
+use Rattle.boot_answers.specs.declared.policies.ImaPolicy.{ImaPolicy}
+use Rattle.boot_answers.specs.declared.policies.ImaPolicy.TheVariants as policies
 use Rattle.boot_answers.specs.declared.secure_boot_state.SecureBoot.{SecureBoot}
 use Rattle.boot_answers.specs.declared.secure_boot_state.SecureBoot.TheVariants.{On, Off, Unknown}
 use Rattle.boot_answers.specs.Commands.{CommandSaid, grub, wide}
@@ -93,6 +95,27 @@ unknown_command_cell register event = in_order (
     word (codes "command ") (codes "command") (codes "unknown")
     ∷ number (codes " ") (codes "register") register
     ∷ if_some event (number (codes " ") (codes "event"))
+    ∷ text (codes "\n")
+    ∷ [])
+
+-- ---- what the told texts ask
+
+-- What is asked, in one word.
+abbrev pub policy_word : ImaPolicy → List ℕ
+policy_word (policies.Asked event) = codes "asked"
+policy_word (policies.Possible event) = codes "possible"
+policy_word policies.Unknown = codes "unknown"
+
+-- The number of the event that asks.
+abbrev pub policy_event : ImaPolicy → Option ℕ
+policy_event (policies.Asked event) = Some event
+policy_event (policies.Possible event) = Some event
+policy_event policies.Unknown = None
+
+abbrev pub policy_cell : ImaPolicy → Cell Member
+policy_cell policy = in_order (
+    word (codes "ima_policy ") (codes "ima_policy") (policy_word policy)
+    ∷ if_some (policy_event policy) (number (codes " ") (codes "event"))
     ∷ text (codes "\n")
     ∷ [])
 

@@ -12,14 +12,16 @@ ghost use Rattle.boot_texts.specs.Telling.{AreEventLines, IsEventLine};
 use crate::answering_banks::is_answered;
 use crate::commands::{UnknownCommandLine, append_if_command};
 use crate::images::append_if_image;
-use crate::policies::{GRUB_REGISTER, STUB_REGISTER, append_policy};
+use crate::policies::append_policy;
 use crate::variables::append_if_variable;
-use boot_answers::{EV_S_CRTM_VERSION, IMAGE_REGISTER, SecureBoot, firmware_version, secure_boot};
+use boot_answers::{
+    EV_S_CRTM_VERSION, IMAGE_REGISTER, STUB_REGISTER, SecureBoot, firmware_version, secure_boot,
+};
 use boot_log::{Event, LogView};
 use cells::{CellWriter, Form, Shown, Written, append};
 use event_data::EventContent;
 use event_lines::show_form;
-use measured_data::{Pcr, SETTINGS_REGISTER};
+use measured_data::{GRUB_REGISTER, Pcr, SETTINGS_REGISTER};
 use std::alloc::{AllocError, Global};
 
 /// Appends the lines of all answers on the boot that the log tells, by the registers in `matched`, those that match. A bank answers for a register
@@ -33,7 +35,7 @@ use std::alloc::{AllocError, Global};
 /// - `command 21 8 {"text":".."}`: each event of register 8, and then of 12, with the text that is measured in each bank that answers
 ///   ([`boot_answers::told_text`]), up to the first event without one: `command unknown 8 25`. JSON has the kind of a command of GRUB under
 ///   `claimed`;
-/// - `ima_policy` and what these texts ask ([`crate::ImaPolicy`]): `asked 21` or `possible 21`, by event 21, or `unknown`;
+/// - `ima_policy` and what these texts ask ([`boot_answers::ImaPolicy`]): `asked 21` or `possible 21`, by event 21, or `unknown`;
 /// - `boot_variable 9 {..}`: each event of register 1 that is a BootOrder or a Boot####, by its claimed name, and what it says, up to
 ///   the first that may be a separator by some bank that answers ([`boot_answers::boot_variable`]).
 ///

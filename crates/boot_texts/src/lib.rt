@@ -16,4 +16,3 @@ mod variables;
 
 pub use boot_lines::append_boot;
 pub use differences::append_differences;
-pub use policies::ImaPolicy;

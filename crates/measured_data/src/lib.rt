@@ -10,4 +10,4 @@ mod measured;
 
 pub use confirmed::{Pcr, confirmed_part};
 pub use laws::parts_are_the_first;
-pub use measured::{Part, SETTINGS_REGISTER, is_measured, measured_part};
+pub use measured::{GRUB_REGISTER, Part, SETTINGS_REGISTER, is_measured, measured_part};
