@@ -7,9 +7,10 @@
 //! digest of a separator. It never comes from a type. What cannot be said is unknown.
 //!
 //! Banks of SHA-1 answer nothing. A bank that the firmware does not extend is root's, and matches too. So what is said by one bank is to be
-//! asked in each that answers for the register ([`is_answering`]), and holds only if each says it. [`secure_boot`] and [`firmware_version`]
-//! do so. Where the firmware extends one of these banks, they tell what it measured. Root can write a log that matches in one bank and not in
-//! another: so where a register does not match in a bank other than SHA-1 that the machine has, the caller is to take no answer from it.
+//! asked in each that answers for the register ([`measured_data::is_answering`]), and holds only if each says it. [`secure_boot`] and
+//! [`firmware_version`] do so. Where the firmware extends one of these banks, they tell what it measured. Root can write a log that matches in
+//! one bank and not in another: so where a register does not match in a bank other than SHA-1 that the machine has, the caller is to take no
+//! answer from it.
 //!
 //! - [`secure_boot`]: `On` or `Off` is what the firmware measured. Root cannot turn it, but can always have it `Unknown`. A firmware that
 //!   extends register 7 by nothing, against the profile, leaves the answer to root. It is the state when the firmware began to load programs:
@@ -56,6 +57,6 @@ pub use firmware_events::{
 };
 pub use ima_options::{asks_to_measure, may_set_ima_policy};
 pub use policies::{ImaPolicy, ima_policy};
-pub use register_events::{RegisterEvents, is_answering};
+pub use register_events::RegisterEvents;
 pub use secure_boot_state::{SecureBoot, secure_boot};
 pub use versions::{EV_S_CRTM_VERSION, firmware_version};

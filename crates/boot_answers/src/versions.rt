@@ -7,10 +7,10 @@ ghost use Rattle.event_data.specs.Names.{content_of};
 ghost use Rattle.boot_answers.specs.FirmwareVersion.{IsFirmwareVersion, IsOfVersion, IsSeparatorData, IsVersion, TellsVersion};
 ghost use Rattle.boot_answers.specs.parts.FirmwareVersion.{Agrees, AllAgree, TellsAny};
 
-use crate::register_events::{RegisterEvents, answering_bank, is_answering, is_whole};
+use crate::register_events::{RegisterEvents, answering_bank, is_whole};
 use boot_log::{Event, LogView};
 use event_data::{EventContent, event_content, read_separator};
-use measured_data::Pcr;
+use measured_data::{Pcr, is_answering};
 use pcr_banks::Alg;
 
 /// The register of the firmware's code.

@@ -1,4 +1,3 @@
-pub mod AnsweringLaws
 pub mod AnswerLineLaws
 pub mod EachBankLaws
 pub mod TellingLaws

@@ -7,7 +7,7 @@ use Rattle.pcr_banks.specs.Names.{all_algs, digest_in, name_of}
 use Rattle.boot_log.specs.Names.{LogEvent}
 use Rattle.event_data.specs.Names.{Content, content_in}
 use Rattle.measured_data.specs.declared.confirmed.Pcr.{Pcr}
-use Rattle.measured_data.specs.Confirming.{counts}
+use Rattle.measured_data.specs.Confirming.{is_answering}
 use Rattle.boot_answers.specs.declared.policies.ImaPolicy.{ImaPolicy}
 use Rattle.boot_answers.specs.declared.policies.ImaPolicy.TheVariants as policies
 use Rattle.boot_answers.specs.declared.secure_boot_state.SecureBoot.{SecureBoot}
@@ -43,7 +43,7 @@ version_cell (Some content) = value_cell (codes "firmware_version ") (codes "fir
 
 -- The event's digest in the bank, if the bank answers for images.
 abbrev pub answered_digest : List Pcr → PerBank → Alg → Option (List ℕ)
-answered_digest matched digests alg = if counts matched alg image_register then digest_in digests alg else None
+answered_digest matched digests alg = if is_answering matched alg image_register then digest_in digests alg else None
 
 abbrev pub digest_cell : Alg → List ℕ → Cell Member
 digest_cell alg bytes = in_order (text (name_of alg) ∷ hex (codes " ") (name_of alg) bytes ∷ text (codes " ") ∷ [])

@@ -25,7 +25,7 @@ use measured_data::{GRUB_REGISTER, Pcr, SETTINGS_REGISTER};
 use std::alloc::{AllocError, Global};
 
 /// Appends the lines of all answers on the boot that the log tells, by the registers in `matched`, those that match. A bank answers for a register
-/// that matches in it, if it is no bank of SHA-1 ([`boot_answers::is_answering`]). Each line is an object of JSON; or, for people
+/// that matches in it, if it is no bank of SHA-1 ([`measured_data::is_answering`]). Each line is an object of JSON; or, for people
 /// ([`Form::Text`]), words, some with JSON at the end, in which no character steers a terminal, as in [`event_lines::send_events`].
 ///
 /// - `secure_boot on`, `off` or `unknown` ([`boot_answers::secure_boot`]);
