@@ -12,10 +12,10 @@ use Rattle.event_data.proofs.TextLaws.{wide_text_finds}
 use Rattle.measured_data.specs.declared.measured.Part.{Part}
 use Rattle.measured_data.specs.declared.measured.Part.TheVariants as parts
 use Rattle.measured_data.specs.declared.confirmed.Pcr.{Pcr}
-use Rattle.measured_data.specs.Confirming.{IsConfirmed}
+use Rattle.measured_data.specs.Confirming.{IsAnswering, IsConfirmed}
 use Rattle.measured_data.specs.Measuring.{IsFirstPart, IsMeasured}
 use Rattle.boot_answers.specs.Commands.{CommandSaid, grub, text_by, wide}
-use Rattle.boot_answers.specs.Extending.{IsAnswering, extended_events}
+use Rattle.boot_answers.specs.Extending.{extended_events}
 use Rattle.boot_answers.proofs.EventLaws.{own_and_later}
 use Rattle.answer_laws.specs.HashedTexts.{ExtendsBreak, HasExtended, HasHashOf, IsHashedText, TellsText}
 use Rattle.answer_laws.proofs.HashedLaws.{digests_are, digests_of, joined_digests, known_digest}

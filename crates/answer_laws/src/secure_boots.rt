@@ -4,7 +4,7 @@ ghost use Rattle.std.specs.Prelude.{◌≡◌, ◌⊎◌, ℕ, List};
 ghost use Rattle.pcr_banks.specs.declared.alg.Alg.{Alg};
 ghost use Rattle.boot_log.specs.Names.{LogEvent, firmware_value};
 ghost use Rattle.measured_data.specs.declared.confirmed.Pcr.{Pcr};
-ghost use Rattle.boot_answers.specs.Extending.{IsAnswering};
+ghost use Rattle.measured_data.specs.Confirming.{IsAnswering};
 ghost use Rattle.boot_answers.specs.SecureBoot.{IsTold, TellsSecureBoot, policy_register};
 ghost use Rattle.answer_laws.specs.Hashed.{HasHashed, HashIsBroken};
 ghost use Rattle.answer_laws.specs.HashedAnswers.{HashedDecision, HashedFirst, LogsBreak};

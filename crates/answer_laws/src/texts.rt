@@ -4,8 +4,8 @@ ghost use Rattle.std.specs.Prelude.{◌⊎◌, ℕ, List};
 ghost use Rattle.pcr_banks.specs.declared.alg.Alg.{Alg};
 ghost use Rattle.boot_log.specs.Names.{LogEvent};
 ghost use Rattle.measured_data.specs.declared.confirmed.Pcr.{Pcr};
+ghost use Rattle.measured_data.specs.Confirming.{IsAnswering};
 ghost use Rattle.boot_answers.specs.Commands.{CommandSaid};
-ghost use Rattle.boot_answers.specs.Extending.{IsAnswering};
 ghost use Rattle.answer_laws.specs.HashedTexts.{ExtendsBreak, HasExtended, HasHashOf, TellsText};
 
 use measured_data::parts_are_the_first;

@@ -5,7 +5,7 @@ ghost use Rattle.pcr_banks.specs.declared.alg.Alg.{Alg};
 ghost use Rattle.boot_log.specs.Names.{LogEvent};
 ghost use Rattle.event_data.specs.Names.{Content, Says};
 ghost use Rattle.measured_data.specs.declared.confirmed.Pcr.{Pcr};
-ghost use Rattle.boot_answers.specs.Extending.{IsAnswering};
+ghost use Rattle.measured_data.specs.Confirming.{IsAnswering};
 ghost use Rattle.boot_answers.specs.FirmwareVersion.{IsFirmwareVersion, TellsVersion, firmware_register, version_type};
 ghost use Rattle.answer_laws.specs.Hashed.{HasHashed, HashIsBroken};
 

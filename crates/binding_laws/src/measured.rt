@@ -9,7 +9,7 @@ ghost use Rattle.event_data.specs.Names.{CommandData, IsCommand, IsVariable, Var
 ghost use Rattle.measured_data.specs.declared.measured.Part.{Part};
 ghost use Rattle.measured_data.specs.declared.confirmed.Pcr.{Pcr};
 ghost use Rattle.measured_data.specs.Confirming.{IsConfirmed};
-ghost use Rattle.measured_data.specs.Measuring.{IsMeasured, commands_register, settings_register};
+ghost use Rattle.measured_data.specs.Measuring.{IsMeasured, grub_register, settings_register};
 ghost use Rattle.binding_laws.specs.LogBinding.{LogsBreakHash};
 ghost use Rattle.binding_laws.specs.MeasuredBinding.{Collide, Extensions, HasHashAfter, Matches, MeasuresAfter, WasHashed};
 
@@ -69,6 +69,6 @@ pub fn value_tells_no_name()
         → IsMeasured alg (record event { payload = measured.bytes }) Part.Whole }
     ensures value_elsewhere { (alg : Alg) (event : LogEvent) → (event.register ≡ settings_register → ⊥)
         → IsMeasured alg event Part.Value → ⊥ }
-    ensures command_elsewhere { (alg : Alg) (event : LogEvent) → (event.register ≡ commands_register → ⊥)
+    ensures command_elsewhere { (alg : Alg) (event : LogEvent) → (event.register ≡ grub_register → ⊥)
         → IsMeasured alg event Part.Command → ⊥ }
 {}

@@ -8,3 +8,4 @@ pub mod VersionLaws
 pub mod ImaMeasuringLaws
 pub mod ImaPolicyLaws
 pub mod ReadLaws
+pub mod AskingLaws

@@ -7,9 +7,10 @@ use Rattle.event_data.proofs.FormLaws.{one_variable}
 use Rattle.measured_data.specs.declared.measured.Part.TheVariants.{Whole}
 use Rattle.measured_data.specs.declared.confirmed.Pcr.{Pcr}
 use Rattle.measured_data.specs.Measuring.{IsMeasured}
+use Rattle.measured_data.specs.Confirming.{IsAnswering}
 use Rattle.boot_answers.specs.declared.secure_boot_state.SecureBoot.{SecureBoot}
 use Rattle.boot_answers.specs.declared.secure_boot_state.SecureBoot.TheVariants.{On, Off, Unknown}
-use Rattle.boot_answers.specs.Extending.{IsAnswering, extended_events}
+use Rattle.boot_answers.specs.Extending.{extended_events}
 use Rattle.boot_answers.specs.SecureBoot.{IsBefore, IsSecureBoot, IsSecureBootVariable, IsTelling, TellsSecureBoot, policy_register}
 use Rattle.boot_answers.specs.parts.SecureBoot.{AllAgree, Ends, IsOf, IsToldIn}
 use Rattle.boot_answers.proofs.EventLaws.{no_end, one_end}

@@ -5,7 +5,8 @@ use Rattle.boot_log.specs.Names.{LogEvent}
 use Rattle.event_data.specs.Names.{Content, Says}
 use Rattle.event_data.proofs.ContentLaws.{says_once}
 use Rattle.measured_data.specs.declared.confirmed.Pcr.{Pcr}
-use Rattle.boot_answers.specs.Extending.{IsAnswering, extended_events}
+use Rattle.measured_data.specs.Confirming.{IsAnswering}
+use Rattle.boot_answers.specs.Extending.{extended_events}
 use Rattle.boot_answers.specs.FirmwareVersion.{IsFirmwareVersion, IsOfVersion, IsVersion, TellsVersion, firmware_register, version_type}
 use Rattle.boot_answers.specs.parts.FirmwareVersion.{AllAgree, TellsAny}
 

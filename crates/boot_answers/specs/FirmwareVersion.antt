@@ -12,7 +12,8 @@ use Rattle.event_data.specs.Names.{Content, IsSeparator, Says}
 use Rattle.measured_data.specs.declared.measured.Part.TheVariants.{Whole}
 use Rattle.measured_data.specs.declared.confirmed.Pcr.{Pcr}
 use Rattle.measured_data.specs.Measuring.{IsMeasured}
-use Rattle.boot_answers.specs.Extending.{IsAnswering, extended_events}
+use Rattle.measured_data.specs.Confirming.{IsAnswering}
+use Rattle.boot_answers.specs.Extending.{extended_events}
 
 -- The register of the firmware's code.
 abbrev pub firmware_register : ℕ

@@ -8,6 +8,7 @@ pub mod Images
 pub mod ImaMeasuring
 pub mod ImaPolicy
 pub mod Commands
+pub mod Policies
 pub mod BootVariables
 pub mod Differences
 pub mod CommonEvents

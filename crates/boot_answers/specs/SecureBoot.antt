@@ -13,9 +13,10 @@ use Rattle.boot_log.specs.Names.{LogEvent}
 use Rattle.measured_data.specs.declared.measured.Part.TheVariants.{Whole}
 use Rattle.measured_data.specs.declared.confirmed.Pcr.{Pcr}
 use Rattle.measured_data.specs.Measuring.{IsMeasured}
+use Rattle.measured_data.specs.Confirming.{IsAnswering}
 use Rattle.boot_answers.specs.declared.secure_boot_state.SecureBoot.{SecureBoot}
 use Rattle.boot_answers.specs.declared.secure_boot_state.SecureBoot.TheVariants.{On, Off, Unknown}
-use Rattle.boot_answers.specs.Extending.{IsAnswering, extended_events}
+use Rattle.boot_answers.specs.Extending.{extended_events}
 use Rattle.boot_answers.specs.Variables.{IsNamed, global_guid, wide}
 
 -- The register of Secure Boot.

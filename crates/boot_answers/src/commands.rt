@@ -6,10 +6,13 @@ ghost use Rattle.boot_answers.specs.Commands.{said_of, told_text};
 
 use boot_log::Event;
 use event_data::{Command, read_command, read_wide_text};
-use measured_data::{Part, Pcr, confirmed_part};
+use measured_data::{GRUB_REGISTER, Part, Pcr, confirmed_part};
+
+/// The register of systemd-stub's command line.
+pub const STUB_REGISTER: u32 = 12;
 
 /// The registers of commands: that of GRUB's, and that of systemd-stub's command line.
-pub const COMMAND_REGISTERS: [u32; 2] = [8, 12];
+pub const COMMAND_REGISTERS: [u32; 2] = [GRUB_REGISTER, STUB_REGISTER];
 
 /// A text that a boot loader measured.
 #[derive(Clone, Copy)]
@@ -23,8 +26,8 @@ pub enum CommandText<'a> {
 
 /// The text that the event tells, by the registers in `matched`, those that match: the text of a command of GRUB, or a text in units of two
 /// bytes that is all of the event's data, where it is measured in each bank that answers for the event's register, and there is such a bank
-/// ([`crate::is_answering`]). `None` where there is none: the event may then be any text, as root can show other data for it. So no text is
-/// to be taken from the events of its register after it.
+/// ([`measured_data::is_answering`]). `None` where there is none: the event may then be any text, as root can show other data for it. So no
+/// text is to be taken from the events of its register after it.
 pub fn told_text<'a>(event: &Event<'a>, matched: &[Pcr]) -> Option<CommandText<'a>>
     ensures { option_map said_of result ≡ told_text matched.now (log_event_of event.now) }
 {

@@ -35,7 +35,7 @@ pub fn may_be_separator(event: &Event<'_>, alg: Alg) -> bool
 }
 
 /// The register of the images that the firmware starts.
-const IMAGE_REGISTER: u32 = 4;
+pub const IMAGE_REGISTER: u32 = 4;
 
 // Whether the bytes are a separator or a text.
 fn is_separator_or_text(bytes: &[u8]) -> bool
@@ -74,9 +74,6 @@ pub fn image_digest(event: &Event<'_>, alg: Alg) -> Option<Digest>
     }
 }
 
-/// The register of the firmware's settings.
-pub const SETTINGS_REGISTER: u32 = 1;
-
 // Whether all of the event's data is measured, or its value.
 fn is_measured_variable(event: &Event<'_>, alg: Alg) -> bool
     ensures { IsTrue result ↔ IsMeasuredVariable alg (log_event_of event.now) }
@@ -85,8 +82,8 @@ fn is_measured_variable(event: &Event<'_>, alg: Alg) -> bool
 }
 
 /// The variable that the event's data is, in the algorithm's bank, where it is measured whole or its value is; `None` where it is none. To be
-/// asked of the events of [`crate::RegisterEvents`] in [`SETTINGS_REGISTER`], up to the first that may be a separator in a bank that answers
-/// ([`crate::may_be_separator`]), and in each bank that answers.
+/// asked of the events of [`crate::RegisterEvents`] in [`measured_data::SETTINGS_REGISTER`], up to the first that may be a separator in a bank
+/// that answers ([`crate::may_be_separator`]), and in each bank that answers.
 /// Vendor and name are always claimed: root can set a variable to the bytes of another one, and show these as all of an event's data.
 pub fn boot_variable<'a>(event: &Event<'a>, alg: Alg) -> Option<Variable<'a>>
     ensures found { IfSome result (λ variable. IsBootVariable alg (log_event_of event.now) (variable_of variable)) }

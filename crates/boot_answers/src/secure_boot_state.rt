@@ -7,10 +7,10 @@ ghost use Rattle.boot_answers.specs.Variables.{IsNamed, global_guid};
 ghost use Rattle.boot_answers.specs.SecureBoot.{IsBefore, IsSecureBoot, IsSecureBootVariable};
 ghost use Rattle.boot_answers.specs.parts.SecureBoot.{Agrees, AllAgree, Ends, IsOf, IsToldIn};
 
-use crate::register_events::{RegisterEvents, answering_bank, is_answering, is_whole};
+use crate::register_events::{RegisterEvents, answering_bank, is_whole};
 use boot_log::{Event, LogView};
 use event_data::{Variable, read_variable};
-use measured_data::Pcr;
+use measured_data::{Pcr, is_answering};
 use pcr_banks::Alg;
 
 /// EFI_GLOBAL_VARIABLE, 8be4df61-93ca-11d2-aa0d-00e098032b8c.

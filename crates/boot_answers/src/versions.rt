@@ -7,16 +7,17 @@ ghost use Rattle.event_data.specs.Names.{content_of};
 ghost use Rattle.boot_answers.specs.FirmwareVersion.{IsFirmwareVersion, IsOfVersion, IsSeparatorData, IsVersion, TellsVersion};
 ghost use Rattle.boot_answers.specs.parts.FirmwareVersion.{Agrees, AllAgree, TellsAny};
 
-use crate::register_events::{RegisterEvents, answering_bank, is_answering, is_whole};
+use crate::register_events::{RegisterEvents, answering_bank, is_whole};
 use boot_log::{Event, LogView};
 use event_data::{EventContent, event_content, read_separator};
-use measured_data::Pcr;
+use measured_data::{Pcr, is_answering};
 use pcr_banks::Alg;
 
 /// The register of the firmware's code.
 const FIRMWARE_REGISTER: u32 = 0;
 
-const EV_S_CRTM_VERSION: u32 = 0x0000_0008;
+/// The type of an event with the firmware's version.
+pub const EV_S_CRTM_VERSION: u32 = 0x0000_0008;
 
 // Whether a separator has this value.
 fn is_separator_value(value: u32) -> bool

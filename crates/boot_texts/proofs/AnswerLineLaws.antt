@@ -9,6 +9,7 @@ use Rattle.boot_log.specs.Names.{LogEvent}
 use Rattle.event_data.specs.Names.{content_in}
 use Rattle.event_texts.specs.WideTexts.{wide_text}
 use Rattle.measured_data.specs.declared.confirmed.Pcr.{Pcr}
+use Rattle.boot_answers.specs.declared.policies.ImaPolicy.TheVariants.{Asked, Possible}
 use Rattle.boot_answers.specs.Commands.{CommandSaid, grub, wide}
 use Rattle.boot_answers.specs.FirmwareVersion.{version_type}
 use Rattle.cells.proofs.LineLaws.{ArePlain, IsPlain, line_within, members_joined}
@@ -19,10 +20,8 @@ use Rattle.event_lines.specs.ContentTexts.{text_or_hex}
 use Rattle.event_lines.proofs.ContentLaws.{content_plain}
 use Rattle.event_lines.proofs.CountLaws.{content_counted}
 use Rattle.boot_texts.specs.declared.difference_lines.ComparedBoot.{ComparedBoot}
-use Rattle.boot_texts.specs.declared.policies.ImaPolicy.TheVariants.{Asked, Possible}
-use Rattle.boot_texts.specs.AnswerCells.{answered_digest, boot_variable_type, command_cell, digest_cell, image_cell, kind_cell, text_member, unknown_command_cell, variable_cell, version_cell, word_cell}
+use Rattle.boot_texts.specs.AnswerCells.{answered_digest, boot_variable_type, command_cell, digest_cell, image_cell, kind_cell, policy_cell, text_member, unknown_command_cell, variable_cell, version_cell, word_cell}
 use Rattle.boot_texts.specs.Differences.{alike_cell, apart_cell, event_cell}
-use Rattle.boot_texts.specs.Policies.{policy_cell}
 
 content_is_plain : (kind : ℕ) (bytes : List ℕ) → IsBytes bytes → IsPlain (content_json kind (content_in kind bytes)) 6
 content_is_plain kind bytes fits = content_plain kind (content_in kind bytes) (content_counted kind bytes fits)

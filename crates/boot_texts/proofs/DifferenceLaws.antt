@@ -7,7 +7,7 @@ use Rattle.std.proofs.lemmas.List.Concat.{flat_map-append}
 use Rattle.pcr_banks.specs.declared.alg.Alg.{Alg}
 use Rattle.boot_log.specs.Names.{LogEvent, is_extended_into}
 use Rattle.measured_data.specs.declared.confirmed.Pcr.{Pcr}
-use Rattle.measured_data.specs.Confirming.{counts}
+use Rattle.measured_data.specs.Confirming.{is_answering}
 use Rattle.boot_answers.specs.CommonEvents.{unmarked}
 use Rattle.boot_answers.specs.Differences.{IsFirstDifference}
 use Rattle.cells.specs.declared.writer.Form.{Form}
@@ -155,7 +155,7 @@ parted algs index d within =
 
 -- How the boots are compared in a bank that answers.
 pub compared : (matched : List Pcr) (register : ℕ) (events others : List LogEvent) (alg : Alg) (found : Option ℕ)
-    → counts matched alg register ≡ true → IsFirstDifference alg register events others found
+    → is_answering matched alg register ≡ true → IsFirstDifference alg register events others found
     → IsComparedIn matched register events others alg found
 compared matched register events others alg None answers is = λ _. is
 compared matched register events others alg (Some place) answers is = record { answers = answers; apart = is }

@@ -17,15 +17,14 @@ use Rattle.event_data.proofs.TextLaws.{wide_text_finds}
 use Rattle.measured_data.specs.declared.measured.Part.{Part}
 use Rattle.measured_data.specs.declared.measured.Part.TheVariants as parts
 use Rattle.measured_data.specs.declared.confirmed.Pcr.{Pcr}
-use Rattle.measured_data.specs.Confirming.{IsConfirmed, counts}
+use Rattle.measured_data.specs.Confirming.{IsAnswering, IsConfirmed, is_answering}
 use Rattle.measured_data.specs.Measuring.{IsFirstPart, is_measured, settings_register}
+use Rattle.measured_data.proofs.ConfirmedLaws.{answering_told}
 use Rattle.measured_data.proofs.MeasuredLaws.{measured_told}
 use Rattle.boot_answers.specs.BootVariables.{IsMeasuredVariable}
 use Rattle.boot_answers.specs.Commands.{CommandSaid, IsCommandText, grub, text_by, wide}
-use Rattle.boot_answers.specs.Extending.{IsAnswering}
 use Rattle.boot_texts.specs.EachBank.{TellText, TellVariable}
 use Rattle.boot_texts.specs.Telling.{allows_variable, is_boot_variable, is_told_variable}
-use Rattle.boot_texts.proofs.AnsweringLaws.{answering_counts}
 
 -- What is found, under another name.
 named : {A B : Type 0} (f : A → B) (Is : A → Type 0) (found : Option A) (b : B) → Finds Is found → option_map f found ≡ Some b
@@ -75,7 +74,7 @@ each_tells_variable matched event fits e =
       λ bank answering.
           let whole = is_measured bank event parts.Whole in
           let value = is_measured bank event parts.Value in
-          let measured = measured_so (counts matched bank settings_register) whole value (answering_counts matched bank settings_register answering)
+          let measured = measured_so (is_answering matched bank settings_register) whole value ((answering_told matched bank settings_register).1 answering)
           (every_passes allows both.0 bank) in
           let is : IsMeasuredVariable bank event =
           elim (or_cases whole value measured) [

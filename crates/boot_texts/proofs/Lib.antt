@@ -1,7 +1,5 @@
-pub mod AnsweringLaws
 pub mod AnswerLineLaws
 pub mod EachBankLaws
 pub mod TellingLaws
-pub mod PolicyLaws
 pub mod BootLaws
 pub mod DifferenceLaws

@@ -7,7 +7,9 @@ use Rattle.pcr_banks.specs.Names.{all_algs, digest_in, name_of}
 use Rattle.boot_log.specs.Names.{LogEvent}
 use Rattle.event_data.specs.Names.{Content, content_in}
 use Rattle.measured_data.specs.declared.confirmed.Pcr.{Pcr}
-use Rattle.measured_data.specs.Confirming.{counts}
+use Rattle.measured_data.specs.Confirming.{is_answering}
+use Rattle.boot_answers.specs.declared.policies.ImaPolicy.{ImaPolicy}
+use Rattle.boot_answers.specs.declared.policies.ImaPolicy.TheVariants as policies
 use Rattle.boot_answers.specs.declared.secure_boot_state.SecureBoot.{SecureBoot}
 use Rattle.boot_answers.specs.declared.secure_boot_state.SecureBoot.TheVariants.{On, Off, Unknown}
 use Rattle.boot_answers.specs.Commands.{CommandSaid, grub, wide}
@@ -41,7 +43,7 @@ version_cell (Some content) = value_cell (codes "firmware_version ") (codes "fir
 
 -- The event's digest in the bank, if the bank answers for images.
 abbrev pub answered_digest : List Pcr → PerBank → Alg → Option (List ℕ)
-answered_digest matched digests alg = if counts matched alg image_register then digest_in digests alg else None
+answered_digest matched digests alg = if is_answering matched alg image_register then digest_in digests alg else None
 
 abbrev pub digest_cell : Alg → List ℕ → Cell Member
 digest_cell alg bytes = in_order (text (name_of alg) ∷ hex (codes " ") (name_of alg) bytes ∷ text (codes " ") ∷ [])
@@ -93,6 +95,27 @@ unknown_command_cell register event = in_order (
     word (codes "command ") (codes "command") (codes "unknown")
     ∷ number (codes " ") (codes "register") register
     ∷ if_some event (number (codes " ") (codes "event"))
+    ∷ text (codes "\n")
+    ∷ [])
+
+-- ---- what the told texts ask
+
+-- What is asked, in one word.
+abbrev pub policy_word : ImaPolicy → List ℕ
+policy_word (policies.Asked event) = codes "asked"
+policy_word (policies.Possible event) = codes "possible"
+policy_word policies.Unknown = codes "unknown"
+
+-- The number of the event that asks.
+abbrev pub policy_event : ImaPolicy → Option ℕ
+policy_event (policies.Asked event) = Some event
+policy_event (policies.Possible event) = Some event
+policy_event policies.Unknown = None
+
+abbrev pub policy_cell : ImaPolicy → Cell Member
+policy_cell policy = in_order (
+    word (codes "ima_policy ") (codes "ima_policy") (policy_word policy)
+    ∷ if_some (policy_event policy) (number (codes " ") (codes "event"))
     ∷ text (codes "\n")
     ∷ [])
 

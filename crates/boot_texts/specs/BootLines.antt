@@ -4,18 +4,18 @@ use Rattle.boot_log.specs.Names.{LogEvent}
 use Rattle.event_data.specs.Names.{Content}
 use Rattle.measured_data.specs.declared.confirmed.Pcr.{Pcr}
 use Rattle.measured_data.specs.Measuring.{settings_register}
+use Rattle.boot_answers.specs.declared.policies.ImaPolicy.{ImaPolicy}
 use Rattle.boot_answers.specs.declared.secure_boot_state.SecureBoot.{SecureBoot}
 use Rattle.boot_answers.specs.FirmwareVersion.{IsFirmwareVersion, IsOfVersion}
 use Rattle.boot_answers.specs.Images.{image_register}
+use Rattle.boot_answers.specs.Policies.{IsImaPolicy}
 use Rattle.boot_answers.specs.SecureBoot.{IsSecureBoot}
 use Rattle.cells.specs.declared.writer.Form.{Form}
-use Rattle.boot_texts.specs.declared.policies.ImaPolicy.{ImaPolicy}
-use Rattle.boot_texts.specs.declared.event_walk.BootQuestion.{BootQuestion}
-use Rattle.boot_texts.specs.declared.event_walk.BootQuestion.TheVariants.{Images, Commands, Variables}
+use Rattle.boot_texts.specs.declared.boot_lines.BootQuestion.{BootQuestion}
+use Rattle.boot_texts.specs.declared.boot_lines.BootQuestion.TheVariants.{Images, Commands, Variables}
 use Rattle.boot_texts.specs.Answering.{Chosen, is_answered}
 use Rattle.cells.specs.Cells.{rendered}
-use Rattle.boot_texts.specs.AnswerCells.{secure_boot_cell, unknown_command_cell, version_cell, word_cell}
-use Rattle.boot_texts.specs.Policies.{IsImaPolicy, policy_cell}
+use Rattle.boot_texts.specs.AnswerCells.{policy_cell, secure_boot_cell, unknown_command_cell, version_cell, word_cell}
 use Rattle.boot_texts.specs.Telling.{AreEventLines, IsEventLine}
 
 -- The text has the lines of the events for the question, if this register is answered for; otherwise it is the other.

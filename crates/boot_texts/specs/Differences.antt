@@ -6,18 +6,17 @@ use Rattle.pcr_banks.specs.declared.alg.Alg.{Alg}
 use Rattle.pcr_banks.specs.Names.{all_algs, digest_in, name_of}
 use Rattle.boot_log.specs.Names.{LogEvent, is_extended_into}
 use Rattle.measured_data.specs.declared.confirmed.Pcr.{Pcr}
-use Rattle.measured_data.specs.Confirming.{counts}
+use Rattle.measured_data.specs.Confirming.{has_answer, is_answering}
 use Rattle.boot_answers.specs.declared.alike_events.Common.{Common}
 use Rattle.boot_answers.specs.CommonEvents.{IsLongestCommon, compared, unmarked}
 use Rattle.boot_answers.specs.Differences.{IsFirstDifference}
-use Rattle.boot_answers.specs.Extending.{extended_events}
 use Rattle.cells.specs.declared.writer.Form.{Form}
 use Rattle.cells.specs.Cells.{Cell, hex, if_some, in_order, number, rendered, text, word}
 use Rattle.cells.specs.Values.{Member}
 use Rattle.event_lines.specs.ContentJson.{event_content_json}
 use Rattle.event_lines.specs.SteeringTexts.{value_cell}
 use Rattle.cells.specs.ItemLines.{numbered_lines}
-use Rattle.boot_texts.specs.Answering.{has_answer}
+use Rattle.boot_texts.specs.Answering.{has_events}
 use Rattle.boot_texts.specs.declared.difference_lines.ComparedBoot.{ComparedBoot}
 use Rattle.boot_texts.specs.declared.difference_lines.ComparedBoot.TheVariants as boots
 use Rattle.boot_texts.specs.declared.difference_lines.EventLine.{EventLine}
@@ -28,12 +27,12 @@ use Rattle.boot_texts.specs.declared.differences.Difference.TheVariants.{Unanswe
 
 -- The bank answers for the register, and the boots differ in it after this many events.
 pub record IsApartIn (matched : List Pcr) (register : ℕ) (events others : List LogEvent) (alg : Alg) (place : ℕ) : Type 0 where
-  pub answers : counts matched alg register ≡ true
+  pub answers : is_answering matched alg register ≡ true
   pub apart : IsFirstDifference alg register events others (Some place)
 
 -- The boots extended the register alike in the bank, if it answers.
 abbrev pub IsAlikeIn : List Pcr → ℕ → List LogEvent → List LogEvent → Alg → Type 0
-IsAlikeIn matched register events others alg = counts matched alg register ≡ true → IsFirstDifference alg register events others None
+IsAlikeIn matched register events others alg = is_answering matched alg register ≡ true → IsFirstDifference alg register events others None
 
 -- In the bank they differ after this many events, or are alike, if it answers.
 abbrev pub IsComparedIn : List Pcr → ℕ → List LogEvent → List LogEvent → Alg → Option ℕ → Type 0
@@ -111,14 +110,6 @@ numbered_events register number (event ∷ events) =
 abbrev pub lines_from : ComparedBoot → EventLine → ℕ → List Bool → List LogEvent → List ℕ
 lines_from boot line place marks events =
     flat_map (λ numbered. event_line boot line numbered.0 numbered.1) (unmarked marks (drop place (numbered_events line.register 1 events)))
-
-abbrev pub is_some_event : List LogEvent → Bool
-is_some_event [] = false
-is_some_event (event ∷ events) = true
-
--- Whether an event is extended into the register.
-abbrev pub has_events : ℕ → List LogEvent → Bool
-has_events register events = is_some_event (extended_events register events)
 
 -- Whether one of the boots extended the register.
 abbrev pub either_extended : ℕ → List LogEvent → List LogEvent → Bool

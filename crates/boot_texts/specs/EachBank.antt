@@ -4,9 +4,9 @@ use Rattle.pcr_banks.specs.declared.alg.Alg.{Alg}
 use Rattle.boot_log.specs.Names.{LogEvent}
 use Rattle.event_data.specs.Names.{VariableData}
 use Rattle.measured_data.specs.declared.confirmed.Pcr.{Pcr}
+use Rattle.measured_data.specs.Confirming.{IsAnswering}
 use Rattle.boot_answers.specs.BootVariables.{IsBootVariable}
 use Rattle.boot_answers.specs.Commands.{CommandSaid, IsCommandText}
-use Rattle.boot_answers.specs.Extending.{IsAnswering}
 
 -- A bank answers for the event's register, and each bank that does tells this text.
 pub record TellText (matched : List Pcr) (event : LogEvent) (text : CommandSaid) : Type 0 where

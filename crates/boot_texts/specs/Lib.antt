@@ -1,7 +1,6 @@
 pub mod Answering
 pub mod AnswerCells
 pub mod Telling
-pub mod Policies
 pub mod EachBank
 pub mod BootLines
 pub mod Differences

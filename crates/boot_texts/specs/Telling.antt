@@ -10,14 +10,14 @@ use Rattle.event_data.specs.declared.value_reader.ValueForm.TheVariants as forms
 use Rattle.event_data.specs.Names.{VariableData, value_form, variable_in}
 use Rattle.measured_data.specs.declared.measured.Part.TheVariants.{Value, Whole}
 use Rattle.measured_data.specs.declared.confirmed.Pcr.{Pcr}
-use Rattle.measured_data.specs.Confirming.{counts}
+use Rattle.measured_data.specs.Confirming.{is_answering}
 use Rattle.measured_data.specs.Measuring.{is_measured, settings_register}
 use Rattle.boot_answers.specs.Commands.{CommandSaid, told_text}
 use Rattle.boot_answers.specs.Images.{MayBeImage, image_register}
 use Rattle.boot_answers.specs.Separators.{MayBeSeparator}
 use Rattle.cells.specs.declared.writer.Form.{Form}
-use Rattle.boot_texts.specs.declared.event_walk.BootQuestion.{BootQuestion}
-use Rattle.boot_texts.specs.declared.event_walk.BootQuestion.TheVariants.{Images, Commands, Variables}
+use Rattle.boot_texts.specs.declared.boot_lines.BootQuestion.{BootQuestion}
+use Rattle.boot_texts.specs.declared.boot_lines.BootQuestion.TheVariants.{Images, Commands, Variables}
 use Rattle.cells.specs.Cells.{rendered}
 use Rattle.boot_texts.specs.AnswerCells.{command_cell, image_cell, unknown_command_cell, variable_cell}
 
@@ -37,7 +37,7 @@ AreEventLines IsLine number (event ∷ events) text =
 
 -- The bank answers for images, and by it the event may be one.
 pub record IsImageBy (matched : List Pcr) (event : LogEvent) (alg : Alg) : Type 0 where
-  pub answers : counts matched alg image_register ≡ true
+  pub answers : is_answering matched alg image_register ≡ true
   pub image : MayBeImage alg event
 
 -- The event may be an image by some bank that answers.
@@ -66,7 +66,7 @@ IsCommandLine register form matched number event goes text =
 
 -- The bank answers for settings, and by it the event may be a separator.
 pub record IsSeparatorBy (matched : List Pcr) (event : LogEvent) (alg : Alg) : Type 0 where
-  pub answers : counts matched alg settings_register ≡ true
+  pub answers : is_answering matched alg settings_register ≡ true
   pub separator : MayBeSeparator alg event
 
 -- The event may be a separator by some bank that answers.
@@ -85,7 +85,7 @@ is_boot_variable variable = is_boot_form (value_form 0 variable)
 
 -- Whether the bank does not answer for settings, or in it the event's data is measured, or the variable's value.
 abbrev pub allows_variable : List Pcr → LogEvent → Alg → Bool
-allows_variable matched event alg = not (counts matched alg settings_register) || (is_measured alg event Whole || is_measured alg event Value)
+allows_variable matched event alg = not (is_answering matched alg settings_register) || (is_measured alg event Whole || is_measured alg event Value)
 
 -- Whether the event's data is a boot variable, and is measured so in each bank that answers.
 abbrev pub is_told_variable : List Pcr → LogEvent → Bool

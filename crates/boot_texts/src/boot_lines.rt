@@ -1,31 +1,31 @@
 //! The lines of all answers.
 
-ghost use Rattle.std.specs.Prelude.{◌≡◌, ◌++◌, List, ℕ, OnErr, OnOk, option_map};
+ghost use Rattle.std.specs.Prelude.{◌≡◌, ◌++◌, List, ℕ, IfOk, Ok, OnErr, OnOk, false, option_map, true};
 ghost use Rattle.boot_log.specs.declared.header.DeclaredAlgorithm.{DeclaredAlgorithm};
-ghost use Rattle.boot_log.specs.Names.{IsLog, LogEvent, log_bytes};
+ghost use Rattle.boot_log.specs.Names.{IsLog, LogEvent, log_bytes, log_event_of};
 ghost use Rattle.cells.specs.Cells.{ShowsMembers, rendered};
 ghost use Rattle.event_data.specs.Names.{content_of};
 ghost use Rattle.boot_texts.specs.AnswerCells.{secure_boot_cell, state_word, version_cell, word_cell};
 ghost use Rattle.boot_texts.specs.BootLines.{AreBootLines, AreCommandLines, AreImageLines, AreVariableLines};
+ghost use Rattle.boot_texts.specs.Telling.{AreEventLines, IsEventLine};
 
 use crate::answering_banks::is_answered;
-use crate::commands::UnknownCommandLine;
-use crate::event_walk::{BootQuestion, append_each};
-use crate::images::IMAGE_REGISTER;
-use crate::policies::{GRUB_REGISTER, STUB_REGISTER, append_policy};
-use boot_answers::{SETTINGS_REGISTER, SecureBoot, firmware_version, secure_boot};
-use boot_log::LogView;
+use crate::commands::{UnknownCommandLine, append_if_command};
+use crate::images::append_if_image;
+use crate::policies::append_policy;
+use crate::variables::append_if_variable;
+use boot_answers::{
+    EV_S_CRTM_VERSION, IMAGE_REGISTER, STUB_REGISTER, SecureBoot, firmware_version, secure_boot,
+};
+use boot_log::{Event, LogView};
 use cells::{CellWriter, Form, Shown, Written, append};
 use event_data::EventContent;
 use event_lines::show_form;
-use measured_data::Pcr;
-use std::alloc::Global;
-
-/// The type of an event with the firmware's version.
-const EV_S_CRTM_VERSION: u32 = 0x0000_0008;
+use measured_data::{GRUB_REGISTER, Pcr, SETTINGS_REGISTER};
+use std::alloc::{AllocError, Global};
 
 /// Appends the lines of all answers on the boot that the log tells, by the registers in `matched`, those that match. A bank answers for a register
-/// that matches in it, if it is no bank of SHA-1 ([`boot_answers::is_answering`]). Each line is an object of JSON; or, for people
+/// that matches in it, if it is no bank of SHA-1 ([`measured_data::is_answering`]). Each line is an object of JSON; or, for people
 /// ([`Form::Text`]), words, some with JSON at the end, in which no character steers a terminal, as in [`event_lines::send_events`].
 ///
 /// - `secure_boot on`, `off` or `unknown` ([`boot_answers::secure_boot`]);
@@ -35,7 +35,7 @@ const EV_S_CRTM_VERSION: u32 = 0x0000_0008;
 /// - `command 21 8 {"text":".."}`: each event of register 8, and then of 12, with the text that is measured in each bank that answers
 ///   ([`boot_answers::told_text`]), up to the first event without one: `command unknown 8 25`. JSON has the kind of a command of GRUB under
 ///   `claimed`;
-/// - `ima_policy` and what these texts ask ([`crate::ImaPolicy`]): `asked 21` or `possible 21`, by event 21, or `unknown`;
+/// - `ima_policy` and what these texts ask ([`boot_answers::ImaPolicy`]): `asked 21` or `possible 21`, by event 21, or `unknown`;
 /// - `boot_variable 9 {..}`: each event of register 1 that is a BootOrder or a Boot####, by its claimed name, and what it says, up to
 ///   the first that may be a separator by some bank that answers ([`boot_answers::boot_variable`]).
 ///
@@ -173,6 +173,65 @@ fn append_variables(
         append_word(alloc, form, "boot_variable", "unknown", lines)?;
     }
     Ok(())
+}
+
+// What is asked of each event of a log.
+#[derive(Clone, Copy)]
+enum BootQuestion {
+    // The images that the firmware started.
+    Images,
+    // The texts that boot loaders measured into this register.
+    Commands(u32),
+    // The variables that say what the firmware was to start.
+    Variables,
+}
+
+// Appends the lines of the events of the log for the question, up to the first after which nothing is told.
+fn append_each(
+    alloc: Global,
+    form: Form,
+    log: &LogView<'_>,
+    matched: &[Pcr],
+    question: BootQuestion,
+    lines: &mut Vec<u8>,
+) -> Written
+    ensures { OnOk result ((table : List DeclaredAlgorithm) (events : List LogEvent) → IsLog (log_bytes log.now) table events
+        → (text : List ℕ) × AreEventLines (IsEventLine question form matched.now) 1 events text × (lines.new.items ≡ lines.old.items ++ text)) }
+{
+    let mut events = log.events();
+    while let Some(event) = events.next_event() {
+        let number = events.count();
+        let goes_on = append_told(alloc, form, matched, question, number, &event, lines)?;
+        if !goes_on {
+            return Ok(());
+        }
+    }
+    Ok(())
+}
+
+// Appends the line of the event with this number for the question, if it has one, and returns whether those after it are looked at.
+fn append_told(
+    alloc: Global,
+    form: Form,
+    matched: &[Pcr],
+    question: BootQuestion,
+    number: usize,
+    event: &Event<'_>,
+    lines: &mut Vec<u8>,
+) -> Result<bool, AllocError>
+    ensures { IfOk result (λ goes. (text : List ℕ) × IsEventLine question form matched.now number (log_event_of event.now) goes text
+        × (lines.new.items ≡ lines.old.items ++ text)) }
+{
+    match question {
+        BootQuestion::Images => {
+            append_if_image(alloc, form, matched, number, event, lines)?;
+            Ok(true)
+        }
+        BootQuestion::Commands(register) => {
+            append_if_command(alloc, form, matched, register, number, event, lines)
+        }
+        BootQuestion::Variables => append_if_variable(alloc, form, matched, number, event, lines),
+    }
 }
 
 // The line of an answer in one word.

@@ -1,6 +1,7 @@
 //! The lines of the texts that boot loaders measured.
 
-ghost use Rattle.std.specs.Prelude.{◌≡◌, [], ◌∷◌, ◌++◌, codes, OnOk};
+ghost use Rattle.std.specs.Prelude.{◌≡◌, [], ◌∷◌, ◌++◌, codes, IfOk, List, ℕ, OnOk};
+ghost use Rattle.boot_log.specs.Names.{log_event_of};
 ghost use Rattle.boot_answers.specs.Commands.{said_of};
 ghost use Rattle.cells.specs.Cells as cells;
 ghost use Rattle.cells.specs.Cells.{ShowsMembers, if_some, object_at, word_member};
@@ -8,12 +9,52 @@ ghost use Rattle.cells.specs.Values.{line_of, object_of};
 ghost use Rattle.event_lines.specs.SteeringTexts.{unsteered};
 ghost use Rattle.cells.specs.Writing.{WritesMembers, WritesValue};
 ghost use Rattle.boot_texts.specs.AnswerCells.{command_cell, kind_cell, said_cell, text_member, unknown_command_cell};
+ghost use Rattle.boot_texts.specs.Telling.{IsCommandLine};
 
-use boot_answers::CommandText;
-use cells::{CellWriter, Shown, Written, write_shown};
+use boot_answers::{CommandText, told_text};
+use boot_log::Event;
+use cells::{CellWriter, Form, Shown, Written, append, write_shown};
 use event_lines::{append_embedded, command_word, write_wide};
 use json::Writer;
-use std::alloc::Global;
+use measured_data::Pcr;
+use std::alloc::{AllocError, Global};
+
+/// Appends the line of the event with this number, if it is extended into the register. Returns whether it tells a text, or is not.
+pub(crate) fn append_if_command(
+    alloc: Global,
+    form: Form,
+    matched: &[Pcr],
+    register: u32,
+    number: usize,
+    event: &Event<'_>,
+    lines: &mut Vec<u8>,
+) -> Result<bool, AllocError>
+    ensures { IfOk result (λ goes. (text : List ℕ) × IsCommandLine register form matched.now number (log_event_of event.now) goes text
+        × (lines.new.items ≡ lines.old.items ++ text)) }
+{
+    if !event.is_extended_into(register) {
+        return Ok(true);
+    }
+    match told_text(event, matched) {
+        Some(text) => {
+            let line = CommandLine {
+                register,
+                number,
+                text,
+            };
+            append(alloc, form, &line, lines)?;
+            Ok(true)
+        }
+        None => {
+            let line = UnknownCommandLine {
+                register,
+                event: Some(number),
+            };
+            append(alloc, form, &line, lines)?;
+            Ok(false)
+        }
+    }
+}
 
 /// The line of the text that an event tells.
 #[derive(Drop)]

@@ -4,14 +4,14 @@ ghost use Rattle.std.specs.Prelude.{◌≡◌, ℕ, List, ◌++◌, IfOk, OnErr,
 ghost use Rattle.boot_log.specs.declared.header.DeclaredAlgorithm.{DeclaredAlgorithm};
 ghost use Rattle.boot_log.specs.Names.{IsLog, LogEvent, log_bytes};
 ghost use Rattle.cells.specs.Cells.{rendered};
-ghost use Rattle.boot_texts.specs.Differences.{AreDifferenceLines, IsComparedIn, IsDifference, alike_cell, either_extended, has_events, lines_of_both, register_lines, where_extended};
+ghost use Rattle.boot_texts.specs.Differences.{AreDifferenceLines, IsComparedIn, IsDifference, alike_cell, either_extended, lines_of_both, register_lines, where_extended};
 
-use crate::answering_banks::{answers, has_answer};
+use crate::answering_banks::has_events;
 use crate::difference_lines::{AlikeLine, ApartLine, ComparedBoot, EventLine, append_events};
-use boot_answers::{Common, RegisterEvents, common_events, first_difference};
+use boot_answers::{Common, common_events, first_difference};
 use boot_log::LogView;
 use cells::{Form, Written, append};
-use measured_data::Pcr;
+use measured_data::{Pcr, has_answer, is_answering};
 use pcr_banks::{Alg, REGISTERS};
 use std::alloc::{AllocError, Global};
 
@@ -42,7 +42,7 @@ fn place_in(
     ensures { (table rows : List DeclaredAlgorithm) (events others : List LogEvent) → IsLog (log_bytes log.now) table events
         → IsLog (log_bytes before.now) rows others → IsComparedIn matched.now register events others alg result }
 {
-    if answers(matched, alg, register) {
+    if is_answering(matched, alg, register) {
         first_difference(log, before, alg, register)
     } else {
         None
@@ -70,16 +70,6 @@ fn difference_of(
         Ok(Difference::Alike)
     } else {
         Ok(Difference::Unanswered)
-    }
-}
-
-// Whether an event of the log is extended into the register.
-fn has_events(log: &LogView<'_>, register: u32) -> bool
-    ensures { (table : List DeclaredAlgorithm) (events : List LogEvent) → IsLog (log_bytes log.now) table events → result ≡ has_events register events }
-{
-    match RegisterEvents::new(log, register).next_event() {
-        Some(_) => true,
-        None => false,
     }
 }
 
@@ -207,7 +197,7 @@ fn append_registers(
 /// Appends the lines that tell how a boot and an earlier one extended each register, by their logs. `matched` are the registers whose values
 /// match after the log of the boot; nothing confirms the log of the earlier one.
 ///
-/// A register that neither boot extended has no line. Where no bank answers for it ([`boot_answers::is_answering`]), its line is
+/// A register that neither boot extended has no line. Where no bank answers for it ([`measured_data::is_answering`]), its line is
 /// `{"register":4,"alike":"unknown"}`; where the boots extended it alike in each bank that answers, `{"register":4,"alike":"all"}`. Otherwise it
 /// is `{"register":4,"bank":"sha256","alike":2}`: in this bank, the first that answers and in which they differ, they differ after two events.
 /// Then come the later events that differ: a line for each of this boot, with its number in the log, its digest in the bank, and what its data

@@ -7,17 +7,13 @@ ghost use Rattle.cells.specs.Cells.{ShowsMembers, if_some, object_at};
 ghost use Rattle.boot_texts.specs.AnswerCells.{answered_cell, answered_digest, digest_cell, image_cell};
 ghost use Rattle.boot_texts.specs.Telling.{IsImageBy, MayBeImageIn, IsImageLine};
 
-use crate::answering_banks::answers;
-use boot_answers::may_be_image;
+use boot_answers::{IMAGE_REGISTER, may_be_image};
 use boot_log::Event;
 use cells::{CellWriter, Form, Shown, Written, append};
 use event_lines::show_content;
-use measured_data::Pcr;
+use measured_data::{Pcr, is_answering};
 use pcr_banks::{Alg, Digest, PerBank};
 use std::alloc::Global;
-
-/// The register of the images that the firmware starts.
-pub(crate) const IMAGE_REGISTER: u32 = 4;
 
 // Whether the event may be an image by some bank that answers.
 fn may_be_image_in(event: &Event<'_>, matched: &[Pcr]) -> bool
@@ -35,7 +31,7 @@ fn may_be_image_in(event: &Event<'_>, matched: &[Pcr]) -> bool
 fn is_image_by(event: &Event<'_>, matched: &[Pcr], alg: Alg) -> bool
     ensures { IsTrue result ↔ IsImageBy matched.now (log_event_of event.now) alg }
 {
-    answers(matched, alg, IMAGE_REGISTER) && may_be_image(event, alg)
+    is_answering(matched, alg, IMAGE_REGISTER) && may_be_image(event, alg)
 }
 
 /// Appends the line of the event with this number, if it may be an image by some bank that answers.
@@ -114,7 +110,7 @@ fn show_answered(alloc: Global, matched: &[Pcr], digests: &PerBank, out: &mut Ce
 fn answered_digest(matched: &[Pcr], digests: &PerBank, alg: Alg) -> Option<Digest>
     ensures { option_map bytes_of result ≡ answered_digest matched.now digests.now alg }
 {
-    if answers(matched, alg, IMAGE_REGISTER) {
+    if is_answering(matched, alg, IMAGE_REGISTER) {
         digests.get(alg)
     } else {
         None

@@ -8,15 +8,14 @@ ghost use Rattle.boot_log.specs.Names.{LogEvent};
 ghost use Rattle.event_data.specs.Names.{VariableData, content_in};
 ghost use Rattle.measured_data.specs.declared.confirmed.Pcr.{Pcr};
 ghost use Rattle.measured_data.specs.Measuring.{settings_register};
+ghost use Rattle.boot_answers.specs.declared.policies.ImaPolicy.TheVariants.{Asked, Possible};
 ghost use Rattle.boot_answers.specs.Commands.{CommandSaid, told_text};
 ghost use Rattle.boot_answers.specs.FirmwareVersion.{version_type};
 ghost use Rattle.cells.specs.Values.{IsCount, IsOneLine, object_of};
-ghost use Rattle.boot_texts.specs.AnswerCells.{command_cell, image_cell, text_member, unknown_command_cell, variable_cell, version_cell, word_cell};
+ghost use Rattle.boot_texts.specs.AnswerCells.{command_cell, image_cell, policy_cell, text_member, unknown_command_cell, variable_cell, version_cell, word_cell};
 ghost use Rattle.boot_texts.specs.declared.difference_lines.ComparedBoot.{ComparedBoot};
-ghost use Rattle.boot_texts.specs.declared.policies.ImaPolicy.TheVariants.{Asked, Possible};
 ghost use Rattle.boot_texts.specs.Differences.{alike_cell, apart_cell, event_cell};
 ghost use Rattle.boot_texts.specs.EachBank.{TellText, TellVariable};
-ghost use Rattle.boot_texts.specs.Policies.{policy_cell};
 ghost use Rattle.boot_texts.specs.Telling.{is_boot_variable, is_told_variable};
 
 use measured_data::parts_are_the_first;

@@ -1,6 +1,6 @@
 //! The answers on a machine's boot as lines of text or JSON: what crate `boot_answers` tells of its log and the registers that match.
 //!
-//! An answer is given where each bank that answers for its register gives it (`boot_answers::is_answering`), and there is one; else it is
+//! An answer is given where each bank that answers for its register gives it (`measured_data::is_answering`), and there is one; else it is
 //! `unknown`. What a line has under `claimed` nothing confirms.
 #![tactic(auto)]
 
@@ -9,7 +9,6 @@ mod boot_lines;
 mod commands;
 mod difference_lines;
 mod differences;
-mod event_walk;
 mod images;
 pub mod laws;
 mod policies;
@@ -17,4 +16,3 @@ mod variables;
 
 pub use boot_lines::append_boot;
 pub use differences::append_differences;
-pub use policies::ImaPolicy;

@@ -10,13 +10,12 @@ ghost use Rattle.cells.specs.Cells.{ShowsMembers};
 ghost use Rattle.boot_texts.specs.AnswerCells.{variable_cell};
 ghost use Rattle.boot_texts.specs.Telling.{IsSeparatorBy, MayBeSeparatorIn, IsSettingLine, IsVariableLine, allows_variable, is_boot_variable, is_told_variable, told_variable};
 
-use crate::answering_banks::answers;
-use boot_answers::{SETTINGS_REGISTER, may_be_separator};
+use boot_answers::may_be_separator;
 use boot_log::Event;
 use cells::{CellWriter, Form, Shown, Written, append};
 use event_data::{ValueForm, Variable, read_variable, value_form};
 use event_lines::show_content;
-use measured_data::{Part, Pcr, is_measured};
+use measured_data::{Part, Pcr, SETTINGS_REGISTER, is_answering, is_measured};
 use pcr_banks::Alg;
 use std::alloc::{AllocError, Global};
 
@@ -77,7 +76,7 @@ fn may_be_separator_in(event: &Event<'_>, matched: &[Pcr]) -> bool
 fn is_separator_by(event: &Event<'_>, matched: &[Pcr], alg: Alg) -> bool
     ensures { IsTrue result ↔ IsSeparatorBy matched.now (log_event_of event.now) alg }
 {
-    answers(matched, alg, SETTINGS_REGISTER) && may_be_separator(event, alg)
+    is_answering(matched, alg, SETTINGS_REGISTER) && may_be_separator(event, alg)
 }
 
 // Appends the line of the event with this number, if it is a boot variable.
@@ -118,7 +117,7 @@ fn all_allow(event: &Event<'_>, matched: &[Pcr]) -> bool
 fn allows_variable(event: &Event<'_>, matched: &[Pcr], alg: Alg) -> bool
     ensures { result ≡ allows_variable matched.now (log_event_of event.now) alg }
 {
-    !answers(matched, alg, SETTINGS_REGISTER)
+    !is_answering(matched, alg, SETTINGS_REGISTER)
         || is_measured(event, alg, Part::Whole)
         || is_measured(event, alg, Part::Value)
 }

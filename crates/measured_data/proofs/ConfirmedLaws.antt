@@ -15,7 +15,7 @@ use Rattle.boot_log.specs.Names.{LogEvent}
 use Rattle.measured_data.specs.declared.measured.Part.{Part}
 use Rattle.measured_data.specs.declared.confirmed.Pcr.{Pcr}
 use Rattle.measured_data.specs.Measuring.{has_digest_of, is_measured, part_in}
-use Rattle.measured_data.specs.Confirming.{IsConfirmed, counts, has_pcr, is_confirmed}
+use Rattle.measured_data.specs.Confirming.{IsAnswering, IsConfirmed, has_answer, has_pcr, is_answering, is_confirmed}
 use Rattle.byte_fields.specs.Spelling.{IsBytes}
 use Rattle.measured_data.proofs.MeasuredLaws.{measured_told}
 
@@ -29,7 +29,7 @@ place_is place alg register e =
     let registers : place.register ≡ register = eqb-true place.register register both.1 in
     ap (λ (a : Alg). record { alg = a; register = place.register }) algs ∙ ap (λ (r : ℕ). record { alg = alg; register = r }) registers
 
-place_told : (places : List Pcr) (alg : Alg) (register : ℕ)
+pub place_told : (places : List Pcr) (alg : Alg) (register : ℕ)
     → Decides (has_pcr places alg register) (Contains places (record { alg = alg; register = register }))
 place_told places alg register =
     let test = λ (place : Pcr). same_alg place.alg alg && (place.register == register) in
@@ -47,13 +47,14 @@ place_told places alg register =
 same_is : (a b : Alg) → Decides (same_alg a b) (a ≡ b)
 same_is a b = (same_alg_is a b, λ e. rw e (same_alg_here b))
 
-abbrev pub Counts : List Pcr → Alg → ℕ → Type 0
-Counts matched alg register = (alg ≡ Sha1 → ⊥) × Contains matched (record { alg = alg; register = register })
-
-pub counts_told : (matched : List Pcr) (alg : Alg) (register : ℕ) → Decides (counts matched alg register) (Counts matched alg register)
-counts_told matched alg register =
-    Decides-and (not (same_alg alg Sha1)) (has_pcr matched alg register) (Decides-not (same_alg alg Sha1) (same_is alg Sha1))
-    (place_told matched alg register)
+pub answering_told : (matched : List Pcr) (alg : Alg) (register : ℕ)
+    → Decides (is_answering matched alg register) (IsAnswering matched alg register)
+answering_told matched alg register =
+    let both = Decides-and (not (same_alg alg Sha1)) (has_pcr matched alg register) (Decides-not (same_alg alg Sha1) (same_is alg Sha1))
+    (place_told matched alg register) in (
+      λ e. let is = both.0 e in record { strong = is.0; matches = is.1 },
+      λ is. both.1 (is.strong, is.matches),
+    )
 
 -- A test of what is so where another holds.
 follows : {A B : Type 0} (a b : Bool) → Decides a A → Decides b B → Decides (not a || b) (A → B)
@@ -63,10 +64,10 @@ follows false b first second = (λ e one. let no = first.1 one in absurd cc, λ 
 pub confirmed_told : (matched : List Pcr) (event : LogEvent) (part : Part) → IsBytes event.payload
     → Decides (is_confirmed matched event part) (IsConfirmed matched event part)
 confirmed_told matched event part fits =
-    let counted = λ (alg : Alg). counts matched alg event.register in
-    let allows = λ (alg : Alg). not (counts matched alg event.register) || is_measured alg event part in
-    let here = λ (alg : Alg). counts_told matched alg event.register in
-    let allowed = λ (alg : Alg). follows (counts matched alg event.register) (is_measured alg event part) (here alg)
+    let counted = λ (alg : Alg). is_answering matched alg event.register in
+    let allows = λ (alg : Alg). not (is_answering matched alg event.register) || is_measured alg event part in
+    let here = λ (alg : Alg). answering_told matched alg event.register in
+    let allowed = λ (alg : Alg). follows (is_answering matched alg event.register) (is_measured alg event part) (here alg)
     (measured_told alg event part fits) in (
       λ e.
           let both = and_parts (list_any counted all_algs) (list_all allows all_algs) e in
@@ -74,22 +75,22 @@ confirmed_told matched event part fits =
           let is = (here found.0).0 found.1 in
           record {
             alg = found.0;
-            strong = is.0;
-            matches = is.1;
-            every = λ bank strong matches. (allowed bank).0 (every_passes allows both.1 bank) (strong, matches);
+            strong = is.strong;
+            matches = is.matches;
+            every = λ bank strong matches. (allowed bank).0 (every_passes allows both.1 bank) (record { strong = strong; matches = matches });
           },
       λ is. and_from (list_any counted all_algs) (list_all allows all_algs)
-          (list_has counted is.alg ((here is.alg).1 (is.strong, is.matches)))
-          (list_passes allows (λ bank. (allowed bank).1 (λ counting. is.every bank counting.0 counting.1))),
+          (list_has counted is.alg ((here is.alg).1 (record { strong = is.strong; matches = is.matches })))
+          (list_passes allows (λ bank. (allowed bank).1 (λ answering. is.every bank answering.strong answering.matches))),
     )
 
 -- The same test, of bytes that are the part's, or where the event has none.
 pub confirmed_bytes : (matched : List Pcr) (event : LogEvent) (part : Part) (bytes : List ℕ) → Some bytes ≡ part_in part event
-    → (list_any (λ alg. counts matched alg event.register) all_algs
-    && list_all (λ alg. not (counts matched alg event.register) || has_digest_of alg event bytes) all_algs) ≡ is_confirmed matched event part
+    → (has_answer matched event.register
+    && list_all (λ alg. not (is_answering matched alg event.register) || has_digest_of alg event bytes) all_algs) ≡ is_confirmed matched event part
 confirmed_bytes matched event part bytes e =
-    ap (λ (found : Option (List ℕ)). list_any (λ alg. counts matched alg event.register) all_algs
-    && list_all (λ alg. not (counts matched alg event.register) || option_map_or (has_digest_of alg event) found false) all_algs) e
+    ap (λ (found : Option (List ℕ)). has_answer matched event.register
+    && list_all (λ alg. not (is_answering matched alg event.register) || option_map_or (has_digest_of alg event) found false) all_algs) e
 
 not_measured : (alg : Alg) (event : LogEvent) (part : Part) → None ≡ part_in part event → is_measured alg event part ≡ false
 not_measured alg event part e = ap (λ (found : Option (List ℕ)). option_map_or (has_digest_of alg event) found false) (sym e)
@@ -102,8 +103,8 @@ opposed false b here lacks e = absurd cc
 none_confirmed : (matched : List Pcr) (event : LogEvent) (part : Part) → None ≡ part_in part event
     → is_confirmed matched event part ≡ true → ⊥
 none_confirmed matched event part e all =
-    let counted = λ (alg : Alg). counts matched alg event.register in
-    let allows = λ (alg : Alg). not (counts matched alg event.register) || is_measured alg event part in
+    let counted = λ (alg : Alg). is_answering matched alg event.register in
+    let allows = λ (alg : Alg). not (is_answering matched alg event.register) || is_measured alg event part in
     let both = and_parts (list_any counted all_algs) (list_all allows all_algs) all in
     let found = some_passes counted both.0 in
     opposed (counted found.0) (is_measured found.0 event part) found.1 (not_measured found.0 event part e)

@@ -18,8 +18,8 @@ abbrev pub settings_register : ℕ
 settings_register = 1
 
 -- The register into which GRUB extends its commands.
-abbrev pub commands_register : ℕ
-commands_register = 8
+abbrev pub grub_register : ℕ
+grub_register = 8
 
 -- The bytes are this part of the event's data: all of it; or, in register 1, where it is a variable, the variable's value; or, in register
 -- 8, where it is a command of GRUB, the command's text.
@@ -28,7 +28,7 @@ IsPart Whole event bytes = bytes ≡ event.payload
 IsPart Value event bytes =
     (event.register ≡ settings_register) × (variable : VariableData) × IsVariable event.payload variable × (bytes ≡ variable.value)
 IsPart Command event bytes =
-    (event.register ≡ commands_register) × (command : CommandData) × IsCommand event.payload command × (bytes ≡ command.text)
+    (event.register ≡ grub_register) × (command : CommandData) × IsCommand event.payload command × (bytes ≡ command.text)
 
 -- The event is extended, and the algorithm's digest of it is the hash of this part of its data.
 pub record IsMeasured (alg : Alg) (event : LogEvent) (part : Part) : Type 0 where
@@ -62,7 +62,7 @@ part_in Whole event = Some event.payload
 part_in Value event =
     if event.register == settings_register then option_map (λ variable. variable.value) (variable_in event.payload) else None
 part_in Command event =
-    if event.register == commands_register then option_map (λ command. command.text) (command_in event.payload) else None
+    if event.register == grub_register then option_map (λ command. command.text) (command_in event.payload) else None
 
 -- Whether the event is extended, and the algorithm's digest of it is the hash of these bytes.
 abbrev pub has_digest_of : Alg → LogEvent → List ℕ → Bool

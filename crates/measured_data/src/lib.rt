@@ -8,6 +8,6 @@ mod confirmed;
 mod laws;
 mod measured;
 
-pub use confirmed::{Pcr, confirmed_part};
+pub use confirmed::{Pcr, confirmed_part, has_answer, is_answering};
 pub use laws::parts_are_the_first;
-pub use measured::{Part, is_measured, measured_part};
+pub use measured::{GRUB_REGISTER, Part, SETTINGS_REGISTER, is_measured, measured_part};

@@ -21,10 +21,10 @@ pub enum Part {
 }
 
 /// The register of the firmware's settings, into which the values of variables are extended without their names.
-const SETTINGS_REGISTER: u32 = 1;
+pub const SETTINGS_REGISTER: u32 = 1;
 
 /// The register of GRUB's commands.
-const COMMANDS_REGISTER: u32 = 8;
+pub const GRUB_REGISTER: u32 = 8;
 
 // Bytes are below 256.
 fn are_bytes(bytes: &[u8])
@@ -41,7 +41,7 @@ pub(crate) fn part_of<'a>(part: Part, event: &Event<'a>) -> Option<&'a [u8]>
     match part {
         Part::Whole => Some(payload),
         Part::Value if event.register == SETTINGS_REGISTER => Some(read_variable(payload)?.value),
-        Part::Command if event.register == COMMANDS_REGISTER => Some(read_command(payload)?.text),
+        Part::Command if event.register == GRUB_REGISTER => Some(read_command(payload)?.text),
         _ => None,
     }
 }

@@ -4,7 +4,7 @@ use Rattle.pcr_banks.specs.declared.alg.Alg.{Alg}
 use Rattle.boot_log.specs.Names.{LogEvent}
 use Rattle.event_data.specs.Names.{Content}
 use Rattle.measured_data.specs.declared.confirmed.Pcr.{Pcr}
-use Rattle.boot_answers.specs.Extending.{IsAnswering}
+use Rattle.measured_data.specs.Confirming.{IsAnswering}
 use Rattle.boot_answers.specs.FirmwareVersion.{TellsVersion, firmware_register}
 
 -- The bank tells a version.

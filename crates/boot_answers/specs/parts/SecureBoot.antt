@@ -5,7 +5,7 @@ use Rattle.boot_log.specs.Names.{LogEvent}
 use Rattle.boot_answers.specs.declared.secure_boot_state.SecureBoot.{SecureBoot}
 use Rattle.boot_answers.specs.declared.secure_boot_state.SecureBoot.TheVariants.{On, Off, Unknown}
 use Rattle.measured_data.specs.declared.confirmed.Pcr.{Pcr}
-use Rattle.boot_answers.specs.Extending.{IsAnswering}
+use Rattle.measured_data.specs.Confirming.{IsAnswering}
 use Rattle.boot_answers.specs.SecureBoot.{IsBefore, IsTelling, TellsSecureBoot, policy_register}
 
 -- The answer of one value: on for 1, off for 0.

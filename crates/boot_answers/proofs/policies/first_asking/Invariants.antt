@@ -2,8 +2,8 @@ use Rattle.std.proofs.Common.{List, length}
 use Rattle.std.specs.List.{AllByRecursion}
 use Rattle.boot_log.specs.Names.{HasBorrowed, LogEvent, log_bytes, unread}
 use Rattle.boot_answers.specs.Extending.{extended_events}
-use Rattle.boot_texts.specs.Policies.{Passes}
-use Rattle.boot_texts.proofs.policies.first_asking.Given as goal
+use Rattle.boot_answers.specs.Policies.{Passes}
+use Rattle.boot_answers.proofs.policies.first_asking.Given as goal
 
 -- The events that were read are the log's first, and those of the register among them pass.
 abbrev pub invariant-loop-event : goal.invariant-loop-event

@@ -1,6 +1,6 @@
 use Rattle.std.proofs.lemmas.Str.{is_utf8-from_IsUtf8}
-use Rattle.cells.proofs.WrittenLaws.{not_utf8}
-use Rattle.boot_texts.proofs.policies.asks_narrow.Goals as goal
+use Rattle.boot_answers.proofs.FailingTestLaws.{not_utf8}
+use Rattle.boot_answers.proofs.policies.asks_narrow.Goals as goal
 
 pub returns-in-Ok : goal.returns-in-Ok
 returns-in-Ok c =

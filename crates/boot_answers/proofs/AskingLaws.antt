@@ -6,8 +6,8 @@ use Rattle.measured_data.specs.declared.confirmed.Pcr.{Pcr}
 use Rattle.boot_answers.specs.Commands.{CommandSaid, told_text}
 use Rattle.boot_answers.specs.Extending.{extended_events}
 use Rattle.boot_answers.proofs.EventLaws.{no_end, one_end, own_and_later}
-use Rattle.boot_texts.specs.declared.policies.PolicyQuestion.{PolicyQuestion}
-use Rattle.boot_texts.specs.Policies.{Asks, IsAskingEvent, IsAskingIn, IsFirstAsking, NoneAsks, Passes, read_text}
+use Rattle.boot_answers.specs.declared.policies.PolicyQuestion.{PolicyQuestion}
+use Rattle.boot_answers.specs.Policies.{Asks, IsAskingEvent, IsAskingIn, IsFirstAsking, NoneAsks, Passes, read_text}
 
 some_is : {A : Type 0} (x y : A) → Some x ≡ Some y → x ≡ y
 some_is x y e = cc

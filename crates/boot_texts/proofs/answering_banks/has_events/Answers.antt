@@ -1,6 +1,6 @@
 use Rattle.std.proofs.Common.{[], sym, ap}
-use Rattle.boot_texts.specs.Differences.{is_some_event}
-use Rattle.boot_texts.proofs.differences.has_events.Goals as goal
+use Rattle.boot_texts.specs.Answering.{is_some_event}
+use Rattle.boot_texts.proofs.answering_banks.has_events.Goals as goal
 
 pub returns-in-Some : goal.returns-in-Some
 returns-in-Some c = λ table events is.

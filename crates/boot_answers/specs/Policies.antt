@@ -2,7 +2,7 @@
 --
 -- Root can append texts to both registers, and can extend one that the boot loader left empty. So a text that asks proves no policy. That no
 -- text asks proves nothing either: no event says which boot loader made it, and the kernel may have options from one that measures none here.
-use Rattle.std.specs.Prelude.{◌≡◌, ◌⊎◌, ℕ, ◌+◌, true, nat_lt, if◌then◌else◌, List, [], ◌∷◌, ◌++◌, codes, length, Option, Some, None, option_and_then}
+use Rattle.std.specs.Prelude.{◌≡◌, ◌⊎◌, ℕ, ◌+◌, true, nat_lt, if◌then◌else◌, List, ◌∷◌, ◌++◌, length, Option, Some, None, option_and_then}
 use Rattle.std.specs.List.{AllByRecursion, list_all}
 use Rattle.std.specs.Str.{is_utf8}
 use Rattle.boot_log.specs.Names.{LogEvent, is_extended_into}
@@ -12,12 +12,10 @@ use Rattle.boot_answers.specs.Commands.{CommandSaid, grub, told_text, wide}
 use Rattle.boot_answers.specs.Extending.{extended_events}
 use Rattle.boot_answers.specs.ImaMeasuring.{AsksToMeasure}
 use Rattle.boot_answers.specs.ImaPolicy.{MaySetImaPolicy}
-use Rattle.cells.specs.Cells.{Cell, if_some, in_order, number, text, word}
-use Rattle.cells.specs.Values.{Member}
-use Rattle.boot_texts.specs.declared.policies.PolicyQuestion.{PolicyQuestion}
-use Rattle.boot_texts.specs.declared.policies.PolicyQuestion.TheVariants.{Measuring, Policy}
-use Rattle.boot_texts.specs.declared.policies.ImaPolicy.{ImaPolicy}
-use Rattle.boot_texts.specs.declared.policies.ImaPolicy.TheVariants as policies
+use Rattle.boot_answers.specs.declared.policies.PolicyQuestion.{PolicyQuestion}
+use Rattle.boot_answers.specs.declared.policies.PolicyQuestion.TheVariants.{Measuring, Policy}
+use Rattle.boot_answers.specs.declared.policies.ImaPolicy.{ImaPolicy}
+use Rattle.boot_answers.specs.declared.policies.ImaPolicy.TheVariants as policies
 
 -- ---- one text
 
@@ -89,24 +87,3 @@ abbrev pub IsImaPolicy : List Pcr → List LogEvent → ImaPolicy → Type 0
 IsImaPolicy matched events (policies.Asked number) = IsAsking Measuring matched events number
 IsImaPolicy matched events (policies.Possible number) = NeitherAsks Measuring matched events × IsAsking Policy matched events number
 IsImaPolicy matched events policies.Unknown = NeitherAsks Measuring matched events × NeitherAsks Policy matched events
-
--- ---- its line
-
--- What is asked, in one word.
-abbrev pub policy_word : ImaPolicy → List ℕ
-policy_word (policies.Asked event) = codes "asked"
-policy_word (policies.Possible event) = codes "possible"
-policy_word policies.Unknown = codes "unknown"
-
--- The number of the event that asks.
-abbrev pub policy_event : ImaPolicy → Option ℕ
-policy_event (policies.Asked event) = Some event
-policy_event (policies.Possible event) = Some event
-policy_event policies.Unknown = None
-
-abbrev pub policy_cell : ImaPolicy → Cell Member
-policy_cell policy = in_order (
-    word (codes "ima_policy ") (codes "ima_policy") (policy_word policy)
-    ∷ if_some (policy_event policy) (number (codes " ") (codes "event"))
-    ∷ text (codes "\n")
-    ∷ [])

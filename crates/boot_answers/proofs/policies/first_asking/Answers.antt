@@ -6,9 +6,9 @@ use Rattle.boot_log.proofs.LogLaws.{one_reading}
 use Rattle.boot_answers.proofs.EventLaws.{added_last, other_adds_nothing, own_is_next}
 use Rattle.boot_answers.proofs.FailingTestLaws.{not_told}
 use Rattle.boot_answers.specs.Extending.{extended_events}
-use Rattle.boot_texts.specs.Policies.{Passes}
-use Rattle.boot_texts.proofs.PolicyLaws.{none_before, none_of_all}
-use Rattle.boot_texts.proofs.policies.first_asking.Goals as goal
+use Rattle.boot_answers.specs.Policies.{Passes}
+use Rattle.boot_answers.proofs.AskingLaws.{none_before, none_of_all}
+use Rattle.boot_answers.proofs.policies.first_asking.Goals as goal
 
 pub returns-in_default-told_text : goal.returns-in_default-told_text
 returns-in_default-told_text c table events is =

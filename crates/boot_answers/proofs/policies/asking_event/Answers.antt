@@ -1,6 +1,6 @@
 use Rattle.std.proofs.Common.{inl}
-use Rattle.boot_texts.proofs.PolicyLaws.{after_none}
-use Rattle.boot_texts.proofs.policies.asking_event.Goals as goal
+use Rattle.boot_answers.proofs.AskingLaws.{after_none}
+use Rattle.boot_answers.proofs.policies.asking_event.Goals as goal
 
 pub returns-in-Some : goal.returns-in-Some
 returns-in-Some c table events is = inl ((rw c.in-Some.is at c.in_ok-by_grub.ensures) table events is)

@@ -1,7 +1,7 @@
 use Rattle.boot_log.proofs.LogLaws.{one_reading}
 use Rattle.boot_log.specs.Names.{log_event_of}
 use Rattle.boot_texts.proofs.TellingLaws.{more_told, told_to, told_to_end}
-use Rattle.boot_texts.proofs.event_walk.append_each.Goals as goal
+use Rattle.boot_texts.proofs.boot_lines.append_each.Goals as goal
 
 pub returns-then-not-goes_on : goal.returns-then-not-goes_on
 returns-then-not-goes_on c table events is =

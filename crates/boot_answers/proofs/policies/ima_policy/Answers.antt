@@ -1,4 +1,4 @@
-use Rattle.boot_texts.proofs.policies.ima_policy.Goals as goal
+use Rattle.boot_answers.proofs.policies.ima_policy.Goals as goal
 
 pub returns-in-Some : goal.returns-in-Some
 returns-in-Some c table events is = (rw c.in-Some.is at c.in_ok-measuring.ensures) table events is
