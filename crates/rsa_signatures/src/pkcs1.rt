@@ -1,7 +1,6 @@
 //! RSASSA-PKCS1-v1_5 (RFC 8017, sections 8.2.2 and 9.2).
 
 ghost use Rattle.std.specs.Prelude.{◌≡◌, ◌+◌, ◌-◌, ◌≤◌, ◌↔◌, ◌++◌, IsTrue, length};
-ghost use Rattle.rsa_signatures.specs.Hashes.{digest_size};
 ghost use Rattle.rsa_signatures.specs.Pkcs1.{IsModulus, IsSigned, Opens, digest_prefix, padded};
 
 use crate::hashes::{Hash, MOST_DIGEST_BYTES};

@@ -1,16 +1,19 @@
 -- Signatures as they are spelled, and the schemes that a key takes.
-use Rattle.std.proofs.Common.{◌≡◌, ℕ, ◌↔◌, Bool, IsTrue, List, length, Option, Some, None, Result, Ok, Err, refl, subst, ap, ◌∙◌, inl, inr}
+use Rattle.std.proofs.Common.{◌≡◌, ℕ, ◌↔◌, Bool, IsTrue, List, length, Option, Some, None, Result, Ok, Err, refl, sym, subst, ap, ◌∙◌, inl, inr}
 use Rattle.rsa_signatures.specs.declared.hashes.Hash.{Hash}
 use Rattle.rsa_signatures.specs.declared.hashes.Hash.TheVariants.{Sha256, Sha384, Sha512}
 use Rattle.tpm_signatures.specs.declared.fault.SignatureFault.{SignatureFault}
 use Rattle.tpm_signatures.specs.Spelling.{IsSignature, TpmSignature}
 use Rattle.tpm_signatures.proofs.SignatureLaws.{one_reading}
+use Rattle.std.specs.Prelude.{IfErr, IsOk}
+use Rattle.signed_messages.specs.declared.refusal.SignatureRefusal.{SignatureRefusal}
+use Rattle.signed_messages.specs.declared.refusal.SignatureRefusal.TheVariants.{NotSigned}
 use Rattle.signed_messages.specs.declared.key.RsaScheme.{RsaScheme}
 use Rattle.signed_messages.specs.declared.key.RsaScheme.TheVariants.{Pkcs1, Pss}
 use Rattle.signed_messages.specs.declared.key.SigningScheme.{SigningScheme}
 use Rattle.signed_messages.specs.Keys.{RsaKey, hash_with}
 use Rattle.signed_messages.specs.Signing.{IsSignedBy, IsValid, Takes, alg_of, numbers_by, stated}
-use Rattle.signed_messages.specs.Refusals.{HasOtherHash, HasOtherScheme, TakesHash, TakesKind, rsa_number}
+use Rattle.signed_messages.specs.Refusals.{HasOtherHash, HasOtherScheme, IsRefusal, IsVerified, TakesHash, TakesKind, rsa_number}
 
 -- ---- sizes
 
@@ -54,7 +57,7 @@ no_other_scheme its scheme number takes other = other scheme.kind number (takes_
 
 no_other_hash : (its : Option SigningScheme) (scheme : SigningScheme) (number : List ℕ) → Takes its scheme
     → HasOtherHash its (stated scheme number) → ⊥
-no_other_hash its scheme number takes other = other scheme.hash (takes_its_hash its scheme takes) (hash_with-alg_of scheme.hash)
+no_other_hash its scheme number takes other = other.1 scheme.hash (takes_its_hash its scheme takes) (hash_with-alg_of scheme.hash)
 
 -- ---- one hash of three
 
@@ -88,3 +91,26 @@ not_refused key message bytes read other is signed =
       subst (λ (s : TpmSignature). HasOtherScheme key.scheme s → ⊥) same (no_other_scheme key.scheme signed.scheme signed.number signed.taken),
       subst (λ (s : TpmSignature). HasOtherHash key.scheme s → ⊥) same (no_other_hash key.scheme signed.scheme signed.number signed.taken),
     )
+
+-- A signature that states a scheme and a hash of the key is verified.
+pub verified : (key : RsaKey) (bytes : List ℕ) (scheme : SigningScheme) (number : List ℕ) (read : TpmSignature) → IsSignature bytes read
+    → Takes key.scheme scheme → read ≡ stated scheme number → IsVerified key bytes
+verified key bytes scheme number read is takes same = inr (
+  read,
+  is,
+  subst (λ (s : TpmSignature). HasOtherScheme key.scheme s → ⊥) (sym same) (no_other_scheme key.scheme scheme number takes),
+  subst (λ (s : TpmSignature). HasOtherHash key.scheme s → ⊥) (sym same) (no_other_hash key.scheme scheme number takes),
+)
+
+abbrev the_refusal : SignatureRefusal → Result Unit SignatureRefusal
+the_refusal refusal = Err refusal
+
+not_ok : (refusal : SignatureRefusal) → IsOk (the_refusal refusal) → ⊥
+not_ok refusal ok = cc
+
+-- What is verified and not taken is not signed.
+pub refused : (key : RsaKey) (message bytes : List ℕ) (r : Result Unit SignatureRefusal) → IfErr r (λ refusal. refusal ≡ NotSigned) → IsVerified key bytes
+    → (IsSignedBy key message bytes → IsOk r) → IfErr r (IsRefusal key message bytes)
+refused key message bytes (Ok x) said is_verified only = tt
+refused key message bytes (Err refusal) said is_verified only =
+    subst (λ (it : SignatureRefusal). IsRefusal key message bytes it) (sym said) (is_verified, λ signed. absurd (not_ok refusal (only signed)))

@@ -42,7 +42,6 @@ modulus_in (RsaNumbers exponent modulus) = if nat_lt 512 (length modulus) then N
 modulus_in (EccNumbers curve x y) = None
 
 -- The key with this public area, if it is such a key, and its scheme is one by which it signs.
-
 abbrev pub key_in : KeyArea → Option RsaKey
 key_in area =
     option_and_then (λ modulus. option_map (λ scheme. record { modulus = modulus; scheme = Some scheme }) (scheme_in area.scheme)) (modulus_in area.numbers)

@@ -1,5 +1,5 @@
 -- Why a message is not taken as signed.
-use Rattle.std.specs.Prelude.{◌≡◌, ℕ, List, length, Option, Some, None}
+use Rattle.std.specs.Prelude.{◌≡◌, ℕ, ◌⊎◌, List, length, Option, Some, None}
 use Rattle.tpm_signatures.specs.Faults.{signature_fault_number}
 use Rattle.tpm_signatures.specs.Reading.{signature_fault}
 use Rattle.tpm_signatures.specs.Spelling.{IsSignature, TpmNumbers, RsassaNumber, RsapssNumber, EcdsaNumbers, TpmSignature}
@@ -39,13 +39,20 @@ TakesHash (Some its) hash = its.hash ≡ hash
 abbrev pub HasOtherScheme : Option SigningScheme → TpmSignature → Type 0
 HasOtherScheme its signature = (kind : RsaScheme) (number : List ℕ) → TakesKind its kind → rsa_number signature.numbers ≡ Some (kind, number) → ⊥
 
--- It is made with no hash with which the key signs.
+-- It is made in a way in which the key signs, with no hash with which it does.
 abbrev pub HasOtherHash : Option SigningScheme → TpmSignature → Type 0
-HasOtherHash its signature = (hash : Hash) → TakesHash its hash → hash_with signature.hash ≡ Some hash → ⊥
+HasOtherHash its signature =
+    (HasOtherScheme its signature → ⊥) × ((hash : Hash) → TakesHash its hash → hash_with signature.hash ≡ Some hash → ⊥)
 
--- The refusal of these bytes as a signature of the message.
+-- The bytes are a number alone; or they state a signature with neither fault.
+abbrev pub IsVerified : RsaKey → List ℕ → Type 0
+IsVerified key bytes =
+    (length bytes ≡ length key.modulus)
+    ⊎ ((signature : TpmSignature) × IsSignature bytes signature × (HasOtherScheme key.scheme signature → ⊥) × (HasOtherHash key.scheme signature → ⊥))
+
+-- The refusal of these bytes as a signature of the message: the first that holds.
 abbrev pub IsRefusal : RsaKey → List ℕ → List ℕ → SignatureRefusal → Type 0
 IsRefusal key message bytes (Bytes fault) = (length bytes ≡ length key.modulus → ⊥) × (signature_fault bytes ≡ Some fault)
 IsRefusal key message bytes OtherScheme = (signature : TpmSignature) × IsSignature bytes signature × HasOtherScheme key.scheme signature
 IsRefusal key message bytes OtherHash = (signature : TpmSignature) × IsSignature bytes signature × HasOtherHash key.scheme signature
-IsRefusal key message bytes NotSigned = IsSignedBy key message bytes → ⊥
+IsRefusal key message bytes NotSigned = IsVerified key bytes × (IsSignedBy key message bytes → ⊥)

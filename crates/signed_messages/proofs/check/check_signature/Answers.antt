@@ -1,8 +1,10 @@
-use Rattle.std.proofs.Common.{inl, inr}
+use Rattle.std.proofs.Common.{inl, inr, rules}
+use Rattle.std.specs.Prelude.{IsOk}
 use Rattle.tpm_signatures.specs.Spelling.{signature_of}
 use Rattle.signed_messages.specs.Keys.{key_of}
-use Rattle.signed_messages.specs.Signing.{stated}
-use Rattle.signed_messages.proofs.SigningLaws.{not_refused, read_has_no_fault, stated_so}
+use Rattle.signed_messages.specs.Signing.{IsSignedBy, stated}
+use Rattle.signed_messages.specs.Refusals.{IsVerified}
+use Rattle.signed_messages.proofs.SigningLaws.{not_refused, refused, verified, read_has_no_fault, stated_so}
 use Rattle.signed_messages.proofs.check.check_signature.Goals as goal
 
 pub returns-in_err-read_signature-clause-only : goal.returns-in_err-read_signature-clause-only
@@ -19,3 +21,11 @@ returns-in_err-scheme-clause-only c =
       | inl scheme ↦ absurd (not.0 scheme.1)
       | inr hash ↦ absurd (not.1 hash.1)
     ]
+
+pub returns-clause-refusal : goal.returns-clause-refusal
+returns-clause-refusal c =
+    let is_verified : IsVerified (key_of c.args.key) c.args.signature.now = verified (key_of c.args.key) c.args.signature.now c.in_ok-scheme.scheme
+    c.in_ok-scheme.number.now (signature_of c.in_ok-read_signature.field-0) c.in_ok-read_signature.ensures.found c.in_ok-scheme.ensures.found.0
+    c.in_ok-scheme.ensures.found.1 in
+    let only : IsSignedBy (key_of c.args.key) c.args.message.now c.args.signature.now → IsOk c.answer-2.result = search rules in
+    refused (key_of c.args.key) c.args.message.now c.args.signature.now c.answer-2.result c.answer-2.ensures.refusal is_verified only
