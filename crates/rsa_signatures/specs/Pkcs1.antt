@@ -3,7 +3,8 @@ use Rattle.std.specs.Prelude.{◌≡◌, ℕ, ◌-◌, ◌<◌, ◌≤◌, List,
 use Rattle.rsa_signatures.specs.declared.hashes.Hash.{Hash}
 use Rattle.rsa_signatures.specs.declared.hashes.Hash.TheVariants.{Sha256, Sha384, Sha512}
 use Rattle.rsa_signatures.specs.Hashes.{digest_of}
-use Rattle.rsa_signatures.specs.Recovery.{number_of, recovered}
+use Rattle.limb_numbers.specs.Bytes.{number_of}
+use Rattle.rsa_signatures.specs.Recovery.{recovered}
 
 -- A modulus of 256 to 512 bytes, none of which is spare: 2,041 to 4,096 bits.
 pub record IsModulus (modulus : List ℕ) : Type 0 where

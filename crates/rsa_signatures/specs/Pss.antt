@@ -3,7 +3,8 @@ use Rattle.std.specs.Prelude.{ℕ, ◌+◌, ◌-◌, ◌/◌, ◌%◌, ◌≡◌
 use Rattle.std.specs.Int.{w32, to_be_bytes}
 use Rattle.rsa_signatures.specs.declared.hashes.Hash.{Hash}
 use Rattle.rsa_signatures.specs.Hashes.{digest_of, digest_size}
-use Rattle.rsa_signatures.specs.Recovery.{number_of, recovered}
+use Rattle.limb_numbers.specs.Bytes.{number_of}
+use Rattle.rsa_signatures.specs.Recovery.{recovered}
 
 -- A modulus of 256 to 512 bytes whose first bit is set: 2,048, 2,056 .. 4,096 bits.
 pub record IsFullModulus (modulus : List ℕ) : Type 0 where

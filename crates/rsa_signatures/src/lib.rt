@@ -4,9 +4,8 @@
 #![tactic(auto)]
 
 mod hashes;
-mod limbs;
-mod modular;
 mod pkcs1;
+mod powers;
 mod pss;
 mod recovery;
 
