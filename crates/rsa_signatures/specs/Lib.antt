@@ -1,4 +1,3 @@
-pub mod Hashes
 pub mod Recovery
 pub mod Pkcs1
 pub mod Pss

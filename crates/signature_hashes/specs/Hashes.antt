@@ -2,8 +2,8 @@
 use Rattle.std.specs.Prelude.{ℕ, List}
 use Rattle.sha2.specs.Sha256.{sha256}
 use Rattle.sha2.specs.Sha512.{sha384, sha512}
-use Rattle.rsa_signatures.specs.declared.hashes.Hash.{Hash}
-use Rattle.rsa_signatures.specs.declared.hashes.Hash.TheVariants.{Sha256, Sha384, Sha512}
+use Rattle.signature_hashes.specs.declared.hashes.Hash.{Hash}
+use Rattle.signature_hashes.specs.declared.hashes.Hash.TheVariants.{Sha256, Sha384, Sha512}
 
 -- How many bytes a digest has.
 abbrev pub digest_size : Hash → ℕ

@@ -1,7 +1,7 @@
 //! The hash functions of signatures (FIPS 180-4).
 
 ghost use Rattle.std.specs.Prelude.{◌≡◌, ◌++◌, length};
-ghost use Rattle.rsa_signatures.specs.Hashes.{digest_of, digest_size};
+ghost use Rattle.signature_hashes.specs.Hashes.{digest_of, digest_size};
 
 use sha2::{Digest, Sha256, Sha384, Sha512};
 
@@ -17,11 +17,11 @@ pub enum Hash {
 }
 
 /// The most bytes of a digest: those of SHA-512.
-pub(crate) const MOST_DIGEST_BYTES: usize = 64;
+pub const MOST_DIGEST_BYTES: usize = 64;
 
 impl Hash {
     /// How many bytes a digest has.
-    pub(crate) fn digest_size(self) -> usize
+    pub fn digest_size(self) -> usize
         ensures { result ≡ digest_size self }
     {
         match self {
@@ -32,7 +32,7 @@ impl Hash {
     }
 
     /// Writes the digest of three parts, taken as one message.
-    pub(crate) fn write_digest(self, first: &[u8], second: &[u8], third: &[u8], digest: &mut [u8])
+    pub fn write_digest(self, first: &[u8], second: &[u8], third: &[u8], digest: &mut [u8])
         requires { length digest.old ≡ digest_size self }
         ensures { digest.new ≡ digest_of self (first.now ++ second.now ++ third.now) }
     {
