@@ -1,2 +1,4 @@
 pub mod BitLaws
 pub mod ModularLaws
+pub mod PointLaws
+pub mod CurveLaws

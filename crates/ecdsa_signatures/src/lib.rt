@@ -3,4 +3,10 @@
 //! No call of this crate allocates. All input is public, so times may depend on it.
 #![tactic(auto)]
 
+mod curves;
 mod field;
+mod points;
+mod signing;
+
+pub use curves::Curve;
+pub use signing::verify;
