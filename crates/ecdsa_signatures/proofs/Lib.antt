@@ -1,4 +1,4 @@
-pub mod BitLaws
+pub mod DigitLaws
 pub mod ModularLaws
 pub mod PointLaws
 pub mod CurveLaws
