@@ -2,4 +2,4 @@ pub mod Modular
 pub mod Points
 pub mod Curves
 pub mod Signing
-pub mod Places
+pub mod parts
