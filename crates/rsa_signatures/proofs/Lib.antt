@@ -1,4 +1,2 @@
-pub mod BytesLaws
-pub mod LimbLaws
 pub mod MaskLaws
-pub mod ModuloLaws
+pub mod PowerLaws

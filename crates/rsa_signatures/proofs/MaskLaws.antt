@@ -1,9 +1,9 @@
 -- The mask of an encoded message, byte by byte.
 use Rattle.std.proofs.Common.{◌≡◌, ℕ, suc, zero, ◌+◌, ◌/◌, ◌%◌, ◌<◌, List, [], ◌∷◌, ◌++◌, length, get_or, bit_xor, refl, sym, ap, ◌∙◌, append-nil, add-zero, arith}
 use Rattle.std.specs.Int.{w32, to_be_bytes}
-use Rattle.rsa_signatures.specs.declared.hashes.Hash.{Hash}
-use Rattle.rsa_signatures.specs.declared.hashes.Hash.TheVariants.{Sha256, Sha384, Sha512}
-use Rattle.rsa_signatures.specs.Hashes.{digest_of, digest_size}
+use Rattle.signature_hashes.specs.declared.hashes.Hash.{Hash}
+use Rattle.signature_hashes.specs.declared.hashes.Hash.TheVariants.{Sha256, Sha384, Sha512}
+use Rattle.signature_hashes.specs.Hashes.{digest_of, digest_size}
 use Rattle.rsa_signatures.specs.Pss.{mask_block, mask_byte, unmasked}
 
 -- The digest of the seed and a counter is the counter's block.

@@ -1,5 +1,3 @@
-pub mod Limbs
-pub mod Hashes
 pub mod Recovery
 pub mod Pkcs1
 pub mod Pss

@@ -1,9 +1,10 @@
 -- RSASSA-PKCS1-v1_5 (RFC 8017).
 use Rattle.std.specs.Prelude.{◌≡◌, ℕ, ◌-◌, ◌<◌, ◌≤◌, List, [], ◌∷◌, ◌++◌, length, replicate, slice_index}
-use Rattle.rsa_signatures.specs.declared.hashes.Hash.{Hash}
-use Rattle.rsa_signatures.specs.declared.hashes.Hash.TheVariants.{Sha256, Sha384, Sha512}
-use Rattle.rsa_signatures.specs.Hashes.{digest_of}
-use Rattle.rsa_signatures.specs.Recovery.{number_of, recovered}
+use Rattle.signature_hashes.specs.declared.hashes.Hash.{Hash}
+use Rattle.signature_hashes.specs.declared.hashes.Hash.TheVariants.{Sha256, Sha384, Sha512}
+use Rattle.signature_hashes.specs.Hashes.{digest_of}
+use Rattle.limb_numbers.specs.Bytes.{number_of}
+use Rattle.rsa_signatures.specs.Recovery.{recovered}
 
 -- A modulus of 256 to 512 bytes, none of which is spare: 2,041 to 4,096 bits.
 pub record IsModulus (modulus : List ℕ) : Type 0 where

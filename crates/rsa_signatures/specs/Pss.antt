@@ -1,9 +1,10 @@
 -- RSASSA-PSS with MGF1, both by one hash function (RFC 8017).
 use Rattle.std.specs.Prelude.{ℕ, ◌+◌, ◌-◌, ◌/◌, ◌%◌, ◌≡◌, ◌<◌, ◌≤◌, ◌==◌, Bool, not, Option, Some, None, List, [], ◌∷◌, ◌++◌, length, take, replicate, position, slice_index, slice_set, slice_range, bit_xor}
 use Rattle.std.specs.Int.{w32, to_be_bytes}
-use Rattle.rsa_signatures.specs.declared.hashes.Hash.{Hash}
-use Rattle.rsa_signatures.specs.Hashes.{digest_of, digest_size}
-use Rattle.rsa_signatures.specs.Recovery.{number_of, recovered}
+use Rattle.signature_hashes.specs.declared.hashes.Hash.{Hash}
+use Rattle.signature_hashes.specs.Hashes.{digest_of, digest_size}
+use Rattle.limb_numbers.specs.Bytes.{number_of}
+use Rattle.rsa_signatures.specs.Recovery.{recovered}
 
 -- A modulus of 256 to 512 bytes whose first bit is set: 2,048, 2,056 .. 4,096 bits.
 pub record IsFullModulus (modulus : List ℕ) : Type 0 where

@@ -3,13 +3,10 @@
 //! Moduli have 256 to 512 bytes. No call of this crate allocates. All input is public, so times may depend on it.
 #![tactic(auto)]
 
-mod hashes;
-mod limbs;
-mod modular;
 mod pkcs1;
+mod powers;
 mod pss;
 mod recovery;
 
-pub use hashes::Hash;
 pub use pkcs1::verify;
 pub use pss::verify_pss;

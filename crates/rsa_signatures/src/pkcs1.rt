@@ -3,8 +3,8 @@
 ghost use Rattle.std.specs.Prelude.{◌≡◌, ◌+◌, ◌-◌, ◌≤◌, ◌↔◌, ◌++◌, IsTrue, length};
 ghost use Rattle.rsa_signatures.specs.Pkcs1.{IsModulus, IsSigned, Opens, digest_prefix, padded};
 
-use crate::hashes::{Hash, MOST_DIGEST_BYTES};
 use crate::recovery::{MOST_MODULUS_BYTES, have_sizes, recover};
+use signature_hashes::{Hash, MOST_DIGEST_BYTES};
 
 /// How many bytes stand before the digest in a DigestInfo.
 const PREFIX_BYTES: usize = 19;
@@ -39,7 +39,7 @@ fn opens(hash: Hash, digest: &[u8], modulus: &[u8], signature: &[u8]) -> bool
     }
     let mut expected_room = [0; MOST_MODULUS_BYTES];
     let expected = &mut expected_room[..modulus.len()];
-    write_padded(&hash.digest_prefix(), digest, expected);
+    write_padded(&digest_prefix(hash), digest, expected);
     &*expected == &*encoded
 }
 
@@ -60,19 +60,17 @@ fn write_padded(prefix: &[u8], digest: &[u8], block: &mut [u8])
     back.copy_from_slice(digest);
 }
 
-impl Hash {
-    // What stands before the digest in its DigestInfo (RFC 8017, section 9.2, note 1).
-    fn digest_prefix(self) -> [u8; PREFIX_BYTES]
-        ensures { result ≡ digest_prefix self }
-    {
-        let (info_size, number, size) = match self {
-            Hash::Sha256 => (0x31, 0x01, 0x20),
-            Hash::Sha384 => (0x41, 0x02, 0x30),
-            Hash::Sha512 => (0x51, 0x03, 0x40),
-        };
-        [
-            0x30, info_size, 0x30, 0x0D, 0x06, 0x09, 0x60, 0x86, 0x48, 0x01, 0x65, 0x03, 0x04,
-            0x02, number, 0x05, 0x00, 0x04, size,
-        ]
-    }
+// What stands before the digest in its DigestInfo (RFC 8017, section 9.2, note 1).
+fn digest_prefix(hash: Hash) -> [u8; PREFIX_BYTES]
+    ensures { result ≡ digest_prefix hash }
+{
+    let (info_size, number, size) = match hash {
+        Hash::Sha256 => (0x31, 0x01, 0x20),
+        Hash::Sha384 => (0x41, 0x02, 0x30),
+        Hash::Sha512 => (0x51, 0x03, 0x40),
+    };
+    [
+        0x30, info_size, 0x30, 0x0D, 0x06, 0x09, 0x60, 0x86, 0x48, 0x01, 0x65, 0x03, 0x04, 0x02,
+        number, 0x05, 0x00, 0x04, size,
+    ]
 }

@@ -1,11 +1,11 @@
 //! RSASSA-PSS with MGF1, both by one hash function (RFC 8017, sections 8.1.2 and 9.1.2).
 
 ghost use Rattle.std.specs.Prelude.{◌≡◌, ◌+◌, ◌-◌, ◌/◌, ◌%◌, ◌≤◌, ◌<◌, ◌↔◌, IsTrue, IfSome, Some, length, position};
-ghost use Rattle.rsa_signatures.specs.Hashes.{digest_size};
+ghost use Rattle.signature_hashes.specs.Hashes.{digest_size};
 ghost use Rattle.rsa_signatures.specs.Pss.{IsEncoded, IsFullModulus, IsSalted, IsSignedPss, OpensPss, is_set, mask_block, unmasked};
 
-use crate::hashes::{Hash, MOST_DIGEST_BYTES};
 use crate::recovery::{MOST_MODULUS_BYTES, have_sizes, recover};
+use signature_hashes::{Hash, MOST_DIGEST_BYTES};
 
 /// The last byte of an encoded message.
 const TRAILER: u8 = 0xBC;

@@ -1,7 +1,7 @@
 -- Signatures as they are spelled, and the schemes that a key takes.
 use Rattle.std.proofs.Common.{◌≡◌, ℕ, ◌↔◌, Bool, IsTrue, List, length, Option, Some, None, Result, Ok, Err, refl, sym, subst, ap, ◌∙◌, inl, inr}
-use Rattle.rsa_signatures.specs.declared.hashes.Hash.{Hash}
-use Rattle.rsa_signatures.specs.declared.hashes.Hash.TheVariants.{Sha256, Sha384, Sha512}
+use Rattle.signature_hashes.specs.declared.hashes.Hash.{Hash}
+use Rattle.signature_hashes.specs.declared.hashes.Hash.TheVariants.{Sha256, Sha384, Sha512}
 use Rattle.tpm_signatures.specs.declared.fault.SignatureFault.{SignatureFault}
 use Rattle.tpm_signatures.specs.Spelling.{IsSignature, TpmSignature}
 use Rattle.tpm_signatures.proofs.SignatureLaws.{one_reading}

@@ -2,8 +2,8 @@
 use Rattle.std.specs.Prelude.{ℕ, if◌then◌else◌, nat_lt, List, length, Option, Some, None, option_map, option_and_then}
 use Rattle.pcr_banks.specs.declared.alg.Alg.{Alg}
 use Rattle.pcr_banks.specs.declared.alg.Alg.TheVariants as algs
-use Rattle.rsa_signatures.specs.declared.hashes.Hash.{Hash}
-use Rattle.rsa_signatures.specs.declared.hashes.Hash.TheVariants as hashes
+use Rattle.signature_hashes.specs.declared.hashes.Hash.{Hash}
+use Rattle.signature_hashes.specs.declared.hashes.Hash.TheVariants as hashes
 use Rattle.tpm_keys.specs.declared.area.Scheme.{Scheme}
 use Rattle.tpm_keys.specs.declared.kinds.SchemeKind.{SchemeKind}
 use Rattle.tpm_keys.specs.declared.kinds.SchemeKind.TheVariants as kinds

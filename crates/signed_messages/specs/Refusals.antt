@@ -3,7 +3,7 @@ use Rattle.std.specs.Prelude.{◌≡◌, ℕ, ◌⊎◌, List, length, Option, S
 use Rattle.tpm_signatures.specs.Faults.{signature_fault_number}
 use Rattle.tpm_signatures.specs.Reading.{signature_fault}
 use Rattle.tpm_signatures.specs.Spelling.{IsSignature, TpmNumbers, RsassaNumber, RsapssNumber, EcdsaNumbers, TpmSignature}
-use Rattle.rsa_signatures.specs.declared.hashes.Hash.{Hash}
+use Rattle.signature_hashes.specs.declared.hashes.Hash.{Hash}
 use Rattle.signed_messages.specs.declared.key.RsaScheme.{RsaScheme}
 use Rattle.signed_messages.specs.declared.key.RsaScheme.TheVariants.{Pkcs1, Pss}
 use Rattle.signed_messages.specs.declared.key.SigningScheme.{SigningScheme}

@@ -2,8 +2,8 @@
 use Rattle.std.specs.Prelude.{◌≡◌, ℕ, ◌⊎◌, List, Option, Some, None}
 use Rattle.pcr_banks.specs.declared.alg.Alg.{Alg}
 use Rattle.pcr_banks.specs.declared.alg.Alg.TheVariants as algs
-use Rattle.rsa_signatures.specs.declared.hashes.Hash.{Hash}
-use Rattle.rsa_signatures.specs.declared.hashes.Hash.TheVariants as hashes
+use Rattle.signature_hashes.specs.declared.hashes.Hash.{Hash}
+use Rattle.signature_hashes.specs.declared.hashes.Hash.TheVariants as hashes
 use Rattle.rsa_signatures.specs.Pkcs1.{IsModulus, IsSigned}
 use Rattle.rsa_signatures.specs.Pss.{IsFullModulus, IsSignedPss}
 use Rattle.tpm_signatures.specs.Spelling.{IsSignature, TpmNumbers, RsassaNumber, RsapssNumber, TpmSignature}

@@ -5,14 +5,15 @@ ghost use Rattle.tpm_signatures.specs.Spelling.{numbers_of, signature_of};
 ghost use Rattle.signed_messages.specs.declared.refusal.SignatureRefusal.TheVariants as refusals;
 ghost use Rattle.signed_messages.specs.declared.key.RsaScheme.{RsaScheme};
 ghost use Rattle.signed_messages.specs.declared.key.SigningScheme.{SigningScheme};
-ghost use Rattle.rsa_signatures.specs.declared.hashes.Hash.{Hash};
+ghost use Rattle.signature_hashes.specs.declared.hashes.Hash.{Hash};
 ghost use Rattle.signed_messages.specs.Keys.{key_of};
 ghost use Rattle.signed_messages.specs.Signing.{IsSignedBy, IsValid, Takes, stated};
 ghost use Rattle.signed_messages.specs.Refusals.{HasOtherHash, HasOtherScheme, IsRefusal, TakesHash, TakesKind, rsa_number};
 
 use crate::key::{RsaScheme, SigningScheme, VerifyingKey, hash_with};
 use crate::refusal::SignatureRefusal;
-use rsa_signatures::{Hash, verify, verify_pss};
+use rsa_signatures::{verify, verify_pss};
+use signature_hashes::Hash;
 use tpm_signatures::{Signature, SignatureNumbers, read_signature};
 
 /// Checks that the bytes are a signature of the message by this key: the number alone, as `tpm2_quote -f plain` writes it, or as a TPM gives it.

@@ -5,7 +5,7 @@ ghost use Rattle.tpm_keys.specs.Spelling.{area_of, numbers_of};
 ghost use Rattle.signed_messages.specs.Keys.{hash_with, key_in, key_of, modulus_in, scheme_in, scheme_kind_with};
 
 use pcr_banks::Alg;
-use rsa_signatures::Hash;
+use signature_hashes::Hash;
 use tpm_keys::{Material, PublicArea, Scheme, SchemeKind};
 
 /// The most bytes of a modulus: 4,096 bits.

@@ -1,5 +1,5 @@
 use Rattle.std.proofs.Common.{◌≡◌, ℕ, ◌/◌, ◌%◌, ◌<◌, ◌≤◌, length, get_or, bit_xor}
-use Rattle.rsa_signatures.specs.Hashes.{digest_size}
+use Rattle.signature_hashes.specs.Hashes.{digest_size}
 use Rattle.rsa_signatures.specs.Pss.{mask_block, mask_byte}
 use Rattle.rsa_signatures.proofs.pss.unmask.Given as goal
 

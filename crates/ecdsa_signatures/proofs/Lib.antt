@@ -1,0 +1,4 @@
+pub mod DigitLaws
+pub mod ModularLaws
+pub mod PointLaws
+pub mod CurveLaws

@@ -1,0 +1,5 @@
+pub mod Modular
+pub mod Points
+pub mod Curves
+pub mod Signing
+pub mod parts
