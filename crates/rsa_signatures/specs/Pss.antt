@@ -46,8 +46,8 @@ IsSalted hash digest expected block (Some place) =
 
 -- ---- the signature
 
--- These bytes, of which the first bit alone is not used, are consistent with a message of this digest and a salt of any length (section 9.1.2,
--- EMSA-PSS-VERIFY).
+-- These bytes, by a key whose modulus is full, are consistent with a message of this digest and a salt of any length (section 9.1.2,
+-- EMSA-PSS-VERIFY). The first bit alone is not used.
 pub record IsEncoded (hash : Hash) (digest encoded : List ℕ) : Type 0 where
   pub last : slice_index encoded (length encoded - 1) ≡ 0xBC
   pub first : slice_index encoded 0 < 128

@@ -6,12 +6,12 @@ ghost use Rattle.rsa_signatures.specs.Pkcs1.{IsModulus, IsSigned, Opens, digest_
 use crate::recovery::{MOST_MODULUS_BYTES, have_sizes, recover};
 use signature_hashes::{Hash, MOST_DIGEST_BYTES};
 
-/// How many bytes stand before the digest in a DigestInfo.
+/// How many bytes come before the digest in a DigestInfo.
 const PREFIX_BYTES: usize = 19;
 
 /// Whether the signature of the message is valid by RSASSA-PKCS1-v1_5.
 ///
-/// `modulus` is big endian, of 256 to 512 bytes, the first of which is not 0; `signature` has as many. For any others the answer is no.
+/// `modulus` is big endian, of 256 to 512 bytes, the first of them not 0; `signature` has as many. For any others the answer is no.
 pub fn verify(hash: Hash, modulus: &[u8], message: &[u8], signature: &[u8]) -> bool
     ensures { IsTrue result ↔ (IsModulus modulus.now × IsSigned hash modulus.now message.now signature.now) }
 {
@@ -60,7 +60,7 @@ fn write_padded(prefix: &[u8], digest: &[u8], block: &mut [u8])
     back.copy_from_slice(digest);
 }
 
-// What stands before the digest in its DigestInfo (RFC 8017, section 9.2, note 1).
+// What comes before the digest in its DigestInfo (RFC 8017, section 9.2, note 1).
 fn digest_prefix(hash: Hash) -> [u8; PREFIX_BYTES]
     ensures { result ≡ digest_prefix hash }
 {

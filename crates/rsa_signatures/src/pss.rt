@@ -113,7 +113,7 @@ fn first_set(block: &[u8]) -> Option<usize>
     block.iter().position(|byte| *byte != 0)
 }
 
-// Whether a 1 stands at this place, and the salt after it gives the expected digest.
+// Whether the byte at this place is 1, and the salt after it gives the expected digest.
 fn has_salt(hash: Hash, digest: &[u8], expected: &[u8], block: &[u8], place: usize) -> bool
     requires { place < length block.now }
     ensures { IsTrue result ↔ IsSalted hash digest.now expected.now block.now (Some place) }
