@@ -1,5 +1,5 @@
--- What a signature of a TPM is: a relation between bytes and what they state (TPM 2.0 Library, part 2, section 11.3, TPMT_SIGNATURE). All
--- numbers are big endian.
+-- What a signature of a TPM is: a relation between bytes and what they state (TPM 2.0 Library, part 2, TPMT_SIGNATURE). All numbers are big
+-- endian.
 use Rattle.std.specs.Prelude.{◌≡◌, ℕ, ◌^◌, ◌<◌, ◌==◌, List, [], ◌∷◌, ◌++◌, length, find, Option}
 use Rattle.std.specs.Int.{w16, to_be_bytes}
 use Rattle.pcr_banks.specs.declared.alg.Alg.{Alg}
@@ -39,7 +39,7 @@ scheme_of (RsassaNumber number) = Rsassa
 scheme_of (RsapssNumber number) = Rsapss
 scheme_of (EcdsaNumbers r s) = Ecdsa
 
--- Their spelling (section 11.3.1, TPMS_SIGNATURE_RSA, and 11.3.2, TPMS_SIGNATURE_ECC, behind the hash).
+-- Their spelling (part 2, TPMS_SIGNATURE_RSA and TPMS_SIGNATURE_ECC, after the hash).
 abbrev pub numbers_spelling : TpmNumbers → List ℕ
 numbers_spelling (RsassaNumber number) = sized16 number
 numbers_spelling (RsapssNumber number) = sized16 number
@@ -53,12 +53,12 @@ AreNumbers (EcdsaNumbers r s) = (length r < 2 ^ 16) × (length s < 2 ^ 16)
 
 -- ---- the signature
 
--- What a signature states: the hash of the message, and the numbers, which tell the scheme.
+-- What a signature states: the hash of the message, and the numbers, which show the scheme.
 pub record TpmSignature : Type 0 where
   pub hash : Alg
   pub numbers : TpmNumbers
 
--- How it is spelled (section 11.3.4, TPMT_SIGNATURE): the scheme, the hash, the numbers.
+-- How it is spelled (part 2, TPMT_SIGNATURE): the scheme, the hash, the numbers.
 abbrev pub signature_spelling : TpmSignature → List ℕ
 signature_spelling signature =
     to_be_bytes w16 (scheme_id (scheme_of signature.numbers)) ++ (to_be_bytes w16 (tpm_id_of signature.hash) ++ numbers_spelling signature.numbers)

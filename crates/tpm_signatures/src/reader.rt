@@ -35,7 +35,7 @@ pub struct Signature<'a> {
     pub numbers: SignatureNumbers<'a>,
 }
 
-/// Reads a signature from all of the bytes, as `tpm2_quote -s` writes them. Returns the first fault from left to right.
+/// Reads a signature from all of the bytes, as `tpm2_quote -s` writes them without `-f plain`. Returns the first fault from left to right.
 pub fn read_signature(bytes: &[u8]) -> Result<Signature<'_>, SignatureFault>
     // `Ok` only if the bytes are a signature, and state this.
     ensures found { IfOk result (λ signature. IsSignature bytes.now (signature_of signature)) }
@@ -128,7 +128,7 @@ fn ecdsa_at(bytes: &[u8]) -> Result<(SignatureNumbers<'_>, &[u8]), SignatureFaul
     Ok((SignatureNumbers::Ecdsa { r, s }, rest))
 }
 
-// Reads bytes whose number stands before them, in two bytes. Returns them and the remaining bytes.
+// Reads bytes that are prefixed by their number, in two bytes. Returns them and the remaining bytes.
 #[tactic(auto, unfolding(crate::specs::Reading::sized))]
 fn sized_at(bytes: &[u8]) -> Result<(&[u8], &[u8]), SignatureFault>
     ensures { Reads (λ x. (x.0.now, x.1.now)) result (sized.at bytes.now) }
