@@ -1,1 +1,3 @@
 pub mod SigningLaws
+pub mod PlainLaws
+pub mod EccLaws
