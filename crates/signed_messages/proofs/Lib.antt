@@ -1,3 +1,4 @@
 pub mod SigningLaws
 pub mod PlainLaws
 pub mod EccLaws
+pub mod ShortLaws

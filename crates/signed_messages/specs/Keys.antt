@@ -32,6 +32,7 @@ pub record EccKey : Type 0 where
   pub y : List ℕ
   pub hash : Option Hash
 
+-- A key of either kind.
 pub data MessageKey : Type 0 where
   ByRsa : RsaKey → MessageKey
   ByEcc : EccKey → MessageKey

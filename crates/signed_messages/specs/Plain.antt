@@ -2,8 +2,8 @@
 use Rattle.std.specs.Prelude.{◌≡◌, ℕ, ◌<◌, List, ◌++◌, length, slice_index}
 use Rattle.tpm_keys.specs.KeyInfo.{integer, sequence}
 
--- The bytes are the DER of r and s. No byte of these is spare; and the length fits one byte, as it does for all numbers below the orders of P-256
--- and P-384, which have at most 48 bytes each.
+-- The bytes are the DER of r and s. No byte of these is spare, and their length fits one byte, as it does for each valid signature
+-- (`numbers_of_signatures_are_short`).
 pub record IsPlain (bytes r s : List ℕ) : Type 0 where
   pub r_first : 0 < slice_index r 0
   pub s_first : 0 < slice_index s 0

@@ -67,6 +67,7 @@ abbrev pub ecdsa_numbers : TpmNumbers → Option (List ℕ × List ℕ)
 ecdsa_numbers (EcdsaNumbers r s) = Some (r, s)
 ecdsa_numbers numbers = None
 
+-- It is by another scheme than ECDSA.
 abbrev pub IsOtherThanEcdsa : TpmSignature → Type 0
 IsOtherThanEcdsa signature = ecdsa_numbers signature.numbers ≡ None
 

@@ -11,8 +11,9 @@ use crate::refusal::SignatureRefusal;
 use crate::rsa::check_rsa;
 
 /// Checks that the bytes are a signature of the message by this key: its numbers alone, as `tpm2_quote -f plain` writes them, or as a TPM gives it.
-/// For an RSA key, bytes as many as the modulus has are taken for the number alone. For a key on a curve, the numbers alone are in DER.
-/// Returns the first refusal.
+///
+/// For an RSA key, bytes as many as the modulus has are taken for the number alone. For a key on a curve, the numbers alone are in DER. Returns the first
+/// refusal.
 pub fn check_signature(
     key: VerifyingKey<'_>,
     message: &[u8],

@@ -62,8 +62,8 @@ pub enum VerifyingKey<'a> {
 }
 
 impl<'a> VerifyingKey<'a> {
-    /// The key with this public area. `None` if its signatures are not verified here: it is an RSA key of more than 4,096 bits or a key on another curve
-    /// than P-256 and P-384, has no scheme by which its kind of key signs, or signs with SHA-1.
+    /// The key with this public area. `None` if its signatures are not verified here: it is an RSA key of more than 4,096 bits or a key on P-521,
+    /// has no scheme by which its kind of key signs, or signs with SHA-1.
     pub fn of(area: &PublicArea<'a>) -> Option<VerifyingKey<'a>>
         ensures { option_map key_of result ≡ key_in (area_of area.now) }
     {

@@ -7,6 +7,7 @@
 mod check;
 mod ecc;
 mod key;
+pub mod laws;
 mod plain;
 mod refusal;
 mod rsa;

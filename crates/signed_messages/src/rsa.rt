@@ -16,7 +16,7 @@ use rsa_signatures::{verify, verify_pss};
 use signature_hashes::Hash;
 use tpm_signatures::{Signature, SignatureNumbers, read_signature};
 
-/// Checks that the bytes are a signature of the message by this RSA key. Bytes as many as the modulus has are taken for the number alone.
+/// Checks that the bytes are a signature of the message by this RSA key.
 pub(crate) fn check_rsa(
     key: RsaPublicKey<'_>,
     message: &[u8],
