@@ -1,1 +1,4 @@
 pub mod SigningLaws
+pub mod PlainLaws
+pub mod EccLaws
+pub mod ShortLaws

@@ -12,8 +12,8 @@ use Rattle.signed_messages.specs.declared.key.RsaScheme.{RsaScheme}
 use Rattle.signed_messages.specs.declared.key.RsaScheme.TheVariants.{Pkcs1, Pss}
 use Rattle.signed_messages.specs.declared.key.SigningScheme.{SigningScheme}
 use Rattle.signed_messages.specs.Keys.{RsaKey, hash_with}
-use Rattle.signed_messages.specs.Signing.{IsSignedBy, IsValid, Takes, alg_of, numbers_by, stated}
-use Rattle.signed_messages.specs.Refusals.{HasOtherHash, HasOtherScheme, IsRefusal, IsVerified, TakesHash, TakesKind, rsa_number}
+use Rattle.signed_messages.specs.Signing.{IsSignedByRsa, IsValid, Takes, alg_of, numbers_by, stated}
+use Rattle.signed_messages.specs.Refusals.{HasOtherHash, HasOtherScheme, IsRsaRefusal, IsRsaVerified, TakesHash, TakesKind, rsa_number}
 
 -- ---- sizes
 
@@ -22,7 +22,7 @@ number_size Pkcs1 hash modulus message number valid = valid.1.size
 number_size Pss hash modulus message number valid = valid.1.size
 
 -- A signature that has not the modulus's size is stated by scheme, hash and number.
-pub stated_so : (key : RsaKey) (message bytes : List ℕ) → (length bytes ≡ length key.modulus → ⊥) → (is : IsSignedBy key message bytes)
+pub stated_so : (key : RsaKey) (message bytes : List ℕ) → (length bytes ≡ length key.modulus → ⊥) → (is : IsSignedByRsa key message bytes)
     → IsSignature bytes (stated is.scheme is.number)
 stated_so key message bytes other is =
     elim is.spelled [
@@ -37,7 +37,7 @@ rsa_number-by : (kind : RsaScheme) (number : List ℕ) → rsa_number (numbers_b
 rsa_number-by Pkcs1 number = refl
 rsa_number-by Pss number = refl
 
-hash_with-alg_of : (hash : Hash) → hash_with (alg_of hash) ≡ Some hash
+pub hash_with-alg_of : (hash : Hash) → hash_with (alg_of hash) ≡ Some hash
 hash_with-alg_of Sha256 = refl
 hash_with-alg_of Sha384 = refl
 hash_with-alg_of Sha512 = refl
@@ -85,7 +85,7 @@ read_has_no_fault signature fault e = cc
 
 -- A signature by the key is not refused for its scheme or its hash.
 pub not_refused : (key : RsaKey) (message bytes : List ℕ) (read : TpmSignature) → (length bytes ≡ length key.modulus → ⊥) → IsSignature bytes read
-    → IsSignedBy key message bytes → (HasOtherScheme key.scheme read → ⊥) × (HasOtherHash key.scheme read → ⊥)
+    → IsSignedByRsa key message bytes → (HasOtherScheme key.scheme read → ⊥) × (HasOtherHash key.scheme read → ⊥)
 not_refused key message bytes read other is signed =
     let same = one_reading bytes (stated signed.scheme signed.number) read (stated_so key message bytes other signed) is in (
       subst (λ (s : TpmSignature). HasOtherScheme key.scheme s → ⊥) same (no_other_scheme key.scheme signed.scheme signed.number signed.taken),
@@ -94,7 +94,7 @@ not_refused key message bytes read other is signed =
 
 -- A signature that states a scheme and a hash of the key is verified.
 pub verified : (key : RsaKey) (bytes : List ℕ) (scheme : SigningScheme) (number : List ℕ) (read : TpmSignature) → IsSignature bytes read
-    → Takes key.scheme scheme → read ≡ stated scheme number → IsVerified key bytes
+    → Takes key.scheme scheme → read ≡ stated scheme number → IsRsaVerified key bytes
 verified key bytes scheme number read is takes same = inr (
   read,
   is,
@@ -109,8 +109,8 @@ not_ok : (refusal : SignatureRefusal) → IsOk (the_refusal refusal) → ⊥
 not_ok refusal ok = cc
 
 -- What is verified and not taken is not signed.
-pub refused : (key : RsaKey) (message bytes : List ℕ) (r : Result Unit SignatureRefusal) → IfErr r (λ refusal. refusal ≡ NotSigned) → IsVerified key bytes
-    → (IsSignedBy key message bytes → IsOk r) → IfErr r (IsRefusal key message bytes)
+pub refused : (key : RsaKey) (message bytes : List ℕ) (r : Result Unit SignatureRefusal) → IfErr r (λ refusal. refusal ≡ NotSigned) → IsRsaVerified key bytes
+    → (IsSignedByRsa key message bytes → IsOk r) → IfErr r (IsRsaRefusal key message bytes)
 refused key message bytes (Ok x) said is_verified only = tt
 refused key message bytes (Err refusal) said is_verified only =
-    subst (λ (it : SignatureRefusal). IsRefusal key message bytes it) (sym said) (is_verified, λ signed. absurd (not_ok refusal (only signed)))
+    subst (λ (it : SignatureRefusal). IsRsaRefusal key message bytes it) (sym said) (is_verified, λ signed. absurd (not_ok refusal (only signed)))

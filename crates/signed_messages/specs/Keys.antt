@@ -4,19 +4,40 @@ use Rattle.pcr_banks.specs.declared.alg.Alg.{Alg}
 use Rattle.pcr_banks.specs.declared.alg.Alg.TheVariants as algs
 use Rattle.signature_hashes.specs.declared.hashes.Hash.{Hash}
 use Rattle.signature_hashes.specs.declared.hashes.Hash.TheVariants as hashes
+use Rattle.ecdsa_signatures.specs.declared.curves.Curve.{Curve}
+use Rattle.ecdsa_signatures.specs.declared.curves.Curve.TheVariants.{P256, P384}
 use Rattle.tpm_keys.specs.declared.area.Scheme.{Scheme}
+use Rattle.tpm_keys.specs.declared.kinds.Curve as codes
+use Rattle.tpm_keys.specs.declared.kinds.Curve.TheVariants as curves
 use Rattle.tpm_keys.specs.declared.kinds.SchemeKind.{SchemeKind}
 use Rattle.tpm_keys.specs.declared.kinds.SchemeKind.TheVariants as kinds
 use Rattle.tpm_keys.specs.Spelling.{KeyArea, KeyNumbers, RsaNumbers, EccNumbers}
 use Rattle.signed_messages.specs.declared.key.RsaScheme.{RsaScheme}
 use Rattle.signed_messages.specs.declared.key.RsaScheme.TheVariants.{Pkcs1, Pss}
 use Rattle.signed_messages.specs.declared.key.SigningScheme.{SigningScheme}
+use Rattle.signed_messages.specs.declared.key.RsaPublicKey.{RsaPublicKey}
+use Rattle.signed_messages.specs.declared.key.EccPublicKey.{EccPublicKey}
 use Rattle.signed_messages.specs.declared.key.VerifyingKey.{VerifyingKey}
+use Rattle.signed_messages.specs.declared.key.VerifyingKey.TheVariants as code
 
 -- An RSA key with the exponent 65,537: its modulus, and how it signs; none where only its numbers are known.
 pub record RsaKey : Type 0 where
   pub modulus : List ℕ
   pub scheme : Option SigningScheme
+
+-- A key on a curve: the coordinates of its point, and the hash with which it signs by ECDSA; none where only its point is known.
+pub record EccKey : Type 0 where
+  pub curve : Curve
+  pub x : List ℕ
+  pub y : List ℕ
+  pub hash : Option Hash
+
+-- A key of either kind.
+pub data MessageKey : Type 0 where
+  ByRsa : RsaKey → MessageKey
+  ByEcc : EccKey → MessageKey
+
+-- ---- hashes and schemes
 
 -- The hash of signatures by this algorithm: there is none by SHA-1.
 abbrev pub hash_with : Alg → Option Hash
@@ -36,17 +57,52 @@ abbrev pub scheme_in : Scheme → Option SigningScheme
 scheme_in scheme =
     option_and_then (λ kind. option_map (λ hash. record { kind = kind; hash = hash }) (option_and_then hash_with scheme.hash)) (scheme_kind_with scheme.kind)
 
--- The modulus of an RSA key of at most 4,096 bits.
-abbrev pub modulus_in : KeyNumbers → Option (List ℕ)
-modulus_in (RsaNumbers exponent modulus) = if nat_lt 512 (length modulus) then None else Some modulus
-modulus_in (EccNumbers curve x y) = None
+-- The RSA key of at most 4,096 bits with this modulus, if it signs by this scheme.
+abbrev pub rsa_key_with : Scheme → List ℕ → Option RsaKey
+rsa_key_with scheme modulus =
+    if nat_lt 512 (length modulus) then None
+    else option_map (λ scheme. record { modulus = modulus; scheme = Some scheme }) (scheme_in scheme)
 
--- The key with this public area, if it is such a key, and its scheme is one by which it signs.
-abbrev pub key_in : KeyArea → Option RsaKey
-key_in area =
-    option_and_then (λ modulus. option_map (λ scheme. record { modulus = modulus; scheme = Some scheme }) (scheme_in area.scheme)) (modulus_in area.numbers)
+-- ---- keys on a curve
+
+-- The curve, if keys on it are taken.
+abbrev pub curve_with : codes.Curve → Option Curve
+curve_with curves.P256 = Some P256
+curve_with curves.P384 = Some P384
+curve_with curves.P521 = None
+
+-- The hash with which a key of this scheme signs by ECDSA.
+abbrev pub ecdsa_hash_with : SchemeKind → Option Alg → Option Hash
+ecdsa_hash_with kinds.Ecdsa hash = option_and_then hash_with hash
+ecdsa_hash_with kind hash = None
+
+abbrev pub ecdsa_hash_in : Scheme → Option Hash
+ecdsa_hash_in scheme = ecdsa_hash_with scheme.kind scheme.hash
+
+-- The key on such a curve with this point, if it signs by this scheme.
+abbrev pub ecc_key_with : Scheme → codes.Curve → List ℕ → List ℕ → Option EccKey
+ecc_key_with scheme curve x y =
+    option_and_then (λ curve. option_map (λ hash. record { curve = curve; x = x; y = y; hash = Some hash }) (ecdsa_hash_in scheme)) (curve_with curve)
+
+-- ---- the key
+
+-- The key with these numbers, if it is such a key, and this scheme is one by which it signs.
+abbrev pub key_with : Scheme → KeyNumbers → Option MessageKey
+key_with scheme (RsaNumbers exponent modulus) = option_map ByRsa (rsa_key_with scheme modulus)
+key_with scheme (EccNumbers curve x y) = option_map ByEcc (ecc_key_with scheme curve x y)
+
+-- The key with this public area.
+abbrev pub key_in : KeyArea → Option MessageKey
+key_in area = key_with area.scheme area.numbers
 
 -- ---- what contracts see of the code's values
 
-abbrev pub key_of : VerifyingKey → RsaKey
-key_of key = record { modulus = key.modulus.now; scheme = key.scheme }
+abbrev pub rsa_key_of : RsaPublicKey → RsaKey
+rsa_key_of key = record { modulus = key.modulus.now; scheme = key.scheme }
+
+abbrev pub ecc_key_of : EccPublicKey → EccKey
+ecc_key_of key = record { curve = key.curve; x = key.x.now; y = key.y.now; hash = key.hash }
+
+abbrev pub key_of : VerifyingKey → MessageKey
+key_of (code.Rsa key) = ByRsa (rsa_key_of key)
+key_of (code.Ecc key) = ByEcc (ecc_key_of key)

@@ -1,3 +1,5 @@
 pub mod Keys
+pub mod Plain
 pub mod Signing
 pub mod Refusals
+pub mod parts

@@ -9,8 +9,9 @@ use Rattle.signed_messages.specs.declared.key.RsaScheme.TheVariants.{Pkcs1, Pss}
 use Rattle.signed_messages.specs.declared.key.SigningScheme.{SigningScheme}
 use Rattle.signed_messages.specs.declared.refusal.SignatureRefusal.{SignatureRefusal}
 use Rattle.signed_messages.specs.declared.refusal.SignatureRefusal.TheVariants.{Bytes, OtherScheme, OtherHash, NotSigned}
-use Rattle.signed_messages.specs.Keys.{RsaKey, hash_with}
-use Rattle.signed_messages.specs.Signing.{IsSignedBy}
+use Rattle.signed_messages.specs.Keys.{EccKey, MessageKey, ByRsa, ByEcc, RsaKey, hash_with}
+use Rattle.signed_messages.specs.Plain.{IsPlain}
+use Rattle.signed_messages.specs.Signing.{IsSignedByEcc, IsSignedByRsa, TakesEcdsa}
 
 -- A refusal's number (this project's choice).
 abbrev pub signature_refusal_number : SignatureRefusal → ℕ
@@ -18,6 +19,8 @@ signature_refusal_number (Bytes fault) = signature_fault_number fault
 signature_refusal_number OtherScheme = 5
 signature_refusal_number OtherHash = 6
 signature_refusal_number NotSigned = 7
+
+-- ---- by an RSA key
 
 -- How an RSA key made a signature with these numbers, and its number.
 abbrev pub rsa_number : TpmNumbers → Option (RsaScheme × List ℕ)
@@ -45,14 +48,50 @@ HasOtherHash its signature =
     (HasOtherScheme its signature → ⊥) × ((hash : Hash) → TakesHash its hash → hash_with signature.hash ≡ Some hash → ⊥)
 
 -- The bytes are a number alone; or they state a signature with neither fault.
-abbrev pub IsVerified : RsaKey → List ℕ → Type 0
-IsVerified key bytes =
+abbrev pub IsRsaVerified : RsaKey → List ℕ → Type 0
+IsRsaVerified key bytes =
     (length bytes ≡ length key.modulus)
     ⊎ ((signature : TpmSignature) × IsSignature bytes signature × (HasOtherScheme key.scheme signature → ⊥) × (HasOtherHash key.scheme signature → ⊥))
 
+-- The refusal of these bytes as a signature of the message by an RSA key: the first that holds.
+abbrev pub IsRsaRefusal : RsaKey → List ℕ → List ℕ → SignatureRefusal → Type 0
+IsRsaRefusal key message bytes (Bytes fault) = (length bytes ≡ length key.modulus → ⊥) × (signature_fault bytes ≡ Some fault)
+IsRsaRefusal key message bytes OtherScheme = (signature : TpmSignature) × IsSignature bytes signature × HasOtherScheme key.scheme signature
+IsRsaRefusal key message bytes OtherHash = (signature : TpmSignature) × IsSignature bytes signature × HasOtherHash key.scheme signature
+IsRsaRefusal key message bytes NotSigned = IsRsaVerified key bytes × (IsSignedByRsa key message bytes → ⊥)
+
+-- ---- by a key on a curve
+
+-- The numbers of a signature, if it is by ECDSA.
+abbrev pub ecdsa_numbers : TpmNumbers → Option (List ℕ × List ℕ)
+ecdsa_numbers (EcdsaNumbers r s) = Some (r, s)
+ecdsa_numbers numbers = None
+
+-- It is by another scheme than ECDSA.
+abbrev pub IsOtherThanEcdsa : TpmSignature → Type 0
+IsOtherThanEcdsa signature = ecdsa_numbers signature.numbers ≡ None
+
+-- It is by ECDSA, with no hash with which the key signs.
+abbrev pub HasOtherEcdsaHash : Option Hash → TpmSignature → Type 0
+HasOtherEcdsaHash its signature =
+    (IsOtherThanEcdsa signature → ⊥) × ((hash : Hash) → TakesEcdsa its hash → hash_with signature.hash ≡ Some hash → ⊥)
+
+-- The bytes are the numbers alone; or they state a signature with neither fault.
+abbrev pub IsEccVerified : EccKey → List ℕ → Type 0
+IsEccVerified key bytes =
+    ((r : List ℕ) × (s : List ℕ) × IsPlain bytes r s)
+    ⊎ ((signature : TpmSignature) × IsSignature bytes signature × (IsOtherThanEcdsa signature → ⊥) × (HasOtherEcdsaHash key.hash signature → ⊥))
+
+-- The refusal of these bytes as a signature of the message by a key on a curve: the first that holds.
+abbrev pub IsEccRefusal : EccKey → List ℕ → List ℕ → SignatureRefusal → Type 0
+IsEccRefusal key message bytes (Bytes fault) = ((r s : List ℕ) → IsPlain bytes r s → ⊥) × (signature_fault bytes ≡ Some fault)
+IsEccRefusal key message bytes OtherScheme = (signature : TpmSignature) × IsSignature bytes signature × IsOtherThanEcdsa signature
+IsEccRefusal key message bytes OtherHash = (signature : TpmSignature) × IsSignature bytes signature × HasOtherEcdsaHash key.hash signature
+IsEccRefusal key message bytes NotSigned = IsEccVerified key bytes × (IsSignedByEcc key message bytes → ⊥)
+
+-- ---- by either
+
 -- The refusal of these bytes as a signature of the message: the first that holds.
-abbrev pub IsRefusal : RsaKey → List ℕ → List ℕ → SignatureRefusal → Type 0
-IsRefusal key message bytes (Bytes fault) = (length bytes ≡ length key.modulus → ⊥) × (signature_fault bytes ≡ Some fault)
-IsRefusal key message bytes OtherScheme = (signature : TpmSignature) × IsSignature bytes signature × HasOtherScheme key.scheme signature
-IsRefusal key message bytes OtherHash = (signature : TpmSignature) × IsSignature bytes signature × HasOtherHash key.scheme signature
-IsRefusal key message bytes NotSigned = IsVerified key bytes × (IsSignedBy key message bytes → ⊥)
+abbrev pub IsRefusal : MessageKey → List ℕ → List ℕ → SignatureRefusal → Type 0
+IsRefusal (ByRsa key) message bytes refusal = IsRsaRefusal key message bytes refusal
+IsRefusal (ByEcc key) message bytes refusal = IsEccRefusal key message bytes refusal

@@ -1,23 +1,19 @@
 //! Whether a message is signed by a key.
 
-ghost use Rattle.std.specs.Prelude.{◌≡◌, ◌⊎◌, ◌↔◌, IsTrue, IsOk, IfOk, IfErr, option_map};
-ghost use Rattle.tpm_signatures.specs.Spelling.{numbers_of, signature_of};
-ghost use Rattle.signed_messages.specs.declared.refusal.SignatureRefusal.TheVariants as refusals;
-ghost use Rattle.signed_messages.specs.declared.key.RsaScheme.{RsaScheme};
-ghost use Rattle.signed_messages.specs.declared.key.SigningScheme.{SigningScheme};
-ghost use Rattle.signature_hashes.specs.declared.hashes.Hash.{Hash};
+ghost use Rattle.std.specs.Prelude.{IsOk, IfOk, IfErr};
 ghost use Rattle.signed_messages.specs.Keys.{key_of};
-ghost use Rattle.signed_messages.specs.Signing.{IsSignedBy, IsValid, Takes, stated};
-ghost use Rattle.signed_messages.specs.Refusals.{HasOtherHash, HasOtherScheme, IsRefusal, TakesHash, TakesKind, rsa_number};
+ghost use Rattle.signed_messages.specs.Signing.{IsSignedBy};
+ghost use Rattle.signed_messages.specs.Refusals.{IsRefusal};
 
-use crate::key::{RsaScheme, SigningScheme, VerifyingKey, hash_with};
+use crate::ecc::check_ecc;
+use crate::key::VerifyingKey;
 use crate::refusal::SignatureRefusal;
-use rsa_signatures::{verify, verify_pss};
-use signature_hashes::Hash;
-use tpm_signatures::{Signature, SignatureNumbers, read_signature};
+use crate::rsa::check_rsa;
 
-/// Checks that the bytes are a signature of the message by this key: the number alone, as `tpm2_quote -f plain` writes it, or as a TPM gives it.
-/// Bytes as many as the modulus has are taken for the number alone. Returns the first refusal.
+/// Checks that the bytes are a signature of the message by this key: its numbers alone, as `tpm2_quote -f plain` writes them, or as a TPM gives it.
+///
+/// For an RSA key, bytes as many as the modulus has are taken for the number alone. For a key on a curve, the numbers alone are in DER. Returns the first
+/// refusal.
 pub fn check_signature(
     key: VerifyingKey<'_>,
     message: &[u8],
@@ -29,121 +25,8 @@ pub fn check_signature(
     ensures only { IsSignedBy (key_of key.entry) message.now signature.now → IsOk result }
     ensures refusal { IfErr result (IsRefusal (key_of key.entry) message.now signature.now) }
 {
-    if signature.len() == key.modulus.len() {
-        return answer(is_signed_plainly(key, message, signature));
-    }
-    let (scheme, number) = taken(key.scheme, read_signature(signature)?)?;
-    answer(is_valid(scheme, key.modulus, message, number))
-}
-
-// What is answered of a signature that is valid, or is not.
-fn answer(is_signed: bool) -> Result<(), SignatureRefusal>
-    ensures signed { IsOk result ↔ IsTrue is_signed }
-    ensures refusal { IfErr result (λ refusal. refusal ≡ refusals.NotSigned) }
-{
-    if is_signed {
-        Ok(())
-    } else {
-        Err(SignatureRefusal::NotSigned)
-    }
-}
-
-// Whether the number is a signature by a scheme that the key takes.
-fn is_signed_plainly(key: VerifyingKey<'_>, message: &[u8], number: &[u8]) -> bool
-    ensures { IsTrue result ↔ ((scheme : SigningScheme) × Takes key.entry.scheme scheme
-        × IsValid scheme.kind scheme.hash key.entry.modulus.now message.now number.now) }
-{
-    match key.scheme {
-        Some(scheme) => is_valid(scheme, key.modulus, message, number),
-        None => is_valid_by_any(key.modulus, message, number),
-    }
-}
-
-// Whether the number is a signature by any scheme, with any hash.
-fn is_valid_by_any(modulus: &[u8], message: &[u8], number: &[u8]) -> bool
-    ensures { IsTrue result ↔ ((hash : Hash) × (kind : RsaScheme) × IsValid kind hash modulus.now message.now number.now) }
-{
-    is_valid_with(Hash::Sha256, modulus, message, number)
-        || is_valid_with(Hash::Sha384, modulus, message, number)
-        || is_valid_with(Hash::Sha512, modulus, message, number)
-}
-
-// Whether the number is a signature by any scheme, with this hash.
-fn is_valid_with(hash: Hash, modulus: &[u8], message: &[u8], number: &[u8]) -> bool
-    ensures { IsTrue result ↔ ((kind : RsaScheme) × IsValid kind hash modulus.now message.now number.now) }
-{
-    verify(hash, modulus, message, number) || verify_pss(hash, modulus, message, number)
-}
-
-// Whether the number is a signature by this scheme.
-fn is_valid(scheme: SigningScheme, modulus: &[u8], message: &[u8], number: &[u8]) -> bool
-    ensures { IsTrue result ↔ IsValid scheme.kind scheme.hash modulus.now message.now number.now }
-{
-    match scheme.kind {
-        RsaScheme::Pkcs1 => verify(scheme.hash, modulus, message, number),
-        RsaScheme::Pss => verify_pss(scheme.hash, modulus, message, number),
-    }
-}
-
-// The scheme and the number that a signature states, if the key takes the scheme, and with its hash.
-fn taken(
-    its: Option<SigningScheme>,
-    signature: Signature<'_>,
-) -> Result<(SigningScheme, &[u8]), SignatureRefusal>
-    ensures found { IfOk result (λ x. Takes its x.0 × (signature_of signature.entry ≡ stated x.0 x.1.now)) }
-    ensures refusal { IfErr result (λ refusal. ((refusal ≡ refusals.OtherScheme) × HasOtherScheme its (signature_of signature.entry))
-        ⊎ ((refusal ≡ refusals.OtherHash) × HasOtherHash its (signature_of signature.entry))) }
-{
-    let Some((kind, number)) = rsa_number(signature.numbers) else {
-        return Err(SignatureRefusal::OtherScheme);
-    };
-    if !takes_kind(its, kind) {
-        return Err(SignatureRefusal::OtherScheme);
-    }
-    let Some(hash) = hash_with(signature.hash) else {
-        return Err(SignatureRefusal::OtherHash);
-    };
-    if !takes_hash(its, hash) {
-        return Err(SignatureRefusal::OtherHash);
-    }
-    Ok((SigningScheme { kind, hash }, number))
-}
-
-// How an RSA key made a signature with these numbers, and its number.
-fn rsa_number(numbers: SignatureNumbers<'_>) -> Option<(RsaScheme, &[u8])>
-    ensures { option_map (λ x. (x.0, x.1.now)) result ≡ rsa_number (numbers_of numbers.entry) }
-{
-    match numbers {
-        SignatureNumbers::Rsassa(number) => Some((RsaScheme::Pkcs1, number)),
-        SignatureNumbers::Rsapss(number) => Some((RsaScheme::Pss, number)),
-        SignatureNumbers::Ecdsa { .. } => None,
-    }
-}
-
-// Whether the key signs so.
-fn takes_kind(its: Option<SigningScheme>, kind: RsaScheme) -> bool
-    ensures { IsTrue result ↔ TakesKind its kind }
-{
-    match its {
-        None => true,
-        Some(its) => matches!(
-            (its.kind, kind),
-            (RsaScheme::Pkcs1, RsaScheme::Pkcs1) | (RsaScheme::Pss, RsaScheme::Pss)
-        ),
-    }
-}
-
-// Whether the key signs with this hash.
-fn takes_hash(its: Option<SigningScheme>, hash: Hash) -> bool
-    ensures { IsTrue result ↔ TakesHash its hash }
-{
-    match its {
-        None => true,
-        Some(its) => matches!(
-            (its.hash, hash),
-            (Hash::Sha256, Hash::Sha256)
-                | (Hash::Sha384, Hash::Sha384)
-                | (Hash::Sha512, Hash::Sha512)
-        ),
+    match key {
+        VerifyingKey::Rsa(key) => check_rsa(key, message, signature),
+        VerifyingKey::Ecc(key) => check_ecc(key, message, signature),
     }
 }

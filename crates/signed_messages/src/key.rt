@@ -1,9 +1,10 @@
-//! The key by which a signature is verified.
+//! The keys by which signatures are verified.
 
-ghost use Rattle.std.specs.Prelude.{◌≡◌, option_map};
+ghost use Rattle.std.specs.Prelude.{◌≡◌, ◌↔◌, IsTrue, option_map};
 ghost use Rattle.tpm_keys.specs.Spelling.{area_of, numbers_of};
-ghost use Rattle.signed_messages.specs.Keys.{hash_with, key_in, key_of, modulus_in, scheme_in, scheme_kind_with};
+ghost use Rattle.signed_messages.specs.Keys.{curve_with, ecc_key_of, ecc_key_with, ecdsa_hash_in, hash_with, key_in, key_of, key_with, rsa_key_of, rsa_key_with, scheme_in, scheme_kind_with};
 
+use ecdsa_signatures::Curve;
 use pcr_banks::Alg;
 use signature_hashes::Hash;
 use tpm_keys::{Material, PublicArea, Scheme, SchemeKind};
@@ -29,28 +30,88 @@ pub struct SigningScheme {
     pub hash: Hash,
 }
 
-/// A key by which signatures are verified.
+/// An RSA key.
 #[derive(Clone, Copy)]
-pub struct VerifyingKey<'a> {
+pub struct RsaPublicKey<'a> {
     /// The modulus, big endian. The exponent is 65,537.
     pub modulus: &'a [u8],
     /// How the key signs; `None` for a key of which only the numbers are known: then any scheme is taken, with any hash.
     pub scheme: Option<SigningScheme>,
 }
 
+/// A key on a curve, which signs by ECDSA.
+#[derive(Clone, Copy)]
+pub struct EccPublicKey<'a> {
+    /// The curve.
+    pub curve: Curve,
+    /// The first coordinate of its point, big endian.
+    pub x: &'a [u8],
+    /// The second coordinate.
+    pub y: &'a [u8],
+    /// The hash with which the key signs; `None` for a key of which only the point is known: then any hash is taken.
+    pub hash: Option<Hash>,
+}
+
+/// A key by which signatures are verified.
+#[derive(Clone, Copy)]
+pub enum VerifyingKey<'a> {
+    /// An RSA key.
+    Rsa(RsaPublicKey<'a>),
+    /// A key on a curve.
+    Ecc(EccPublicKey<'a>),
+}
+
 impl<'a> VerifyingKey<'a> {
-    /// The key with this public area. `None` if its signatures are not verified here: it is no RSA key of at most 4,096 bits, has no scheme by which RSA keys sign, or
-    /// signs with SHA-1.
+    /// The key with this public area. `None` if its signatures are not verified here: it is an RSA key of more than 4,096 bits or a key on P-521,
+    /// has no scheme by which its kind of key signs, or signs with SHA-1.
     pub fn of(area: &PublicArea<'a>) -> Option<VerifyingKey<'a>>
         ensures { option_map key_of result ≡ key_in (area_of area.now) }
     {
-        let modulus = modulus_in(area.material)?;
-        let scheme = SigningScheme::of(area.scheme)?;
-        Some(VerifyingKey {
-            modulus,
-            scheme: Some(scheme),
-        })
+        key_with(area.scheme, area.material)
     }
+}
+
+// The key with these numbers, and this scheme.
+fn key_with(scheme: Scheme, material: Material<'_>) -> Option<VerifyingKey<'_>>
+    ensures { option_map key_of result ≡ key_with scheme (numbers_of material.entry) }
+{
+    match material {
+        Material::Rsa { modulus, .. } => Some(VerifyingKey::Rsa(rsa_key(scheme, modulus)?)),
+        Material::Ecc { curve, x, y } => Some(VerifyingKey::Ecc(ecc_key(scheme, curve, x, y)?)),
+    }
+}
+
+// The RSA key of at most 4,096 bits with this modulus.
+fn rsa_key(scheme: Scheme, modulus: &[u8]) -> Option<RsaPublicKey<'_>>
+    ensures { option_map rsa_key_of result ≡ rsa_key_with scheme modulus.now }
+{
+    if modulus.len() > MOST_MODULUS_BYTES {
+        return None;
+    }
+    let scheme = SigningScheme::of(scheme)?;
+    Some(RsaPublicKey {
+        modulus,
+        scheme: Some(scheme),
+    })
+}
+
+// The key on P-256 or P-384 with this point.
+fn ecc_key<'a>(
+    scheme: Scheme,
+    curve: tpm_keys::Curve,
+    x: &'a [u8],
+    y: &'a [u8],
+) -> Option<EccPublicKey<'a>>
+    ensures { option_map ecc_key_of result ≡ ecc_key_with scheme curve x.now y.now }
+{
+    let curve = curve_with(curve)?;
+    let hash = ecdsa_hash_in(scheme)?;
+    Some(EccPublicKey {
+        curve,
+        x,
+        y,
+        hash: Some(hash),
+    })
 }
 
 impl SigningScheme {
@@ -61,16 +122,6 @@ impl SigningScheme {
         let kind = kind_with(scheme.kind)?;
         let hash = hash_with(scheme.hash?)?;
         Some(SigningScheme { kind, hash })
-    }
-}
-
-// The modulus of an RSA key of at most 4,096 bits.
-fn modulus_in(material: Material<'_>) -> Option<&[u8]>
-    ensures { option_map (λ modulus. modulus.now) result ≡ modulus_in (numbers_of material.entry) }
-{
-    match material {
-        Material::Rsa { modulus, .. } if modulus.len() <= MOST_MODULUS_BYTES => Some(modulus),
-        _ => None,
     }
 }
 
@@ -85,6 +136,27 @@ fn kind_with(kind: SchemeKind) -> Option<RsaScheme>
     }
 }
 
+// The hash with which a key of this scheme signs by ECDSA.
+fn ecdsa_hash_in(scheme: Scheme) -> Option<Hash>
+    ensures { result ≡ ecdsa_hash_in scheme }
+{
+    match scheme.kind {
+        SchemeKind::Ecdsa => hash_with(scheme.hash?),
+        _ => None,
+    }
+}
+
+// The curve, if it is P-256 or P-384.
+fn curve_with(curve: tpm_keys::Curve) -> Option<Curve>
+    ensures { result ≡ curve_with curve }
+{
+    match curve {
+        tpm_keys::Curve::P256 => Some(Curve::P256),
+        tpm_keys::Curve::P384 => Some(Curve::P384),
+        tpm_keys::Curve::P521 => None,
+    }
+}
+
 /// The hash of signatures by this algorithm; `None` for SHA-1.
 pub(crate) fn hash_with(alg: Alg) -> Option<Hash>
     ensures { result ≡ hash_with alg }
@@ -95,4 +167,14 @@ pub(crate) fn hash_with(alg: Alg) -> Option<Hash>
         Alg::Sha384 => Some(Hash::Sha384),
         Alg::Sha512 => Some(Hash::Sha512),
     }
+}
+
+/// Whether two hashes are one.
+pub(crate) fn is_same_hash(first: Hash, second: Hash) -> bool
+    ensures { IsTrue result ↔ (first ≡ second) }
+{
+    matches!(
+        (first, second),
+        (Hash::Sha256, Hash::Sha256) | (Hash::Sha384, Hash::Sha384) | (Hash::Sha512, Hash::Sha512)
+    )
 }

@@ -1,12 +1,17 @@
 //! Whether a message is signed by a TPM's key: the signature is read, and verified by the scheme and the hash of the key.
 //!
-//! Keys are RSA keys, of 2,048 to 4,096 bits; hashes are SHA-256, SHA-384 and SHA-512. No call of this crate allocates.
+//! Keys are RSA keys, of 2,048 to 4,096 bits, or on the curves P-256 and P-384; hashes are SHA-256, SHA-384 and SHA-512. No call of this crate
+//! allocates.
 #![tactic(auto)]
 
 mod check;
+mod ecc;
 mod key;
+pub mod laws;
+mod plain;
 mod refusal;
+mod rsa;
 
 pub use check::check_signature;
-pub use key::{RsaScheme, SigningScheme, VerifyingKey};
+pub use key::{EccPublicKey, RsaPublicKey, RsaScheme, SigningScheme, VerifyingKey};
 pub use refusal::SignatureRefusal;

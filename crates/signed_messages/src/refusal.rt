@@ -1,7 +1,7 @@
 //! Why a message is not taken as signed.
 
-ghost use Rattle.std.specs.Prelude.{◌≡◌};
-ghost use Rattle.signed_messages.specs.declared.refusal.SignatureRefusal.TheVariants.{Bytes};
+ghost use Rattle.std.specs.Prelude.{◌≡◌, ◌↔◌, IsTrue, IsOk, IfErr};
+ghost use Rattle.signed_messages.specs.declared.refusal.SignatureRefusal.TheVariants.{Bytes, NotSigned};
 
 use thiserror::Error;
 use tpm_signatures::SignatureFault;
@@ -44,5 +44,17 @@ impl From<SignatureFault> for SignatureRefusal {
 
     fn from(fault: SignatureFault) -> Self {
         SignatureRefusal::Bytes(fault)
+    }
+}
+
+/// What is answered of a signature that is valid, or is not.
+pub(crate) fn answer(is_signed: bool) -> Result<(), SignatureRefusal>
+    ensures signed { IsOk result ↔ IsTrue is_signed }
+    ensures refusal { IfErr result (λ refusal. refusal ≡ NotSigned) }
+{
+    if is_signed {
+        Ok(())
+    } else {
+        Err(SignatureRefusal::NotSigned)
     }
 }

@@ -1,8 +1,8 @@
 use Rattle.std.proofs.Common.{sym, ◌∙◌, true≢false}
 use Rattle.signed_messages.specs.Signing.{IsValid}
 use Rattle.signed_messages.proofs.SigningLaws.{last_hash}
-use Rattle.signed_messages.proofs.check.is_valid_by_any.Goals as goal
-use Rattle.signed_messages.proofs.check.is_valid_by_any.Goals.{then-is_valid_with, else-is_valid_with}
+use Rattle.signed_messages.proofs.rsa.is_valid_by_any.Goals as goal
+use Rattle.signed_messages.proofs.rsa.is_valid_by_any.Goals.{then-is_valid_with, else-is_valid_with}
 
 pub returns-else-is_valid_with-2 : goal.returns-else-is_valid_with-2
 returns-else-is_valid_with-2 c =

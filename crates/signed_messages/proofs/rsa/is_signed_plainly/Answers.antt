@@ -2,7 +2,7 @@ use Rattle.std.proofs.Common.{sym, subst}
 use Rattle.std.specs.Prelude.{Option}
 use Rattle.signed_messages.specs.declared.key.SigningScheme.{SigningScheme}
 use Rattle.signed_messages.specs.Signing.{Takes}
-use Rattle.signed_messages.proofs.check.is_signed_plainly.Goals as goal
+use Rattle.signed_messages.proofs.rsa.is_signed_plainly.Goals as goal
 
 pub returns-in-None : goal.returns-in-None
 returns-in-None c = (
