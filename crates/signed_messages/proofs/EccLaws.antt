@@ -9,7 +9,7 @@ use Rattle.signed_messages.specs.declared.refusal.SignatureRefusal.TheVariants.{
 use Rattle.signed_messages.specs.Keys.{EccKey, hash_with}
 use Rattle.signed_messages.specs.Plain.{IsPlain}
 use Rattle.signed_messages.specs.Signing.{IsSignedByEcc, IsValidEcdsa, TakesEcdsa, stated_ecdsa}
-use Rattle.signed_messages.specs.Refusals.{HasOtherEcdsaHash, IsEccRefusal, IsEccVerified, IsOtherThanEcdsa, ecdsa_numbers}
+use Rattle.signed_messages.specs.Refusals.{HasOtherEcdsaHash, IsEccRefusal, ReachesEccVerification, IsOtherThanEcdsa, ecdsa_numbers}
 use Rattle.signed_messages.proofs.SigningLaws.{hash_with-alg_of}
 use Rattle.signed_messages.proofs.PlainLaws.{not_stated, one_plain}
 
@@ -77,7 +77,7 @@ with_its_hash its hash r s takes other = other.1 hash takes (hash_with-alg_of ha
 
 -- A signature that states a hash of the key is verified.
 pub verified_stated : (key : EccKey) (bytes : List ℕ) (hash : Hash) (r s : List ℕ) (read : TpmSignature) → IsSignature bytes read
-    → TakesEcdsa key.hash hash → read ≡ stated_ecdsa hash r s → IsEccVerified key bytes
+    → TakesEcdsa key.hash hash → read ≡ stated_ecdsa hash r s → ReachesEccVerification key bytes
 verified_stated key bytes hash r s read is takes same = inr (
   read,
   is,
@@ -95,7 +95,7 @@ not_ok refusal ok = cc
 
 -- What is verified and not taken is not signed.
 pub refused_ecc : (key : EccKey) (message bytes : List ℕ) (r : Result Unit SignatureRefusal) → IfErr r (λ refusal. refusal ≡ NotSigned)
-    → IsEccVerified key bytes → (IsSignedByEcc key message bytes → IsOk r) → IfErr r (IsEccRefusal key message bytes)
+    → ReachesEccVerification key bytes → (IsSignedByEcc key message bytes → IsOk r) → IfErr r (IsEccRefusal key message bytes)
 refused_ecc key message bytes (Ok x) said is_verified only = tt
 refused_ecc key message bytes (Err refusal) said is_verified only =
     subst (λ (it : SignatureRefusal). IsEccRefusal key message bytes it) (sym said) (is_verified, λ signed. absurd (not_ok refusal (only signed)))

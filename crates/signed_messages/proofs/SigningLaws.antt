@@ -13,7 +13,7 @@ use Rattle.signed_messages.specs.declared.key.RsaScheme.TheVariants.{Pkcs1, Pss}
 use Rattle.signed_messages.specs.declared.key.SigningScheme.{SigningScheme}
 use Rattle.signed_messages.specs.Keys.{RsaKey, hash_with}
 use Rattle.signed_messages.specs.Signing.{IsSignedByRsa, IsValid, Takes, alg_of, numbers_by, stated}
-use Rattle.signed_messages.specs.Refusals.{HasOtherHash, HasOtherScheme, IsRsaRefusal, IsRsaVerified, TakesHash, TakesKind, rsa_number}
+use Rattle.signed_messages.specs.Refusals.{HasOtherHash, HasOtherScheme, IsRsaRefusal, ReachesRsaVerification, TakesHash, TakesKind, rsa_number}
 
 -- ---- sizes
 
@@ -94,7 +94,7 @@ not_refused key message bytes read other is signed =
 
 -- A signature that states a scheme and a hash of the key is verified.
 pub verified : (key : RsaKey) (bytes : List ℕ) (scheme : SigningScheme) (number : List ℕ) (read : TpmSignature) → IsSignature bytes read
-    → Takes key.scheme scheme → read ≡ stated scheme number → IsRsaVerified key bytes
+    → Takes key.scheme scheme → read ≡ stated scheme number → ReachesRsaVerification key bytes
 verified key bytes scheme number read is takes same = inr (
   read,
   is,
@@ -109,7 +109,7 @@ not_ok : (refusal : SignatureRefusal) → IsOk (the_refusal refusal) → ⊥
 not_ok refusal ok = cc
 
 -- What is verified and not taken is not signed.
-pub refused : (key : RsaKey) (message bytes : List ℕ) (r : Result Unit SignatureRefusal) → IfErr r (λ refusal. refusal ≡ NotSigned) → IsRsaVerified key bytes
+pub refused : (key : RsaKey) (message bytes : List ℕ) (r : Result Unit SignatureRefusal) → IfErr r (λ refusal. refusal ≡ NotSigned) → ReachesRsaVerification key bytes
     → (IsSignedByRsa key message bytes → IsOk r) → IfErr r (IsRsaRefusal key message bytes)
 refused key message bytes (Ok x) said is_verified only = tt
 refused key message bytes (Err refusal) said is_verified only =

@@ -1,5 +1,5 @@
 -- The keys by which signatures are verified.
-use Rattle.std.specs.Prelude.{ℕ, if◌then◌else◌, nat_lt, List, length, Option, Some, None, option_map, option_and_then}
+use Rattle.std.specs.Prelude.{ℕ, ◌==◌, ◌||◌, Bool, if◌then◌else◌, nat_lt, List, length, Option, Some, None, option_map, option_and_then}
 use Rattle.pcr_banks.specs.declared.alg.Alg.{Alg}
 use Rattle.pcr_banks.specs.declared.alg.Alg.TheVariants as algs
 use Rattle.signature_hashes.specs.declared.hashes.Hash.{Hash}
@@ -57,10 +57,15 @@ abbrev pub scheme_in : Scheme → Option SigningScheme
 scheme_in scheme =
     option_and_then (λ kind. option_map (λ hash. record { kind = kind; hash = hash }) (option_and_then hash_with scheme.hash)) (scheme_kind_with scheme.kind)
 
+-- The exponent as an area states it: 65,537, or 0, which stands for it (TPM 2.0 Library, part 2, TPMS_RSA_PARMS).
+abbrev pub is_public_exponent : ℕ → Bool
+is_public_exponent exponent = (exponent == 0) || (exponent == 65537)
+
 -- The RSA key of at most 4,096 bits with this modulus, if it signs by this scheme.
 abbrev pub rsa_key_with : Scheme → List ℕ → Option RsaKey
 rsa_key_with scheme modulus =
-    if nat_lt 512 (length modulus) then None
+    if nat_lt (length modulus) 256 then None
+    else if nat_lt 512 (length modulus) then None
     else option_map (λ scheme. record { modulus = modulus; scheme = Some scheme }) (scheme_in scheme)
 
 -- ---- keys on a curve
@@ -88,7 +93,7 @@ ecc_key_with scheme curve x y =
 
 -- The key with these numbers, if it is such a key, and this scheme is one by which it signs.
 abbrev pub key_with : Scheme → KeyNumbers → Option MessageKey
-key_with scheme (RsaNumbers exponent modulus) = option_map ByRsa (rsa_key_with scheme modulus)
+key_with scheme (RsaNumbers exponent modulus) = if is_public_exponent exponent then option_map ByRsa (rsa_key_with scheme modulus) else None
 key_with scheme (EccNumbers curve x y) = option_map ByEcc (ecc_key_with scheme curve x y)
 
 -- The key with this public area.

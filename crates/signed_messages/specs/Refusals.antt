@@ -48,17 +48,20 @@ HasOtherHash its signature =
     (HasOtherScheme its signature → ⊥) × ((hash : Hash) → TakesHash its hash → hash_with signature.hash ≡ Some hash → ⊥)
 
 -- The bytes are a number alone; or they state a signature with neither fault.
-abbrev pub IsRsaVerified : RsaKey → List ℕ → Type 0
-IsRsaVerified key bytes =
+abbrev pub ReachesRsaVerification : RsaKey → List ℕ → Type 0
+ReachesRsaVerification key bytes =
     (length bytes ≡ length key.modulus)
     ⊎ ((signature : TpmSignature) × IsSignature bytes signature × (HasOtherScheme key.scheme signature → ⊥) × (HasOtherHash key.scheme signature → ⊥))
 
--- The refusal of these bytes as a signature of the message by an RSA key: the first that holds.
+-- The refusal of these bytes as a signature of the message by an RSA key: the first that holds. Bytes as many as the modulus has are the number
+-- alone, which has only the last.
 abbrev pub IsRsaRefusal : RsaKey → List ℕ → List ℕ → SignatureRefusal → Type 0
 IsRsaRefusal key message bytes (Bytes fault) = (length bytes ≡ length key.modulus → ⊥) × (signature_fault bytes ≡ Some fault)
-IsRsaRefusal key message bytes OtherScheme = (signature : TpmSignature) × IsSignature bytes signature × HasOtherScheme key.scheme signature
-IsRsaRefusal key message bytes OtherHash = (signature : TpmSignature) × IsSignature bytes signature × HasOtherHash key.scheme signature
-IsRsaRefusal key message bytes NotSigned = IsRsaVerified key bytes × (IsSignedByRsa key message bytes → ⊥)
+IsRsaRefusal key message bytes OtherScheme =
+    (length bytes ≡ length key.modulus → ⊥) × ((signature : TpmSignature) × IsSignature bytes signature × HasOtherScheme key.scheme signature)
+IsRsaRefusal key message bytes OtherHash =
+    (length bytes ≡ length key.modulus → ⊥) × ((signature : TpmSignature) × IsSignature bytes signature × HasOtherHash key.scheme signature)
+IsRsaRefusal key message bytes NotSigned = ReachesRsaVerification key bytes × (IsSignedByRsa key message bytes → ⊥)
 
 -- ---- by a key on a curve
 
@@ -77,8 +80,8 @@ HasOtherEcdsaHash its signature =
     (IsOtherThanEcdsa signature → ⊥) × ((hash : Hash) → TakesEcdsa its hash → hash_with signature.hash ≡ Some hash → ⊥)
 
 -- The bytes are the numbers alone; or they state a signature with neither fault.
-abbrev pub IsEccVerified : EccKey → List ℕ → Type 0
-IsEccVerified key bytes =
+abbrev pub ReachesEccVerification : EccKey → List ℕ → Type 0
+ReachesEccVerification key bytes =
     ((r : List ℕ) × (s : List ℕ) × IsPlain bytes r s)
     ⊎ ((signature : TpmSignature) × IsSignature bytes signature × (IsOtherThanEcdsa signature → ⊥) × (HasOtherEcdsaHash key.hash signature → ⊥))
 
@@ -87,7 +90,7 @@ abbrev pub IsEccRefusal : EccKey → List ℕ → List ℕ → SignatureRefusal 
 IsEccRefusal key message bytes (Bytes fault) = ((r s : List ℕ) → IsPlain bytes r s → ⊥) × (signature_fault bytes ≡ Some fault)
 IsEccRefusal key message bytes OtherScheme = (signature : TpmSignature) × IsSignature bytes signature × IsOtherThanEcdsa signature
 IsEccRefusal key message bytes OtherHash = (signature : TpmSignature) × IsSignature bytes signature × HasOtherEcdsaHash key.hash signature
-IsEccRefusal key message bytes NotSigned = IsEccVerified key bytes × (IsSignedByEcc key message bytes → ⊥)
+IsEccRefusal key message bytes NotSigned = ReachesEccVerification key bytes × (IsSignedByEcc key message bytes → ⊥)
 
 -- ---- by either
 

@@ -12,8 +12,12 @@ use crate::rsa::check_rsa;
 
 /// Checks that the bytes are a signature of the message by this key: its numbers alone, as `tpm2_quote -f plain` writes them, or as a TPM gives it.
 ///
-/// For an RSA key, bytes as many as the modulus has are taken for the number alone. For a key on a curve, the numbers alone are in DER. Returns the first
+/// For an RSA key, bytes of the modulus's length are read as the number alone. For a key on a curve, the numbers alone are in DER. Returns the first
 /// refusal.
+///
+/// `Ok` says that the key signed these bytes, not what they are. For a quote the caller must also have: the key's public area from
+/// `tpm_keys::read_key` for an attestation key, the same bytes accepted by `tpm_quotes::read_quote`, and a new nonce. A valid signature has other valid
+/// spellings: never use it as an identity.
 pub fn check_signature(
     key: VerifyingKey<'_>,
     message: &[u8],

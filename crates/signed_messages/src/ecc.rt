@@ -60,12 +60,12 @@ fn is_valid(key: EccPublicKey<'_>, hash: Hash, message: &[u8], r: &[u8], s: &[u8
 
 // The hash and the numbers that a signature states, if it is by ECDSA, and with a hash that the key takes.
 fn taken(
-    its: Option<Hash>,
+    key_hash: Option<Hash>,
     signature: Signature<'_>,
 ) -> Result<(Hash, &[u8], &[u8]), SignatureRefusal>
-    ensures found { IfOk result (λ x. TakesEcdsa its x.0 × (signature_of signature.entry ≡ stated_ecdsa x.0 x.1.now x.2.now)) }
+    ensures found { IfOk result (λ x. TakesEcdsa key_hash x.0 × (signature_of signature.entry ≡ stated_ecdsa x.0 x.1.now x.2.now)) }
     ensures refusal { IfErr result (λ refusal. ((refusal ≡ refusals.OtherScheme) × IsOtherThanEcdsa (signature_of signature.entry))
-        ⊎ ((refusal ≡ refusals.OtherHash) × HasOtherEcdsaHash its (signature_of signature.entry))) }
+        ⊎ ((refusal ≡ refusals.OtherHash) × HasOtherEcdsaHash key_hash (signature_of signature.entry))) }
 {
     let Some((r, s)) = ecdsa_numbers(signature.numbers) else {
         return Err(SignatureRefusal::OtherScheme);
@@ -73,7 +73,7 @@ fn taken(
     let Some(hash) = hash_with(signature.hash) else {
         return Err(SignatureRefusal::OtherHash);
     };
-    if !takes_hash(its, hash) {
+    if !takes_hash(key_hash, hash) {
         return Err(SignatureRefusal::OtherHash);
     }
     Ok((hash, r, s))
@@ -90,10 +90,10 @@ fn ecdsa_numbers(numbers: SignatureNumbers<'_>) -> Option<(&[u8], &[u8])>
 }
 
 // Whether the key signs with this hash.
-fn takes_hash(its: Option<Hash>, hash: Hash) -> bool
-    ensures { IsTrue result ↔ TakesEcdsa its hash }
+fn takes_hash(key_hash: Option<Hash>, hash: Hash) -> bool
+    ensures { IsTrue result ↔ TakesEcdsa key_hash hash }
 {
-    match its {
+    match key_hash {
         None => true,
         Some(its) => is_same_hash(its, hash),
     }

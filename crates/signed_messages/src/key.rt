@@ -9,6 +9,9 @@ use pcr_banks::Alg;
 use signature_hashes::Hash;
 use tpm_keys::{Material, PublicArea, Scheme, SchemeKind};
 
+/// The fewest bytes of a modulus: 2,048 bits.
+const FEWEST_MODULUS_BYTES: usize = 256;
+
 /// The most bytes of a modulus: 4,096 bits.
 const MOST_MODULUS_BYTES: usize = 512;
 
@@ -35,7 +38,8 @@ pub struct SigningScheme {
 pub struct RsaPublicKey<'a> {
     /// The modulus, big endian. The exponent is 65,537.
     pub modulus: &'a [u8],
-    /// How the key signs; `None` for a key of which only the numbers are known: then any scheme is taken, with any hash.
+    /// How the key signs. `None` only for a key whose public area was checked before, such as one that is kept as PEM: then every scheme and hash
+    /// but SHA-1 is taken.
     pub scheme: Option<SigningScheme>,
 }
 
@@ -48,7 +52,7 @@ pub struct EccPublicKey<'a> {
     pub x: &'a [u8],
     /// The second coordinate.
     pub y: &'a [u8],
-    /// The hash with which the key signs; `None` for a key of which only the point is known: then any hash is taken.
+    /// The hash with which the key signs. `None` only for a key whose public area was checked before: then every hash but SHA-1 is taken.
     pub hash: Option<Hash>,
 }
 
@@ -62,8 +66,8 @@ pub enum VerifyingKey<'a> {
 }
 
 impl<'a> VerifyingKey<'a> {
-    /// The key with this public area. `None` if its signatures are not verified here: it is an RSA key of more than 4,096 bits or a key on P-521,
-    /// has no scheme by which its kind of key signs, or signs with SHA-1.
+    /// The key with this public area. `None` if its signatures are not verified here: it is no RSA key of 2,048 to 4,096 bits and no key on P-256 or
+    /// P-384, has no scheme by which its kind of key signs, or signs with SHA-1. Attributes are not looked at: pass what `read_key` returned.
     pub fn of(area: &PublicArea<'a>) -> Option<VerifyingKey<'a>>
         ensures { option_map key_of result ≡ key_in (area_of area.now) }
     {
@@ -76,16 +80,20 @@ fn key_with(scheme: Scheme, material: Material<'_>) -> Option<VerifyingKey<'_>>
     ensures { option_map key_of result ≡ key_with scheme (numbers_of material.entry) }
 {
     match material {
-        Material::Rsa { modulus, .. } => Some(VerifyingKey::Rsa(rsa_key(scheme, modulus)?)),
+        Material::Rsa {
+            exponent: 0 | 65_537,
+            modulus,
+        } => Some(VerifyingKey::Rsa(rsa_key(scheme, modulus)?)),
+        Material::Rsa { .. } => None,
         Material::Ecc { curve, x, y } => Some(VerifyingKey::Ecc(ecc_key(scheme, curve, x, y)?)),
     }
 }
 
-// The RSA key of at most 4,096 bits with this modulus.
+// The RSA key of 2,048 to 4,096 bits with this modulus.
 fn rsa_key(scheme: Scheme, modulus: &[u8]) -> Option<RsaPublicKey<'_>>
     ensures { option_map rsa_key_of result ≡ rsa_key_with scheme modulus.now }
 {
-    if modulus.len() > MOST_MODULUS_BYTES {
+    if modulus.len() < FEWEST_MODULUS_BYTES || modulus.len() > MOST_MODULUS_BYTES {
         return None;
     }
     let scheme = SigningScheme::of(scheme)?;

@@ -1,7 +1,7 @@
 //! Whether a message is signed by a TPM's key: the signature is read, and verified by the scheme and the hash of the key.
 //!
-//! Keys are RSA keys, of 2,048 to 4,096 bits, or on the curves P-256 and P-384; hashes are SHA-256, SHA-384 and SHA-512. No call of this crate
-//! allocates.
+//! Keys are RSA keys of 2,041 to 4,096 bits (for RSASSA-PSS a multiple of 8), or on the curves P-256 and P-384; hashes are SHA-256, SHA-384 and
+//! SHA-512. No call of this crate allocates.
 #![tactic(auto)]
 
 mod check;

@@ -6,17 +6,17 @@ ghost use Rattle.signed_messages.specs.declared.refusal.SignatureRefusal.TheVari
 use thiserror::Error;
 use tpm_signatures::SignatureFault;
 
-/// Why a message is not taken as signed by a key: the first of these that holds.
+/// Why a message is not taken as signed by a key: the first of these that holds. Bytes of the length of an RSA key's modulus have only the last.
 #[derive(Clone, Copy, Debug, PartialEq, Eq, Error)]
 pub enum SignatureRefusal {
     /// 1 to 4: the bytes are no signature that is taken.
     #[error("{0}")]
     Bytes(SignatureFault),
-    /// 5: the signature is by another scheme than the key's.
-    #[error("the signature is by another scheme than the key's")]
+    /// 5: the signature's scheme is not one that the key takes.
+    #[error("the signature's scheme is not one that the key takes")]
     OtherScheme,
-    /// 6: the signature is by another hash than the key's.
-    #[error("the signature is by another hash than the key's")]
+    /// 6: the signature's hash is SHA-1, or not the key's.
+    #[error("the signature's hash is SHA-1, or not the key's")]
     OtherHash,
     /// 7: the message is not signed by this key.
     #[error("the message is not signed by this key")]
@@ -47,7 +47,7 @@ impl From<SignatureFault> for SignatureRefusal {
     }
 }
 
-/// What is answered of a signature that is valid, or is not.
+/// The answer for a valid or invalid signature.
 pub(crate) fn answer(is_signed: bool) -> Result<(), SignatureRefusal>
     ensures signed { IsOk result ↔ IsTrue is_signed }
     ensures refusal { IfErr result (λ refusal. refusal ≡ NotSigned) }

@@ -72,23 +72,23 @@ fn is_valid(scheme: SigningScheme, modulus: &[u8], message: &[u8], number: &[u8]
 
 // The scheme and the number that a signature states, if the key takes the scheme, and with its hash.
 fn taken(
-    its: Option<SigningScheme>,
+    key_scheme: Option<SigningScheme>,
     signature: Signature<'_>,
 ) -> Result<(SigningScheme, &[u8]), SignatureRefusal>
-    ensures found { IfOk result (λ x. Takes its x.0 × (signature_of signature.entry ≡ stated x.0 x.1.now)) }
-    ensures refusal { IfErr result (λ refusal. ((refusal ≡ refusals.OtherScheme) × HasOtherScheme its (signature_of signature.entry))
-        ⊎ ((refusal ≡ refusals.OtherHash) × HasOtherHash its (signature_of signature.entry))) }
+    ensures found { IfOk result (λ x. Takes key_scheme x.0 × (signature_of signature.entry ≡ stated x.0 x.1.now)) }
+    ensures refusal { IfErr result (λ refusal. ((refusal ≡ refusals.OtherScheme) × HasOtherScheme key_scheme (signature_of signature.entry))
+        ⊎ ((refusal ≡ refusals.OtherHash) × HasOtherHash key_scheme (signature_of signature.entry))) }
 {
     let Some((kind, number)) = rsa_number(signature.numbers) else {
         return Err(SignatureRefusal::OtherScheme);
     };
-    if !takes_kind(its, kind) {
+    if !takes_kind(key_scheme, kind) {
         return Err(SignatureRefusal::OtherScheme);
     }
     let Some(hash) = hash_with(signature.hash) else {
         return Err(SignatureRefusal::OtherHash);
     };
-    if !takes_hash(its, hash) {
+    if !takes_hash(key_scheme, hash) {
         return Err(SignatureRefusal::OtherHash);
     }
     Ok((SigningScheme { kind, hash }, number))
@@ -106,24 +106,24 @@ fn rsa_number(numbers: SignatureNumbers<'_>) -> Option<(RsaScheme, &[u8])>
 }
 
 // Whether the key signs so.
-fn takes_kind(its: Option<SigningScheme>, kind: RsaScheme) -> bool
-    ensures { IsTrue result ↔ TakesKind its kind }
+fn takes_kind(key_scheme: Option<SigningScheme>, kind: RsaScheme) -> bool
+    ensures { IsTrue result ↔ TakesKind key_scheme kind }
 {
-    match its {
+    match key_scheme {
         None => true,
-        Some(its) => matches!(
-            (its.kind, kind),
+        Some(scheme) => matches!(
+            (scheme.kind, kind),
             (RsaScheme::Pkcs1, RsaScheme::Pkcs1) | (RsaScheme::Pss, RsaScheme::Pss)
         ),
     }
 }
 
 // Whether the key signs with this hash.
-fn takes_hash(its: Option<SigningScheme>, hash: Hash) -> bool
-    ensures { IsTrue result ↔ TakesHash its hash }
+fn takes_hash(key_scheme: Option<SigningScheme>, hash: Hash) -> bool
+    ensures { IsTrue result ↔ TakesHash key_scheme hash }
 {
-    match its {
+    match key_scheme {
         None => true,
-        Some(its) => is_same_hash(its.hash, hash),
+        Some(scheme) => is_same_hash(scheme.hash, hash),
     }
 }

@@ -3,7 +3,7 @@ use Rattle.std.specs.Prelude.{IsOk}
 use Rattle.tpm_signatures.specs.Spelling.{signature_of}
 use Rattle.signed_messages.specs.Keys.{rsa_key_of}
 use Rattle.signed_messages.specs.Signing.{IsSignedByRsa, stated}
-use Rattle.signed_messages.specs.Refusals.{IsRsaVerified}
+use Rattle.signed_messages.specs.Refusals.{ReachesRsaVerification}
 use Rattle.signed_messages.proofs.SigningLaws.{not_refused, refused, verified, read_has_no_fault, stated_so}
 use Rattle.signed_messages.proofs.rsa.check_rsa.Goals as goal
 
@@ -24,7 +24,7 @@ returns-in_err-scheme-clause-only c =
 
 pub returns-clause-refusal : goal.returns-clause-refusal
 returns-clause-refusal c =
-    let is_verified : IsRsaVerified (rsa_key_of c.args.key) c.args.signature.now = verified (rsa_key_of c.args.key) c.args.signature.now c.in_ok-scheme.scheme
+    let is_verified : ReachesRsaVerification (rsa_key_of c.args.key) c.args.signature.now = verified (rsa_key_of c.args.key) c.args.signature.now c.in_ok-scheme.scheme
     c.in_ok-scheme.number.now (signature_of c.in_ok-read_signature.field-0) c.in_ok-read_signature.ensures.found c.in_ok-scheme.ensures.found.0
     c.in_ok-scheme.ensures.found.1 in
     let only : IsSignedByRsa (rsa_key_of c.args.key) c.args.message.now c.args.signature.now → IsOk c.answer-2.result = search rules in
