@@ -16,7 +16,7 @@ import sys
 from pathlib import Path
 
 ROOT = Path(__file__).resolve().parent.parent
-NO_SOURCES = {"out", "mutants"}
+NO_SOURCES = {"out", "further-edits"}
 
 
 def kit_version():

@@ -180,7 +180,7 @@ class Commands(harness.TestCase):
             change()
             self.check(f"built where {title}", self.builds_for(), 1)
             self.check("  and not again", self.builds_for(), 0)
-        for name in ("crates/format_tests/src/lib.rt", "crates/pcr_banks/mutants/extend_digest_first.edit"):
+        for name in ("crates/format_tests/src/lib.rt", "crates/pcr_banks/further-edits/extend_digest_first.edit"):
             edit(self.tree.root / name)
             self.check(f"not built where {name} is edited", self.builds_for(), 0)
 
@@ -511,7 +511,7 @@ class Edits(harness.TestCase):
 
     def setUp(self):
         self.room = self.folder()
-        for name in ("crates/a/src", "crates/a/specs", "crates/a/mutants", "bin"):
+        for name in ("crates/a/src", "crates/a/specs", "crates/a/further-edits", "bin"):
             (self.room / name).mkdir(parents=True)
         (self.room / "crates/a/src/lib.rt").write_text(CODE)
         (self.room / "crates/a/specs/A.antt").write_text("1")
@@ -523,7 +523,7 @@ class Edits(harness.TestCase):
 
     def told_of(self, *words, name="one.edit", lines=GOOD):
         """What tools/edits ends with and says of an edit of these lines."""
-        path = self.room / "crates/a/mutants" / name
+        path = self.room / "crates/a/further-edits" / name
         path.write_text("".join(f"{line}\n" for line in lines))
         with mock.patch.object(sys, "argv", ["edits", *words]), redirect_stdout(io.StringIO()) as told:
             status = self.edits.main()
