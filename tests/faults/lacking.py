@@ -32,6 +32,7 @@ sys.meta_path.insert(0, Finder)
 SCRIPTS = {
     "tests/attest/test PROGRAM": ("openssl", "swtpm", "tpm2_quote", "localedef"),
     "tests/fleet/test FOLDER": ("fsspec",),
+    "tests/faults/signatures.py": ("cryptography",),
     "tests/pages/recipes.py PROGRAM": ("jq",),
 }
 SECONDS = 600
