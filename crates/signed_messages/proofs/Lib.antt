@@ -5,3 +5,4 @@ pub mod ShortLaws
 pub mod LineLaws
 pub mod LayoutLaws
 pub mod DecodingLaws
+pub mod KeyTextLaws
