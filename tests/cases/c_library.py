@@ -16,7 +16,7 @@ from form import ROOT
 
 sys.path[1:1] = [str(ROOT / "dist"), str(ROOT / "tests")]
 from header import constants_of, exports_of  # noqa: E402
-from reference.command_line import KNOWN, has_wrong_signing, is_hexadecimal  # noqa: E402
+from reference.command_line import KNOWN, is_hexadecimal  # noqa: E402
 
 # What the program takes; the library takes more.
 MOST_BYTES = 64 << 20
@@ -42,12 +42,12 @@ KNOWING = ("verdict", "replay")
 # What `verify` of a list that grows has, of which `ima_verify_more` answers.
 MORE_OPTIONS, MORE_FLAGS = ("--require", "--resume", "--save"), ("--json", "--prefix")
 # What `attest` has beside it, of which `ima_verify_attest_more` answers.
-SIGNING_OPTIONS = ("--key", "--signature")
-QUOTED_OPTIONS, QUOTED_FLAGS = ("--nonce", *SIGNING_OPTIONS, *MORE_OPTIONS), ("--sha1", "--signature-checked", *MORE_FLAGS)
+QUOTED_OPTIONS, QUOTED_FLAGS = ("--nonce", "--key", "--signature", *MORE_OPTIONS), ("--sha1", "--signature-checked", *MORE_FLAGS)
 # What `key` has, of which `ima_verify_raw_key` answers: it gives all that there is.
 KEY_OPTIONS, KEY_FLAGS, WHOLE_KEY = ("--print",), ("--json", "--endorsement"), "all"
-# The status of the program where the quote or its signature is refused, or nobody verified this. The library has none of its own for these.
-NOT_ATTESTED, REFUSED_QUOTES = 4, ("QUOTE", "SIGNATURE")
+# The status of the program where the quote or its signature is refused, or nobody says that this was checked. The library has none of its own for
+# these.
+NOT_ATTESTED = 4
 ROOM = 16 * 1024
 # The rooms of pieces, of which the first has none for a line: then single lines are asked for. It is for inputs of so many bytes alone.
 ROOMS, SMALL_BYTES = (1, 4096, 1 << 20), 32 * 1024
@@ -60,7 +60,8 @@ DONE, DIFFERS, REFUSED, OUT_OF_MEMORY, TOO_SHORT, MORE = (
     CONSTANTS[name] for name in ("DONE", "DIFFERS", "REFUSED", "OUT_OF_MEMORY", "TOO_SHORT", "MORE")
 )
 NO_FAULT, NO_PLACE = (CONSTANTS["NO_FAULT"], 0, (1 << 64) - 1), (1 << 64) - 1
-KINDS = {"command line": "ARGUMENT", **{name.lower(): name for name in ("LOG", "LIST", "REPLAY", "EXPECTED", "CHECKPOINT", "QUOTE", "SIGNATURE", "KEY", "KNOWN")}}
+KIND_NAMES = ("LOG", "LIST", "REPLAY", "EXPECTED", "CHECKPOINT", "QUOTE", "KEY", "KNOWN", "SIGNATURE")
+KINDS = {"command line": "ARGUMENT", **{name.lower(): name for name in KIND_NAMES}}
 FAULT = re.compile(r"refused: (command line|\w+)(?: fault (\d+))?(?: at \w+ (\d+))?")
 KNOWN_LINE = re.compile(rb"(refused: known fault \d at line )(\d+)")
 
@@ -105,8 +106,8 @@ class Library:
         call = more_of(words) or by_quote_of(words) or key_of(words) or call_of(words)
         if call is None or not all(is_input(file, folder, most_bytes) for file in call.inputs()):
             return False
-        if isinstance(call, ByQuote) and not all(os.path.getsize(folder / file) for file in call.signing):
-            # (for the library a key of no bytes is none)
+        if isinstance(call, ByQuote) and not all(os.path.getsize(folder / file) for file in call.signers):
+            # (the library takes no bytes as no key or signature)
             return False
         return not isinstance(call, More) or call.save is None or is_writable(call.save, folder)
 
@@ -135,8 +136,8 @@ class Library:
 
     def answer_by_quote(self, call, folder):
         log, listed, message = ((folder / file).read_bytes() for file in call.files)
-        signing = [(folder / file).read_bytes() for file in call.signing] or [b"", b""]
-        inputs = [log, call.state(folder), listed, message, *signing, call.nonce, call.require, call.known_text(folder)]
+        key, signature = [(folder / file).read_bytes() for file in call.signers] or [b"", b""]
+        inputs = [log, call.state(folder), listed, message, key, signature, call.nonce, call.require, call.known_text(folder)]
         status, text, checkpoint = self.ask_by_quote(inputs, bool(call.known), call.takes_sha1, call.is_signed, call.prefix, call.is_json)
         call.keep(status, checkpoint, folder)
         return status, text
@@ -145,8 +146,8 @@ class Library:
         """What the function for a quote gives: the status that the program has, the text, and the checkpoint."""
         status, text, told, checkpoint = self.ask_more("attest", inputs, [is_known_given, takes_sha1, is_signed, prefix, is_json])
         key = inputs[4]
-        is_unsigned = status == DIFFERS and not (is_signed or key)
-        is_refused = told.kind in [CONSTANTS[kind] for kind in REFUSED_QUOTES]
+        is_unsigned = status == DIFFERS and not is_signed and not key
+        is_refused = told.kind in (CONSTANTS["QUOTE"], CONSTANTS["SIGNATURE"])
         return NOT_ATTESTED if is_unsigned or is_refused else status, text, checkpoint
 
     def ask_for_key(self, area, is_endorsement, is_json):
@@ -339,15 +340,15 @@ class More(Knowing):
 @dataclass(frozen=True)
 class ByQuote(More):
     """A call of the function for a quote: with a message in place of expected registers, the nonce, whether a register may be in the SHA-1 bank
-    alone, whether the signature was checked, and the files of key and signature, if there are any."""
+    alone, whether the signature was checked, and the files of the key and the signature, or none."""
 
     nonce: bytes
     takes_sha1: bool
     is_signed: bool
-    signing: list
+    signers: tuple
 
     def inputs(self):
-        return [*super().inputs(), *self.signing]
+        return [*super().inputs(), *self.signers]
 
 
 @dataclass(frozen=True)
@@ -399,11 +400,12 @@ def by_quote_of(words):
         # (the library takes bytes as nonce)
         return None
     files, values, flags = given
-    if has_wrong_signing({**values, **dict.fromkeys(flags)}):
+    signers = tuple(values[option] for option in ("--key", "--signature") if option in values)
+    if len(signers) == 1 or (signers and "--signature-checked" in flags):
+        # (the command refuses its words, and the library is misused)
         return None
     more = (encoded(values["--require"]), "--prefix" in flags, values.get("--resume"), values.get("--save"), "--json" in flags)
-    signing = [values[option] for option in SIGNING_OPTIONS if option in values]
-    return ByQuote(known, files, *more, bytes.fromhex(values["--nonce"]), "--sha1" in flags, "--signature-checked" in flags, signing)
+    return ByQuote(known, files, *more, bytes.fromhex(values["--nonce"]), "--sha1" in flags, "--signature-checked" in flags, signers)
 
 
 def key_of(words):
