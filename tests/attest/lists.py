@@ -40,7 +40,7 @@ class EntriesInLog(OwnKeyTests):
         ended = self.attest(cut)
         self.check("a log with entries of the list, cut", (ended.status, ended.output), (2, f"refused: log fault 1 at event {24 + 99}\n"))
         status, said = self.said_on_terminal(cut)
-        self.check("a terminal has a fault of the log in words", (status, said.startswith("log: event 123: ") or said), (2, True))
+        self.check("a terminal has a fault of the log in words", (status, said.startswith(f"{cut.log}: event 123: ") or said), (2, True))
         self.check_unread("a log with entries of the list, and no list", self.attest(forged, list="none"), "none")
         harmless = self.put("harmless.log", moved(self.entries, 99, EV_NO_ACTION)[0])
         self.check_match("events of register 10 that extend nothing", self.attest(honest, log=harmless))
