@@ -899,13 +899,13 @@ class Errors(unittest.TestCase):
 
     def test_all_errors_have_one_base(self):
         for error, other in ((ima_verify.Refused, Exception), (ima_verify.OutOfMemory, MemoryError), (ima_verify.Misuse, ValueError),
-                             (ima_verify.InvalidSignature, Exception), (ima_verify.LoadError, ImportError),
+                             (ima_verify.LoadError, ImportError),
                              (ima_verify.VersionError, ima_verify.LoadError), (ima_verify.LibraryError, RuntimeError)):
             self.assertTrue(issubclass(error, ima_verify.Error) and issubclass(error, other))
         self.assertFalse(issubclass(ima_verify.Refused, ValueError))
         exported = {name for name in ima_verify.__all__ if isinstance(getattr(ima_verify, name), type)}
         errors = {name for name in exported if issubclass(getattr(ima_verify, name), BaseException)}
-        self.assertEqual(errors, {"Error", "Refused", "OutOfMemory", "Misuse", "InvalidSignature", "LoadError", "VersionError", "LibraryError"})
+        self.assertEqual(errors, {"Error", "Refused", "OutOfMemory", "Misuse", "LoadError", "VersionError", "LibraryError"})
 
     def test_refusal_can_be_pickled(self):
         for place in (None, 0, 5):

@@ -147,11 +147,11 @@ class Keys(unittest.TestCase):
         self.assertTrue(attest(area))
         self.assertTrue(attest(ima_verify.read_key(area).pem))
         for name in ATTESTATION:
-            for key in (area_of(name), ima_verify.read_key(area_of(name)).pem):
+            for key, not_taken in ((area_of(name), 8), (ima_verify.read_key(area_of(name)).pem, 9)):
                 with self.assertRaisesRegex(ima_verify.Refused, r"^refused: signature fault \d$") as caught:
                     attest(key)
-                is_taken = caught.exception.number != 8
-                self.assertEqual(is_taken, name != "ak-p521")
+                self.assertEqual(caught.exception.number == not_taken, name == "ak-p521")
+                self.assertTrue(caught.exception.number in (2, 7, not_taken))
         for name, number in REFUSED_AS_ATTESTATION.items():
             with self.assertRaisesRegex(ima_verify.Refused, f"^refused: key fault {number}$"):
                 attest(area_of(name))

@@ -56,7 +56,7 @@ def area_of(key, scheme, hashed):
     """The public area of an attestation key (TPM 2.0 Library, part 2, TPM2B_PUBLIC)."""
     numbers = key.public_key().public_numbers()
     if scheme == ECDSA:
-        size, kind, of_kind = (key.key_size + 7) // 8, 0x23, number_of({256: 3, 384: 4}[key.key_size]) + number_of(0x10)
+        size, kind, of_kind = (key.key_size + 7) // 8, 0x23, number_of({256: 3, 384: 4, 521: 5}[key.key_size]) + number_of(0x10)
         parts = [number.to_bytes(size, "big") for number in (numbers.x, numbers.y)]
     else:
         kind, of_kind, parts = 1, number_of(key.key_size) + bytes(4), [numbers.n.to_bytes((key.key_size + 7) // 8, "big")]
@@ -216,7 +216,7 @@ class Signatures(Library):
     def test_each_way_to_sign_is_verified(self):
         count = 0
         for key, area, *signatures in self.signed():
-            for public in (pem_of(key), pem_of(key).decode(), area):
+            for public in (pem_of(key).decode(), area):
                 for signature in signatures:
                     self.check_signed(public, signature)
             count += 1
@@ -225,7 +225,9 @@ class Signatures(Library):
     def test_keys_on_the_largest_curve_are_not_taken(self):
         """The caller verifies their signatures himself."""
         for algorithm in HASHES:
-            self.check_not_signed(pem_of(self.largest), self.largest.sign(MESSAGE, ec.ECDSA(algorithm)), numbers=(OTHER_KEY,))
+            signature = self.largest.sign(MESSAGE, ec.ECDSA(algorithm))
+            self.check_not_signed(area_of(self.largest, ECDSA, algorithm.name), signature, numbers=(OTHER_KEY,))
+            self.check_not_signed(pem_of(self.largest), signature, numbers=(OTHER_PEM,))
         found = ima_verify.attest(None, NONCE, MESSAGE, None, LOG, LIST, require="sha256:0-10", signature_checked=True)
         self.assertEqual((found.matches, found.signature), (True, ima_verify.SignatureState.CHECKED))
 
@@ -234,7 +236,7 @@ class Signatures(Library):
         for key, area, *signatures in self.signed():
             for other in others:
                 if other is not key:
-                    for signature in signatures:
+                    for signature in signatures[:1 if isinstance(other, ec.EllipticCurvePrivateKey) else 2]:
                         self.check_not_signed(area_like(area, other), signature, numbers=NOT_SIGNED_ANYHOW)
 
     def test_keys_without_a_scheme_are_not_those_of_signatures(self):
@@ -269,7 +271,7 @@ class Signatures(Library):
     def test_changed_signatures_are_none(self):
         for key, area, signature, in_form in self.signed():
             is_rsa = isinstance(key, rsa.RSAPrivateKey)
-            public, step = (pem_of(key), 37) if is_rsa else (area, 211)
+            public, step = (pem_of(key), 101) if is_rsa else (area, 211)
             for place in (*range(0, 8 * len(signature), step), 8 * len(signature) - 1):
                 self.check_not_signed(public, turned(signature, place), numbers=(NOT_SIGNED,) if is_rsa else NOT_SIGNED_ANYHOW)
             for place in (0, 8, 16, 24, 32, 40, *range(48, 8 * len(in_form), 5 * step)):
@@ -305,7 +307,7 @@ class Signatures(Library):
             self.check_signed(area, tpmt(ECDSA, "sha256", *parts))
             self.check_not_signed(area, b"".join(parts), numbers=(CUT, UNKNOWN_SCHEME, UNKNOWN_HASH))
             for pair in ((0, 0), (0, second), (first, 0), (1, 1), (second, first)):
-                self.check_not_signed(area, utils.encode_dss_signature(*pair))
+                self.check_not_signed(area, utils.encode_dss_signature(*pair), numbers=(NOT_SIGNED, UNKNOWN_SCHEME))  # (a zero is no plain number)
                 self.check_not_signed(area, tpmt(ECDSA, "sha256", *(part.to_bytes(size, "big") for part in pair)))
             # (with a length in more bytes than it needs: BER, and not DER)
             encoded = utils.encode_dss_signature(first, second)
@@ -346,13 +348,13 @@ class Signatures(Library):
         for bits in (1024, 1536, 2040):
             key = rsa.generate_private_key(65537, bits)
             signature = key.sign(MESSAGE, padding.PKCS1v15(), hashes.SHA256())
-            self.check_not_taken(pem_of(key), OTHER_KEY)
-            self.check_not_signed(pem_of(key), signature, numbers=(OTHER_KEY,))
-        self.check_not_taken(pem_of(rsa.generate_private_key(3, 2048)), OTHER_KEY, OTHER_PEM)
+            self.check_not_signed(pem_of(key), signature, numbers=(OTHER_PEM,))
+            self.assertEqual(self.refusal(area_of(key, RSASSA, "sha256"), signature), (Kind.KEY, 16))
+        self.check_not_taken(pem_of(rsa.generate_private_key(3, 2048)), OTHER_PEM)
         der = der_in(pem_of(self.rsa[0]))
         self.assertEqual(der[-3:], b"\1\0\1")
         for exponent in (b"\1\0\2", b"\1\0\0", b"\0\0\1", b"\0\0\3", b"\0\0\0", b"\x80\0\1"):
-            self.check_not_taken(pem_with(der[:-3] + exponent), OTHER_KEY, OTHER_PEM)
+            self.check_not_taken(pem_with(der[:-3] + exponent), OTHER_PEM)
 
     def test_keys_of_other_kinds_are_not_taken(self):
         for curve in (ec.SECP256K1(), ec.SECP224R1(), ec.BrainpoolP256R1()):
@@ -416,10 +418,9 @@ class Signatures(Library):
             self.check_signed(pem_of(key), signature)
             self.check_not_signed(pem_of(key), turned(signature, 9))
         for bits in (4104, 8192):
-            modulus = (1 << bits - 1) + 1
-            public = rsa.RSAPublicNumbers(65537, modulus).public_key()
+            public = rsa.RSAPublicNumbers(65537, (1 << bits - 1) + 1).public_key()
             written = public.public_bytes(serialization.Encoding.PEM, serialization.PublicFormat.SubjectPublicKeyInfo)
-            self.check_not_taken(written, OTHER_KEY)
+            self.check_not_taken(written, OTHER_PEM)
 
     def test_garbage_is_refused(self):
         chance = random.Random(66)
