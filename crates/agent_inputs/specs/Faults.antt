@@ -20,8 +20,8 @@ use Rattle.known_files.specs.declared.fault.KnownFault.TheVariants as known
 use Rattle.attestations.specs.Judging.{quote_refusal_number}
 use Rattle.tpm_keys.specs.Faults.{key_fault_number}
 use Rattle.signed_messages.specs.Refusals.{signature_refusal_number}
-use Rattle.signed_messages.specs.declared.text.CheckFault.{CheckFault}
-use Rattle.signed_messages.specs.declared.text.CheckFault.TheVariants as checks
+use Rattle.signed_messages.specs.declared.check_fault.CheckFault.{CheckFault}
+use Rattle.signed_messages.specs.declared.check_fault.CheckFault.TheVariants as checks
 use Rattle.agent_inputs.specs.declared.fault.FaultHead.{FaultHead}
 use Rattle.agent_inputs.specs.declared.fault.FaultKind.{FaultKind}
 use Rattle.agent_inputs.specs.declared.fault.FaultKind.TheVariants as kinds

@@ -37,7 +37,7 @@ use Rattle.attestations.specs.Quoted.{stated_by}
 use Rattle.attestations.specs.Reports.{AttestVerdict, attest_verdict_of, is_attested, is_signed}
 use Rattle.attestations.specs.declared.signature.SignatureState.{SignatureState}
 use Rattle.attestations.specs.declared.signature.SignatureState.TheVariants as states
-use Rattle.signed_messages.specs.declared.text.CheckFault.{CheckFault}
+use Rattle.signed_messages.specs.declared.check_fault.CheckFault.{CheckFault}
 use Rattle.signed_messages.specs.KeyTexts.{IsCheckFault, IsSignedByText}
 use Rattle.tpm_keys.specs.declared.fault.KeyFault.{KeyFault}
 use Rattle.tpm_keys.specs.declared.kinds.Purpose.{Purpose}
