@@ -182,11 +182,14 @@ class Samples(AttestTests):
         self.check_match("a signature as without `-f plain`", self.attest(signature=QUOTED / "quote.tpmt"))
         for title, changed, *numbers in (
             ("that is empty", b"", *NO_SIGNATURE), ("that is cut", signature[:-1], *NO_SIGNATURE), ("with a bit turned", turned(signature), NOT_SIGNED),
-            ("of zeros", bytes(256), NOT_SIGNED), ("that is the message", message, *NO_SIGNATURE), ("with a byte after it", signature + b"\0", *NO_SIGNATURE),
+            ("of zeros", bytes(256), NOT_SIGNED), ("that is the message", message, *NO_SIGNATURE),
+            ("with a byte after it", signature + b"\0", *NO_SIGNATURE),
             ("with a scheme, with a byte after it", tpmt + b"\0", SIGNATURE_TRAILING), ("with a scheme, with a bit turned", turned(tpmt), NOT_SIGNED),
             ("with a scheme, cut", tpmt[:-1], *NO_SIGNATURE), ("with a scheme, another", b"\0\x16" + tpmt[2:], NOT_SIGNED),
-            ("with a scheme, of another kind of key", b"\0\x18" + tpmt[2:], *NO_SIGNATURE), ("with a scheme that is none", b"\0\x10" + tpmt[2:], *NO_SIGNATURE),
-            ("with a scheme, by SHA-384", tpmt[:3] + b"\x0c" + tpmt[4:], NOT_SIGNED), ("with a scheme, by SHA-1", tpmt[:3] + b"\x04" + tpmt[4:], OTHER_HASH),
+            ("with a scheme, of another kind of key", b"\0\x18" + tpmt[2:], *NO_SIGNATURE),
+            ("with a scheme that is none", b"\0\x10" + tpmt[2:], *NO_SIGNATURE),
+            ("with a scheme, by SHA-384", tpmt[:3] + b"\x0c" + tpmt[4:], NOT_SIGNED),
+            ("with a scheme, by SHA-1", tpmt[:3] + b"\x04" + tpmt[4:], OTHER_HASH),
         ):
             self.check_unsigned(f"a signature {title}", self.attest(signature=self.put("other.sig", changed)), *numbers)
         for place in range(0, len(message), 7):
@@ -198,10 +201,11 @@ class Samples(AttestTests):
         key, message, area = GOOD.key.read_bytes(), GOOD.quote.read_bytes(), area_of(GOOD.key)
         self.check_match("the key's public area", self.attest(key=self.put("AK.pub", area)))
         self.check_match("the key's public area, and a signature with a scheme", self.attest(key="AK.pub", signature=QUOTED / "quote.tpmt"))
-        for title, changed, number in (("that is empty", b"", 1), ("that is the message", message, 1), ("that is cut", area[:-1], 1),
-                                       ("with a byte after it", area + b"\0", 10), ("that is the area of a key that signs anything", AREAS["unrestricted"], 15),
-                                       ("that is the area of a storage key", AREAS["storage"], 17), ("that is the area of an endorsement key", AREAS["ek-rsa"], 17),
-                                       ("that signs by SHA-1", AREAS["ak-sha1"], 20)):
+        for title, changed, number in (
+            ("that is empty", b"", 1), ("that is the message", message, 1), ("that is cut", area[:-1], 1), ("with a byte after it", area + b"\0", 10),
+            ("that is the area of a key that signs anything", AREAS["unrestricted"], 15), ("that is the area of a storage key", AREAS["storage"], 17),
+            ("that is the area of an endorsement key", AREAS["ek-rsa"], 17), ("that signs by SHA-1", AREAS["ak-sha1"], 20),
+        ):
             for signature in (GOOD.signature, "none"):
                 ended = self.attest(key=self.put("other.pub", changed), signature=signature)
                 if signature == "none":
@@ -337,4 +341,5 @@ class MadeKeys(AttestTests):
                 self.check(f"{title} is made", self.call(["openssl", "dgst", f"-{algorithm.name}", *map(str, words)]).status, 0)
                 self.check_match(title, self.attest(**made))
                 self.check_match(f"{title}, by the key's area", self.attest(**{**made, "key": area}))
-                self.check_unsigned(f"{title}, of another message", self.attest(**made, quote=self.put("other.msg", turned(GOOD.quote.read_bytes()))))
+                other = self.put("other.msg", turned(GOOD.quote.read_bytes()))
+                self.check_unsigned(f"{title}, of another message", self.attest(**made, quote=other))

@@ -138,7 +138,8 @@ class Quotes:
         """The verifier has a machine's key: the public area, or of every other machine only the PEM."""
         for form in ("pub", "pem"):
             (self.keys / f"{machine.name}.{form}").unlink(missing_ok=True)
-        shutil.copy(*((machine.tpm.key, self.keys / f"{machine.name}.pem") if machine.number % 2 else (machine.tpm.area, self.keys / f"{machine.name}.pub")))
+        kept = machine.tpm.key if machine.number % 2 else machine.tpm.area
+        shutil.copy(kept, self.keys / f"{machine.name}{kept.suffix}")
 
     def call(self, *words, seconds=SECONDS):
         """The status of a call of fleet-verify, and what it printed on both streams."""
