@@ -161,7 +161,7 @@ def test_quoted_report(tools):
     status, *_ = tools.verify("--workers", 1, "--poll", machines, table, by=("--keys", keys))
     rows = query(table, "SELECT machine, log, nonce, report FROM verdicts ORDER BY machine")
     tools.check("reports by quotes: status, and the clock that is kept apart", (status, query(table, "SELECT count(clock) FROM given")), (0, [(2,)]))
-    words = [word for name, log, nonce, _ in rows for word in (keys / f"{name}.pem", Path(log).parent, nonce)]
+    words = [word for name, log, nonce, _ in rows for word in (keys / f"{name}.pub", Path(log).parent, nonce)]
     said = tools.start(["-c", ATTESTED, REQUIRE, *words]).communicate(timeout=SECONDS)[0]
     tools.check("reports by quotes are those of the library", [report for *_, report in rows], said.splitlines())
 
