@@ -17,7 +17,7 @@ ghost use Rattle.judging.specs.Requests.{VerdictOf, attested_of, judgement_of, l
 use crate::answers::{Evidence, answered_with, checkpoint_of, state_in};
 use crate::inputs::{Input, known_in, load_at};
 use crate::request::{Answering, AttestRequest, Comparison, ReportKind, Required, ScopedReport};
-use crate::signing::{take_files_for, vouch_for};
+use crate::signing::{message_in, vouch_for};
 use agent_inputs::{AgentFiles, NotResumed, RunFault};
 use attestations::{
     AttestReport, ExpectedValues, Policy, Quoted, SignatureState, Whole, keep_confirmed, quote_for,
@@ -29,8 +29,9 @@ use std::alloc::Global;
 use tpm_quotes::Quote;
 
 /// What comes of a log, a list and a quote. It is read in this order (only in part by the clauses: not that the log comes first of its inputs):
-/// what is required; the quote's message; the log, which is loaded; the expected registers, if there are such; the checkpoint, and whether it is
-/// of the quote's boot; the texts of known files; and then the list is opened, and replayed as it is read, without loading it.
+/// what is required; the quote's message; the key and the signature, if it is verified here; the log, which is loaded; the expected registers, if
+/// there are such; the checkpoint, and whether it is of the quote's boot; the texts of known files; and then the list is opened, and replayed as it
+/// is read, without loading it.
 pub(crate) fn attest<F: AgentFiles>(
     alloc: Global,
     files: &mut F,
@@ -42,7 +43,6 @@ pub(crate) fn attest<F: AgentFiles>(
     ensures replaced { F.replaced files.new ≡ F.replaced files.old }
 {
     let required = required_by(alloc, request.required)?;
-    take_files_for(files, request.signing);
     let policy = Policy {
         nonce: request.nonce,
         required: &required,
@@ -51,9 +51,10 @@ pub(crate) fn attest<F: AgentFiles>(
     if policy.fault().is_some() {
         return Err(RunFault::Usage);
     }
-    let message = load_at(alloc, files, request.message)?;
-    let signature = vouch_for(alloc, files, message.bytes(), request.signing)?;
-    let quote = asked_quote(message.bytes(), &policy)?;
+    let message = message_in(alloc, files, request)?;
+    let bytes = message.bytes();
+    let signature = vouch_for(alloc, files, bytes, request.signing)?;
+    let quote = asked_quote(bytes, &policy)?;
     answer_by_quote(alloc, files, request, &quote, signature)
 }
 

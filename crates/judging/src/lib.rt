@@ -16,6 +16,6 @@ pub use answers::answer_request;
 pub use inputs::Input;
 pub use queries::{attesting_by, known_inputs, request_of, save_of};
 pub use request::{
-    Answer, Answered, AttestRequest, Comparison, Registers, ReportKind, Request, Required,
-    Signing, on_prefix,
+    Answer, Answered, AttestRequest, Comparison, Registers, ReportKind, Request, Required, Signing,
+    on_prefix,
 };

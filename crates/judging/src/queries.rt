@@ -6,7 +6,9 @@ ghost use Rattle.judging.specs.Queries.{attested_with, requested_by, file_of, fi
 
 use crate::inputs::Input;
 use crate::request::{AttestRequest, Comparison, ReportKind, Request, Required, Signing};
-use agent_plans::{AttestOptions, ComparisonKind, ComparisonOptions, Query, Quoting, Scope, SigningOptions};
+use agent_plans::{
+    AttestOptions, ComparisonKind, ComparisonOptions, Query, Quoting, Scope, SigningOptions,
+};
 use std::alloc::{AllocError, Global};
 
 /// The texts of known files that a question names.

@@ -1,25 +1,33 @@
 //! What tells that a quote's message is signed by the right key.
 
 ghost use Rattle.std.specs.Prelude.{◌≡◌, IfOk, IfErr};
-ghost use Rattle.attestations.specs.declared.signature.SignatureState.TheVariants.{Valid};
 ghost use Rattle.judging.specs.Answering.{IsNotSigned, IsNotVouched, IsSignedByInputs, IsVouched};
-ghost use Rattle.judging.specs.Requests.{location_of, signing_of};
+ghost use Rattle.judging.specs.Inputs.{Holds, IsInputFault};
+ghost use Rattle.judging.specs.Requests.{attested_of, held_bytes, location_of, signing_of};
 
-use crate::inputs::{Input, load_at};
-use crate::request::Signing;
+use crate::inputs::{Held, Input, load_at};
+use crate::request::{AttestRequest, Signing};
 use agent_inputs::{AgentFiles, RunFault};
 use attestations::SignatureState;
 use signed_messages::check_signed;
 use std::alloc::Global;
 
-/// Where a signature is verified here, has no input be read but regular files: no other may keep whoever verifies waiting.
-pub(crate) fn take_files_for<F: AgentFiles>(files: &mut F, signing: Signing<'_>)
+/// All bytes of the message. Where its signature is verified here, no input is read from now on but regular files, since no other may keep waiting
+/// whoever verifies it.
+pub(crate) fn message_in<'a, F: AgentFiles>(
+    alloc: Global,
+    files: &mut F,
+    request: AttestRequest<'a>,
+) -> Result<Held<'a>, RunFault>
+    ensures all { IfOk result (λ held. Holds (F.inputs files.old) (attested_of request.entry).message (held_bytes held)) }
+    ensures fault { IfErr result (IsInputFault (F.inputs files.old) (attested_of request.entry).message) }
     ensures inputs { F.inputs files.new ≡ F.inputs files.old }
     ensures replaced { F.replaced files.new ≡ F.replaced files.old }
 {
-    if let Signing::ByKey { .. } = signing {
+    if let Signing::ByKey { .. } = request.signing {
         files.take_only_regular_files();
     }
+    load_at(alloc, files, request.message)
 }
 
 /// What is then known of the signature of this message. Where it is verified here, the key is loaded, and then the signature.
@@ -59,5 +67,8 @@ fn check_by_key<F: AgentFiles>(
 {
     let key = load_at(alloc, files, key)?;
     let signature = load_at(alloc, files, signature)?;
-    Ok(check_signed(alloc, key.bytes(), message, signature.bytes())?)
+    let key_bytes = key.bytes();
+    let signature_bytes = signature.bytes();
+    check_signed(alloc, key_bytes, message, signature_bytes)?;
+    Ok(())
 }
