@@ -118,8 +118,8 @@ enum ima_verify_fault_kind {
      * the first is 1. */
     IMA_VERIFY_KNOWN = 10,
     /* The signature of the quote's message: it is none (1 to 4), its scheme (5) or its hash (6) is not the key's, or
-     * the key did not sign this message (7). Or the library verifies no signatures by such a key (8), or the key begins
-     * as PEM and is not the text that ima_verify_key gives (9). */
+     * the key did not sign this message (7). Or the library verifies no signatures by such a key (8), or what begins as
+     * PEM is not the text that ima_verify_key gives of a key by which it does (9). */
     IMA_VERIFY_SIGNATURE = 11
 };
 
