@@ -71,9 +71,8 @@ class Evidence:
 
 GOOD = Evidence()  # samples/quoted
 # Why a message is not taken as signed (docs/errors.txt).
-CUT, OTHER_KIND, SIGNATURE_TRAILING = 1, 2, 4
+NO_SIGNATURE, SIGNATURE_TRAILING = (1, 2, 3, 4), 4
 OTHER_SCHEME, OTHER_HASH, NOT_SIGNED, OTHER_KEY, OTHER_PEM = 5, 6, 7, 8, 9
-NO_SIGNATURE = (1, 2, 3, 4)
 EXPECTED = BOOT / "expected.txt"  # the values of all registers of its bank
 
 
