@@ -120,7 +120,7 @@ def test_recipes(tools):
 
 def enroll(reader):
     """Makes the machine's key, and keeps its public part."""
-    kept = f"tpm2_readpublic -Q -c {HANDLE} -f pem -o keys/host-1.pem"
+    kept = f"tpm2_readpublic -Q -c {HANDLE} -o keys/host-1.pub"
     reader.tools.check("the page: a key", reader.ran(f"{ROOT}/attest/collect --enroll enroll\n{kept}"), (0, "", ""))
 
 
