@@ -38,8 +38,8 @@ from line_kinds import DEFINED, KINDS, OUTPUTS, SCHEMA, fault_of_output, kinds_o
 MODULE = "jsonschema"
 # Values that no case can have: an error of the program itself.
 NOWHERE = {("fault.kind", "gather")}
-LISTED_ENTRIES = 300
-RANDOM_LOGS, EVENTS_OF_A_LOG, RANDOM_BOOTS, DAMAGES_OF_A_KIND, TRIALS_OF_A_KIND, RANDOM_LISTS = 4, 50, 60, 20, 5, 60
+LISTED_ENTRIES = 100
+RANDOM_LOGS, EVENTS_OF_A_LOG, RANDOM_BOOTS, DAMAGES_OF_A_KIND, TRIALS_OF_A_KIND, RANDOM_LISTS = 4, 40, 30, 6, 4, 40
 # What `events --explain` and `boot` show as JSON within the lines of their text.
 IN_TEXT = {"events": re.compile(r"  (\{.*\})"), "boot": re.compile(r"[a-z_]+ [^{]*?(\{.*\})")}
 CONTENT = "content"
@@ -231,10 +231,17 @@ PARTS = [pair for name, part in DEFINED.items() for pair in parts_of(part, name)
 OBJECTS = {name: part for name, part in PARTS if "properties" in part}
 
 
+def values_of(part):
+    """The values that a part names."""
+    if part.get("type") == "boolean":
+        return [False, True]
+    return [part["const"]] if "const" in part else part.get("enum", [])
+
+
 def values_named():
-    """Each value that the schema names, with the part that has it."""
+    """Each value that the schema names, with the name of the part that has it."""
     for name, part in PARTS:
-        yield from ((name, value) for value in [*part.get("enum", ()), *([part["const"]] if "const" in part else [])])
+        yield from ((name, value) for value in values_of(part))
 
 
 def is_described(part):
@@ -258,7 +265,7 @@ class Seen:
         for name, part, inner in visited(DEFINED[kind], value, kind):
             if name in OBJECTS and isinstance(inner, dict):
                 self.objects[name].append(inner.keys())
-            elif "enum" in part or "const" in part:
+            elif inner in values_of(part):
                 self.values.add((name, inner))
 
     def faults_of(self, name, member):
