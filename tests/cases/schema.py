@@ -16,8 +16,7 @@ import json
 import random
 import re
 import sys
-from copy import deepcopy
-from importlib.util import find_spec
+import tempfile
 from pathlib import Path
 
 TESTS = Path(__file__).resolve().parents[1]
@@ -35,7 +34,11 @@ from answers import agrees  # noqa: E402
 from harness import ROOT  # noqa: E402
 from line_kinds import DEFINED, KINDS, OUTPUTS, SCHEMA, fault_of_output, kinds_of, name_of, visited, words_in  # noqa: E402
 
-MODULE = "jsonschema"
+try:
+    from jsonschema import Draft202012Validator as Validator
+except ImportError:
+    Validator = None
+
 # Values that no case can have: an error of the program itself.
 NOWHERE = {("fault.kind", "gather")}
 LISTED_ENTRIES = 100
@@ -63,8 +66,6 @@ def strict(part):
 
 def validators_of(schema):
     """The validator of each definition of a schema."""
-    from jsonschema import Draft202012Validator as Validator
-
     return {name: Validator({"$ref": f"#/$defs/{name}", "$defs": schema["$defs"]}) for name in schema["$defs"]}
 
 
@@ -114,7 +115,7 @@ def lines_of_case(case, command, shared):
         wanted = lines_in(files[command.output])
     if not any("..." in line for line in wanted):
         return wanted
-    with harness.tempfile.TemporaryDirectory() as folder:
+    with tempfile.TemporaryDirectory() as folder:
         case.lay(Path(folder), shared)
         lines = lines_in(reference.answer(command.words, folder)[1])
     if not agrees(wanted, lines) and not agrees(wanted[: len(lines)], lines):
@@ -315,8 +316,8 @@ def members_described(name):
 
 class Schema(harness.TestCase):
     def setUp(self):
-        if find_spec(MODULE) is None:
-            self.fail(f"this machine has no {MODULE} for Python (Debian: python3-{MODULE})")
+        if Validator is None:
+            self.fail("this machine has no jsonschema for Python (Debian: python3-jsonschema)")
         self.open, self.closed = validators_of(SCHEMA), validators_of(strict(SCHEMA))
 
     def fault_of_value(self, value, kind):
@@ -343,8 +344,6 @@ class Schema(harness.TestCase):
 
     def test_schema(self):
         """the schema is one, and describes each part"""
-        from jsonschema import Draft202012Validator as Validator
-
         Validator.check_schema(SCHEMA)
         self.check("parts that nothing describes", [name for name, part in PARTS if not is_described(part) and ("." in name or part is DEFINED[name])], [])
         integers = [(name, part) for name, part in PARTS if part.get("type") == "integer"]
