@@ -19,6 +19,9 @@ use Rattle.known_files.specs.declared.fault.KnownFault.{KnownFault}
 use Rattle.known_files.specs.declared.fault.KnownFault.TheVariants as known
 use Rattle.attestations.specs.Judging.{quote_refusal_number}
 use Rattle.tpm_keys.specs.Faults.{key_fault_number}
+use Rattle.signed_messages.specs.Refusals.{signature_refusal_number}
+use Rattle.signed_messages.specs.declared.check_fault.CheckFault.{CheckFault}
+use Rattle.signed_messages.specs.declared.check_fault.CheckFault.TheVariants as checks
 use Rattle.agent_inputs.specs.declared.fault.FaultHead.{FaultHead}
 use Rattle.agent_inputs.specs.declared.fault.FaultKind.{FaultKind}
 use Rattle.agent_inputs.specs.declared.fault.FaultKind.TheVariants as kinds
@@ -55,6 +58,12 @@ fault_of_list fault = runs.List fault
 abbrev pub fault_of_expected : ExpectFault → RunFault
 fault_of_expected expects.Memory = runs.Memory
 fault_of_expected fault = runs.Expect fault
+
+-- Why a message is not signed by a key.
+abbrev pub fault_of_check : CheckFault → RunFault
+fault_of_check (checks.Key fault) = runs.Key fault
+fault_of_check (checks.Signature refusal) = runs.Signature refusal
+fault_of_check checks.Memory = runs.Memory
 
 -- Of the files by which others are known, the text of the one of this number was refused for this reason.
 abbrev pub fault_of_known : ℕ → KnownFault → RunFault
@@ -93,6 +102,7 @@ fault_head (runs.List fault) = head_with kinds.List (Some (list_fault_number fau
 fault_head (runs.Replay fault) = head_with kinds.Replay (Some (replay_fault_number fault)) (Some (replay_fault_entry fault))
 fault_head (runs.Expect fault) = head_with kinds.Expect (Some (expect_fault_number fault)) (expect_fault_line fault)
 fault_head (runs.Quote refusal) = head_with kinds.Quote (Some (quote_refusal_number refusal)) None
+fault_head (runs.Signature refusal) = head_with kinds.Signature (Some (signature_refusal_number refusal)) None
 fault_head (runs.Key fault) = head_with kinds.Key (Some (key_fault_number fault)) None
 fault_head (runs.Known file (known.WeakHash line)) = head_with kinds.Known (Some 1) (Some line)
 fault_head (runs.Known file (known.Malformed line)) = head_with kinds.Known (Some 2) (Some line)

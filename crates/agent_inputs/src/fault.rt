@@ -1,7 +1,7 @@
 //! Why the program failed.
 
 ghost use Rattle.std.specs.Prelude.{◌≡◌, ℕ};
-ghost use Rattle.agent_inputs.specs.Faults.{fault_head, head_with, fault_of_expected, fault_of_known, fault_of_list, fault_of_log, fault_of_arguments, not_resumed_number};
+ghost use Rattle.agent_inputs.specs.Faults.{fault_head, head_with, fault_of_check, fault_of_expected, fault_of_known, fault_of_list, fault_of_log, fault_of_arguments, not_resumed_number};
 ghost use Rattle.agent_inputs.specs.declared.fault.RunFault.TheVariants.{Key, Known, Memory, Quote};
 
 use agent_plans::ArgumentsFault;
@@ -12,6 +12,7 @@ use ima_list::{ListFault, ReplayFault};
 use known_files::KnownFault;
 use measure_book::{BookFault, GatherFault};
 use pcr_values::ExpectFault;
+use signed_messages::{CheckFault, SignatureRefusal};
 use std::alloc::{AllocError, AllocFailed};
 use std::fmt;
 use thiserror::Error;
@@ -65,6 +66,8 @@ pub enum RunFault {
     Expect(ExpectFault),
     /// An input is not the quote that is asked for.
     Quote(QuoteRefusal),
+    /// A message is not signed by a key, as an input says that it is.
+    Signature(SignatureRefusal),
     /// An input is not the public area of a key that is asked for.
     Key(KeyFault),
     /// A text of digests, by which files are known, is refused.
@@ -109,6 +112,7 @@ pub enum FaultKind {
     Replay,
     Expect,
     Quote,
+    Signature,
     Key,
     Known,
     Checkpoint,
@@ -168,6 +172,7 @@ impl RunFault {
             }
             RunFault::Expect(fault) => (FaultKind::Expect, Some(fault.number()), fault.line()),
             RunFault::Quote(refusal) => (FaultKind::Quote, Some(refusal.number()), None),
+            RunFault::Signature(refusal) => (FaultKind::Signature, Some(refusal.number()), None),
             RunFault::Key(fault) => (FaultKind::Key, Some(fault.number()), None),
             RunFault::Known { fault, .. } => head_of_known(*fault),
             RunFault::Checkpoint(fault) => (FaultKind::Checkpoint, Some(fault.number()), None),
@@ -215,6 +220,7 @@ impl fmt::Display for RunFault {
             RunFault::Replay(fault) => say_fault("", fault, f),
             RunFault::Expect(fault) => say_fault("", fault, f),
             RunFault::Quote(refusal) => say_fault("", refusal, f),
+            RunFault::Signature(refusal) => say_fault("", refusal, f),
             RunFault::Key(fault) => say_fault("", fault, f),
             RunFault::Known { file, fault } => say_known(*file, *fault, f),
             RunFault::Checkpoint(fault) => say_fault("", fault, f),
@@ -326,6 +332,18 @@ impl From<KeyFault> for RunFault {
 
     fn from(fault: KeyFault) -> Self {
         RunFault::Key(fault)
+    }
+}
+
+impl From<CheckFault> for RunFault {
+    ghost from_gives = { λ check_fault fault. fault ≡ fault_of_check check_fault };
+
+    fn from(fault: CheckFault) -> Self {
+        match fault {
+            CheckFault::Key(fault) => RunFault::Key(fault),
+            CheckFault::Signature(refusal) => RunFault::Signature(refusal),
+            CheckFault::Memory => RunFault::Memory,
+        }
     }
 }
 

@@ -51,6 +51,12 @@ pub trait AgentFiles: Files<Src: Drop> {
         ensures kept { OnErr result (Self.replaced self.new ≡ Self.replaced self.old) }
         ensures inputs { Self.inputs self.new ≡ Self.inputs self.old };
 
+    /// From now on `source` with a name opens regular files alone, and links to such files: it fails for whatever else has the name, without
+    /// waiting for it, as the other end of a pipe might be waited for.
+    fn take_only_regular_files(&mut self)
+        ensures inputs { Self.inputs self.new ≡ Self.inputs self.old }
+        ensures replaced { Self.replaced self.new ≡ Self.replaced self.old };
+
     /// Whether the file of this name is a regular one: it can be opened again, and then gives its bytes once more. A pipe or a device does not.
     fn is_regular(&self, name: &str) -> bool;
 

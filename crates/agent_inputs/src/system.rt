@@ -138,6 +138,7 @@ impl<F: Read, I: Read> Read for OpenInput<F, I> {
 #[derive(Drop)]
 pub struct SystemFiles<'a, R> {
     runtime: &'a R,
+    takes_only_regular: bool,
 }
 
 impl<'a, R: FileSystem + io::Input> SystemFiles<'a, R> {
@@ -145,7 +146,10 @@ impl<'a, R: FileSystem + io::Input> SystemFiles<'a, R> {
     pub fn new(runtime: &'a R) -> Self
         ensures { runtime_of result ≡ runtime.now }
     {
-        SystemFiles { runtime }
+        SystemFiles {
+            runtime,
+            takes_only_regular: false,
+        }
     }
 }
 
@@ -167,7 +171,7 @@ impl<R: FileSystem + io::Input + Sync> Files for SystemFiles<'_, R> {
     {
         let input = match name {
             None => OpenInput::StandardInput(self.runtime.reader()),
-            Some(name) => OpenInput::File(File::open(self.runtime, name).map_err(|_| Failed)?),
+            Some(name) => OpenInput::File(open(self.runtime, name, self.takes_only_regular)?),
         };
         Ok(ReadSource::new(input))
     }
@@ -181,6 +185,10 @@ impl<R: FileSystem + io::Input + Sync> AgentFiles for SystemFiles<'_, R> {
         replace_file(self.runtime, name, bytes).map_err(|_| Failed)
     }
 
+    fn take_only_regular_files(&mut self) {
+        self.takes_only_regular = true;
+    }
+
     fn is_regular(&self, name: &str) -> bool {
         is_regular(self.runtime, name)
     }
@@ -190,6 +198,27 @@ impl<R: FileSystem + io::Input + Sync> AgentFiles for SystemFiles<'_, R> {
         ensures { result.now ≡ self.now }
     {
         self
+    }
+}
+
+// Opens the file of this name. If only regular files are taken, fails for whatever else has the name: what has it is looked at before, since to
+// open a pipe may wait for ever, and what was opened is looked at after, since the name may be another's by then.
+fn open<R: FileSystem>(rt: &R, name: &str, only_regular: bool) -> Result<R::File, Failed> {
+    if only_regular && !is_regular(rt, name) {
+        return Err(Failed);
+    }
+    let file = File::open(rt, name).map_err(|_| Failed)?;
+    if only_regular && !is_regular_file(&file) {
+        return Err(Failed);
+    }
+    Ok(file)
+}
+
+// Whether the open file is a regular one.
+fn is_regular_file<F: OpenFile>(file: &F) -> bool {
+    match file.metadata() {
+        Ok(present) => present.is_file(),
+        Err(_) => false,
     }
 }
 

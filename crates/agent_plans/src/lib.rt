@@ -6,5 +6,5 @@ mod plan;
 pub use cells::Form;
 pub use plan::{
     ArgumentsFault, AttestOptions, ComparisonKind, ComparisonOptions, ConfirmedBy, DataShown,
-    Measurement, NameEnd, Names, Plan, Print, Query, Quoting, Scope, Task,
+    Measurement, NameEnd, Names, Plan, Print, Query, Quoting, Scope, SigningOptions, Task,
 };

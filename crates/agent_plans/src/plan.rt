@@ -94,6 +94,22 @@ pub struct ComparisonOptions {
     pub explained: bool,
 }
 
+/// What tells that a quote's message is signed by the right key.
+#[derive(Drop)]
+pub enum SigningOptions {
+    /// Nothing does: nobody looks at the signature.
+    NotChecked,
+    /// The caller says that he has verified the signature.
+    ByCaller,
+    /// A key and a signature, under which the message is verified.
+    ByKey {
+        /// The name of the key's file: its public area, or PEM.
+        key: String,
+        /// The name of the signature's file.
+        signature: String,
+    },
+}
+
 /// A quote of a log and a list, and what it must be.
 #[derive(Drop)]
 pub struct Quoting {
@@ -107,8 +123,8 @@ pub struct Quoting {
     pub required: String,
     /// Whether a register may be required in the SHA-1 bank alone.
     pub takes_sha1: bool,
-    /// Whether the caller says that he has verified the message's signature.
-    pub is_signed: bool,
+    /// What tells that the message is signed by the right key.
+    pub signing: SigningOptions,
 }
 
 /// What is asked of a log and a list where the TPM has quoted registers.

@@ -100,6 +100,8 @@ impl AgentFiles for PieceFiles<'_> {
         Ok(())
     }
 
+    fn take_only_regular_files(&mut self) {}
+
     /// Each gives its bytes again.
     fn is_regular(&self, _name: &str) -> bool {
         true

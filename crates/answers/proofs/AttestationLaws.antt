@@ -10,6 +10,8 @@ use Rattle.tpm_quotes.specs.Spelling.{BankSelection, is_selected, selects_one}
 use Rattle.attestations.specs.declared.expected.ExpectedValues.{ExpectedValues}
 use Rattle.attestations.specs.declared.expected.ExpectedValues.TheVariants as values
 use Rattle.attestations.specs.declared.report.Whole.{Whole}
+use Rattle.attestations.specs.declared.signature.SignatureState.{SignatureState}
+use Rattle.attestations.specs.declared.signature.SignatureState.TheVariants as signatures
 use Rattle.attestations.specs.Quoted.{Stated}
 use Rattle.attestations.specs.Reports.{AttestVerdict, is_attested}
 use Rattle.known_files.specs.declared.unknown.UnknownFiles.{UnknownFiles}
@@ -92,10 +94,11 @@ values_plain values.NotGiven rows fit = tt
 values_plain values.Confirmed rows fit = (tt, members_deeper (members_of (report_rows None rows).json) 2 (report_plain None rows fit))
 values_plain values.Unconfirmed rows fit = (tt, tt)
 
-conclusion_plain : (is_signed is_match : Bool) → ArePlain (conclusion_cell is_signed is_match).json 3
+conclusion_plain : (signature : SignatureState) (is_match : Bool) → ArePlain (conclusion_cell signature is_match).json 3
 unfolding beside
-conclusion_plain true is_match = (tt, (tt, tt))
-conclusion_plain false is_match = (tt, (tt, tt))
+conclusion_plain signatures.NotChecked is_match = (tt, (tt, tt))
+conclusion_plain signatures.Checked is_match = (tt, (tt, tt))
+conclusion_plain signatures.Valid is_match = (tt, (tt, tt))
 
 pub attestation_line : (unknown : Option UnknownFiles) (report : AttestVerdict) → IsCountedClock report.quoted.clock → IsCount report.quoted.firmware
     → IsCount report.verdict.events → IsCount report.verdict.locality → IsCount report.verdict.entries
@@ -109,8 +112,8 @@ attestation_line unknown report clock firmware events locality entries prefix st
     (tt, members_joined 3 (values_cell report.expected report.verdict.rows).json _ (values_plain report.expected report.verdict.rows rows) extends) in
     let numbers = members_deeper (members_of (if_some unknown unknown_cell).json) 2 (unknown_plain unknown counted) in
     let last = members_joined 3 (if_some unknown unknown_cell).json
-    ((quote_cell report.is_quoted).json ++ (conclusion_cell report.is_signed (has_no_unknown unknown && is_attested report)).json) numbers
-    (tt, conclusion_plain report.is_signed (has_no_unknown unknown && is_attested report)) in
+    ((quote_cell report.is_quoted).json ++ (conclusion_cell report.signature (has_no_unknown unknown && is_attested report)).json) numbers
+    (tt, conclusion_plain report.signature (has_no_unknown unknown && is_attested report)) in
     line_within 4 _ few
     (members_joined 3 (stated_cell report.quoted).json _ (stated_plain report.quoted clock firmware)
     (members_joined 3 (attestation_counts report.verdict report.prefix).json _
@@ -130,10 +133,11 @@ values_other values.NotGiven rows = tt
 values_other values.Confirmed rows = (refl, (refl, tt))
 values_other values.Unconfirmed rows = (refl, tt)
 
-conclusion_other : (is_signed is_match : Bool) → AreOther (members_of (conclusion_cell is_signed is_match).json)
+conclusion_other : (signature : SignatureState) (is_match : Bool) → AreOther (members_of (conclusion_cell signature is_match).json)
 unfolding beside
-conclusion_other true is_match = (refl, (refl, tt))
-conclusion_other false is_match = (refl, (refl, tt))
+conclusion_other signatures.NotChecked is_match = (refl, (refl, tt))
+conclusion_other signatures.Checked is_match = (refl, (refl, tt))
+conclusion_other signatures.Valid is_match = (refl, (refl, tt))
 
 pub attestation_lacks : (unknown : Option UnknownFiles) (report : AttestVerdict)
     → get (codes "fault") (object_of (attestation_cell unknown report).json) ≡ None
@@ -142,8 +146,8 @@ attestation_lacks unknown report =
     let given = others_joined (values_cell report.expected report.verdict.rows).json _ (values_other report.expected report.verdict.rows)
     (strays_other report.verdict.strays) in
     let last = others_joined (if_some unknown unknown_cell).json
-    ((quote_cell report.is_quoted).json ++ (conclusion_cell report.is_signed (has_no_unknown unknown && is_attested report)).json)
-    (unknown_other unknown) (refl, conclusion_other report.is_signed (has_no_unknown unknown && is_attested report)) in
+    ((quote_cell report.is_quoted).json ++ (conclusion_cell report.signature (has_no_unknown unknown && is_attested report)).json)
+    (unknown_other unknown) (refl, conclusion_other report.signature (has_no_unknown unknown && is_attested report)) in
     let ended = others_joined (comparison_cell report).json _ (refl, given) last in
     let counted = others_joined (attestation_counts report.verdict report.prefix).json _ (counts_other report.verdict report.prefix) ended in
     lacks (object_of (attestation_cell unknown report).json) refl (refl, (refl, (refl, (refl, counted))))

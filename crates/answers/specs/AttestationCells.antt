@@ -10,6 +10,8 @@ use Rattle.tpm_quotes.specs.Spelling.{BankSelection, is_selected, selects_one}
 use Rattle.attestations.specs.declared.expected.ExpectedValues.{ExpectedValues}
 use Rattle.attestations.specs.declared.expected.ExpectedValues.TheVariants.{NotGiven, Confirmed, Unconfirmed}
 use Rattle.attestations.specs.declared.report.Whole.{Whole}
+use Rattle.attestations.specs.declared.signature.SignatureState.{SignatureState}
+use Rattle.attestations.specs.declared.signature.SignatureState.TheVariants.{NotChecked, Checked, Valid}
 use Rattle.attestations.specs.Quoted.{Stated}
 use Rattle.attestations.specs.Reports.{AttestVerdict, is_attested}
 use Rattle.known_files.specs.declared.unknown.UnknownFiles.{UnknownFiles}
@@ -95,15 +97,22 @@ comparison_cell report = in_order (
 abbrev pub quote_cell : Bool → Cell Member
 quote_cell is_quoted = beside (word (codes "quote ") (codes "quote") (verdict_word is_quoted)) (text (codes "\n"))
 
--- The verdict, if the signature was verified.
+abbrev pub verdict_cell : Bool → Cell Member
+verdict_cell is_match = beside (word (codes "verdict ") (codes "verdict") (verdict_word is_match)) (text (codes "\n"))
+
+-- The verdict, if the caller says that he has verified the signature: text does not repeat that.
 abbrev pub signed_cell : Bool → Cell Member
-signed_cell is_match = in_order (
-    word_member (codes "signature") (codes "checked")
-    ∷ word (codes "verdict ") (codes "verdict") (verdict_word is_match)
+signed_cell is_match = beside (word_member (codes "signature") (codes "checked")) (verdict_cell is_match)
+
+-- The verdict, if the signature was verified here.
+abbrev pub valid_cell : Bool → Cell Member
+valid_cell is_match = in_order (
+    word (codes "signature ") (codes "signature") (codes "valid")
     ∷ text (codes "\n")
+    ∷ verdict_cell is_match
     ∷ [])
 
--- There is no verdict if it was not.
+-- There is no verdict if nobody verified it.
 abbrev pub unsigned_cell : Cell Member
 unsigned_cell = in_order (
     word (codes "signature ") (codes "signature") (codes "not checked")
@@ -111,9 +120,10 @@ unsigned_cell = in_order (
     ∷ text (codes "\n")
     ∷ [])
 
-abbrev pub conclusion_cell : Bool → Bool → Cell Member
-conclusion_cell true is_match = signed_cell is_match
-conclusion_cell false is_match = unsigned_cell
+abbrev pub conclusion_cell : SignatureState → Bool → Cell Member
+conclusion_cell NotChecked is_match = unsigned_cell
+conclusion_cell Checked is_match = signed_cell is_match
+conclusion_cell Valid is_match = valid_cell is_match
 
 -- The report: what the quote states, the counts, how log and list compare, which entries are not known, how the quote compares, and the
 -- verdict, which is no match if an entry is not known.
@@ -124,5 +134,5 @@ attestation_cell unknown report = in_order (
     ∷ comparison_cell report
     ∷ if_some unknown unknown_cell
     ∷ quote_cell report.is_quoted
-    ∷ conclusion_cell report.is_signed (has_no_unknown unknown && is_attested report)
+    ∷ conclusion_cell report.signature (has_no_unknown unknown && is_attested report)
     ∷ [])

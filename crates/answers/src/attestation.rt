@@ -6,14 +6,14 @@ ghost use Rattle.known_files.specs.Unknown.{has_no_unknown};
 ghost use Rattle.attestations.specs.declared.expected.ExpectedValues.TheVariants.{Confirmed};
 ghost use Rattle.attestations.specs.Reports.{attest_verdict_of, is_attested};
 ghost use Rattle.cells.specs.Cells.{ShowsMembers};
-ghost use Rattle.answers.specs.AttestationCells.{attestation_cell, attestation_counts, comparison_cell, conclusion_cell, confirmed_word, quote_cell, signed_cell, unsigned_cell, values_cell};
+ghost use Rattle.answers.specs.AttestationCells.{attestation_cell, attestation_counts, comparison_cell, conclusion_cell, confirmed_word, quote_cell, signed_cell, unsigned_cell, valid_cell, values_cell, verdict_cell};
 
 use crate::prefix::show_prefix_counts;
 use crate::quoted::show_stated;
 use crate::report::{
     show_aggregate, show_counts, show_extends, show_report_rows, show_unknown, verdict_word,
 };
-use attestations::{AttestReport, ExpectedValues, Whole};
+use attestations::{AttestReport, ExpectedValues, SignatureState, Whole};
 use boot_verdict::{Report, Row};
 use cells::{CellWriter, Written};
 use known_files::{UnknownFiles, has_no_unknown};
@@ -33,7 +33,7 @@ pub fn show_attestation(
     show_comparison(alloc, report, out)?;
     show_unknown(unknown, out)?;
     show_quote(report.is_quoted, out)?;
-    show_conclusion(report.is_signed, is_attested(report, unknown), out)
+    show_conclusion(report.signature, is_attested(report, unknown), out)
 }
 
 // Whether log and list are what the quote is of, and no entry is unknown.
@@ -105,13 +105,14 @@ fn show_quote(is_quoted: bool, out: &mut CellWriter) -> Written
     out.text("\n")
 }
 
-// Shows whether the signature was verified, and the verdict.
-fn show_conclusion(is_signed: bool, is_match: bool, out: &mut CellWriter) -> Written
-    ensures { ShowsMembers result out.old out.new (conclusion_cell is_signed is_match) }
+// Shows what is known of the signature, and the verdict.
+fn show_conclusion(signature: SignatureState, is_match: bool, out: &mut CellWriter) -> Written
+    ensures { ShowsMembers result out.old out.new (conclusion_cell signature is_match) }
 {
-    match is_signed {
-        true => show_signed(is_match, out),
-        false => show_unsigned(out),
+    match signature {
+        SignatureState::NotChecked => show_unsigned(out),
+        SignatureState::Checked => show_signed(is_match, out),
+        SignatureState::Valid => show_valid(is_match, out),
     }
 }
 
@@ -119,6 +120,20 @@ fn show_signed(is_match: bool, out: &mut CellWriter) -> Written
     ensures { ShowsMembers result out.old out.new (signed_cell is_match) }
 {
     out.word_member("signature", "checked")?;
+    show_verdict(is_match, out)
+}
+
+fn show_valid(is_match: bool, out: &mut CellWriter) -> Written
+    ensures { ShowsMembers result out.old out.new (valid_cell is_match) }
+{
+    out.word("signature ", "signature", "valid")?;
+    out.text("\n")?;
+    show_verdict(is_match, out)
+}
+
+fn show_verdict(is_match: bool, out: &mut CellWriter) -> Written
+    ensures { ShowsMembers result out.old out.new (verdict_cell is_match) }
+{
     out.word("verdict ", "verdict", verdict_word(is_match))?;
     out.text("\n")
 }

@@ -1,4 +1,4 @@
-//! The judgement on a firmware log and a measurement list by a quote of the TPM, whose signature the caller has verified.
+//! The judgement on a firmware log and a measurement list by a quote of the TPM. Its signature is verified elsewhere.
 //!
 //! No call of this crate allocates but [`Quoted::of`].
 #![tactic(auto)]
@@ -7,8 +7,10 @@ mod attested;
 mod expected;
 mod policy;
 mod report;
+mod signature;
 
 pub use attested::{AttestFault, AttestedLog, Cause, attest};
 pub use expected::{ExpectedValues, keep_confirmed};
 pub use policy::{LEAST_NONCE, Policy, PolicyFault, QuoteRefusal, quote_for};
 pub use report::{AttestReport, Quoted, Selected, Whole};
+pub use signature::SignatureState;

@@ -6,6 +6,7 @@ ghost use Rattle.attestations.specs.Quoted.{bank_selection_of, stated_by, stated
 ghost use Rattle.attestations.specs.Reports.{attest_verdict_of, is_attested};
 
 use crate::expected::ExpectedValues;
+use crate::signature::SignatureState;
 use boot_verdict::{Report, Unconfirmed};
 use pcr_banks::Alg;
 use std::alloc::{AllocError, Global};
@@ -115,8 +116,8 @@ pub struct AttestReport {
     pub expected: ExpectedValues,
     /// Whether the quote is of the values to which log and list replay, or log and the prefix.
     pub is_quoted: bool,
-    /// Whether the caller has verified the message's signature. Without that nothing is attested, whatever the rest says.
-    pub is_signed: bool,
+    /// What is known of the message's signature. If nobody verified it nothing is attested, whatever the rest says.
+    pub signature: SignatureState,
 }
 
 impl AttestReport {

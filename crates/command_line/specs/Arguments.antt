@@ -32,6 +32,8 @@ use Rattle.agent_plans.specs.declared.plan.Query.{Query}
 use Rattle.agent_plans.specs.declared.plan.Query.TheVariants as queries
 use Rattle.agent_plans.specs.declared.plan.Quoting.{Quoting}
 use Rattle.agent_plans.specs.declared.plan.Scope.TheVariants.{Whole, Prefix}
+use Rattle.agent_plans.specs.declared.plan.SigningOptions.{SigningOptions}
+use Rattle.agent_plans.specs.declared.plan.SigningOptions.TheVariants.{NotChecked, ByCaller, ByKey}
 use Rattle.agent_plans.specs.declared.plan.Task.{Task}
 use Rattle.agent_plans.specs.declared.plan.Task.TheVariants as tasks
 use Rattle.tpm_keys.specs.declared.kinds.KeyPart.{KeyPart}
@@ -111,6 +113,8 @@ table parsers = (
           ∷ required_option (codes "require")
           ∷ several (codes "known")
           ∷ flag (codes "sha1")
+          ∷ without_default (codes "key")
+          ∷ without_default (codes "signature")
           ∷ flag (codes "signature-checked")
           ∷ flag (codes "prefix")
           ∷ without_default (codes "save")
@@ -151,6 +155,8 @@ table parsers = (
           ∷ without_default (codes "nonce")
           ∷ without_default (codes "require")
           ∷ flag (codes "sha1")
+          ∷ without_default (codes "key")
+          ∷ without_default (codes "signature")
           ∷ flag (codes "signature-checked")
           ∷ without_default (codes "before")
           ∷ flag (codes "json")
@@ -167,6 +173,8 @@ table parsers = (
           ∷ without_default (codes "nonce")
           ∷ without_default (codes "require")
           ∷ flag (codes "sha1")
+          ∷ without_default (codes "key")
+          ∷ without_default (codes "signature")
           ∷ flag (codes "signature-checked")
           ∷ flag (codes "json")
           ∷ required (codes "LOG")
@@ -254,6 +262,18 @@ pub record HasBytes (id : Text) (rows : List Row) (bytes : List ℕ) : Type 0 wh
   pub has : first_of id rows ≡ Some text
   pub spells : decode_of text ≡ Ok bytes
 
+-- This tells that a quote's message is signed: the caller does, only if he says that he has verified the signature, and names neither key nor
+-- signature; a key and a signature do, only if both are named, and nothing is said of them.
+abbrev pub IsSignedAs : List Row → SigningOptions → Type 0
+IsSignedAs rows NotChecked =
+    IsGivenAs (codes "key") rows None × IsGivenAs (codes "signature") rows None × IsFlag (codes "signature-checked") rows false true false
+IsSignedAs rows ByCaller =
+    IsGivenAs (codes "key") rows None × IsGivenAs (codes "signature") rows None × IsFlag (codes "signature-checked") rows false true true
+IsSignedAs rows (ByKey key signature) =
+    IsGivenAs (codes "key") rows (Some key)
+    × IsGivenAs (codes "signature") rows (Some signature)
+    × IsFlag (codes "signature-checked") rows false true false
+
 -- The matches have what is asked of the quote in the file of this name, and the list, which the argument of this name has.
 pub record HasQuoting (list : Text) (rows : List Row) (quote : String Global) (quoting : Quoting) : Type 0 where
   pub list_is : IsGivenAs list rows (Some quoting.list)
@@ -261,7 +281,7 @@ pub record HasQuoting (list : Text) (rows : List Row) (quote : String Global) (q
   pub nonce_is : HasBytes (codes "nonce") rows quoting.nonce.items
   pub required_is : IsGivenAs (codes "require") rows (Some quoting.required)
   pub takes_sha1_is : IsFlag (codes "sha1") rows false true quoting.takes_sha1
-  pub is_signed_is : IsFlag (codes "signature-checked") rows false true quoting.is_signed
+  pub signing_is : IsSignedAs rows quoting.signing
 
 -- The matches have the options and names of this attestation.
 pub record HasAttestOptions (rows : List Row) (attest : AttestOptions) : Type 0 where
@@ -306,7 +326,7 @@ pub record HasNoQuoting (rows : List Row) : Type 0 where
   pub nonce_is : IsGivenAs (codes "nonce") rows None
   pub required_is : IsGivenAs (codes "require") rows None
   pub takes_sha1_is : IsFlag (codes "sha1") rows false true false
-  pub is_signed_is : IsFlag (codes "signature-checked") rows false true false
+  pub signing_is : IsSignedAs rows NotChecked
 
 -- This tells which data is confirmed: of `--expected` and `--quote`, no more than one is present.
 abbrev pub IsConfirmedBy : List Row → ConfirmedBy → Type 0

@@ -74,8 +74,24 @@ const REQUIRED_WITHOUT_QUOTE: &str =
 
 const SHA1_WITHOUT_QUOTE: &str = "error: the argument '--sha1' cannot be used without '--quote'\n";
 
+const KEY_WITHOUT_QUOTE: &str =
+    "error: the argument '--key <KEY>' cannot be used without '--quote'\n";
+
+const SIGNATURE_WITHOUT_QUOTE: &str =
+    "error: the argument '--signature <SIG>' cannot be used without '--quote'\n";
+
 const CHECKED_WITHOUT_QUOTE: &str =
     "error: the argument '--signature-checked' cannot be used without '--quote'\n";
+
+// What is wrong with a key or a signature alone, and beside `--signature-checked`.
+const KEY_WITHOUT_SIGNATURE: &str =
+    "error: the argument '--key <KEY>' cannot be used without '--signature'\n";
+
+const SIGNATURE_WITHOUT_KEY: &str =
+    "error: the argument '--signature <SIG>' cannot be used without '--key'\n";
+
+const KEY_BESIDE_CHECKED: &str =
+    "error: the argument '--key <KEY>' cannot be used with '--signature-checked'\n";
 
 /// Reads the program's arguments, without its name. Without arguments the plan is `Registers`: the log on standard input. After
 /// `--version` or `-V` nothing is looked at. Otherwise the first argument is the command, and the rest are its options and names, by
@@ -98,8 +114,8 @@ pub fn read_words(alloc: Global, arguments: &[String]) -> Result<Plan, Arguments
     }
 }
 
-/// What `clap` says of arguments that it refuses, or what is wrong with `--print binary` beside `--json`, with options of `events` or `boot`
-/// that do not go together, with known files where no registers are required, or with a nonce that is not hexadecimal: lines for a person,
+/// What `clap` says of arguments that it refuses, or what is wrong with `--print binary` beside `--json`, with options of `attest`, `events` or
+/// `boot` that do not go together, with known files where no registers are required, or with a nonce that is not hexadecimal: lines for a person,
 /// which may have any bytes of the arguments. `None` if `clap` takes them, and they are no such; of `--help` and `--version` it is what
 /// `clap` shows.
 pub fn refusal_of(alloc: Global, arguments: &[String]) -> Result<Option<String>, AllocError>
@@ -157,6 +173,9 @@ fn wrong_pair(matches: &ArgMatches) -> Option<&'static str> {
     if let Some(matches) = matches.subcommand_matches("boot") {
         return wrong_pair_of_quote(matches);
     }
+    if let Some(matches) = matches.subcommand_matches("attest") {
+        return wrong_pair_of_signing(matches);
+    }
     let matches = match matches.subcommand_matches("verify") {
         Some(matches) => matches,
         None => matches.subcommand_matches("replay")?,
@@ -210,7 +229,18 @@ fn wrong_pair_of_quote(matches: &ArgMatches) -> Option<&'static str> {
     } else if !matches.contains_id("require") {
         Some(QUOTE_WITHOUT_REQUIRED)
     } else {
-        None
+        wrong_pair_of_signing(matches)
+    }
+}
+
+// Whether a key or a signature is given alone, or beside the caller's word.
+fn wrong_pair_of_signing(matches: &ArgMatches) -> Option<&'static str> {
+    let is_checked = is_set(matches, "signature-checked");
+    match (matches.contains_id("key"), matches.contains_id("signature")) {
+        (false, false) => None,
+        (false, true) => Some(SIGNATURE_WITHOUT_KEY),
+        (true, false) => Some(KEY_WITHOUT_SIGNATURE),
+        (true, true) => is_checked.then_some(KEY_BESIDE_CHECKED),
     }
 }
 
@@ -224,6 +254,10 @@ fn without_quote(matches: &ArgMatches) -> Option<&'static str> {
         Some(REQUIRED_WITHOUT_QUOTE)
     } else if is_set(matches, "sha1") {
         Some(SHA1_WITHOUT_QUOTE)
+    } else if matches.contains_id("key") {
+        Some(KEY_WITHOUT_QUOTE)
+    } else if matches.contains_id("signature") {
+        Some(SIGNATURE_WITHOUT_QUOTE)
     } else if is_set(matches, "signature-checked") {
         Some(CHECKED_WITHOUT_QUOTE)
     } else {

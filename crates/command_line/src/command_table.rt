@@ -109,6 +109,11 @@ const NONCE: ArgumentRow<'static> = row!("nonce"; ArgumentForm::Optional("HEX"))
 /// Whether registers of the SHA-1 bank alone are taken.
 const SHA1: ArgumentRow<'static> = row!("sha1"; ArgumentForm::Flag);
 
+/// The key that signed the quote, and its signature.
+const KEY: ArgumentRow<'static> = row!("key"; ArgumentForm::Optional("KEY"));
+
+const SIGNATURE: ArgumentRow<'static> = row!("signature"; ArgumentForm::Optional("SIG"));
+
 /// Whether the caller has verified the quote's signature.
 const SIGNATURE_CHECKED: ArgumentRow<'static> = row!("signature-checked"; ArgumentForm::Flag);
 
@@ -150,6 +155,8 @@ static COMMANDS: [CommandRow; 11] = [
             row!("require"; ArgumentForm::RequiredOption("SELECTION")),
             KNOWN,
             SHA1,
+            KEY,
+            SIGNATURE,
             SIGNATURE_CHECKED,
             PREFIX,
             SAVE,
@@ -189,6 +196,8 @@ static COMMANDS: [CommandRow; 11] = [
             NONCE,
             REQUIRE,
             SHA1,
+            KEY,
+            SIGNATURE,
             SIGNATURE_CHECKED,
             row!("before"; ArgumentForm::Optional("OLD_LOG")),
             JSON,
@@ -207,6 +216,8 @@ static COMMANDS: [CommandRow; 11] = [
             NONCE,
             REQUIRE,
             SHA1,
+            KEY,
+            SIGNATURE,
             SIGNATURE_CHECKED,
             JSON,
             LOG,

@@ -3,12 +3,12 @@
 ghost use Rattle.std.specs.Prelude.{◌≡◌, ◌<◌, ◌≤◌, ◌^◌, [], Some, codes, map, string_bytes, unwrap_or, vec_len, IfOk};
 ghost use Rattle.clap.specs.Words.{all_of, first_of, found_of, rows_of};
 ghost use Rattle.agent_plans.specs.Plans.{HasForm, IsWithin, IsWithinLimits, TakesKnown};
-ghost use Rattle.command_line.specs.Arguments.{AreFurtherNames, AreGivenAs, HasAttestOptions, HasBytes, HasMeasure, HasNoQuoting, HasNumber, HasQuery, HasQuoting, HasValues, IsConfirmedBy, IsDataShown, IsFlag, IsGivenAs, part_name, print_name};
+ghost use Rattle.command_line.specs.Arguments.{AreFurtherNames, AreGivenAs, HasAttestOptions, HasBytes, HasMeasure, HasNoQuoting, HasNumber, HasQuery, HasQuoting, HasValues, IsConfirmedBy, IsDataShown, IsFlag, IsGivenAs, IsSignedAs, part_name, print_name};
 
 use crate::command_table::{MOST_RECORDS, MOST_WORKERS};
 use agent_plans::{
     ArgumentsFault, AttestOptions, ComparisonKind, ConfirmedBy, DataShown, Form, Measurement,
-    NameEnd, Names, Print, Query, Quoting, Scope, Task,
+    NameEnd, Names, Print, Query, Quoting, Scope, SigningOptions, Task,
 };
 use clap::ArgMatches;
 use hex::FromHexError;
@@ -110,8 +110,23 @@ fn quoting_of(
         nonce: bytes_of(alloc, matches, "nonce")?,
         required: name_of(alloc, matches, "require")?,
         takes_sha1: flag_of(matches, "sha1", false, true)?,
-        is_signed: flag_of(matches, "signature-checked", false, true)?,
+        signing: signing_of(alloc, matches)?,
     })
+}
+
+// What tells that the message is signed. Refuses a key or a signature alone, and either with the caller's word.
+fn signing_of(alloc: Global, matches: &ArgMatches) -> Result<SigningOptions, ArgumentsFault>
+    ensures { IfOk result (IsSignedAs (rows_of (found_of matches.now))) }
+{
+    let key = text_if_given(alloc, matches, "key")?;
+    let signature = text_if_given(alloc, matches, "signature")?;
+    let is_checked = flag_of(matches, "signature-checked", false, true)?;
+    match (key, signature, is_checked) {
+        (None, None, false) => Ok(SigningOptions::NotChecked),
+        (None, None, true) => Ok(SigningOptions::ByCaller),
+        (Some(key), Some(signature), false) => Ok(SigningOptions::ByKey { key, signature }),
+        _ => Err(ArgumentsFault::Usage),
+    }
 }
 
 // Refuses what is of a quote.
@@ -122,9 +137,9 @@ fn has_no_quoting(alloc: Global, matches: &ArgMatches) -> Result<(), ArgumentsFa
     let nonce = text_if_given(alloc, matches, "nonce")?;
     let required = text_if_given(alloc, matches, "require")?;
     let takes_sha1 = flag_of(matches, "sha1", false, true)?;
-    let is_signed = flag_of(matches, "signature-checked", false, true)?;
-    match (list, nonce, required, takes_sha1, is_signed) {
-        (None, None, None, false, false) => Ok(()),
+    let signing = signing_of(alloc, matches)?;
+    match (list, nonce, required, takes_sha1, signing) {
+        (None, None, None, false, SigningOptions::NotChecked) => Ok(()),
         _ => Err(ArgumentsFault::Usage),
     }
 }

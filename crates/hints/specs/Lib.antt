@@ -6,3 +6,4 @@ pub mod Mistakes
 pub mod OldAggregates
 pub mod Refused
 pub mod Saying
+pub mod Signing

@@ -1,6 +1,7 @@
 -- What a person is told to do next.
 use Rattle.std.specs.Prelude.{◌≡◌, ℕ, ◌⊎◌, ◌++◌, ◌∷◌, Bool, List, [], codes, flat_map, take, Option, None, Some, MatchOption, IfSome, IfNone}
 use Rattle.agent_inputs.specs.declared.fault.RunFault.{RunFault}
+use Rattle.agent_inputs.specs.declared.fault.RunFault.TheVariants as runs
 use Rattle.agent_inputs.specs.Loading.{Inputs}
 use Rattle.agent_plans.specs.declared.plan.Query.{Query}
 use Rattle.agent_plans.specs.declared.plan.Task.{Task}
@@ -17,7 +18,8 @@ use Rattle.hints.specs.HintTexts.{hints_of_causes, mistake_words, shown_hint}
 use Rattle.hints.specs.Mistakes.{mistake_in}
 use Rattle.hints.specs.OldAggregates.{IsSaidOld}
 use Rattle.judging.specs.Queries.{requested_by, with_known}
-use Rattle.hints.specs.Refused.{list_of, log_of, refused_input}
+use Rattle.hints.specs.Refused.{list_of, log_of, quoting_of, refused_input}
+use Rattle.hints.specs.Signing.{key_line, refusal_words, unsigned_words}
 use Rattle.run_progress.specs.declared.progress.Failure.{Failure}
 use Rattle.run_progress.specs.declared.progress.Failure.TheVariants as failures
 
@@ -51,6 +53,12 @@ TellsMistake inputs fault task text =
     MatchOption (refused_input fault task) (text ≡ [])
     (λ refused. (head : Option (List ℕ)) × IsLookedAt inputs refused.0 head × (text ≡ head_line refused.0 refused.1 head))
 
+-- What to do about a fault: of a signature and a quote's key what to give, of other inputs what they are.
+abbrev pub TellsFault : Inputs → RunFault → Task → List ℕ → Type 0
+TellsFault inputs (runs.Signature refusal) task text = text ≡ escape (refusal_words refusal) ++ 10 ∷ []
+TellsFault inputs (runs.Key fault) task text = text ≡ key_line fault (quoting_of task)
+TellsFault inputs fault task text = TellsMistake inputs fault task text
+
 abbrev pub TellsOf : Inputs → Task → List ℕ → Type 0
 TellsOf inputs (tasks.Answer question) text = TellsCauses inputs question text
 TellsOf inputs task text = text ≡ []
@@ -58,5 +66,6 @@ TellsOf inputs task text = text ≡ []
 -- What to do next after this.
 abbrev pub TellsNext : Inputs → Failure → List ℕ → Type 0
 TellsNext inputs (failures.Differs task) text = TellsOf inputs task.now text
-TellsNext inputs (failures.Fault fault task) text = TellsMistake inputs fault.now task.now text
+TellsNext inputs (failures.Unsigned task) text = text ≡ escape unsigned_words ++ 10 ∷ []
+TellsNext inputs (failures.Fault fault task) text = TellsFault inputs fault.now task.now text
 TellsNext inputs failure text = text ≡ []

@@ -5,7 +5,7 @@ ghost use Rattle.std.specs.List.{list_all};
 ghost use Rattle.hints.specs.Escaping.{is_shown};
 
 use crate::escapes::{escape_each, shown_line, shown_lines};
-use crate::task_inputs::{STANDARD_INPUT, input_of, known_name, quoting_of};
+use crate::task_inputs::{STANDARD_INPUT, input_of, known_name, quoting_of, signing_of};
 use agent_inputs::RunFault;
 use agent_plans::{ComparisonOptions, Query, Quoting, Task};
 use attestations::{Policy, PolicyFault};
@@ -14,6 +14,7 @@ use command_line::refusal_of;
 use pcr_values::{Selection, SelectionFault};
 use run_progress::Failure;
 use std::alloc::{AllocError, Global};
+use std::fs;
 use std::fs::File;
 use std::io;
 use std::io::Read;
@@ -46,7 +47,7 @@ pub fn explanation<R: FileSystem + io::Input>(
             io::ErrorKind::InvalidData => shown_line(alloc, "an argument is not UTF-8"),
             _ => Err(AllocError),
         },
-        Failure::Differs { .. } => Ok(String::new(alloc)),
+        Failure::Differs { .. } | Failure::Unsigned { .. } => Ok(String::new(alloc)),
         Failure::Output => shown_line(alloc, "the output could not be written"),
     }
 }
@@ -66,6 +67,9 @@ fn of_fault<R: FileSystem + io::Input>(
         RunFault::Read(_) if matches!(task, Task::Registers) => {
             of_reason(alloc, STANDARD_INPUT, read_reason(&mut rt.reader()))
         }
+        RunFault::Read(name) if is_refused(rt, name, task) => {
+            shown_line(alloc, &format!(in alloc; "cannot read {name}: it is no regular file")?)
+        }
         RunFault::Read(name) => of_reason(alloc, name, open_reason(rt, name)),
         RunFault::TooLong(_) if matches!(task, Task::Registers) => {
             // The fault has no name to tell standard input by.
@@ -80,6 +84,18 @@ fn of_fault<R: FileSystem + io::Input>(
             Some(input) => shown_line(alloc, &format!(in alloc; "{input}: {fault}")?),
             None => shown_line(alloc, &format!(in alloc; "{fault}")?),
         },
+    }
+}
+
+// Whether what has this name is no regular file, where a signature is verified: then no other is read, nor opened once more, since that may wait
+// for ever.
+fn is_refused<R: FileSystem>(rt: &R, name: &str, task: &Task) -> bool {
+    if quoting_of(task).and_then(signing_of).is_none() {
+        return false;
+    }
+    match fs::metadata(rt, name) {
+        Ok(present) => !present.is_file(),
+        Err(_) => false,
     }
 }
 

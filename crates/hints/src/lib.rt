@@ -9,6 +9,7 @@ mod progress;
 mod reasons;
 mod rejudge;
 mod reread;
+mod signing;
 mod task_inputs;
 mod wrong_input;
 

@@ -6,13 +6,14 @@ ghost use Rattle.agent_inputs.specs.Loading.{unknown};
 ghost use Rattle.judging.specs.Requests.{requested_of};
 ghost use Rattle.hints.specs.Escaping.{is_shown};
 ghost use Rattle.hints.specs.Hints.{IsGrown, IsNotGrown, IsNotSeen, IsSeen};
-ghost use Rattle.hints.specs.Saying.{TellsMistake, TellsNext, TellsOf};
+ghost use Rattle.hints.specs.Saying.{TellsFault, TellsMistake, TellsNext, TellsOf};
 
 use crate::hints::{rendered_hints, rendered_mistake};
 use crate::old_aggregates::is_old_aggregate;
 use crate::reasons::{Causes, Grown, causes_of, grown_by};
 use crate::reread::{FilesAgain, head_of};
-use crate::task_inputs::refused_input;
+use crate::signing::{key_hint, refusal_hint, unsigned_hint};
+use crate::task_inputs::{quoting_of, refused_input};
 use crate::wrong_input::mistake_in;
 use agent_inputs::{AgentFiles, RunFault};
 use agent_plans::Task;
@@ -33,8 +34,9 @@ pub fn hint_on_failure<R: FileSystem>(
     hint_from_files(alloc, &mut FilesAgain::new(rt), failure)
 }
 
-/// What a person may do next, in lines: after an answer that something differs, by a second look at the inputs, and where an input is refused
-/// that is not what it should be, by its first bytes. No text where nothing helps, or the inputs cannot be read again. It changes no input.
+/// What a person may do next, in lines: after an answer that something differs, by a second look at the inputs; where nobody looked at a quote's
+/// signature, or it or its key is refused; and where another input is refused that is not what it should be, by its first bytes. No text where
+/// nothing helps, or the inputs cannot be read again. It changes no input.
 ///
 /// Fails if memory runs out.
 pub fn hint_from_files<F: AgentFiles>(
@@ -48,6 +50,7 @@ pub fn hint_from_files<F: AgentFiles>(
 {
     match failure {
         Failure::Differs { task } => on_difference(alloc, files, task),
+        Failure::Unsigned { .. } => unsigned_hint(alloc),
         Failure::Fault { fault, task } => on_fault(alloc, files, fault, task),
         _ => Ok(String::new(alloc)),
     }
@@ -106,6 +109,24 @@ fn grown_seen<F: AgentFiles>(alloc: Global, files: &mut F, request: Request<'_>)
 
 // Where an input is refused.
 fn on_fault<F: AgentFiles>(
+    alloc: Global,
+    files: &mut F,
+    fault: &RunFault,
+    task: &Task,
+) -> Result<String, AllocError>
+    ensures told { IfOk result (λ text. TellsFault (F.inputs files.old) fault.now task.now (string_bytes text)) }
+    ensures shown { IfOk result (λ text. list_all is_shown (string_bytes text) ≡ true) }
+    ensures replaced { F.replaced files.new ≡ F.replaced files.old }
+{
+    match fault {
+        RunFault::Signature(refusal) => refusal_hint(alloc, *refusal),
+        RunFault::Key(fault) => key_hint(alloc, *fault, quoting_of(task)),
+        _ => on_mistake(alloc, files, fault, task),
+    }
+}
+
+// Where an input is refused that may be another by mistake.
+fn on_mistake<F: AgentFiles>(
     alloc: Global,
     files: &mut F,
     fault: &RunFault,

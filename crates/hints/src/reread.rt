@@ -50,6 +50,9 @@ impl<R: FileSystem> AgentFiles for FilesAgain<'_, R> {
         Err(Failed)
     }
 
+    /// No other are taken before.
+    fn take_only_regular_files(&mut self) {}
+
     fn is_regular(&self, name: &str) -> bool {
         is_regular(self.runtime, name)
     }

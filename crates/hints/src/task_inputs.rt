@@ -7,9 +7,10 @@ use crate::wrong_input::ExpectedInput;
 use agent_inputs::RunFault;
 use agent_plans::{
     AttestOptions, ComparisonKind, ComparisonOptions, ConfirmedBy, Measurement, Query, Quoting,
-    Task,
+    SigningOptions, Task,
 };
 use measure_book::BookFault;
+use signed_messages::SignatureRefusal;
 
 /// What standard input is called.
 pub(crate) const STANDARD_INPUT: &str = "standard input";
@@ -22,7 +23,9 @@ pub(crate) fn input_of<'a>(task: &'a Task, fault: &RunFault) -> Option<&'a str> 
         (RunFault::List(_) | RunFault::Replay(_), _) => list_of(task),
         (RunFault::Expect(_), _) => expected_of(task),
         (RunFault::Quote(_), _) => Some(quoting_of(task)?.quote.as_str()),
+        (RunFault::Signature(refusal), _) => refused_signing(quoting_of(task)?, *refusal),
         (RunFault::Key(_), Task::Answer(Query::Key { area, .. })) => Some(area.as_str()),
+        (RunFault::Key(_), _) => Some(signing_of(quoting_of(task)?)?.0),
         (RunFault::Checkpoint(_), Task::Answer(Query::Attestation(attest))) => {
             attest.resume.as_deref()
         }
@@ -35,6 +38,23 @@ pub(crate) fn input_of<'a>(task: &'a Task, fault: &RunFault) -> Option<&'a str> 
             Some(name.as_str())
         }
         _ => None,
+    }
+}
+
+// The input by which a signature is refused: the key's, if it is of its key alone.
+fn refused_signing(quoting: &Quoting, refusal: SignatureRefusal) -> Option<&str> {
+    let (key, signature) = signing_of(quoting)?;
+    match refusal {
+        SignatureRefusal::OtherKey | SignatureRefusal::OtherPem => Some(key),
+        _ => Some(signature),
+    }
+}
+
+/// The names of the key and the signature by which a quote's message is verified, if it is.
+pub(crate) fn signing_of(quoting: &Quoting) -> Option<(&str, &str)> {
+    match &quoting.signing {
+        SigningOptions::ByKey { key, signature } => Some((key.as_str(), signature.as_str())),
+        SigningOptions::NotChecked | SigningOptions::ByCaller => None,
     }
 }
 

@@ -34,6 +34,9 @@ use std::thread::Threads;
 // The exit status of an answer that something differs.
 const DIFFERS: u8 = 1;
 
+// The exit status of an answer by a quote at whose signature nobody looked.
+const UNSIGNED: u8 = 4;
+
 // The exit status if the sink failed.
 const FAILED: u8 = 3;
 
@@ -104,8 +107,8 @@ fn exits_with(status: u8) -> ExitCode
 /// fault is found only when the list is read again: the list has changed, cannot be read, or memory runs out. With `--expected` or
 /// `--quote` the log is looked through before, and so it is with `--explain`: then only the line of a fault of memory may come after some. The status is 0 on success, 1
 /// if the report does not match, a register's value was not reached, none was looked for or a required one is missing, 2 for refused
-/// input, 3 if memory ran out, outcomes do not account for the book, or a device failed, and 4 for a refused quote, or one whose signature
-/// the caller has not checked; `events` and `boot` have the status of such a quote, if one confirms nothing. After the sink fails, nothing more is written.
+/// input, 3 if memory ran out, outcomes do not account for the book, or a device failed, and 4 for a refused quote, or one at whose signature
+/// nobody looked; `events` and `boot` have the status of such a quote, if one confirms nothing. After the sink fails, nothing more is written.
 ///
 /// A file is replaced only by `verify --save` and `attest --save` with the verdict `match`: by the checkpoint of what the report is on, before the report is
 /// written. With a fault none is.
@@ -190,8 +193,10 @@ fn run_task<R: Threads + Wait + Sync, F: AgentFiles, S: Sink, P: Progress>(
 
 // Tells what an answer with this status has to tell beside the output.
 fn tell_difference<P: Progress>(alloc: Global, task: &Task, status: u8, progress: &P) {
-    if status == DIFFERS {
-        progress.explain(alloc, Failure::Differs { task });
+    match status {
+        DIFFERS => progress.explain(alloc, Failure::Differs { task }),
+        UNSIGNED => progress.explain(alloc, Failure::Unsigned { task }),
+        _ => {}
     }
 }
 

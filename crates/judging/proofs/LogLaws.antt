@@ -32,6 +32,6 @@ module _ (inputs : Inputs) (list : Where) (evidence : Evidence) (first : evidenc
 pub log_attested : (inputs : Inputs) (asked : AttestRequested) (given : Answered) (is : IsAttestation inputs asked given) → asked.scope ≡ Whole
     → asked.resume ≡ None → ReadsAsLog is.log
 log_attested inputs asked given is whole none =
-    let evidence = quoted_evidence is.log is.quote asked.is_signed is.values is.counted (checkpoint_of is.state) is.files in
+    let evidence = quoted_evidence is.log is.quote is.signature is.values is.counted (checkpoint_of is.state) is.files in
     log_judged inputs asked.list evidence (ap checkpoint_of (rw none at is.state_is)) asked.log given.answer is.next given.unknown
     (rw (whole, none) at is.judged)

@@ -34,7 +34,11 @@ use Rattle.attestations.specs.Confirming.{confirmed_by, expected_values}
 use Rattle.attestations.specs.Judging.{quote_refusal}
 use Rattle.attestations.specs.Policies.{Terms, policy_fault}
 use Rattle.attestations.specs.Quoted.{stated_by}
-use Rattle.attestations.specs.Reports.{AttestVerdict, attest_verdict_of, is_attested}
+use Rattle.attestations.specs.Reports.{AttestVerdict, attest_verdict_of, is_attested, is_signed}
+use Rattle.attestations.specs.declared.signature.SignatureState.{SignatureState}
+use Rattle.attestations.specs.declared.signature.SignatureState.TheVariants as states
+use Rattle.signed_messages.specs.declared.check_fault.CheckFault.{CheckFault}
+use Rattle.signed_messages.specs.KeyTexts.{IsCheckFault, IsSignedByText}
 use Rattle.tpm_keys.specs.declared.fault.KeyFault.{KeyFault}
 use Rattle.tpm_keys.specs.declared.kinds.Purpose.{Purpose}
 use Rattle.tpm_keys.specs.Purposes.{lack}
@@ -53,14 +57,14 @@ use Rattle.agent_plans.specs.declared.plan.Scope.TheVariants.{Whole, Prefix}
 use Rattle.agent_inputs.specs.declared.fault.NotResumed.TheVariants.{OtherBoot, OtherCounts, Damaged, Version}
 use Rattle.agent_inputs.specs.declared.fault.RunFault.{RunFault}
 use Rattle.agent_inputs.specs.declared.fault.RunFault.TheVariants as runs
-use Rattle.agent_inputs.specs.Faults.{HasLogFault, fault_of_expected, fault_of_known}
+use Rattle.agent_inputs.specs.Faults.{HasLogFault, fault_of_check, fault_of_expected, fault_of_known}
 use Rattle.agent_inputs.specs.Loading.{GivesAll, HasFailed, Inputs}
 use Rattle.judging.specs.declared.request.Answer.{Answer}
 use Rattle.judging.specs.declared.request.Answer.TheVariants as answers
 use Rattle.judging.specs.declared.request.Found.{Found}
 use Rattle.judging.specs.declared.request.ScopedReport.{ScopedReport}
 use Rattle.judging.specs.declared.request.ScopedReport.TheVariants as judged
-use Rattle.judging.specs.Requests.{AttestRequested, Attests, Judgement, ListVerdictOf, PositionsOf, VerdictOf, Requested, Compared, Compares, ExpectedOf, KeyOf, ListRegistersOf, LogRegistersOf, Nothing, Requires, These, held_bytes, log_of, resume_of, takes_known}
+use Rattle.judging.specs.Requests.{AttestRequested, Attests, ByCaller, ByKey, NotChecked, Signing, Judgement, ListVerdictOf, PositionsOf, VerdictOf, Requested, Compared, Compares, ExpectedOf, KeyOf, ListRegistersOf, LogRegistersOf, Nothing, Requires, These, held_bytes, log_of, resume_of, takes_known}
 use Rattle.judging.specs.Inputs.{IsFaultAt, IsNotOpened, MayFail, OfInput, Where, held_in, limit_of, Holds, IsInputFault}
 use Rattle.pcr_banks.specs.declared.banks.Banks.{Banks}
 use Rattle.pcr_banks.specs.Names.{IsReset, value_at}
@@ -69,14 +73,14 @@ use Rattle.judging.specs.declared.request.Answered.{Answered}
 use Rattle.judging.specs.declared.answers.Evidence.{Evidence as HeldEvidence}
 
 -- What a list is judged with: the registers that are required, if a text spells some; the log, no bytes without one; the expected
--- registers, beside a quote those that count; the quote, if there is one, whether its signature was verified, and what came of the values of
--- expected registers beside it; the checkpoint that is gone on from, if there is one; and the files that are known, if files have to be known.
+-- registers, beside a quote those that count; the quote, if there is one, what is known of its signature, and what came of the values of expected
+-- registers beside it; the checkpoint that is gone on from, if there is one; and the files that are known, if files have to be known.
 pub record Evidence : Type 0 where
   pub required : Option (List BankRange)
   pub log : List ℕ
   pub expected : List Expected
   pub quote : Option TpmQuote
-  pub is_signed : Bool
+  pub signature : SignatureState
   pub values : ExpectedValues
   pub checkpoint : Option Checkpoint
   pub known_files : Option KnownFiles
@@ -193,37 +197,37 @@ IsVerdictOn inputs scope list evidence Tells (judged.Prefix report) next =
     × OfList inputs list evidence.checkpoint (λ all. IsWrongWith all report.entries report.unconfirmed)
 
 -- What a report by a quote says of what was judged, a whole list or its confirmed prefix, after which this is known: by the registers after it.
-abbrev pub told_by : TpmQuote → Bool → ExpectedValues → Checkpoint → ScopedReport → AttestVerdict
-told_by quote is_signed values next (judged.Whole report) = record {
+abbrev pub told_by : TpmQuote → SignatureState → ExpectedValues → Checkpoint → ScopedReport → AttestVerdict
+told_by quote signature values next (judged.Whole report) = record {
   quoted = stated_by quote;
   verdict = verdict_of report;
   prefix = None;
   expected = values;
   is_quoted = confirms quote (value_at next.after);
-  is_signed = is_signed;
+  signature = signature;
 }
-told_by quote is_signed values next (judged.Prefix report) = record {
+told_by quote signature values next (judged.Prefix report) = record {
   quoted = stated_by quote;
   verdict = verdict_of report.report;
   prefix = Some (record { entries = report.entries; unconfirmed = report.unconfirmed });
   expected = values;
   is_quoted = confirms quote (value_at next.after);
-  is_signed = is_signed;
+  signature = signature;
 }
 
 -- The answer is the report on what was judged: where there is a quote, a report by the quote.
-abbrev pub IsAnswerOn : Option TpmQuote → Bool → ExpectedValues → ScopedReport → Checkpoint → Answer → Type 0
-IsAnswerOn None is_signed values (judged.Whole report) next answer = answer ≡ answers.Report report
-IsAnswerOn None is_signed values (judged.Prefix report) next answer = answer ≡ answers.Prefix report
-IsAnswerOn (Some quote) is_signed values on next answer =
-    (report : AttestReport) × (answer ≡ answers.Attestation report) × (attest_verdict_of report ≡ told_by quote is_signed values next on)
+abbrev pub IsAnswerOn : Option TpmQuote → SignatureState → ExpectedValues → ScopedReport → Checkpoint → Answer → Type 0
+IsAnswerOn None signature values (judged.Whole report) next answer = answer ≡ answers.Report report
+IsAnswerOn None signature values (judged.Prefix report) next answer = answer ≡ answers.Prefix report
+IsAnswerOn (Some quote) signature values on next answer =
+    (report : AttestReport) × (answer ≡ answers.Attestation report) × (attest_verdict_of report ≡ told_by quote signature values next on)
 
 -- The answer is on this evidence and the list of this input; this is where to go on; and these are the unknown ones of the entries that the
 -- answer is on, without those of the list that was taken before.
 abbrev pub IsJudged : Inputs → Judgement → Where → Evidence → Answer → Option Checkpoint → Option UnknownFiles → Type 0
 IsJudged inputs (VerdictOf place scope resume) list evidence answer (Some next) unknown =
     (on : ScopedReport) × IsVerdictOn inputs scope list evidence (TellsUnknown evidence.known_files (entries_taken evidence.checkpoint) unknown) on next
-    × IsAnswerOn evidence.quote evidence.is_signed evidence.values on next answer
+    × IsAnswerOn evidence.quote evidence.signature evidence.values on next answer
 IsJudged inputs (PositionsOf place) list evidence (answers.Positions located) None unknown =
     OfInput inputs list (λ all. AreLocated evidence.log all evidence.expected located.items) × (unknown ≡ None)
 IsJudged inputs ListVerdictOf list evidence (answers.ListReport report) None unknown =
@@ -390,7 +394,7 @@ evidence_of held = record {
   log = held_bytes held.log;
   expected = held.expected.items;
   quote = option_map (λ quote. quote_of quote.now) held.quote;
-  is_signed = held.is_signed;
+  signature = held.signature;
   values = held.values;
   checkpoint = held.checkpoint;
   known_files = held.known_files;
@@ -464,7 +468,7 @@ is_good requires None (answers.Positions positions) = all_found positions.items
 is_good requires (Some ranges) (answers.Positions positions) = required_found ranges positions.items
 is_good requires None (answers.ListReport report) = list_matches (list_verdict_of report)
 is_good requires (Some ranges) (answers.ListReport report) = required_list_matches ranges (list_verdict_of report)
-is_good requires ranges (answers.Attestation report) = report.is_signed && is_attested (attest_verdict_of report)
+is_good requires ranges (answers.Attestation report) = is_signed report.signature && is_attested (attest_verdict_of report)
 is_good requires ranges answer = true
 
 -- Whether all is well: no entry is told unknown, and the answer is good.
@@ -506,10 +510,25 @@ terms_with asked ranges = record { nonce = asked.nonce; required = ranges; takes
 abbrev pub AreTaken : AttestRequested → List BankRange → Type 0
 AreTaken asked ranges = IsRequirementText asked.required ranges × (policy_fault (terms_with asked ranges) ≡ None)
 
--- The message of the input is this quote, and it is the one that is asked for.
-abbrev pub IsAskedFor : Inputs → AttestRequested → List BankRange → TpmQuote → Type 0
-IsAskedFor inputs asked ranges quote =
-    OfInput inputs asked.message (λ message. IsQuote message quote) × (quote_refusal quote (terms_with asked ranges) ≡ None)
+-- The inputs have a key, and a signature of the message by this key.
+abbrev pub IsSignedByInputs : Inputs → Where → Where → List ℕ → Type 0
+IsSignedByInputs inputs key signature message =
+    OfInput inputs key (λ key. OfInput inputs signature (λ signature. IsSignedByText key message signature))
+
+-- This is known of the message's signature: nothing; that the caller says that he has verified it; or that it is valid, and then the inputs have a
+-- key, and a signature of these very bytes by it.
+abbrev pub IsVouched : Inputs → Signing → List ℕ → SignatureState → Type 0
+IsVouched inputs NotChecked message state = state ≡ states.NotChecked
+IsVouched inputs ByCaller message state = state ≡ states.Checked
+IsVouched inputs (ByKey key signature) message state = (state ≡ states.Valid) × IsSignedByInputs inputs key signature message
+
+-- These are the bytes of the message's input, this is known of their signature, and they are this quote, which is the one that is asked for.
+pub record IsAskedFor (inputs : Inputs) (asked : AttestRequested) (ranges : List BankRange) (message : List ℕ) (signature : SignatureState)
+    (quote : TpmQuote) : Type 0 where
+  pub message_is : Holds inputs asked.message message
+  pub vouched : IsVouched inputs asked.signing message signature
+  pub quote_is : IsQuote message quote
+  pub not_refused : quote_refusal quote (terms_with asked ranges) ≡ None
 
 -- What the input of expected registers states; nothing without one.
 abbrev pub IsStated : Inputs → Option Where → Option (List Expected) → Type 0
@@ -533,13 +552,14 @@ pub record AreCounted (inputs : Inputs) (expected : Option Where) (quote : TpmQu
   pub counted_is : counted ≡ counted_by quote stated
 
 -- What a list is judged with by a quote, with the expected registers that count.
-abbrev pub quoted_evidence : List ℕ → TpmQuote → Bool → ExpectedValues → List Expected → Option Checkpoint → Option KnownFiles → Evidence
-quoted_evidence log quote is_signed values counted checkpoint known_files = record {
+abbrev pub quoted_evidence : List ℕ → TpmQuote → SignatureState → ExpectedValues → List Expected → Option Checkpoint → Option KnownFiles
+    → Evidence
+quoted_evidence log quote signature values counted checkpoint known_files = record {
   required = None;
   log = log;
   expected = counted;
   quote = Some quote;
-  is_signed = is_signed;
+  signature = signature;
   values = values;
   checkpoint = checkpoint;
   known_files = known_files;
@@ -553,6 +573,8 @@ IsOfQuote quote state = state.boot ≡ Some (boot_of quote)
 -- the quote's boot, and so is what is saved.
 pub record IsAttestation (inputs : Inputs) (asked : AttestRequested) (given : Answered) : Type 0 where
   pub ranges : List BankRange
+  pub message : List ℕ
+  pub signature : SignatureState
   pub quote : TpmQuote
   pub log : List ℕ
   pub values : ExpectedValues
@@ -561,14 +583,14 @@ pub record IsAttestation (inputs : Inputs) (asked : AttestRequested) (given : An
   pub files : Option KnownFiles
   pub next : Option Checkpoint
   pub taken : AreTaken asked ranges
-  pub asked_for : IsAskedFor inputs asked ranges quote
+  pub asked_for : IsAskedFor inputs asked ranges message signature quote
   pub log_is : Holds inputs asked.log log
   pub counted_are : AreCounted inputs asked.expected quote values counted
   pub state_is : IsResumedState inputs asked.resume state
   pub boot_is : IfSome state (IsOfQuote quote)
   pub files_are : AreKnownFiles inputs asked.known files
   pub judged : IsJudged inputs (VerdictOf asked.log asked.scope asked.resume) asked.list
-      (quoted_evidence log quote asked.is_signed values counted (checkpoint_of state) files) given.answer next given.unknown
+      (quoted_evidence log quote signature values counted (checkpoint_of state) files) given.answer next given.unknown
   pub none_required : given.requirement ≡ None
   pub success_is : given.is_success ≡ is_success Nothing None given.unknown given.answer
   pub next_is : given.next ≡ (if given.is_success then state_after (Some (boot_of quote)) next else None)
@@ -592,8 +614,8 @@ IsNotStated inputs expected fault =
 
 -- Why there is no judgement by this quote: the log is not read; the expected registers are not; what is to be gone on from is not read, or is not
 -- of the quote's boot; it is, or there is none, and an input gives no text of known files; or all are, and nothing is found in the list.
-abbrev pub IsNotJudgedBy : Inputs → AttestRequested → TpmQuote → RunFault → Type 0
-IsNotJudgedBy inputs asked quote fault =
+abbrev pub IsNotJudgedBy : Inputs → AttestRequested → TpmQuote → SignatureState → RunFault → Type 0
+IsNotJudgedBy inputs asked quote signature fault =
     IsInputFault inputs asked.log fault
     ⊎ IsNotStated inputs asked.expected fault
     ⊎ (((stated : Option (List Expected)) × IsStated inputs asked.expected stated) × IsNoResumedState inputs quote asked.resume fault)
@@ -605,18 +627,40 @@ IsNotJudgedBy inputs asked quote fault =
     × AreCounted inputs asked.expected quote values counted × IsResumedState inputs asked.resume state × IfSome state (IsOfQuote quote)
     × AreKnownFiles inputs asked.known files
     × IsNotFound inputs (VerdictOf asked.log asked.scope asked.resume) asked.list
-    (quoted_evidence log quote asked.is_signed values counted (checkpoint_of state) files) fault)
+    (quoted_evidence log quote signature values counted (checkpoint_of state) files) fault)
+
+-- Why the inputs have no key, or no signature of the message by it: the key is not read; it is, and the signature is not; or both are, and the
+-- message is not signed so, or memory ran out.
+abbrev pub IsNotSigned : Inputs → Where → Where → List ℕ → RunFault → Type 0
+IsNotSigned inputs key signature message fault =
+    IsInputFault inputs key fault
+    ⊎ IsInputFault inputs signature fault
+    ⊎ OfInput inputs key (λ key. OfInput inputs signature (λ signature.
+    (first : CheckFault) × IsCheckFault key message signature first × (fault ≡ fault_of_check first)))
+
+-- Why the message is not judged, by its signature: it is to be verified, and this is why it is not valid.
+abbrev pub IsNotVouched : Inputs → Signing → List ℕ → RunFault → Type 0
+IsNotVouched inputs (ByKey key signature) message fault = IsNotSigned inputs key signature message fault
+IsNotVouched inputs signing message fault = ⊥
+
+-- Why the bytes of the message are not judged: they are not signed as asked; they are, and are not the quote that is asked for; or they are that
+-- quote, and there is no judgement by it.
+abbrev pub IsNoJudgement : Inputs → AttestRequested → List BankRange → List ℕ → RunFault → Type 0
+IsNoJudgement inputs asked ranges message fault =
+    IsNotVouched inputs asked.signing message fault
+    ⊎ (((signature : SignatureState) × IsVouched inputs asked.signing message signature)
+    × ((first : QuoteRefusal) × IsQuoteRefusal message (terms_with asked ranges) first × (fault ≡ runs.Quote first)))
+    ⊎ ((signature : SignatureState) × (quote : TpmQuote) × IsAskedFor inputs asked ranges message signature quote
+    × IsNotJudgedBy inputs asked quote signature fault)
 
 -- Why nothing comes of it: the text spells no registers, or with them a match would say too little; its first part spells some, and memory ran
--- out; the message is not read, or not the quote that is asked for; or there is no judgement by the quote.
+-- out; the message is not read; or it is, and is not judged.
 abbrev pub IsNoAttestation : Inputs → AttestRequested → RunFault → Type 0
 IsNoAttestation inputs asked fault =
     ((fault ≡ runs.Usage) × ((ranges : List BankRange) → AreTaken asked ranges → ⊥))
     ⊎ ((fault ≡ runs.Memory) × BeginsWithBankRange asked.required)
     ⊎ ((ranges : List BankRange) × AreTaken asked ranges
-    × (IsInputFault inputs asked.message fault
-    ⊎ OfInput inputs asked.message (λ message. (first : QuoteRefusal) × IsQuoteRefusal message (terms_with asked ranges) first × (fault ≡ runs.Quote first))
-    ⊎ ((quote : TpmQuote) × IsAskedFor inputs asked ranges quote × IsNotJudgedBy inputs asked quote fault)))
+    × (IsInputFault inputs asked.message fault ⊎ OfInput inputs asked.message (λ message. IsNoJudgement inputs asked ranges message fault)))
 
 -- ---- registers
 

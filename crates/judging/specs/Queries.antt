@@ -9,7 +9,9 @@ use Rattle.agent_plans.specs.declared.plan.ComparisonKind.TheVariants as kinds
 use Rattle.agent_plans.specs.declared.plan.Query.{Query}
 use Rattle.agent_plans.specs.declared.plan.Query.TheVariants as queries
 use Rattle.agent_plans.specs.declared.plan.Quoting.{Quoting}
-use Rattle.judging.specs.Requests.{Any, AttestRequested, Attests, Requested, Compared, Compares, ExpectedOf, Judgement, KeyOf, ListRegistersOf, ListVerdictOf, LogRegistersOf, Nothing, PositionsOf, Requires, These, VerdictOf}
+use Rattle.agent_plans.specs.declared.plan.SigningOptions.{SigningOptions}
+use Rattle.agent_plans.specs.declared.plan.SigningOptions.TheVariants as signings
+use Rattle.judging.specs.Requests.{Any, AttestRequested, Attests, ByCaller, ByKey, NotChecked, Requested, Signing, Compared, Compares, ExpectedOf, Judgement, KeyOf, ListRegistersOf, ListVerdictOf, LogRegistersOf, Nothing, PositionsOf, Requires, These, VerdictOf}
 use Rattle.judging.specs.Inputs.{FileOf, Where}
 
 -- The file of this name.
@@ -44,6 +46,11 @@ compared_by judge = record {
   known = files_of judge.known;
 }
 
+abbrev pub signing_by : SigningOptions → Signing
+signing_by signings.NotChecked = NotChecked
+signing_by signings.ByCaller = ByCaller
+signing_by (signings.ByKey key signature) = ByKey (file_of key) (file_of signature)
+
 -- What is judged by a quote of this log, and of a whole list: nobody goes on from anything.
 abbrev pub attested_with : Where → Quoting → AttestRequested
 attested_with log quoting = record {
@@ -53,7 +60,7 @@ attested_with log quoting = record {
   nonce = quoting.nonce.items;
   required = string_bytes quoting.required;
   takes_sha1 = quoting.takes_sha1;
-  is_signed = quoting.is_signed;
+  signing = signing_by quoting.signing;
   expected = None;
   scope = Whole;
   resume = None;

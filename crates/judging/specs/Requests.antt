@@ -15,6 +15,8 @@ use Rattle.judging.specs.declared.request.Request.{Request}
 use Rattle.judging.specs.declared.request.Request.TheVariants as requests
 use Rattle.judging.specs.declared.request.Required.{Required}
 use Rattle.judging.specs.declared.request.Required.TheVariants as required
+use Rattle.judging.specs.declared.request.Signing.{Signing as HeldSigning}
+use Rattle.judging.specs.declared.request.Signing.TheVariants as signings
 use Rattle.judging.specs.declared.request.ReportKind.{ReportKind}
 use Rattle.judging.specs.declared.request.ReportKind.TheVariants as wanted
 
@@ -40,8 +42,14 @@ pub record Compared : Type 0 where
   pub required : Requires
   pub known : List Where
 
+-- What tells that a quote's message is signed by the right key: nothing; the caller says so; or the key and the signature that are there.
+pub data Signing : Type 0 where
+  NotChecked : Signing
+  ByCaller : Signing
+  ByKey : Where → Where → Signing
+
 -- What is judged by a quote: where the log is, the list, or what follows the checkpoint, and the quote's message; the nonce, the text of the
--- registers that must be quoted, and whether one may be in the SHA-1 bank alone; whether the message's signature was verified; where the text of
+-- registers that must be quoted, and whether one may be in the SHA-1 bank alone; what tells that the message is signed; where the text of
 -- expected registers is, if there is one; which part of the list; where the checkpoint is that is gone on from, if there is one; and where the
 -- texts of known files are, if files have to be known.
 pub record AttestRequested : Type 0 where
@@ -51,7 +59,7 @@ pub record AttestRequested : Type 0 where
   pub nonce : List ℕ
   pub required : List ℕ
   pub takes_sha1 : Bool
-  pub is_signed : Bool
+  pub signing : Signing
   pub expected : Option Where
   pub scope : Scope
   pub resume : Option Where
@@ -107,6 +115,11 @@ requires_of required.Nothing = Nothing
 requires_of required.Any = Any
 requires_of (required.These text) = These text.now
 
+abbrev pub signing_of : HeldSigning → Signing
+signing_of signings.NotChecked = NotChecked
+signing_of signings.ByCaller = ByCaller
+signing_of (signings.ByKey key signature) = ByKey (location_of key) (location_of signature)
+
 abbrev pub compared_of : Comparison → Compared
 compared_of comparison = record {
   judgement = judgement_of comparison.wanted;
@@ -124,7 +137,7 @@ attested_of asked = record {
   nonce = asked.nonce.now;
   required = asked.required.now;
   takes_sha1 = asked.takes_sha1;
-  is_signed = asked.is_signed;
+  signing = signing_of asked.signing;
   expected = option_map location_of asked.expected;
   scope = asked.scope;
   resume = option_map location_of asked.resume;

@@ -16,7 +16,7 @@ use crate::request::{
 };
 use crate::sessions::checkpoint_in;
 use agent_inputs::{AgentFiles, RunFault, not_read};
-use attestations::ExpectedValues;
+use attestations::{ExpectedValues, SignatureState};
 use boot_verdict::{
     Checkpoint, Report, Requirement, all_found, locate_from, required_found, verify_list_from,
 };
@@ -128,8 +128,8 @@ pub(crate) struct Evidence<'a> {
     pub expected: Vec<Expected>,
     /// The quote, if there is one.
     pub quote: Option<&'a Quote<'a>>,
-    /// Whether the caller has verified the signature of the quote's message.
-    pub is_signed: bool,
+    /// What is known of the signature of the quote's message.
+    pub signature: SignatureState,
     /// What came of the values of expected registers beside the quote.
     pub values: ExpectedValues,
     /// The checkpoint to go on from, if there is one.
@@ -161,7 +161,7 @@ fn evidence_of<'a, F: AgentFiles>(
         log,
         expected,
         quote: None,
-        is_signed: false,
+        signature: SignatureState::NotChecked,
         values: ExpectedValues::NotGiven,
         checkpoint: checkpoint_of(state),
         known_files,
@@ -355,7 +355,7 @@ fn is_good(required: Required<'_>, ranges: Option<&Requirement>, answer: &Answer
         (Answer::Positions(positions), Some(requirement)) => required_found(positions, requirement),
         (Answer::ListReport(report), None) => report.matches(),
         (Answer::ListReport(report), Some(requirement)) => report.meets(requirement),
-        (Answer::Attestation(report), _) => report.is_signed && report.is_attested(),
+        (Answer::Attestation(report), _) => report.signature.is_signed() && report.is_attested(),
         (Answer::Registers(_) | Answer::Expected(_) | Answer::Key { .. }, _) => true,
     }
 }

@@ -1,6 +1,6 @@
 //! The judgement on a log and a list by a quote.
 
-ghost use Rattle.std.specs.Prelude.{◌≡◌, ◌↔◌, ◌⊎◌, List, None, option_map, IfOk, IfErr, IfSome, IsTrue};
+ghost use Rattle.std.specs.Prelude.{◌≡◌, ◌↔◌, ◌⊎◌, ℕ, List, None, option_map, IfOk, IfErr, IfSome, IsTrue};
 ghost use Rattle.pcr_values.specs.declared.selection.BankRange.{BankRange};
 ghost use Rattle.pcr_values.specs.Names.{BeginsWithBankRange};
 ghost use Rattle.boot_verdict.specs.Names.{IsRequirementText};
@@ -17,9 +17,10 @@ ghost use Rattle.judging.specs.Requests.{VerdictOf, attested_of, judgement_of, l
 use crate::answers::{Evidence, answered_with, checkpoint_of, state_in};
 use crate::inputs::{Input, known_in, load_at};
 use crate::request::{Answering, AttestRequest, Comparison, ReportKind, Required, ScopedReport};
+use crate::signing::{message_in, vouch_for};
 use agent_inputs::{AgentFiles, NotResumed, RunFault};
 use attestations::{
-    AttestReport, ExpectedValues, Policy, Quoted, Whole, keep_confirmed, quote_for,
+    AttestReport, ExpectedValues, Policy, Quoted, SignatureState, Whole, keep_confirmed, quote_for,
 };
 use boot_verdict::{Checkpoint, Requirement};
 use growing_lists::{Boot, SavedState};
@@ -28,8 +29,9 @@ use std::alloc::Global;
 use tpm_quotes::Quote;
 
 /// What comes of a log, a list and a quote. It is read in this order (only in part by the clauses: not that the log comes first of its inputs):
-/// what is required; the quote's message; the log, which is loaded; the expected registers, if there are such; the checkpoint, and whether it is
-/// of the quote's boot; the texts of known files; and then the list is opened, and replayed as it is read, without loading it.
+/// what is required; the quote's message; the key and the signature, if it is verified here; the log, which is loaded; the expected registers, if
+/// there are such; the checkpoint, and whether it is of the quote's boot; the texts of known files; and then the list is opened, and replayed as it
+/// is read, without loading it.
 pub(crate) fn attest<F: AgentFiles>(
     alloc: Global,
     files: &mut F,
@@ -49,9 +51,11 @@ pub(crate) fn attest<F: AgentFiles>(
     if policy.fault().is_some() {
         return Err(RunFault::Usage);
     }
-    let message = load_at(alloc, files, request.message)?;
-    let quote = asked_quote(message.bytes(), &policy)?;
-    answer_by_quote(alloc, files, request, &quote)
+    let message = message_in(alloc, files, request)?;
+    let bytes = message.bytes();
+    let signature = vouch_for(alloc, files, bytes, request.signing)?;
+    let quote = asked_quote(bytes, &policy)?;
+    answer_by_quote(alloc, files, request, &quote, signature)
 }
 
 // The registers that must be quoted.
@@ -85,11 +89,12 @@ fn answer_by_quote<F: AgentFiles>(
     files: &mut F,
     request: AttestRequest<'_>,
     quote: &Quote<'_>,
+    signature: SignatureState,
 ) -> Answering
     ensures answer { IfOk result (λ given. (ranges : List BankRange) → AreTaken (attested_of request.entry) ranges
-        → IsAskedFor (F.inputs files.old) (attested_of request.entry) ranges (quote_of quote.now)
+        → (message : List ℕ) → IsAskedFor (F.inputs files.old) (attested_of request.entry) ranges message signature (quote_of quote.now)
         → IsAttestation (F.inputs files.old) (attested_of request.entry) given) }
-    ensures fault { IfErr result (IsNotJudgedBy (F.inputs files.old) (attested_of request.entry) (quote_of quote.now)) }
+    ensures fault { IfErr result (IsNotJudgedBy (F.inputs files.old) (attested_of request.entry) (quote_of quote.now) signature) }
     ensures inputs { F.inputs files.new ≡ F.inputs files.old }
     ensures replaced { F.replaced files.new ≡ F.replaced files.old }
 {
@@ -103,7 +108,7 @@ fn answer_by_quote<F: AgentFiles>(
         log,
         expected,
         quote: Some(quote),
-        is_signed: request.is_signed,
+        signature,
         values,
         checkpoint: checkpoint_of(state),
         known_files,
@@ -190,10 +195,10 @@ pub(crate) fn report_on(
     judged: ScopedReport,
     next: &Checkpoint,
     quote: &Quote<'_>,
-    is_signed: bool,
+    signature: SignatureState,
     values: ExpectedValues,
 ) -> Result<AttestReport, RunFault>
-    ensures report { IfOk result (λ report. attest_verdict_of report ≡ told_by (quote_of quote.now) is_signed values next.now judged) }
+    ensures report { IfOk result (λ report. attest_verdict_of report ≡ told_by (quote_of quote.now) signature values next.now judged) }
     ensures fault { IfErr result (λ fault. fault ≡ runs.Memory) }
 {
     let quoted = Quoted::of(alloc, quote)?;
@@ -213,6 +218,6 @@ pub(crate) fn report_on(
         prefix,
         expected: values,
         is_quoted: quote.is_of(&next.after),
-        is_signed,
+        signature,
     })
 }

@@ -10,11 +10,12 @@ mod queries;
 mod registers;
 mod request;
 mod sessions;
+mod signing;
 
 pub use answers::answer_request;
 pub use inputs::Input;
 pub use queries::{attesting_by, known_inputs, request_of, save_of};
 pub use request::{
-    Answer, Answered, AttestRequest, Comparison, Registers, ReportKind, Request, Required,
+    Answer, Answered, AttestRequest, Comparison, Registers, ReportKind, Request, Required, Signing,
     on_prefix,
 };

@@ -1,12 +1,14 @@
 //! What queries of the command line ask of their inputs.
 
 ghost use Rattle.std.specs.Prelude.{◌≡◌, [], map, option_map, IfOk, OnErr};
-ghost use Rattle.judging.specs.Requests.{requested_of, location_of, attested_of, compared_of, judgement_of, requires_of};
-ghost use Rattle.judging.specs.Queries.{attested_with, requested_by, file_of, files_of, known_by, attested_by, compared_by, judgement_by, requires_by, save_by, with_known};
+ghost use Rattle.judging.specs.Requests.{requested_of, location_of, attested_of, compared_of, judgement_of, requires_of, signing_of};
+ghost use Rattle.judging.specs.Queries.{attested_with, requested_by, file_of, files_of, known_by, attested_by, compared_by, judgement_by, requires_by, save_by, signing_by, with_known};
 
 use crate::inputs::Input;
-use crate::request::{AttestRequest, Comparison, ReportKind, Request, Required};
-use agent_plans::{AttestOptions, ComparisonKind, ComparisonOptions, Query, Quoting, Scope};
+use crate::request::{AttestRequest, Comparison, ReportKind, Request, Required, Signing};
+use agent_plans::{
+    AttestOptions, ComparisonKind, ComparisonOptions, Query, Quoting, Scope, SigningOptions,
+};
 use std::alloc::{AllocError, Global};
 
 /// The texts of known files that a question names.
@@ -97,10 +99,24 @@ pub fn attesting_by<'a>(log: Input<'a>, quoting: &'a Quoting) -> AttestRequest<'
         nonce: &quoting.nonce,
         required: quoting.required.as_bytes(),
         takes_sha1: quoting.takes_sha1,
-        is_signed: quoting.is_signed,
+        signing: signing_of(&quoting.signing),
         scope: Scope::Whole,
         resume: None,
         known: &[],
+    }
+}
+
+// What tells that the message is signed.
+fn signing_of(signing: &SigningOptions) -> Signing<'_>
+    ensures { signing_of result ≡ signing_by signing.now }
+{
+    match signing {
+        SigningOptions::NotChecked => Signing::NotChecked,
+        SigningOptions::ByCaller => Signing::ByCaller,
+        SigningOptions::ByKey { key, signature } => Signing::ByKey {
+            key: Input::File(key),
+            signature: Input::File(signature),
+        },
     }
 }
 

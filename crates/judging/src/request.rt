@@ -62,6 +62,22 @@ pub struct Comparison<'a> {
     pub known: &'a [Input<'a>],
 }
 
+/// What tells that a quote's message is signed by the right key.
+#[derive(Clone, Copy)]
+pub enum Signing<'a> {
+    /// Nothing does: nobody looks at the signature. Without that nothing is attested.
+    NotChecked,
+    /// The caller has verified the signature.
+    ByCaller,
+    /// A key and a signature, under which the message is verified before it is read.
+    ByKey {
+        /// The key: its public area, or PEM.
+        key: Input<'a>,
+        /// The signature.
+        signature: Input<'a>,
+    },
+}
+
 /// A request for the report on a log and a list by a quote, with what the quote must be.
 #[derive(Clone, Copy)]
 pub struct AttestRequest<'a> {
@@ -77,8 +93,8 @@ pub struct AttestRequest<'a> {
     pub required: &'a [u8],
     /// Whether a register may be required in the SHA-1 bank alone.
     pub takes_sha1: bool,
-    /// Whether the caller has verified the message's signature. Without that nothing is attested.
-    pub is_signed: bool,
+    /// What tells that the message is signed by the right key.
+    pub signing: Signing<'a>,
     /// The text of expected registers, if there is one: nobody has signed it. If the quote confirms their values, the report has rows of them.
     pub expected: Option<Input<'a>>,
     /// Which part of the list is judged.

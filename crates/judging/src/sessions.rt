@@ -72,14 +72,14 @@ impl Evidence<'_> {
         judged: ScopedReport,
         next: &Checkpoint,
     ) -> Result<Answer, RunFault>
-        ensures answer { IfOk result (IsAnswerOn (evidence_of self.now).quote self.now.is_signed self.now.values judged next.now) }
+        ensures answer { IfOk result (IsAnswerOn (evidence_of self.now).quote self.now.signature self.now.values judged next.now) }
         ensures fault { IfErr result (λ fault. fault ≡ runs.Memory) }
     {
         match (self.quote, judged) {
             (None, ScopedReport::Whole(report)) => Ok(Answer::Report(report)),
             (None, ScopedReport::Prefix(report)) => Ok(Answer::Prefix(report)),
             (Some(quote), judged) => {
-                let report = report_on(alloc, judged, next, quote, self.is_signed, self.values)?;
+                let report = report_on(alloc, judged, next, quote, self.signature, self.values)?;
                 Ok(Answer::Attestation(report))
             }
         }

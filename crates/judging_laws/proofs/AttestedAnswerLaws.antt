@@ -20,11 +20,12 @@ use Rattle.tpm_quotes.specs.Quoting.{confirms}
 use Rattle.tpm_quotes.specs.Spelling.{IsQuote, TpmQuote}
 use Rattle.attestations.specs.declared.expected.ExpectedValues.{ExpectedValues}
 use Rattle.attestations.specs.declared.report.AttestReport.{AttestReport}
+use Rattle.attestations.specs.declared.signature.SignatureState.{SignatureState}
 use Rattle.attestations.specs.Attesting.{IsAttested}
 use Rattle.attestations.specs.Judging.{attestation_on, cause_against, quote_refusal}
 use Rattle.attestations.specs.Policies.{Terms, policy_fault}
 use Rattle.attestations.specs.Quoted.{stated_by, stated_of}
-use Rattle.attestations.specs.Reports.{AttestVerdict, attest_verdict_of, is_attested}
+use Rattle.attestations.specs.Reports.{AttestVerdict, attest_verdict_of, is_attested, is_signed}
 use Rattle.attestations.proofs.JudgeLaws.{attested_by, values_same}
 use Rattle.growing_lists.specs.declared.saved_state.SavedState.{SavedState}
 use Rattle.agent_inputs.specs.Loading.{Inputs}
@@ -32,10 +33,10 @@ use Rattle.agent_plans.specs.declared.plan.Scope.{Scope}
 use Rattle.agent_plans.specs.declared.plan.Scope.TheVariants.{Whole}
 use Rattle.judging.specs.declared.request.Answer.TheVariants as answers
 use Rattle.judging.specs.declared.request.Answered.{Answered}
-use Rattle.judging.specs.Answering.{Evidence, IsAnswerOn, IsAttestation, IsJudged, IsResumedState, IsNext, IsPrefixOf, IsTaken, IsVerdictOn, OfList, OfMore, TellsUnknown, checkpoint_of, entries_taken, is_good as is_good_answer, most_more, quoted_evidence, seeks_prefix, terms_with, told_by}
+use Rattle.judging.specs.Answering.{Evidence, IsAnswerOn, IsAttestation, IsJudged, IsResumedState, IsNext, IsPrefixOf, IsTaken, IsVerdictOn, IsVouched, OfList, OfMore, TellsUnknown, checkpoint_of, entries_taken, is_good as is_good_answer, most_more, quoted_evidence, seeks_prefix, terms_with, told_by}
 use Rattle.judging.specs.Inputs.{OfInput, Where}
-use Rattle.judging.specs.Requests.{AttestRequested, Nothing, VerdictOf}
-use Rattle.judging_laws.specs.AttestedAnswers.{is_on_prefix, TellsAttested, TellsPrefixAttested, TellsSomeAttested}
+use Rattle.judging.specs.Requests.{AttestRequested, ByCaller, ByKey, NotChecked, Nothing, Signing, VerdictOf}
+use Rattle.judging_laws.specs.AttestedAnswers.{IsSignedAs, is_on_prefix, TellsAttested, TellsPrefixAttested, TellsSomeAttested}
 
 -- ---- Booleans
 
@@ -62,13 +63,21 @@ record AreGood (verdict : Verdict) (quote : TpmQuote) (next : Checkpoint) : Type
   apart : are_none verdict.strays ≡ true
   quoted : confirms quote (value_at next.after) ≡ true
 
-success_told : (told : AttestVerdict) (quote : TpmQuote) (next : Checkpoint) (is_signed : Bool) → (told.is_signed && is_attested told) ≡ true
-    → told.is_signed ≡ is_signed → told.is_quoted ≡ confirms quote (value_at next.after) → (is_signed ≡ true) × AreGood told.verdict quote next
-success_told told quote next is_signed success signed_is quoted_is =
-    let signed = both_true told.is_signed (is_attested told) success in
+success_told : (told : AttestVerdict) (quote : TpmQuote) (next : Checkpoint) (signature : SignatureState)
+    → (is_signed told.signature && is_attested told) ≡ true → told.signature ≡ signature → told.is_quoted ≡ confirms quote (value_at next.after)
+    → (is_signed signature ≡ true) × AreGood told.verdict quote next
+success_told told quote next signature success signed_is quoted_is =
+    let signed = both_true (is_signed told.signature) (is_attested told) success in
     let good = both_true (is_good told.verdict.aggregate) (are_none told.verdict.strays && told.is_quoted) signed.1 in
     let last = both_true (are_none told.verdict.strays) told.is_quoted good.1 in
-    (sym signed_is ∙ signed.0, record { aggregate = good.0; apart = last.0; quoted = sym quoted_is ∙ last.1 })
+    (ap is_signed (sym signed_is) ∙ signed.0, record { aggregate = good.0; apart = last.0; quoted = sym quoted_is ∙ last.1 })
+
+-- What is known of the signature tells that the message is signed, unless nothing is.
+signed_as : (inputs : Inputs) (signing : Signing) (message : List ℕ) (state : SignatureState) → IsVouched inputs signing message state
+    → is_signed state ≡ true → IsSignedAs inputs signing message
+signed_as inputs NotChecked message state vouched signed = absurd (true≢false (sym signed ∙ ap is_signed vouched))
+signed_as inputs ByCaller message state vouched signed = tt
+signed_as inputs (ByKey key signature) message state vouched signed = vouched.1
 
 -- ---- the attestation
 
@@ -110,25 +119,25 @@ PrefixOn inputs list evidence Tells report next = OfList inputs list evidence.ch
 -- What follows from a verdict on the whole list, and from one on its prefix, follows from the verdict that an answer tells. (What was
 -- judged has a type that its own crate alone can name.)
 pub of_each : (inputs : Inputs) (scope : Scope) (list : Where) (evidence : Evidence) (Tells : List ListEntry → Type 0) (next : Checkpoint)
-    (quote : TpmQuote) (is_signed : Bool) (values : ExpectedValues) (on : _) (Q : Verdict → Bool → Type 0)
+    (quote : TpmQuote) (signature : SignatureState) (values : ExpectedValues) (on : _) (Q : Verdict → Bool → Type 0)
     → ((report : Report) → WholeOn inputs list evidence Tells (verdict_of report) next → Q (verdict_of report) false)
     → ((report : PrefixReport) → seeks_prefix scope evidence ≡ true → PrefixOn inputs list evidence Tells report next
     → Q (verdict_of report.report) true)
     → IsVerdictOn inputs scope list evidence Tells on next
-    → Q (told_by quote is_signed values next on).verdict (is_some (told_by quote is_signed values next on).prefix)
-of_each inputs scope list evidence Tells next quote is_signed values on Q whole part is = grind (arith, whole, part)
+    → Q (told_by quote signature values next on).verdict (is_some (told_by quote signature values next on).prefix)
+of_each inputs scope list evidence Tells next quote signature values on Q whole part is = grind (arith, whole, part)
 
-told_signed : (quote : TpmQuote) (is_signed : Bool) (values : ExpectedValues) (next : Checkpoint) (on : _)
-    → (told_by quote is_signed values next on).is_signed ≡ is_signed
-told_signed quote is_signed values next on = grind arith
+told_signed : (quote : TpmQuote) (signature : SignatureState) (values : ExpectedValues) (next : Checkpoint) (on : _)
+    → (told_by quote signature values next on).signature ≡ signature
+told_signed quote signature values next on = grind arith
 
-told_quoted : (quote : TpmQuote) (is_signed : Bool) (values : ExpectedValues) (next : Checkpoint) (on : _)
-    → (told_by quote is_signed values next on).is_quoted ≡ confirms quote (value_at next.after)
-told_quoted quote is_signed values next on = grind arith
+told_quoted : (quote : TpmQuote) (signature : SignatureState) (values : ExpectedValues) (next : Checkpoint) (on : _)
+    → (told_by quote signature values next on).is_quoted ≡ confirms quote (value_at next.after)
+told_quoted quote signature values next on = grind arith
 
-told_stated : (quote : TpmQuote) (is_signed : Bool) (values : ExpectedValues) (next : Checkpoint) (on : _)
-    → (told_by quote is_signed values next on).quoted ≡ stated_by quote
-told_stated quote is_signed values next on = grind arith
+told_stated : (quote : TpmQuote) (signature : SignatureState) (values : ExpectedValues) (next : Checkpoint) (on : _)
+    → (told_by quote signature values next on).quoted ≡ stated_by quote
+told_stated quote signature values next on = grind arith
 
 -- ---- the answer
 
@@ -141,7 +150,7 @@ from_nothing inputs asked given is resume =
 
 module _ (inputs : Inputs) (asked : AttestRequested) (given : Answered) (is : IsAttestation inputs asked given) (success : given.is_success ≡ true) where
   abbrev evidence : Evidence
-  evidence = quoted_evidence is.log is.quote asked.is_signed is.values is.counted (checkpoint_of is.state) is.files
+  evidence = quoted_evidence is.log is.quote is.signature is.values is.counted (checkpoint_of is.state) is.files
 
   -- What the answer tells of the entries that it is on.
   abbrev Tells : List ListEntry → Type 0
@@ -154,25 +163,26 @@ module _ (inputs : Inputs) (asked : AttestRequested) (given : Answered) (is : Is
     quoted : stated_of report.quoted ≡ stated_by is.quote
     verdict_is : verdict_of report.report ≡ verdict
     prefix_is : is_on_prefix given.answer ≡ on_prefix
-    signed : asked.is_signed ≡ true
+    signed : is_signed is.signature ≡ true
     good : AreGood verdict is.quote next
 
-  said : (on : _) (next : Checkpoint) → IsAnswerOn (Some is.quote) asked.is_signed is.values on next given.answer
-      → Says (told_by is.quote asked.is_signed is.values next on).verdict (is_some (told_by is.quote asked.is_signed is.values next on).prefix) next
+  said : (on : _) (next : Checkpoint) → IsAnswerOn (Some is.quote) is.signature is.values on next given.answer
+      → Says (told_by is.quote is.signature is.values next on).verdict (is_some (told_by is.quote is.signature is.values next on).prefix) next
   said on next answer =
-      let told = told_by is.quote asked.is_signed is.values next on in
+      let told = told_by is.quote is.signature is.values next on in
       let report = answer.0 in
       let good_is : is_good_answer Nothing None given.answer ≡ true =
       (both_true (has_no_unknown given.unknown) (is_good_answer Nothing None given.answer) (sym is.success_is ∙ success)).1 in
-      let here : (report.is_signed && is_attested (attest_verdict_of report)) ≡ true = ap (is_good_answer Nothing None) (sym answer.1) ∙ good_is in
-      let there : (told.is_signed && is_attested told) ≡ true =
-      subst (λ (v : AttestVerdict). (v.is_signed && is_attested v) ≡ true) answer.2 here in
-      let good = success_told told is.quote next asked.is_signed there (told_signed is.quote asked.is_signed is.values next on)
-      (told_quoted is.quote asked.is_signed is.values next on) in
+      let here : (is_signed report.signature && is_attested (attest_verdict_of report)) ≡ true =
+      ap (is_good_answer Nothing None) (sym answer.1) ∙ good_is in
+      let there : (is_signed told.signature && is_attested told) ≡ true =
+      subst (λ (v : AttestVerdict). (is_signed v.signature && is_attested v) ≡ true) answer.2 here in
+      let good = success_told told is.quote next is.signature there (told_signed is.quote is.signature is.values next on)
+      (told_quoted is.quote is.signature is.values next on) in
       record {
         report = report;
         answer_is = answer.1;
-        quoted = ap (λ (v : AttestVerdict). v.quoted) answer.2 ∙ told_stated is.quote asked.is_signed is.values next on;
+        quoted = ap (λ (v : AttestVerdict). v.quoted) answer.2 ∙ told_stated is.quote is.signature is.values next on;
         verdict_is = ap (λ (v : AttestVerdict). v.verdict) answer.2;
         prefix_is = ap is_on_prefix answer.1 ∙ ap (λ (v : AttestVerdict). is_some v.prefix) answer.2;
         signed = good.0;
@@ -184,15 +194,14 @@ module _ (inputs : Inputs) (asked : AttestRequested) (given : Answered) (is : Is
       → verdict ≡ verdict_on (algs_in table) events entries is.counted → IsNext is.log list next → Says verdict on_prefix next
       → TellsAttested inputs asked given is list
   tells_on list table events entries verdict on_prefix next log_is list_is genuine same next_is says =
-      let message = is.asked_for.0 in
       record {
-        message = message.0;
+        message = is.message;
         attestation = attestation_on events entries is.quote;
-        signed = says.signed;
+        signed = signed_as inputs asked.signing is.message is.signature is.asked_for.vouched says.signed;
         log_is = is.log_is;
-        message_is = message.1;
-        attested = attested_on is.log list message.0 (terms_with asked is.ranges) is.quote is.counted table events entries verdict next is.taken.1
-            message.2 is.asked_for.1 log_is list_is genuine same next_is says.good;
+        message_is = is.asked_for.message_is;
+        attested = attested_on is.log list is.message (terms_with asked is.ranges) is.quote is.counted table events entries verdict next is.taken.1
+            is.asked_for.quote_is is.asked_for.not_refused log_is list_is genuine same next_is says.good;
         quote_is = refl;
         report_is = record {
           report = says.report;
@@ -246,7 +255,7 @@ module _ (inputs : Inputs) (asked : AttestRequested) (given : Answered) (is : Is
       by None judged = absurd judged
       by (Some next) judged =
           let Q : Verdict → Bool → Type 0 = λ verdict on_prefix. Says verdict on_prefix next → OfInput inputs asked.list (λ more. TellsAttested inputs asked given is (taken ++ more)) in
-          of_each inputs asked.scope asked.list evidence Tells next is.quote asked.is_signed is.values judged.0 Q
+          of_each inputs asked.scope asked.list evidence Tells next is.quote is.signature is.values judged.0 Q
           (λ report on says. whole_tells report next taken before on says) (λ report sought on says. absurd (no_prefix sought)) judged.1
           (said judged.0 next judged.2)
 
@@ -257,7 +266,7 @@ module _ (inputs : Inputs) (asked : AttestRequested) (given : Answered) (is : Is
       by None judged = absurd judged
       by (Some next) judged =
           let Q : Verdict → Bool → Type 0 = λ verdict on_prefix. Says verdict on_prefix next → OfInput inputs asked.list (λ more. TellsSomeAttested inputs asked given is (taken ++ more)) in
-          of_each inputs asked.scope asked.list evidence Tells next is.quote asked.is_signed is.values judged.0 Q
+          of_each inputs asked.scope asked.list evidence Tells next is.quote is.signature is.values judged.0 Q
           (λ report on says. let all = whole_tells report next taken before on says in (all.0, all.1, inl (says.prefix_is, all.2)))
           (λ report sought on says. let part = prefix_tells report next taken before on says in (part.0, part.1, inr (says.prefix_is, part.2))) judged.1
           (said judged.0 next judged.2)

@@ -18,6 +18,7 @@ use Rattle.known_files.specs.Known.{Knows}
 use Rattle.known_files.specs.Unknown.{AreUnknown, has_no_unknown, unknown_in}
 use Rattle.tpm_quotes.specs.Spelling.{TpmQuote}
 use Rattle.attestations.specs.declared.expected.ExpectedValues.{ExpectedValues}
+use Rattle.attestations.specs.declared.signature.SignatureState.{SignatureState}
 use Rattle.attestations.specs.Reports.{AttestVerdict}
 use Rattle.growing_lists.specs.declared.saved_state.SavedState.{SavedState}
 use Rattle.agent_plans.specs.declared.plan.Scope.{Scope}
@@ -131,10 +132,10 @@ module _ (law : KnownLaw) (inputs : Inputs) (places : List Where) (list : Where)
 -- ---- by a quote
 
 -- How many entries a report by a quote is on, where it tells a verdict.
-entries_told : (quote : TpmQuote) (is_signed : Bool) (values : ExpectedValues) (next : Checkpoint) (on : _) (answer : Answer)
-    → IsAnswerOn (Some quote) is_signed values on next answer
-    → entries_of answer ≡ Some (told_by quote is_signed values next on).verdict.entries
-entries_told quote is_signed values next on answer is = ap entries_of is.1 ∙ ap (λ (v : AttestVerdict). Some v.verdict.entries) is.2
+entries_told : (quote : TpmQuote) (signature : SignatureState) (values : ExpectedValues) (next : Checkpoint) (on : _) (answer : Answer)
+    → IsAnswerOn (Some quote) signature values on next answer
+    → entries_of answer ≡ Some (told_by quote signature values next on).verdict.entries
+entries_told quote signature values next on answer is = ap entries_of is.1 ∙ ap (λ (v : AttestVerdict). Some v.verdict.entries) is.2
 
 pub attested_known : KnownLaw → (inputs : Inputs) (asked : AttestRequested) (given : Answered) (is : IsAttestation inputs asked given)
     → given.is_success ≡ true → 0 < length asked.known → TellsKnown inputs asked.known asked.list (checkpoint_of is.state) given
@@ -147,7 +148,7 @@ attested_known law inputs asked given is success some = record { texts = has.tex
     none = (both_true (has_no_unknown given.unknown) (is_good Nothing None given.answer) (sym is.success_is ∙ success)).0
 
     evidence : Evidence
-    evidence = quoted_evidence is.log is.quote asked.is_signed is.values is.counted (checkpoint_of is.state) is.files
+    evidence = quoted_evidence is.log is.quote is.signature is.values is.counted (checkpoint_of is.state) is.files
 
     Holds : Type 0
     Holds = OfList inputs asked.list (checkpoint_of is.state) (HasKnownEntries given has.texts (entries_taken (checkpoint_of is.state)))
@@ -158,21 +159,21 @@ attested_known law inputs asked given is success some = record { texts = has.tex
     by (Some next) judged =
         let Q : Verdict → Bool → Type 0 = λ verdict on_prefix. entries_of given.answer ≡ Some verdict.entries → Holds in
         of_each inputs asked.scope asked.list evidence (TellsUnknown is.files (entries_taken (checkpoint_of is.state)) given.unknown) next is.quote
-        asked.is_signed is.values judged.0 Q
+        is.signature is.values judged.0 Q
         (λ report on count. whole_known law inputs asked.known asked.list evidence given has none report next count on)
         (λ report sought on count. prefix_known law inputs asked.known asked.list evidence given has none report next count on)
         judged.1
-        (entries_told is.quote asked.is_signed is.values next judged.0 given.answer judged.2)
+        (entries_told is.quote is.signature is.values next judged.0 given.answer judged.2)
 
 -- ---- by expected registers
 
 -- What follows from a verdict on the whole list, and from one on its prefix, follows from an answer that tells one.
 plain_of_each : (inputs : Inputs) (scope : Scope) (list : Where) (evidence : Evidence) (Says : List ListEntry → Type 0) (next : Checkpoint)
-    (is_signed : Bool) (values : ExpectedValues) (on : _) (answer : Answer) (Q : Type 0)
+    (signature : SignatureState) (values : ExpectedValues) (on : _) (answer : Answer) (Q : Type 0)
     → ((report : Report) → WholeOn inputs list evidence Says (verdict_of report) next → answer ≡ answers.Report report → Q)
     → ((report : PrefixReport) → PrefixOn inputs list evidence Says report next → answer ≡ answers.Prefix report → Q)
-    → IsVerdictOn inputs scope list evidence Says on next → IsAnswerOn None is_signed values on next answer → Q
-plain_of_each inputs scope list evidence Says next is_signed values on answer Q whole part is answered = grind (arith, whole, part)
+    → IsVerdictOn inputs scope list evidence Says on next → IsAnswerOn None signature values on next answer → Q
+plain_of_each inputs scope list evidence Says next signature values on answer Q whole part is answered = grind (arith, whole, part)
 
 not_positions : (place : Where) (required : Requires) (known : List Where) → 0 < length known
     → takes_known (PositionsOf place) required known ≡ true → ⊥
@@ -229,10 +230,10 @@ comparison_known law inputs request given is success some = record {
         → Known law inputs request.known request.list is.evidence given has none
     by (VerdictOf place scope resume) None takes state judged = absurd judged
     by (VerdictOf place scope resume) (Some next) takes state judged =
-        let plain = subst (λ (quote : Option TpmQuote). IsAnswerOn quote is.evidence.is_signed is.evidence.values judged.0 next given.answer)
+        let plain = subst (λ (quote : Option TpmQuote). IsAnswerOn quote is.evidence.signature is.evidence.values judged.0 next given.answer)
         is.evidence_is.none_quoted judged.2 in
         plain_of_each inputs scope request.list is.evidence (TellsUnknown is.evidence.known_files (entries_taken is.evidence.checkpoint) given.unknown) next
-        is.evidence.is_signed is.evidence.values judged.0 given.answer (Known law inputs request.known request.list is.evidence given has none)
+        is.evidence.signature is.evidence.values judged.0 given.answer (Known law inputs request.known request.list is.evidence given has none)
         (λ report on same.
         whole_known law inputs request.known request.list is.evidence given has none report next (ap entries_of same) on)
         (λ report on same.

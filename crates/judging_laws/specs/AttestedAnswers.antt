@@ -9,9 +9,9 @@ use Rattle.agent_inputs.specs.Loading.{Inputs}
 use Rattle.judging.specs.declared.request.Answer.{Answer}
 use Rattle.judging.specs.declared.request.Answer.TheVariants as answers
 use Rattle.judging.specs.declared.request.Answered.{Answered}
-use Rattle.judging.specs.Answering.{IsAttestation, terms_with}
+use Rattle.judging.specs.Answering.{IsAttestation, IsSignedByInputs, terms_with}
 use Rattle.judging.specs.Inputs.{Holds}
-use Rattle.judging.specs.Requests.{AttestRequested}
+use Rattle.judging.specs.Requests.{AttestRequested, ByCaller, ByKey, NotChecked, Signing}
 
 -- The answer is the report of this attestation: by what its quote states, on so many events, from this locality, and on so many entries.
 pub record IsReportOf (answer : Answer) (attestation : Attestation) : Type 0 where
@@ -22,12 +22,18 @@ pub record IsReportOf (answer : Answer) (attestation : Attestation) : Type 0 whe
   pub locality : report.report.locality ≡ attestation.locality
   pub entries : report.report.entries ≡ attestation.entries
 
--- The message's signature was verified. The log of the input, this list and the message of the input are attested, by the terms that are
+-- The message is signed: the caller says that he has verified that; or inputs have a key, and a signature of these bytes by it.
+abbrev pub IsSignedAs : Inputs → Signing → List ℕ → Type 0
+IsSignedAs inputs NotChecked message = ⊥
+IsSignedAs inputs ByCaller message = Unit {0}
+IsSignedAs inputs (ByKey key signature) message = IsSignedByInputs inputs key signature message
+
+-- The message is signed. The log of the input, this list and the message of the input are attested, by the terms that are
 -- asked for and the quote that the answer is by; and the answer is the report of that.
 pub record TellsAttested (inputs : Inputs) (asked : AttestRequested) (given : Answered) (is : IsAttestation inputs asked given) (list : List ℕ) : Type 0 where
   pub message : List ℕ
   pub attestation : Attestation
-  pub signed : asked.is_signed ≡ true
+  pub signed : IsSignedAs inputs asked.signing message
   pub log_is : Holds inputs asked.log is.log
   pub message_is : Holds inputs asked.message message
   pub attested : IsAttested is.log list message (terms_with asked is.ranges) attestation

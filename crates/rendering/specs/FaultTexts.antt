@@ -11,7 +11,7 @@ use Rattle.cells.specs.declared.writer.Form.{Form}
 use Rattle.cells.specs.declared.writer.Form.TheVariants as forms
 
 -- How a fault of each kind is said: the words that begin its line, its kind in JSON, and the exit status after it: 2 for refused input, 3 if
--- memory ran out, outcomes do not account for the book, or a device failed, and 4 for a refused quote.
+-- memory ran out, outcomes do not account for the book, or a device failed, and 4 for a refused quote or signature.
 abbrev pub said_of : FaultKind → List ℕ × List ℕ × ℕ
 said_of kinds.Usage = (codes "refused: command line", codes "command_line", 2)
 said_of kinds.NotHex = (codes "refused: not hexadecimal", codes "not_hexadecimal", 2)
@@ -20,6 +20,7 @@ said_of kinds.List = (codes "refused: list fault ", codes "list", 2)
 said_of kinds.Replay = (codes "refused: replay fault ", codes "replay", 2)
 said_of kinds.Expect = (codes "refused: expected fault ", codes "expected", 2)
 said_of kinds.Quote = (codes "refused: quote fault ", codes "quote", 4)
+said_of kinds.Signature = (codes "refused: signature fault ", codes "signature", 4)
 said_of kinds.Key = (codes "refused: key fault ", codes "key", 2)
 said_of kinds.Known = (codes "refused: known fault ", codes "known", 2)
 said_of kinds.Checkpoint = (codes "refused: checkpoint fault ", codes "checkpoint", 2)

@@ -3,7 +3,7 @@ use Rattle.std.specs.Prelude.{ℕ, Bool, true, false, List, Option, Some, None, 
 use Rattle.pcr_values.specs.declared.selection.BankRange.{BankRange}
 use Rattle.boot_verdict.specs.Names.{list_verdict_of, verdict_of}
 use Rattle.known_files.specs.declared.unknown.UnknownFiles.{UnknownFiles}
-use Rattle.attestations.specs.Reports.{attest_verdict_of}
+use Rattle.attestations.specs.Reports.{attest_verdict_of, is_signed}
 use Rattle.cells.specs.Cells.{Cell, rendered}
 use Rattle.cells.specs.Values.{Member}
 use Rattle.answers.specs.AttestationCells.{attestation_cell}
@@ -61,7 +61,7 @@ print_measured forms.Json print given = entry_lines (Some forms.Json) given.book
 -- The exit status of an answer: 0 if all is well; 4 where nobody verified the signature of a quote, whatever else holds; else 1.
 abbrev pub answer_status : Bool → Answer → ℕ
 answer_status true answer = 0
-answer_status false (Attestation report) = if (attest_verdict_of report).is_signed then 1 else 4
+answer_status false (Attestation report) = if is_signed (attest_verdict_of report).signature then 1 else 4
 answer_status false answer = 1
 
 -- What is shown is the answer to what is asked for, in this form; this is its exit status; and this is where to go on.

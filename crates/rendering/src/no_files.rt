@@ -24,6 +24,8 @@ impl AgentFiles for NoFiles {
         Err(Failed)
     }
 
+    fn take_only_regular_files(&mut self) {}
+
     fn is_regular(&self, _name: &str) -> bool {
         false
     }

@@ -137,7 +137,7 @@ pub fn status_of_answer(given: &Answered) -> u8
 {
     match (given.is_success, &given.answer) {
         (true, _) => DONE,
-        (false, Answer::Attestation(report)) if !report.is_signed => UNSIGNED,
+        (false, Answer::Attestation(report)) if !report.signature.is_signed() => UNSIGNED,
         (false, _) => DIFFERS,
     }
 }

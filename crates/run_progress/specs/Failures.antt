@@ -15,6 +15,7 @@ is_explained task = false
 abbrev pub is_asked_for : Failure → Bool
 is_asked_for (failures.Fault fault task) = is_explained task.now
 is_asked_for (failures.Differs task) = is_explained task.now
+is_asked_for (failures.Unsigned task) = is_explained task.now
 is_asked_for failure = false
 
 -- Standard error is a terminal, or the task asks for it.

@@ -9,7 +9,7 @@ use measuring::FileProgress;
 use std::alloc::Global;
 use std::io;
 
-/// What came of a run that failed, or of an answer that something differs.
+/// What came of a run that failed, or of an answer that something differs, or that nobody looked at a signature.
 #[derive(Clone, Copy)]
 pub enum Failure<'a> {
     /// The line of a fault of a task.
@@ -36,6 +36,11 @@ pub enum Failure<'a> {
         /// What was to be done.
         task: &'a Task,
     },
+    /// The answer to a task by a quote: nobody looked at its signature.
+    Unsigned {
+        /// What was to be done.
+        task: &'a Task,
+    },
     /// A part of the output, or nothing.
     Output,
 }
@@ -53,7 +58,9 @@ impl Failure<'_> {
         ensures { result ≡ is_asked_for self.entry }
     {
         match self {
-            Failure::Fault { task, .. } | Failure::Differs { task } => is_explained(task),
+            Failure::Fault { task, .. }
+            | Failure::Differs { task }
+            | Failure::Unsigned { task } => is_explained(task),
             Failure::Refused { .. } | Failure::Arguments { .. } | Failure::Output => false,
         }
     }
@@ -70,12 +77,12 @@ fn is_explained(task: &Task) -> bool
     }
 }
 
-/// Receives the progress of a measurement, and why the run failed or something differs.
+/// Receives the progress of a measurement, and why the run failed, or something differs or was not looked at.
 pub trait Progress: FileProgress {
     /// Standard input is about to be read.
     fn waits(&self);
 
-    /// The run failed, or something differs. The fault's line, if there is one, or the answer was sent before.
+    /// The run failed, or something differs or was not looked at. The fault's line, if there is one, or the answer was sent before.
     fn explain(&self, alloc: Global, failure: Failure<'_>);
 }
 

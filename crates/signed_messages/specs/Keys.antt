@@ -1,5 +1,5 @@
 -- The keys by which signatures are verified.
-use Rattle.std.specs.Prelude.{ℕ, ◌==◌, ◌||◌, Bool, if◌then◌else◌, nat_lt, List, length, Option, Some, None, option_map, option_and_then}
+use Rattle.std.specs.Prelude.{ℕ, ◌==◌, ◌&&◌, ◌||◌, Bool, if◌then◌else◌, nat_lt, List, length, slice_index, Option, Some, None, option_map, option_and_then}
 use Rattle.pcr_banks.specs.declared.alg.Alg.{Alg}
 use Rattle.pcr_banks.specs.declared.alg.Alg.TheVariants as algs
 use Rattle.signature_hashes.specs.declared.hashes.Hash.{Hash}
@@ -99,6 +99,34 @@ key_with scheme (EccNumbers curve x y) = option_map ByEcc (ecc_key_with scheme c
 -- The key with this public area.
 abbrev pub key_in : KeyArea → Option MessageKey
 key_in area = key_with area.scheme area.numbers
+
+-- ---- the key alone, of which scheme and hash are not known
+
+-- The RSA key of 2,048 to 4,096 bits with this modulus.
+abbrev pub rsa_alone : List ℕ → Option RsaKey
+rsa_alone modulus =
+    if nat_lt (slice_index modulus 0) 0x80 then None
+    else if nat_lt (length modulus) 256 then None
+    else if nat_lt 512 (length modulus) then None
+    else Some (record { modulus = modulus; scheme = None })
+
+-- How many bytes a coordinate has.
+abbrev pub size_on : Curve → ℕ
+size_on P256 = 32
+size_on P384 = 48
+
+-- The key on this curve with this point, whose coordinates have the curve's size.
+abbrev pub ecc_on : Curve → List ℕ → List ℕ → Option EccKey
+ecc_on curve x y =
+    if (length x == size_on curve) && (length y == size_on curve) then Some (record { curve = curve; x = x; y = y; hash = None }) else None
+
+abbrev pub ecc_alone : codes.Curve → List ℕ → List ℕ → Option EccKey
+ecc_alone curve x y = option_and_then (λ curve. ecc_on curve x y) (curve_with curve)
+
+-- The key with these numbers alone. The exponent is 65,537 as it is: no other number stands for it.
+abbrev pub key_alone : KeyNumbers → Option MessageKey
+key_alone (RsaNumbers exponent modulus) = if exponent == 65537 then option_map ByRsa (rsa_alone modulus) else None
+key_alone (EccNumbers curve x y) = option_map ByEcc (ecc_alone curve x y)
 
 -- ---- what contracts see of the code's values
 

@@ -8,7 +8,7 @@ use Rattle.signed_messages.specs.declared.key.RsaScheme.{RsaScheme}
 use Rattle.signed_messages.specs.declared.key.RsaScheme.TheVariants.{Pkcs1, Pss}
 use Rattle.signed_messages.specs.declared.key.SigningScheme.{SigningScheme}
 use Rattle.signed_messages.specs.declared.refusal.SignatureRefusal.{SignatureRefusal}
-use Rattle.signed_messages.specs.declared.refusal.SignatureRefusal.TheVariants.{Bytes, OtherScheme, OtherHash, NotSigned}
+use Rattle.signed_messages.specs.declared.refusal.SignatureRefusal.TheVariants.{Bytes, OtherScheme, OtherHash, NotSigned, OtherKey, OtherPem}
 use Rattle.signed_messages.specs.Keys.{EccKey, MessageKey, ByRsa, ByEcc, RsaKey, hash_with}
 use Rattle.signed_messages.specs.Plain.{IsPlain}
 use Rattle.signed_messages.specs.Signing.{IsSignedByEcc, IsSignedByRsa, TakesEcdsa}
@@ -19,6 +19,8 @@ signature_refusal_number (Bytes fault) = signature_fault_number fault
 signature_refusal_number OtherScheme = 5
 signature_refusal_number OtherHash = 6
 signature_refusal_number NotSigned = 7
+signature_refusal_number OtherKey = 8
+signature_refusal_number OtherPem = 9
 
 -- ---- by an RSA key
 
@@ -62,6 +64,8 @@ IsRsaRefusal key message bytes OtherScheme =
 IsRsaRefusal key message bytes OtherHash =
     (length bytes ≡ length key.modulus → ⊥) × ((signature : TpmSignature) × IsSignature bytes signature × HasOtherHash key.scheme signature)
 IsRsaRefusal key message bytes NotSigned = ReachesRsaVerification key bytes × (IsSignedByRsa key message bytes → ⊥)
+IsRsaRefusal key message bytes OtherKey = ⊥
+IsRsaRefusal key message bytes OtherPem = ⊥
 
 -- ---- by a key on a curve
 
@@ -91,6 +95,8 @@ IsEccRefusal key message bytes (Bytes fault) = ((r s : List ℕ) → IsPlain byt
 IsEccRefusal key message bytes OtherScheme = (signature : TpmSignature) × IsSignature bytes signature × IsOtherThanEcdsa signature
 IsEccRefusal key message bytes OtherHash = (signature : TpmSignature) × IsSignature bytes signature × HasOtherEcdsaHash key.hash signature
 IsEccRefusal key message bytes NotSigned = ReachesEccVerification key bytes × (IsSignedByEcc key message bytes → ⊥)
+IsEccRefusal key message bytes OtherKey = ⊥
+IsEccRefusal key message bytes OtherPem = ⊥
 
 -- ---- by either
 

@@ -2,7 +2,7 @@
 
 ghost use Rattle.std.specs.Prelude.{◌≡◌, ◌↔◌, IsTrue, option_map};
 ghost use Rattle.tpm_keys.specs.Spelling.{area_of, numbers_of};
-ghost use Rattle.signed_messages.specs.Keys.{curve_with, ecc_key_of, ecc_key_with, ecdsa_hash_in, hash_with, key_in, key_of, key_with, rsa_key_of, rsa_key_with, scheme_in, scheme_kind_with};
+ghost use Rattle.signed_messages.specs.Keys.{curve_with, ecc_key_of, ecc_key_with, ecc_alone, ecdsa_hash_in, hash_with, key_alone, key_in, key_of, key_with, rsa_alone, rsa_key_of, rsa_key_with, scheme_in, scheme_kind_with, size_on};
 
 use ecdsa_signatures::Curve;
 use pcr_banks::Alg;
@@ -72,6 +72,62 @@ impl<'a> VerifyingKey<'a> {
         ensures { option_map key_of result ≡ key_in (area_of area.now) }
     {
         key_with(area.scheme, area.material)
+    }
+}
+
+/// The key with these numbers, of which scheme and hash are not known: an RSA key of 2,048 to 4,096 bits with the exponent 65,537, or a key on P-256
+/// or P-384 whose coordinates have the curve's size.
+pub(crate) fn key_alone(material: Material<'_>) -> Option<VerifyingKey<'_>>
+    ensures { option_map key_of result ≡ key_alone (numbers_of material.entry) }
+{
+    match material {
+        Material::Rsa {
+            exponent: 65_537,
+            modulus,
+        } => Some(VerifyingKey::Rsa(rsa_alone(modulus)?)),
+        Material::Rsa { .. } => None,
+        Material::Ecc { curve, x, y } => Some(VerifyingKey::Ecc(ecc_alone(curve, x, y)?)),
+    }
+}
+
+// The RSA key of 2,048 to 4,096 bits with this modulus alone, whose first bit is set.
+fn rsa_alone(modulus: &[u8]) -> Option<RsaPublicKey<'_>>
+    ensures { option_map rsa_key_of result ≡ rsa_alone modulus.now }
+{
+    let first = modulus.first()?;
+    if *first < 0x80 || modulus.len() < FEWEST_MODULUS_BYTES || modulus.len() > MOST_MODULUS_BYTES {
+        return None;
+    }
+    Some(RsaPublicKey {
+        modulus,
+        scheme: None,
+    })
+}
+
+// The key on P-256 or P-384 with this point alone.
+fn ecc_alone<'a>(curve: tpm_keys::Curve, x: &'a [u8], y: &'a [u8]) -> Option<EccPublicKey<'a>>
+    ensures { option_map ecc_key_of result ≡ ecc_alone curve x.now y.now }
+{
+    let curve = curve_with(curve)?;
+    let size = coordinate_size(curve);
+    if x.len() != size || y.len() != size {
+        return None;
+    }
+    Some(EccPublicKey {
+        curve,
+        x,
+        y,
+        hash: None,
+    })
+}
+
+// How many bytes a coordinate of a point of the curve has.
+fn coordinate_size(curve: Curve) -> usize
+    ensures { result ≡ size_on curve }
+{
+    match curve {
+        Curve::P256 => 32,
+        Curve::P384 => 48,
     }
 }
 

@@ -6,7 +6,8 @@ ghost use Rattle.signed_messages.specs.declared.refusal.SignatureRefusal.TheVari
 use thiserror::Error;
 use tpm_signatures::SignatureFault;
 
-/// Why a message is not taken as signed by a key: the first of these that holds. Bytes of the length of an RSA key's modulus have only the last.
+/// Why a message is not taken as signed by a key: the key's text is refused as `OtherKey` or `OtherPem`; or else the first of the others that holds.
+/// Bytes of the length of an RSA key's modulus are refused only as `NotSigned`.
 #[derive(Clone, Copy, Debug, PartialEq, Eq, Error)]
 pub enum SignatureRefusal {
     /// 1 to 4: the bytes are no signature that is taken.
@@ -21,12 +22,19 @@ pub enum SignatureRefusal {
     /// 7: the message is not signed by this key.
     #[error("the message is not signed by this key")]
     NotSigned,
+    /// 8: signatures by this key are not verified here: it is no RSA key of 2,048 to 4,096 bits and no key on P-256 or P-384.
+    #[error("the key is no RSA key of 2,048 to 4,096 bits and no key on P-256 or P-384")]
+    OtherKey,
+    /// 9: the key's text begins as PEM does, and is not what `ima-agent key --pem` writes of an RSA key of 2,048 to 4,096 bits or of a key on P-256
+    /// or P-384.
+    #[error("the PEM is not what ima-agent key --print pem writes of such a key")]
+    OtherPem,
 }
 
 impl SignatureRefusal {
     ghost use Rattle.signed_messages.specs.Refusals.{signature_refusal_number};
 
-    /// The refusal's number, 1 to 7: of bytes that are no signature that of their fault.
+    /// The refusal's number, 1 to 9: of bytes that are no signature that of their fault.
     pub fn number(self) -> u32
         ensures { result ≡ signature_refusal_number self }
     {
@@ -35,6 +43,8 @@ impl SignatureRefusal {
             SignatureRefusal::OtherScheme => 5,
             SignatureRefusal::OtherHash => 6,
             SignatureRefusal::NotSigned => 7,
+            SignatureRefusal::OtherKey => 8,
+            SignatureRefusal::OtherPem => 9,
         }
     }
 }

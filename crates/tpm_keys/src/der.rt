@@ -51,9 +51,9 @@ const UNCOMPRESSED: u8 = 0x04;
 // How many characters a line of PEM has.
 const LINE: usize = 64;
 
-/// The key's PEM: its SubjectPublicKeyInfo in base64, between two lines.
+/// The key's PEM: its SubjectPublicKeyInfo in base64, between two lines. Fails only if memory runs out.
 #[tactic(auto, using(crate::proofs::PemLaws::pem_is_text))]
-pub(crate) fn key_pem(alloc: Global, material: Material<'_>) -> Result<String, AllocError>
+pub fn key_pem(alloc: Global, material: Material<'_>) -> Result<String, AllocError>
     ensures { IfOk result (λ pem. string_bytes pem ≡ key_pem (numbers_of material.entry)) }
 {
     let text = key_base64(alloc, material)?;

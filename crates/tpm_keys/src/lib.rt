@@ -12,6 +12,7 @@ mod material;
 mod report;
 
 pub use area::{Cipher, PublicArea, Scheme, read_area};
+pub use der::key_pem;
 pub use fault::KeyFault;
 pub use kinds::{Curve, KeyPart, Purpose, SchemeKind};
 pub use lacks::read_key;

@@ -3,4 +3,4 @@ use Rattle.answers.proofs.attestation.show_signed.Goals as goal
 
 pub returns : goal.returns
 returns c =
-    joined c.in_ok-word_member.ensures (joined (rw c.verdict_word.ensures at c.in_ok-word.ensures) c.text.ensures)
+    joined c.in_ok-word_member.ensures c.show_verdict.ensures

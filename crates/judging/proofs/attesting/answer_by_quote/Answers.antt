@@ -57,8 +57,10 @@ returns-in_err-known_files-clause-fault g c =
 
 pub returns-clause-answer : goal.returns-clause-answer
 returns-clause-answer g c =
-    λ ranges taken asked. record {
+    λ ranges taken message asked. record {
       ranges = ranges;
+      message = message;
+      signature = c.args.signature;
       quote = quote_of c.args.quote.now;
       log = held_bytes c.in_ok-log.log;
       values = c.in_ok-values.values;

@@ -1,0 +1,32 @@
+-- What a person is told to do where nobody looked at a quote's signature, or key or signature are refused.
+use Rattle.std.specs.Prelude.{ℕ, ◌<=◌, ◌++◌, ◌∷◌, Bool, true, false, if◌then◌else◌, List, [], codes, Option, None, Some}
+use Rattle.agent_plans.specs.declared.plan.Quoting.{Quoting}
+use Rattle.signed_messages.specs.declared.refusal.SignatureRefusal.{SignatureRefusal}
+use Rattle.signed_messages.specs.declared.refusal.SignatureRefusal.TheVariants.{Bytes, OtherScheme, OtherHash, NotSigned, OtherKey, OtherPem}
+use Rattle.tpm_keys.specs.Faults.{key_fault_number}
+use Rattle.tpm_keys.specs.declared.fault.KeyFault.{KeyFault}
+use Rattle.hints.specs.Escaping.{escape}
+
+abbrev pub unsigned_words : List ℕ
+unsigned_words = codes "nobody looked at the signature of QUOTE: give --key and --signature to have it verified"
+
+abbrev pub refusal_words : SignatureRefusal → List ℕ
+refusal_words (Bytes fault) = codes "SIG must be what tpm2_quote -s wrote with QUOTE: plain, or TPMT_SIGNATURE"
+refusal_words OtherScheme = codes "SIG is not by the scheme and the hash that KEY states: it is by another key, or was changed"
+refusal_words OtherHash = codes "SIG is not by the scheme and the hash that KEY states: it is by another key, or was changed"
+refusal_words NotSigned = codes "SIG is by another key or of another quote, or one of QUOTE, SIG and KEY was changed"
+refusal_words OtherKey =
+    codes "signatures by such keys are not verified here: verify SIG yourself, then say --signature-checked in place of --key and --signature"
+refusal_words OtherPem = codes "give NAME.pub of ima-enroll, or make KEY anew by ima-agent key --print pem"
+
+-- The bytes are no public area: the first ten faults are of these, and the others of what an area says.
+abbrev pub is_no_area : KeyFault → Bool
+is_no_area fault = key_fault_number fault <= 10
+
+abbrev pub no_area_words : List ℕ
+no_area_words = codes "KEY is no public area: give NAME.pub of ima-enroll, or PEM as ima-agent key --print pem prints it"
+
+-- What is said of a key that is refused: only if it is that of a quote, and no public area.
+abbrev pub key_line : KeyFault → Option Quoting → List ℕ
+key_line fault None = []
+key_line fault (Some quoting) = if is_no_area fault then escape no_area_words ++ 10 ∷ [] else []

@@ -1,0 +1,77 @@
+//! What to do where nobody looked at a quote's signature, or key or signature are refused.
+
+ghost use Rattle.std.specs.Prelude.{◌≡◌, ◌++◌, ◌∷◌, [], true, option_map, string_bytes, IfOk};
+ghost use Rattle.std.specs.List.{list_all};
+ghost use Rattle.hints.specs.Escaping.{escape, is_shown};
+ghost use Rattle.hints.specs.Signing.{is_no_area, key_line, no_area_words, refusal_words, unsigned_words};
+
+use crate::escapes::shown_line;
+use agent_plans::Quoting;
+use signed_messages::SignatureRefusal;
+use std::alloc::{AllocError, Global};
+use tpm_keys::KeyFault;
+
+/// The greatest number of the faults of bytes that are no public area.
+const LAST_OF_AREAS: u32 = 10;
+
+const UNSIGNED: &str =
+    "nobody looked at the signature of QUOTE: give --key and --signature to have it verified";
+
+const NO_AREA: &str =
+    "KEY is no public area: give NAME.pub of ima-enroll, or PEM as ima-agent key --print pem prints it";
+
+/// What to do where nothing was said of the signature.
+pub(crate) fn unsigned_hint(alloc: Global) -> Result<String, AllocError>
+    ensures line { IfOk result (λ text. string_bytes text ≡ escape unsigned_words ++ 10 ∷ []) }
+    ensures shown { IfOk result (λ text. list_all is_shown (string_bytes text) ≡ true) }
+{
+    shown_line(alloc, UNSIGNED)
+}
+
+/// What to do about a refused signature.
+pub(crate) fn refusal_hint(alloc: Global, refusal: SignatureRefusal) -> Result<String, AllocError>
+    ensures line { IfOk result (λ text. string_bytes text ≡ escape (refusal_words refusal) ++ 10 ∷ []) }
+    ensures shown { IfOk result (λ text. list_all is_shown (string_bytes text) ≡ true) }
+{
+    shown_line(alloc, refusal_words(refusal))
+}
+
+// The words of that.
+fn refusal_words(refusal: SignatureRefusal) -> &'static str
+    ensures { result.now ≡ refusal_words refusal }
+{
+    match refusal {
+        SignatureRefusal::Bytes(_) =>
+            "SIG must be what tpm2_quote -s wrote with QUOTE: plain, or TPMT_SIGNATURE",
+        SignatureRefusal::OtherScheme | SignatureRefusal::OtherHash =>
+            "SIG is not by the scheme and the hash that KEY states: it is by another key, or was changed",
+        SignatureRefusal::NotSigned =>
+            "SIG is by another key or of another quote, or one of QUOTE, SIG and KEY was changed",
+        SignatureRefusal::OtherKey =>
+            "signatures by such keys are not verified here: verify SIG yourself, then say --signature-checked in place of --key and --signature",
+        SignatureRefusal::OtherPem =>
+            "give NAME.pub of ima-enroll, or make KEY anew by ima-agent key --print pem",
+    }
+}
+
+/// What to do about a key that is refused, if it is that of a quote, and no public area: else no text.
+pub(crate) fn key_hint(
+    alloc: Global,
+    fault: KeyFault,
+    quoting: Option<&Quoting>,
+) -> Result<String, AllocError>
+    ensures line { IfOk result (λ text. string_bytes text ≡ key_line fault (option_map (λ quoting. quoting.now) quoting.entry)) }
+    ensures shown { IfOk result (λ text. list_all is_shown (string_bytes text) ≡ true) }
+{
+    if quoting.is_some() && is_no_area(fault) {
+        return shown_line(alloc, NO_AREA);
+    }
+    Ok(String::new(alloc))
+}
+
+// Whether the bytes are no public area.
+fn is_no_area(fault: KeyFault) -> bool
+    ensures { result ≡ is_no_area fault }
+{
+    fault.number() <= LAST_OF_AREAS
+}
