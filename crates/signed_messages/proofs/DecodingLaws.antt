@@ -1,5 +1,5 @@
 -- The base64 of a key's SubjectPublicKeyInfo decodes to it.
-use Rattle.std.proofs.Common.{◌≡◌, ℕ, ◌↔◌, List, Some, Result, Ok, Err, refl, sym, subst, ◌∙◌, arith}
+use Rattle.std.proofs.Common.{◌≡◌, ℕ, ◌↔◌, List, Some, Result, Ok, Err, refl, sym, ◌∙◌}
 use Rattle.base64.specs.declared.decode.DecodeError.{DecodeError}
 use Rattle.base64.specs.Engines.{standard}
 use Rattle.base64.specs.GeneralPurpose.{IsStrict, decode_of, encode_of}

@@ -1,6 +1,6 @@
 -- Keys as text, and what is refused of them.
-use Rattle.std.proofs.Common.{◌≡◌, ℕ, ◌⊎◌, Bool, true, false, List, ◌∷◌, ◌++◌, drop, length, codes, Option, None, Result, Ok, Err, refl, sym, subst, ap, ◌∙◌, inl, inr, arith}
-use Rattle.std.specs.Prelude.{IfErr, IsOk, nat_eq, slice_index}
+use Rattle.std.proofs.Common.{◌≡◌, ℕ, ◌⊎◌, Bool, true, false, List, ◌++◌, drop, codes, Result, Ok, Err, refl, sym, subst, ap, ◌∙◌, inl, inr, arith}
+use Rattle.std.specs.Prelude.{IfErr, slice_index}
 use Rattle.std.proofs.lemmas.Bool.{true≢false}
 use Rattle.std.proofs.lemmas.Bool.Decides.{Decides-eqb}
 use Rattle.std.proofs.lemmas.Slice.Eq.{starts_is}
@@ -12,7 +12,7 @@ use Rattle.signed_messages.specs.declared.refusal.SignatureRefusal.{SignatureRef
 use Rattle.signed_messages.specs.declared.refusal.SignatureRefusal.TheVariants.{Bytes, OtherScheme, OtherHash, NotSigned, OtherKey, OtherPem}
 use Rattle.signed_messages.specs.Keys.{MessageKey, ByRsa, ByEcc}
 use Rattle.signed_messages.specs.Refusals.{IsRefusal}
-use Rattle.signed_messages.specs.KeyTexts.{IsAreaFault, IsCheckFault, IsFaultOf, IsKeyArea, IsKeyPem, IsKeyText, IsPemFault, IsSignedByArea, IsSignedByPem, IsSignedByText, is_pem}
+use Rattle.signed_messages.specs.KeyTexts.{IsAreaFault, IsCheckFault, IsFaultOf, IsKeyArea, IsKeyPem, IsPemFault, IsSignedByArea, IsSignedByPem, IsSignedByText, is_pem}
 
 -- ---- faults of PEM
 

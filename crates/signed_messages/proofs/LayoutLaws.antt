@@ -1,17 +1,17 @@
 -- Where the numbers of a key stand in its SubjectPublicKeyInfo.
 use Rattle.std.proofs.Common.{◌≡◌, ◌≢◌, ℕ, zero, suc, ◌+◌, ◌-◌, ◌/◌, ◌%◌, ◌^◌, ◌<◌, ◌≤◌, Bool, true, false, cond, eqb, ltb, List, [], ◌∷◌, ◌++◌, length, drop, take, replicate, Option, Some, None, refl, ap, ap₂, sym, subst, ◌∙◌, arith, length-append, lit<, inl, inr, option_map}
-use Rattle.std.specs.Prelude.{◌⊎◌, slice_index}
+use Rattle.std.specs.Prelude.{slice_index}
 use Rattle.std.specs.Int.{byte_at, w64, to_be_bytes}
 use Rattle.std.specs.List.{list_all}
 use Rattle.std.proofs.Math.Nat.{div-eq_of_lt, pow-le-pow_right}
-use Rattle.std.proofs.lemmas.Bool.{and_parts, cases_lt, eqb-true, le-ltb, lt-ltb, ltb-false, ltb-true}
+use Rattle.std.proofs.lemmas.Bool.{and_parts, eqb-true, le-ltb, lt-ltb, ltb-false, ltb-true}
 use Rattle.std.proofs.lemmas.Bool.Decides.{eqb_tells}
 use Rattle.std.proofs.lemmas.List.{take_at}
 use Rattle.byte_fields.specs.Spelling.{IsBytes}
 use Rattle.tpm_keys.specs.declared.kinds.Curve.{Curve}
 use Rattle.tpm_keys.specs.declared.kinds.Curve.TheVariants.{P256, P384, P521}
 use Rattle.tpm_keys.specs.Kinds.{coordinate_size}
-use Rattle.tpm_keys.specs.KeyInfo.{algorithm_of, bit_string, der, der_length, integer, key_bytes, key_info, padded, sequence, without_zeros}
+use Rattle.tpm_keys.specs.KeyInfo.{algorithm_of, bit_string, der, integer, key_bytes, key_info, padded, sequence, without_zeros}
 use Rattle.tpm_keys.specs.Spelling.{KeyNumbers, RsaNumbers, EccNumbers}
 use Rattle.signed_messages.specs.Keys.{MessageKey, key_alone}
 use Rattle.signed_messages.specs.KeyTexts.{AreBytes}

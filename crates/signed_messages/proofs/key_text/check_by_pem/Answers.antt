@@ -1,4 +1,4 @@
-use Rattle.std.proofs.Common.{◌≡◌, ℕ, List, Err, sym, subst, ap, ◌∙◌, inr}
+use Rattle.std.proofs.Common.{ℕ, List, Err, sym, subst, ap, ◌∙◌, inr}
 use Rattle.std.proofs.lemmas.Result.{err_from_is_err_and}  -- what the exit of a `?` returns
 use Rattle.std.proofs.lemmas.Bool.{false≢true}
 use Rattle.signed_messages.specs.Keys.{MessageKey, key_of}

@@ -1,4 +1,4 @@
-use Rattle.std.proofs.Common.{◌≡◌, Option, Some, refl, sym, ap, subst, ◌∙◌, inr}
+use Rattle.std.proofs.Common.{◌≡◌, Option, Some, refl, sym, ap, ◌∙◌, inr}
 use Rattle.tpm_keys.specs.KeyInfo.{key_pem}
 use Rattle.tpm_keys.specs.Spelling.{KeyNumbers, numbers_of}
 use Rattle.signed_messages.proofs.key_text.key_with_pem.Goals as goal

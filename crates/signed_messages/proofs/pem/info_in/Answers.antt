@@ -1,4 +1,4 @@
-use Rattle.std.proofs.Common.{◌≡◌, refl, ◌∙◌, inr}
+use Rattle.std.proofs.Common.{refl, ◌∙◌, inr}
 use Rattle.tpm_keys.specs.KeyInfo.{key_base64}
 use Rattle.signed_messages.proofs.DecodingLaws.{decoded_is, not_undecoded}
 use Rattle.signed_messages.proofs.pem.info_in.Goals as goal

@@ -1,7 +1,6 @@
-use Rattle.std.proofs.Common.{◌≡◌, ◌-◌, Some, ap, sym, subst, ◌∙◌, arith, length, drop}
+use Rattle.std.proofs.Common.{◌-◌, Some, ap, sym, subst, ◌∙◌, arith, length, drop}
 use Rattle.byte_fields.proofs.Steps.{IsBytes-drop, IsBytes-take}
 use Rattle.std.proofs.lemmas.List.{take_rest}
-use Rattle.tpm_keys.specs.Spelling.{KeyNumbers, numbers_of}
 use Rattle.signed_messages.proofs.LayoutLaws.{IsLaidOut, is_laid_out, has_91, has_120, is_rsa, none_short}
 use Rattle.signed_messages.proofs.pem.material_in.Goals as goal
 
