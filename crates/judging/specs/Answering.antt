@@ -552,7 +552,8 @@ pub record AreCounted (inputs : Inputs) (expected : Option Where) (quote : TpmQu
   pub counted_is : counted ≡ counted_by quote stated
 
 -- What a list is judged with by a quote, with the expected registers that count.
-abbrev pub quoted_evidence : List ℕ → TpmQuote → SignatureState → ExpectedValues → List Expected → Option Checkpoint → Option KnownFiles → Evidence
+abbrev pub quoted_evidence : List ℕ → TpmQuote → SignatureState → ExpectedValues → List Expected → Option Checkpoint → Option KnownFiles
+    → Evidence
 quoted_evidence log quote signature values counted checkpoint known_files = record {
   required = None;
   log = log;

@@ -29,8 +29,9 @@ use std::alloc::Global;
 use tpm_quotes::Quote;
 
 /// What comes of a log, a list and a quote. It is read in this order (only in part by the clauses: not that the log comes first of its inputs):
-/// what is required; the quote's message; the key and the signature, where it is verified here; the log, which is loaded; the expected registers, if
-/// there are such; the checkpoint, and whether it is of the quote's boot; the texts of known files; and then the list is opened, and replayed as it is read, without loading it.
+/// what is required; the quote's message; the key and the signature, if it is verified here; the log, which is loaded; the expected registers, if
+/// there are such; the checkpoint, and whether it is of the quote's boot; the texts of known files; and then the list is opened, and replayed as it
+/// is read, without loading it.
 pub(crate) fn attest<F: AgentFiles>(
     alloc: Global,
     files: &mut F,

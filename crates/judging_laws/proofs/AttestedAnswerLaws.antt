@@ -173,7 +173,8 @@ module _ (inputs : Inputs) (asked : AttestRequested) (given : Answered) (is : Is
       let report = answer.0 in
       let good_is : is_good_answer Nothing None given.answer ≡ true =
       (both_true (has_no_unknown given.unknown) (is_good_answer Nothing None given.answer) (sym is.success_is ∙ success)).1 in
-      let here : (is_signed report.signature && is_attested (attest_verdict_of report)) ≡ true = ap (is_good_answer Nothing None) (sym answer.1) ∙ good_is in
+      let here : (is_signed report.signature && is_attested (attest_verdict_of report)) ≡ true =
+      ap (is_good_answer Nothing None) (sym answer.1) ∙ good_is in
       let there : (is_signed told.signature && is_attested told) ≡ true =
       subst (λ (v : AttestVerdict). (is_signed v.signature && is_attested v) ≡ true) answer.2 here in
       let good = success_told told is.quote next is.signature there (told_signed is.quote is.signature is.values next on)
