@@ -31,32 +31,32 @@ def begins_with_zero(number, size):
     return number >> 8 * (size - 1) == 0
 
 
-def ecdsa(key, message):
-    """The numbers r and s of a signature."""
-    return utils.decode_dss_signature(key.sign(message, ec.ECDSA(hashes.SHA256())))
+def rsa_files():
+    """An RSA key that signs by PSS with SHA-256, and its signatures: that of the quote begins with a zero, and there is another one by SHA-1."""
+    key = rsa.generate_private_key(65537, 2048)
+    yield "signing-key hex", f"@samples/keys/ak-rsapss.pub[:16] 000b 0800 00000000 0100\n{key.public_key().public_numbers().n:0512x}\n"
+    yield "signing-key-pem", key.public_key().public_bytes(*PEM).decode()
+    signatures = {"signature": until(lambda: key.sign(QUOTE, PSS, hashes.SHA256()), lambda number: number[0] == 0)}
+    signatures |= {f"signature-{name}": key.sign(message, PSS, hashes.SHA256()) for name, message in NO_QUOTES.items()}
+    for name, number in signatures.items():
+        yield f"{name} hex", f"0016 000b 0100\n{number.hex()}\n"
+    yield "signature-by-sha1 hex", f"0014 0004 0100\n{key.sign(QUOTE, padding.PKCS1v15(), hashes.SHA1()).hex()}\n"
+
+
+def ecdsa(key):
+    """The numbers r and s of a signature of the quote."""
+    return utils.decode_dss_signature(key.sign(QUOTE, ec.ECDSA(hashes.SHA256())))
 
 
 def ecc_files():
-    """A key on P-256 whose point begins with a zero, and its signatures, of which that of the quote begins with one."""
+    """A key on P-256 whose point begins with a zero, and its signature of the quote, which begins with one."""
     key = until(lambda: ec.generate_private_key(ec.SECP256R1()), lambda key: begins_with_zero(key.public_key().public_numbers().x, 32))
-    point = key.public_key().public_numbers()
-    yield "signing-key hex", f"@samples/keys/ak-p256.pub[:24] {point.x:064x}\n0020 {point.y:064x}\n"
-    yield "signing-key-pem", key.public_key().public_bytes(*PEM).decode()
-    signatures = {"signature": until(lambda: ecdsa(key, QUOTE), lambda numbers: begins_with_zero(numbers[0], 32))}
-    signatures |= {f"signature-{name}": ecdsa(key, message) for name, message in NO_QUOTES.items()}
-    for name, (r, s) in signatures.items():
-        yield f"{name} hex", f"0018 000b 0020 {r:064x}\n0020 {s:064x}\n"
-
-
-def rsa_files():
-    """An RSA key that signs by PSS with SHA-256, and its signatures of the quote: one that begins with a zero, and another by SHA-1."""
-    key = rsa.generate_private_key(65537, 2048)
-    yield "pss-key hex", f"@samples/keys/ak-rsapss.pub[:16] 000b 0800 00000000 0100\n{key.public_key().public_numbers().n:0512x}\n"
-    yield "pss-key-pem", key.public_key().public_bytes(*PEM).decode()
-    yield "pss-signature hex", f"0016 000b 0100\n{until(lambda: key.sign(QUOTE, PSS, hashes.SHA256()), lambda number: number[0] == 0).hex()}\n"
-    yield "sha1-signature hex", f"0014 0004 0100\n{key.sign(QUOTE, padding.PKCS1v15(), hashes.SHA1()).hex()}\n"
+    point, (r, s) = key.public_key().public_numbers(), until(lambda: ecdsa(key), lambda numbers: begins_with_zero(numbers[0], 32))
+    yield "p256-key hex", f"@samples/keys/ak-p256.pub[:24] {point.x:064x}\n0020 {point.y:064x}\n"
+    yield "p256-key-pem", key.public_key().public_bytes(*PEM).decode()
+    yield "p256-signature hex", f"0018 000b 0020 {r:064x}\n0020 {s:064x}\n"
 
 
 if __name__ == "__main__":
-    for head, body in (*ecc_files(), *rsa_files()):
+    for head, body in (*rsa_files(), *ecc_files()):
         print(f"-- {head} --\n{body}", end="")
