@@ -9,7 +9,7 @@ from pathlib import Path
 from help import read_program
 
 # What the help calls the value of an option that names a file.
-FILE_VALUES = ("FILE", "NAMES", "EXPECTED", "QUOTE", "LIST", "OLD_LOG")
+FILE_VALUES = ("FILE", "NAMES", "EXPECTED", "QUOTE", "LIST", "KEY", "SIG", "OLD_LOG")
 
 BASH = """\
 # What bash completes after ima-agent.

@@ -59,8 +59,9 @@ extern "C" {
 
 /* What a function returns. */
 enum ima_verify_result {
-    /* The text is complete. A verdict is `match`, and with a quote its signature was checked; of places, some
-     * register is expected, every value was reached, and none is missing. Of entries or events, these are the last. */
+    /* The text is complete. A verdict is `match`, and with a quote its signature is valid, or the caller checked it; of
+     * places, some register is expected, every value was reached, and none is missing. Of entries or events, these are
+     * the last. */
     IMA_VERIFY_DONE = 0,
     /* The text is complete. A verdict is `differ`, or a quote's signature was not checked; of places, no register is
      * expected, a value was not reached, or one is missing. */
@@ -77,7 +78,8 @@ enum ima_verify_result {
     /* The text has whole lines of entries or events, and there are more: call again. */
     IMA_VERIFY_MORE = 5,
     /* A pointer is NULL whose size is not 0; or a form, an origin, a purpose or a position is none; or known files are
-     * given without `judges_known`, or to a function that judges no entry. Nothing was read or written. */
+     * given without `judges_known`, or to a function that judges no entry; or of a key and a signature only one is
+     * given, or both beside `signature_checked`. Nothing was read or written. */
     IMA_VERIFY_MISUSED = 6
 };
 
@@ -114,7 +116,11 @@ enum ima_verify_fault_kind {
     IMA_VERIFY_KEY = 9,
     /* The known files: a line has a digest by SHA-1 (1), or is no digest and name (2). Its place is that of the line;
      * the first is 1. */
-    IMA_VERIFY_KNOWN = 10
+    IMA_VERIFY_KNOWN = 10,
+    /* The signature of the quote's message: it is none (1 to 4), its scheme (5) or its hash (6) is not the key's, or
+     * the key did not sign this message (7). Or the library verifies no signatures by such a key (8), or what begins as
+     * PEM is not the text that ima_verify_key gives of a key by which it does (9). */
+    IMA_VERIFY_SIGNATURE = 11
 };
 
 /* The place of a fault that names none. */
@@ -178,15 +184,20 @@ struct ima_verify_quoted {
     struct ima_verify_bytes list;
     /* The message that the TPM signed, a TPMS_ATTEST: the file that `tpm2_quote -m` writes. */
     struct ima_verify_bytes message;
+    /* The machine's attestation key: its public area, a TPM2B_PUBLIC whose credential was activated, or the PEM that
+     * ima_verify_key gives of it. */
+    struct ima_verify_bytes key;
+    /* The signature of the message by this key: the file that `tpm2_quote -s` writes, with `-f plain` or without. */
+    struct ima_verify_bytes signature;
     /* The verifier's own nonce for this quote, used once: 16 bytes or more, and not their hexadecimal digits. */
     struct ima_verify_bytes nonce;
     /* The registers that must be quoted, at least 0 to 10, as `sha256:0-10`. */
     struct ima_verify_bytes require;
     /* Whether a register may be required in the bank of SHA-1 alone. */
     bool takes_sha1;
-    /* Whether the caller has verified the message's signature with the machine's attestation key: the PEM that
-     * ima_verify_key gives of a public area whose credential was activated. With `false`, which is what a member that
-     * is left out has, nothing is attested, and the report ends in `signature not checked`. */
+    /* Whether the caller has verified the message's signature by the machine's attestation key, where the library
+     * cannot. `key` and `signature` then have no bytes. If they have none and this is `false`, as a member that is left
+     * out is, nothing is attested, and the report ends in `signature not checked`. */
     bool signature_checked;
     /* The known files, and whether each entry must be of one, as in struct ima_verify_evidence. */
     struct ima_verify_bytes known;
@@ -239,6 +250,7 @@ int32_t ima_verify_raw_more(const uint8_t *log, size_t log_size, const uint8_t *
                             struct ima_verify_told *told);
 int32_t ima_verify_raw_attest(const uint8_t *log, size_t log_size, const uint8_t *state, size_t state_size,
                               const uint8_t *more, size_t more_size, const uint8_t *message, size_t message_size,
+                              const uint8_t *key, size_t key_size, const uint8_t *signature, size_t signature_size,
                               const uint8_t *nonce, size_t nonce_size, const uint8_t *require, size_t require_size,
                               const uint8_t *known, size_t known_size, bool known_given, bool takes_sha1,
                               bool is_signed, bool prefix, bool json, uint8_t *next, size_t next_room,
@@ -280,10 +292,18 @@ static inline bool ima_verify_is_evidence(const struct ima_verify_evidence *evid
            && ima_verify_are_known(evidence->known, evidence->judges_known);
 }
 
+/* Whether a key and a signature may be given so: both or neither, and not beside the caller's word. */
+static inline bool ima_verify_are_signing(struct ima_verify_bytes key, struct ima_verify_bytes signature,
+                                          bool signature_checked) {
+    return ima_verify_is_given(key) && ima_verify_is_given(signature) && (key.size > 0) == (signature.size > 0)
+           && !(signature_checked && key.size);
+}
+
 static inline bool ima_verify_is_quoted(const struct ima_verify_quoted *quoted) {
     return quoted && ima_verify_is_given(quoted->log) && ima_verify_is_given(quoted->list)
            && ima_verify_is_given(quoted->message) && ima_verify_is_given(quoted->nonce)
-           && ima_verify_is_given(quoted->require) && ima_verify_are_known(quoted->known, quoted->judges_known);
+           && ima_verify_is_given(quoted->require) && ima_verify_are_known(quoted->known, quoted->judges_known)
+           && ima_verify_are_signing(quoted->key, quoted->signature, quoted->signature_checked);
 }
 
 static inline uint8_t *ima_verify_room(struct ima_verify_output *output, uint8_t *none) {
@@ -410,19 +430,23 @@ ima_verify_more(const struct ima_verify_evidence *evidence, struct ima_verify_by
  * are those of the new quote: else it is of another boot (`refused: checkpoint fault 4`). A machine that was suspended
  * has another count of restarts, so begin anew, with the whole list.
  *
- * The message must have the nonce, and select each register that `require` names. IMA_VERIFY_DONE if its digest is that
- * of the values to which log and list replay, the boot aggregate is good, no event of the log extends register 10, each
- * entry of the list names it, no entry is unknown, and the signature was checked, else IMA_VERIFY_DIFFERS; the text is
- * the report. The verdict covers the registers that the quote selects, and the report names them. With `prefix` it is
- * on the confirmed prefix, if there is one: the shortest after which the registers are those of the quote.
+ * The message must be signed by the key, have the nonce, and select each register that `require` names.
+ * IMA_VERIFY_DONE if its digest is that of the values to which log and list replay, the boot aggregate is good, no
+ * event of the log extends register 10, each entry of the list names it, no entry is unknown, and the signature is
+ * valid or the caller checked it, else IMA_VERIFY_DIFFERS; the text is the report. The verdict covers the registers
+ * that the quote selects, and the report names them. With `prefix` it is on the confirmed prefix, if there is one: the
+ * shortest after which the registers are those of the quote.
  *
- * This function verifies no signature: the caller does, before the call. A key that is not restricted, or
- * that was imported into the TPM, also signs messages that no TPM made: ima_verify_key refuses both.
+ * Signatures are verified by RSA keys of 2048 to 4096 bits (RSASSA and RSAPSS) and by keys on P-256 and P-384 (ECDSA),
+ * with SHA-256, SHA-384 and SHA-512. The public area of a key states its scheme and hash; a PEM does not, and each is
+ * taken. A key that is not restricted, or that was imported into the TPM, also signs messages that no TPM made. Its
+ * public area is refused, but a PEM does not tell.
  *
- * The first fault is reported, in this order: `require` and the nonce, the message (`refused: quote fault 1` to `12`),
- * the text of the checkpoint (`refused: checkpoint fault 1` or `2`), whether it is of the quote's boot (`refused:
- * checkpoint fault 4`), the known files, the log, whether the log is that of the checkpoint (`refused: checkpoint fault
- * 3`), the list, whether each entry is genuine. */
+ * The first fault is reported, in this order: `require` and the nonce, the key (`refused: key fault 1` to `22`,
+ * `refused: signature fault 8` or `9`), the signature (`refused: signature fault 1` to `7`), the message (`refused:
+ * quote fault 1` to `12`), the text of the checkpoint (`refused: checkpoint fault 1` or `2`), whether it is of the
+ * quote's boot (`refused: checkpoint fault 4`), the known files, the log, whether the log is that of the checkpoint
+ * (`refused: checkpoint fault 3`), the list, whether each entry is genuine. */
 IMA_VERIFY_USE_RESULT static inline enum ima_verify_result
 ima_verify_attest_more(const struct ima_verify_quoted *quoted, struct ima_verify_bytes state, bool prefix,
                        enum ima_verify_form form, struct ima_verify_output *next, struct ima_verify_output *output) {
@@ -435,6 +459,7 @@ ima_verify_attest_more(const struct ima_verify_quoted *quoted, struct ima_verify
     result = ima_verify_raw_attest(
         ima_verify_data(quoted->log), quoted->log.size, ima_verify_data(state), state.size,
         ima_verify_data(quoted->list), quoted->list.size, ima_verify_data(quoted->message), quoted->message.size,
+        ima_verify_data(quoted->key), quoted->key.size, ima_verify_data(quoted->signature), quoted->signature.size,
         ima_verify_data(quoted->nonce), quoted->nonce.size, ima_verify_data(quoted->require), quoted->require.size,
         ima_verify_data(quoted->known), quoted->known.size, quoted->judges_known, quoted->takes_sha1,
         quoted->signature_checked, prefix, form == IMA_VERIFY_JSON, ima_verify_room(next, &none_next), next->room,

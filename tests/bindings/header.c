@@ -1,14 +1,15 @@
-/* Holds the library to what ima_verify.h promises of wrong calls, room, faults, requirements, known files, quotes, sessions by them, keys,
- * pieces and the stack.
+/* Holds the library to what ima_verify.h promises of wrong calls, room, faults, requirements, known files, quotes, their signatures, sessions by
+ * them, keys, pieces and the stack.
  *
- *     header LOG LIST EXPECTED PRINTED MESSAGE NONCE AREA PEM KNOWN BEFORE BANKS_LOG BANKS_LIST BANKS_MESSAGE [STACK]
+ *     header LOG LIST EXPECTED PRINTED MESSAGE NONCE AREA PEM KNOWN BEFORE BANKS_LOG BANKS_LIST BANKS_MESSAGE SIGNED [STACK]
  *
  * The files are those of the sample boot; PRINTED is what tpm2_pcrread printed, MESSAGE is the message of a quote of registers 0 to 10 in
  * the SHA-256 bank, and NONCE has its nonce in hexadecimal. AREA is the public area of an attestation key of RSA, 2048 bits, that signs by
  * RSASSA with SHA-256, and PEM is that key. KNOWN lists the files of LIST, and BEFORE has the registers before its first violation. The
- * files whose names begin with BANKS are those of a boot with banks of all algorithms, whose quote has the same nonce. Each function is
- * called in a thread with so many bytes of stack, by default the 512 KiB of the header. Prints a line for each check that fails, how much
- * stack was used at most, and last 'N passed, M failed'. The status is 1 if one failed. */
+ * files whose names begin with BANKS are those of a boot with banks of all algorithms, whose quote has the same nonce. SIGNED is the folder of
+ * quotes of the sample boot by keys of each kind, with this nonce and their signatures. Each function is called in a thread with so many bytes
+ * of stack, by default the 512 KiB of the header. Prints a line for each check that fails, how much stack was used at most, and last 'N passed,
+ * M failed'. The status is 1 if one failed. */
 #define _GNU_SOURCE
 #include <ima_verify.h>
 
@@ -32,12 +33,47 @@ enum {
 /* All that a function may be given. */
 struct given {
     struct ima_verify_evidence evidence;
-    struct ima_verify_bytes state, printed, registers, message, nonce, area, pem, files, before;
+    struct ima_verify_bytes state, printed, registers, message, signing_key, signature, nonce, area, pem, files, before;
     enum ima_verify_origin origin;
     enum ima_verify_purpose purpose;
     struct ima_verify_position position;
     bool prefix, takes_sha1, signature_checked;
 };
+
+static struct ima_verify_bytes load(const char *name) {
+    uint8_t *bytes = malloc(ROOM);
+    FILE *stream = fopen(name, "rb");
+    size_t size = stream && bytes ? fread(bytes, 1, ROOM, stream) : ROOM;
+    if (size == ROOM) {
+        perror(name);
+        exit(2);
+    }
+    fclose(stream);
+    return (struct ima_verify_bytes){bytes, size};
+}
+
+/* A quote of the sample boot: its message, the key that signed it, as public area and as PEM, and the signature, as number alone and as the TPM gave
+ * it. */
+struct signing {
+    struct ima_verify_bytes message, area, pem, plain, whole;
+};
+
+enum signers { RSASSA, RSAPSS, RSA3072, P256, P384, TAKEN, P521 = TAKEN, SIGNERS };
+
+static const char *const signer_names[SIGNERS] = {"rsassa", "rsapss", "rsa3072", "p256", "p384", "p521"};
+static struct signing signers[SIGNERS];
+
+static void load_signers(const char *folder) {
+    static const char *const ends[] = {"msg", "pub", "pem", "sig", "tpmt"};
+    for (int i = 0; i < SIGNERS; i++) {
+        struct ima_verify_bytes *parts[] = {&signers[i].message, &signers[i].area, &signers[i].pem, &signers[i].plain, &signers[i].whole};
+        for (int part = 0; part < 5; part++) {
+            char name[FILENAME_MAX];
+            snprintf(name, sizeof name, "%s/%s.%s", folder, signer_names[i], ends[part]);
+            *parts[part] = load(name);
+        }
+    }
+}
 
 /* The sample with another member. */
 #define WITH(member, value) (given = *sample, given.member = (value), &given)
@@ -81,6 +117,7 @@ static struct ima_verify_quoted quoted_of(const struct given *given) {
     const struct ima_verify_evidence *evidence = &given->evidence;
     return (struct ima_verify_quoted){
         .log = evidence->log,         .list = evidence->list,       .message = given->message,
+        .key = given->signing_key,    .signature = given->signature,
         .nonce = given->nonce,        .require = evidence->require, .takes_sha1 = given->takes_sha1,
         .known = evidence->known,     .judges_known = evidence->judges_known,
         .signature_checked = given->signature_checked,
@@ -131,8 +168,11 @@ enum inputs {
     OF_NONCE = 256,
     OF_AREA = 512,
     OF_KNOWN = 1024,
+    OF_SIGNING_KEY = 2048,
+    OF_SIGNATURE = 4096,
     ALL = OF_LOG | OF_LIST | OF_EXPECTED | OF_REQUIRE | OF_KNOWN,
-    INPUTS = 11
+    QUOTED = OF_LOG | OF_LIST | OF_REQUIRE | OF_KNOWN | OF_MESSAGE | OF_SIGNING_KEY | OF_SIGNATURE | OF_NONCE,
+    INPUTS = 13
 };
 
 /* Each function, and which inputs it looks at. */
@@ -145,8 +185,8 @@ static const struct function {
     {"locate", call_locate, ALL},
     {"replay", call_replay, ALL},
     {"more", call_more, ALL | OF_STATE},
-    {"attest", call_attest, OF_LOG | OF_LIST | OF_REQUIRE | OF_KNOWN | OF_MESSAGE | OF_NONCE},
-    {"attest_more", call_attest_more, OF_LOG | OF_LIST | OF_REQUIRE | OF_KNOWN | OF_STATE | OF_MESSAGE | OF_NONCE},
+    {"attest", call_attest, QUOTED},
+    {"attest_more", call_attest_more, QUOTED | OF_STATE},
     {"expected", call_expected, OF_PRINTED | OF_REGISTERS},
     {"registers", call_registers, OF_LOG},
     {"key", call_key, OF_AREA},
@@ -167,7 +207,7 @@ static struct ima_verify_bytes *input(struct given *given, int number) {
     struct ima_verify_bytes *inputs[INPUTS] = {
         &given->evidence.log, &given->evidence.list, &given->evidence.expected, &given->evidence.require, &given->state,
         &given->printed,      &given->registers,     &given->message,           &given->nonce,            &given->area,
-        &given->evidence.known,
+        &given->evidence.known, &given->signing_key, &given->signature,
     };
     return inputs[number];
 }
@@ -549,7 +589,7 @@ static void check_quote_refusals(const struct given *sample) {
 
 /* Whether a report in both forms says how the quote compares, and ends so. */
 static void check_conclusion(const struct given *given, bool is_quoted, const char *words, const char *members, const char *what) {
-    enum ima_verify_result wanted = strcmp(words, "\nverdict match\n") == 0 ? IMA_VERIFY_DONE : IMA_VERIFY_DIFFERS;
+    enum ima_verify_result wanted = strstr(words, "\nverdict match\n") ? IMA_VERIFY_DONE : IMA_VERIFY_DIFFERS;
     ask(attest, given, IMA_VERIFY_TEXT, ROOM);
     bool is_told = has_line(is_quoted ? "\nquote match\n" : "\nquote differ\n");
     check(result == wanted && has_no_fault() && is_told && ends_with(words), "attest", what);
@@ -695,6 +735,168 @@ static void check_quoted_sessions(const struct given *sample) {
     check_refusal(attest_more, &given, "refused: checkpoint fault 1\n", IMA_VERIFY_CHECKPOINT, 1, IMA_VERIFY_NO_PLACE);
     given.message = none;
     check_refusal(attest_more, &given, "refused: quote fault 1\n", IMA_VERIFY_QUOTE, 1, IMA_VERIFY_NO_PLACE);
+}
+
+/* The sample by another quote, of which nobody says that its signature was checked. */
+static struct given signed_by(const struct given *sample, struct ima_verify_bytes message, struct ima_verify_bytes signing_key,
+                              struct ima_verify_bytes signature) {
+    struct given given = *sample;
+    given.message = message;
+    given.signing_key = signing_key;
+    given.signature = signature;
+    given.signature_checked = false;
+    return given;
+}
+
+static void check_valid(const struct given *given, bool is_match, const char *what) {
+    if (is_match)
+        check_conclusion(given, true, "\nsignature valid\nverdict match\n", ",\"signature\":\"valid\",\"verdict\":\"match\"}\n", what);
+    else
+        check_conclusion(given, false, "\nsignature valid\nverdict differ\n", ",\"signature\":\"valid\",\"verdict\":\"differ\"}\n", what);
+}
+
+/* A signature by a key of each kind is valid, by the key's area and its PEM, in both forms; the verdict is that on log and list. */
+static void check_signatures(const struct given *sample) {
+    enum { LAST = 95 };
+    struct ima_verify_bytes list = sample->evidence.list;
+    list.size -= LAST;
+    for (int i = 0; i < TAKEN; i++) {
+        const struct signing *by = &signers[i];
+        for (int form = 0; form < 4; form++) {
+            struct given given = signed_by(sample, by->message, form & 1 ? by->pem : by->area, form & 2 ? by->whole : by->plain);
+            check_valid(&given, true, signer_names[i]);
+            check(!has_line("checked"), "attest as JSON", "no word of the caller");
+        }
+        struct given given = signed_by(sample, by->message, by->area, by->plain);
+        given.evidence.list = list;
+        check_valid(&given, false, signer_names[i]);
+    }
+}
+
+static void check_signature_fault(const struct given *given, uint32_t number) {
+    char line[SHOWN];
+    snprintf(line, sizeof line, "refused: signature fault %u\n", number);
+    check_refusal(attest, given, line, IMA_VERIFY_SIGNATURE, number, IMA_VERIFY_NO_PLACE);
+    check_refusal(attest_more, given, line, IMA_VERIFY_SIGNATURE, number, IMA_VERIFY_NO_PLACE);
+}
+
+/* Copies bytes, and turns a bit of one of them. */
+static struct ima_verify_bytes turned(struct ima_verify_bytes bytes, size_t place, uint8_t *room) {
+    memcpy(room, bytes.data, bytes.size);
+    room[place] ^= 1;
+    return (struct ima_verify_bytes){room, bytes.size};
+}
+
+/* A signature is refused by each number of its faults. */
+static void check_refused_signatures(const struct given *sample) {
+    static uint8_t changed[ROOM];
+    struct given given;
+    for (int i = 0; i < TAKEN; i++) {
+        const struct signing *by = &signers[i], *other = &signers[i == RSAPSS ? RSASSA : RSAPSS];
+        given = signed_by(sample, by->message, by->area, turned(by->whole, by->whole.size - 1, changed));
+        check_signature_fault(&given, 7);
+        given = signed_by(sample, turned(by->message, by->message.size - 1, changed), by->area, by->plain);
+        check_signature_fault(&given, 7);
+        given = signed_by(sample, by->message, by->pem, turned(by->plain, by->plain.size - 1, changed));
+        check_signature_fault(&given, 7);
+        given = signed_by(sample, by->message, by->area, other->whole);
+        check_signature_fault(&given, 5);
+    }
+    const struct signing *by = &signers[RSASSA];
+    struct ima_verify_bytes whole = by->whole;
+    given = signed_by(sample, by->message, by->pem, whole);
+    for (given.signature.size = 1; given.signature.size < whole.size; given.signature.size += given.signature.size == 255 ? 2 : 1)
+        check_signature_fault(&given, 1);
+    memcpy(changed, whole.data, whole.size);
+    given.signature = (struct ima_verify_bytes){changed, whole.size + 1};
+    check_signature_fault(&given, 4);
+    given = signed_by(sample, signers[P384].message, signers[P256].area, signers[P384].whole);
+    check_signature_fault(&given, 6);
+    given = signed_by(sample, signers[P521].message, signers[P521].area, signers[P521].whole);
+    check_signature_fault(&given, 8);
+    given.signing_key = signers[P521].pem;
+    check_signature_fault(&given, 9);
+    given = signed_by(sample, by->message, by->pem, by->plain);
+    for (given.signing_key.size = 10; given.signing_key.size < by->pem.size; given.signing_key.size++)
+        check_signature_fault(&given, 9);
+}
+
+/* The key's area must lack nothing. The key is refused before its signature, this before the message, and the message before log and list. */
+static void check_order_of_signatures(const struct given *sample) {
+    static uint8_t changed[ROOM];
+    const struct signing *by = &signers[RSASSA];
+    struct ima_verify_bytes none = {NULL, 0};
+    struct given given = signed_by(sample, none, turned(by->area, 7, changed), ima_verify_text("x"));
+    given.evidence.log = given.evidence.list = none;
+    given.state = ima_verify_text("x");
+    check_refusal(attest_more, &given, "refused: key fault 15\n", IMA_VERIFY_KEY, 15, IMA_VERIFY_NO_PLACE);
+    given.signing_key.size--;
+    check_refusal(attest_more, &given, "refused: key fault 1\n", IMA_VERIFY_KEY, 1, IMA_VERIFY_NO_PLACE);
+    given.evidence.require = ima_verify_text("sha256:0-9");
+    check_refusal(attest_more, &given, "refused: command line\n", IMA_VERIFY_ARGUMENT, 0, IMA_VERIFY_NO_PLACE);
+    given.evidence.require = sample->evidence.require;
+    given.signing_key = by->area;
+    check_signature_fault(&given, 1);
+    given.signature = by->plain;
+    check_signature_fault(&given, 7);
+    given.message = by->message;
+    given.nonce.size--;
+    check_refusal(attest_more, &given, "refused: quote fault 11\n", IMA_VERIFY_QUOTE, 11, IMA_VERIFY_NO_PLACE);
+    given.nonce.size++;
+    check_refusal(attest_more, &given, "refused: checkpoint fault 1\n", IMA_VERIFY_CHECKPOINT, 1, IMA_VERIFY_NO_PLACE);
+    given.state = none;
+    check_refusal(attest_more, &given, "refused: log fault 1 at event 0\n", IMA_VERIFY_LOG, 1, 0);
+}
+
+/* The function that the library exports reads and writes nothing, and tells of no text. */
+static void check_misused_raw(const struct given *given, const char *what) {
+    const struct ima_verify_evidence *evidence = &given->evidence;
+    struct ima_verify_told told = {UNSET, UNSET, UNSET, UNSET};
+    size_t next_size = UNSET;
+    prepare(given, ROOM);
+    result = (enum ima_verify_result)ima_verify_raw_attest(
+        evidence->log.data, evidence->log.size, given->nonce.data, 0, evidence->list.data, evidence->list.size, given->message.data,
+        given->message.size, ima_verify_data(given->signing_key), given->signing_key.size, ima_verify_data(given->signature),
+        given->signature.size, given->nonce.data, given->nonce.size, evidence->require.data, evidence->require.size, given->nonce.data, 0,
+        false, false, given->signature_checked, false, false, checkpoint, ROOM, &next_size, text, ROOM, &told);
+    bool is_told = told.size == 0 && told.fault_kind == IMA_VERIFY_NO_FAULT && told.fault_number == 0 && told.fault_place == IMA_VERIFY_NO_PLACE;
+    check(result == IMA_VERIFY_MISUSED && is_told && next_size == 0 && is_left(), "raw_attest", what);
+}
+
+/* A key and a signature are given together, and not beside the word of the caller. */
+static void check_misused_signatures(const struct given *sample) {
+    static const char *const which[] = {"", "a key without a signature", "a signature without a key", "a key and a signature"};
+    struct ima_verify_bytes none = {NULL, 0};
+    for (int i = 1; i < 7; i++) {
+        int parts = i % 4 ? i % 4 : 3;
+        struct given given = signed_by(sample, signers[RSASSA].message, parts & 1 ? signers[RSASSA].area : none,
+                                       parts & 2 ? signers[RSASSA].plain : none);
+        given.signature_checked = i >= 4;
+        if (parts == 3 && !given.signature_checked)
+            continue;
+        check_misused(ask(attest, &given, IMA_VERIFY_TEXT, ROOM), "attest", which[parts]);
+        check_misused(ask(attest_more, &given, IMA_VERIFY_JSON, ROOM), "attest_more", which[parts]);
+        check_misused_raw(&given, which[parts]);
+    }
+}
+
+/* A session takes a key and a signature as it takes the caller's word. */
+static void check_signed_sessions(const struct given *sample) {
+    static uint8_t state[ROOM];
+    const struct signing *by = &signers[P256];
+    struct given given = *sample;
+    given.message = by->message;
+    struct ima_verify_bytes saved = saved_by(attest_more, &given, state, "a quote by a key on a curve");
+    given = signed_by(sample, by->message, by->pem, by->whole);
+    ask(attest_more, &given, IMA_VERIFY_TEXT, ROOM);
+    check(result == IMA_VERIFY_DONE && has_checkpoint(saved), "attest_more", "a valid signature");
+    size_t size = out.size;
+    ask(attest_more, &given, IMA_VERIFY_TEXT, size - 1);
+    check(result == IMA_VERIFY_TOO_SHORT && is_left() && out.size == size, "attest_more", "a byte too few for a valid signature");
+    given.state = saved;
+    given.evidence.list.size = 0;
+    ask(attest_more, &given, IMA_VERIFY_TEXT, ROOM);
+    check(result == IMA_VERIFY_DONE && has_checkpoint(saved), "attest_more", "nothing follows a valid signature");
 }
 
 /* The text of a key has its name, type, size, scheme and PEM, and JSON the same as members. */
@@ -914,6 +1116,12 @@ static void check_stack(const struct given *sample, size_t stack) {
         check_deep(function, WITH(evidence.list, ((struct ima_verify_bytes){front, list.size})), form, stack, "a changed list");
         check_deep(function, WITH(evidence.log, ima_verify_none()), form, stack, "no log");
     }
+    for (int i = 0; i < TAKEN; i++) {
+        given = signed_by(sample, signers[i].message, signers[i].area, signers[i].plain);
+        check_deep(attest, &given, IMA_VERIFY_TEXT, stack, signer_names[i]);
+        given = signed_by(sample, signers[i].message, signers[i].pem, signers[i].whole);
+        check_deep(attest_more, &given, IMA_VERIFY_JSON, stack, signer_names[i]);
+    }
     for (int i = 0; i < 4; i++) {
         given = *sample;
         given.state = saved;
@@ -929,18 +1137,6 @@ static void check_stack(const struct given *sample, size_t stack) {
     printf("%zu bytes of stack at most: %s\n", deepest, its_name);
 }
 
-static struct ima_verify_bytes load(const char *name) {
-    uint8_t *bytes = malloc(ROOM);
-    FILE *stream = fopen(name, "rb");
-    size_t size = stream && bytes ? fread(bytes, 1, ROOM, stream) : ROOM;
-    if (size == ROOM) {
-        perror(name);
-        exit(2);
-    }
-    fclose(stream);
-    return (struct ima_verify_bytes){bytes, size};
-}
-
 /* The bytes that a text spells in hexadecimal. */
 static struct ima_verify_bytes spelled(struct ima_verify_bytes digits) {
     static uint8_t bytes[ROOM];
@@ -953,8 +1149,9 @@ static struct ima_verify_bytes spelled(struct ima_verify_bytes digits) {
 }
 
 int main(int count, char **words) {
-    if (count < 14)
+    if (count < 15)
         return 2;
+    load_signers(words[14]);
     struct given sample = {
         .evidence = {.log = load(words[1]), .list = load(words[2]), .expected = load(words[3]),
                      .require = ima_verify_text("sha256:0-10")},
@@ -983,11 +1180,16 @@ int main(int count, char **words) {
     check_quote(&sample);
     check_quoted_banks(&sample, load(words[11]), load(words[12]), load(words[13]));
     check_quoted_sessions(&sample);
+    check_signatures(&sample);
+    check_refused_signatures(&sample);
+    check_order_of_signatures(&sample);
+    check_misused_signatures(&sample);
+    check_signed_sessions(&sample);
     check_key(&sample);
     check_changed_keys(&sample);
     check_pieces(&sample);
     fflush(stdout);
-    check_stack(&sample, count > 14 ? strtoul(words[14], NULL, 10) : STACK);
+    check_stack(&sample, count > 15 ? strtoul(words[15], NULL, 10) : STACK);
     printf("%ld passed, %ld failed\n", passed, failed);
     return failed != 0;
 }

@@ -42,10 +42,11 @@ KNOWING = ("verdict", "replay")
 # What `verify` of a list that grows has, of which `ima_verify_more` answers.
 MORE_OPTIONS, MORE_FLAGS = ("--require", "--resume", "--save"), ("--json", "--prefix")
 # What `attest` has beside it, of which `ima_verify_attest_more` answers.
-QUOTED_OPTIONS, QUOTED_FLAGS = ("--nonce", *MORE_OPTIONS), ("--sha1", "--signature-checked", *MORE_FLAGS)
+QUOTED_OPTIONS, QUOTED_FLAGS = ("--nonce", "--key", "--signature", *MORE_OPTIONS), ("--sha1", "--signature-checked", *MORE_FLAGS)
 # What `key` has, of which `ima_verify_raw_key` answers: it gives all that there is.
 KEY_OPTIONS, KEY_FLAGS, WHOLE_KEY = ("--print",), ("--json", "--endorsement"), "all"
-# The status of the program where the quote is refused, or nobody says that its signature was checked. The library has none of its own for these.
+# The status of the program where the quote or its signature is refused, or nobody says that this was checked. The library has none of its own for
+# these.
 NOT_ATTESTED = 4
 ROOM = 16 * 1024
 # The rooms of pieces, of which the first has none for a line: then single lines are asked for. It is for inputs of so many bytes alone.
@@ -59,7 +60,8 @@ DONE, DIFFERS, REFUSED, OUT_OF_MEMORY, TOO_SHORT, MORE = (
     CONSTANTS[name] for name in ("DONE", "DIFFERS", "REFUSED", "OUT_OF_MEMORY", "TOO_SHORT", "MORE")
 )
 NO_FAULT, NO_PLACE = (CONSTANTS["NO_FAULT"], 0, (1 << 64) - 1), (1 << 64) - 1
-KINDS = {"command line": "ARGUMENT", **{name.lower(): name for name in ("LOG", "LIST", "REPLAY", "EXPECTED", "CHECKPOINT", "QUOTE", "KEY", "KNOWN")}}
+KIND_NAMES = ("LOG", "LIST", "REPLAY", "EXPECTED", "CHECKPOINT", "QUOTE", "KEY", "KNOWN", "SIGNATURE")
+KINDS = {"command line": "ARGUMENT", **{name.lower(): name for name in KIND_NAMES}}
 FAULT = re.compile(r"refused: (command line|\w+)(?: fault (\d+))?(?: at \w+ (\d+))?")
 KNOWN_LINE = re.compile(rb"(refused: known fault \d at line )(\d+)")
 
@@ -104,6 +106,9 @@ class Library:
         call = more_of(words) or by_quote_of(words) or key_of(words) or call_of(words)
         if call is None or not all(is_input(file, folder, most_bytes) for file in call.inputs()):
             return False
+        if isinstance(call, ByQuote) and not all(os.path.getsize(folder / file) for file in call.signers):
+            # (the library takes no bytes as no key or signature)
+            return False
         return not isinstance(call, More) or call.save is None or is_writable(call.save, folder)
 
     def answer(self, words, folder):
@@ -131,7 +136,8 @@ class Library:
 
     def answer_by_quote(self, call, folder):
         log, listed, message = ((folder / file).read_bytes() for file in call.files)
-        inputs = [log, call.state(folder), listed, message, call.nonce, call.require, call.known_text(folder)]
+        key, signature = [(folder / file).read_bytes() for file in call.signers] or [b"", b""]
+        inputs = [log, call.state(folder), listed, message, key, signature, call.nonce, call.require, call.known_text(folder)]
         status, text, checkpoint = self.ask_by_quote(inputs, bool(call.known), call.takes_sha1, call.is_signed, call.prefix, call.is_json)
         call.keep(status, checkpoint, folder)
         return status, text
@@ -139,8 +145,10 @@ class Library:
     def ask_by_quote(self, inputs, is_known_given, takes_sha1, is_signed, prefix, is_json):
         """What the function for a quote gives: the status that the program has, the text, and the checkpoint."""
         status, text, told, checkpoint = self.ask_more("attest", inputs, [is_known_given, takes_sha1, is_signed, prefix, is_json])
-        is_unsigned = status == DIFFERS and not is_signed
-        return NOT_ATTESTED if is_unsigned or told.kind == CONSTANTS["QUOTE"] else status, text, checkpoint
+        key = inputs[4]
+        is_unsigned = status == DIFFERS and not is_signed and not key
+        is_refused = told.kind in (CONSTANTS["QUOTE"], CONSTANTS["SIGNATURE"])
+        return NOT_ATTESTED if is_unsigned or is_refused else status, text, checkpoint
 
     def ask_for_key(self, area, is_endorsement, is_json):
         """The status and the text of the function for a key."""
@@ -332,11 +340,15 @@ class More(Knowing):
 @dataclass(frozen=True)
 class ByQuote(More):
     """A call of the function for a quote: with a message in place of expected registers, the nonce, whether a register may be in the SHA-1 bank
-    alone, and whether the signature was checked."""
+    alone, whether the signature was checked, and the files of the key and the signature, or none."""
 
     nonce: bytes
     takes_sha1: bool
     is_signed: bool
+    signers: tuple
+
+    def inputs(self):
+        return [*super().inputs(), *self.signers]
 
 
 @dataclass(frozen=True)
@@ -388,8 +400,12 @@ def by_quote_of(words):
         # (the library takes bytes as nonce)
         return None
     files, values, flags = given
+    signers = tuple(values[option] for option in ("--key", "--signature") if option in values)
+    if len(signers) == 1 or (signers and "--signature-checked" in flags):
+        # (the command refuses its words, and the library is misused)
+        return None
     more = (encoded(values["--require"]), "--prefix" in flags, values.get("--resume"), values.get("--save"), "--json" in flags)
-    return ByQuote(known, files, *more, bytes.fromhex(values["--nonce"]), "--sha1" in flags, "--signature-checked" in flags)
+    return ByQuote(known, files, *more, bytes.fromhex(values["--nonce"]), "--sha1" in flags, "--signature-checked" in flags, signers)
 
 
 def key_of(words):

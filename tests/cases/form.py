@@ -9,7 +9,7 @@ from typing import Optional
 ROOT = Path(__file__).resolve().parents[2]
 FOLDER = ROOT / "tests/cases"
 SAMPLES = "samples/"
-REFERENCE = "By the reference."
+REFERENCE, ECDSA = "By the reference.", "By ECDSA."
 HEADER = re.compile(r"-- (.+?)( hex)? --")
 STATUS = re.compile(r"\[([1-9]\d*)\]")
 SAVING = "--save"
@@ -105,6 +105,10 @@ class Case:
     @property
     def is_by_reference(self):
         return REFERENCE in self.prose
+
+    @property
+    def is_by_ecdsa(self):
+        return ECDSA in self.prose
 
     def has_at_most(self, size, shared):
         """Whether the files have no more bytes than this, all together."""

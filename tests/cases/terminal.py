@@ -115,8 +115,24 @@ INPUTS = {
 }
 
 # The sentences of docs/errors.txt's tables of faults, by number; those of expected registers from 4 on name no line.
-LOG, LIST, REPLAY, EXPECTED, KNOWN, QUOTE, KEY, CHECKPOINT, BOOK = map(
-    form.sentences_of, ("Log", "List", "Replay", "Expected", "Known", "Quote", "Key", "Checkpoint", "Book"))
+LOG, LIST, REPLAY, EXPECTED, KNOWN, QUOTE, SIGNATURE, KEY, CHECKPOINT, BOOK = map(
+    form.sentences_of, ("Log", "List", "Replay", "Expected", "Known", "Quote", "Signature", "Key", "Checkpoint", "Book"))
+
+# The numbers of the signature faults that are of the key, and what to do about each; about a key that is no public area, which the first ten of its
+# faults are of; and where nobody looked at a signature.
+OF_KEYS = (8, 9)
+NO_SIGNATURE = "SIG must be what tpm2_quote -s wrote with QUOTE: plain, or TPMT_SIGNATURE"
+OTHER_SIGNATURE = "SIG is not by the scheme and the hash that KEY states: it is by another key, or was changed"
+SIGNATURE_HINTS = {
+    **dict.fromkeys((1, 2, 3, 4), NO_SIGNATURE),
+    **dict.fromkeys((5, 6), OTHER_SIGNATURE),
+    7: "SIG is by another key or of another quote, or one of QUOTE, SIG and KEY was changed",
+    8: "signatures by such keys are not verified here: verify SIG yourself, then say --signature-checked in place of --key and --signature",
+    9: "give NAME.pub of ima-enroll, or make KEY anew by ima-agent key --print pem",
+}
+LAST_OF_AREAS = 10
+NO_AREA = "KEY is no public area: give NAME.pub of ima-enroll, or PEM as ima-agent key --print pem prints it"
+UNSIGNED = "nobody looked at the signature of QUOTE: give --key and --signature to have it verified"
 
 # What clap says of wrong arguments, or the program in its form where clap takes them.
 MORE = "\nFor more information, try '--help'.\n"
@@ -162,6 +178,22 @@ USAGES = [
           ("00", "00", "the nonce has fewer than 16 bytes"),
           ("0" * 30, "0" * 30, "the nonce has fewer than 16 bytes"),
       )),
+    *(([*command, *words, *names], f"error: the argument '{shown}' cannot be used {why}\n")
+      for command, names in (
+          (["attest", "--nonce", "0" * 32, "--require", "sha256:0-10"], ["L", "M", "Q"]),
+          (["boot", "--quote", "Q", "--list", "M", "--nonce", "0" * 32, "--require", "sha256:0-10"], ["L"]),
+          (["events", "--explain", "--quote", "Q", "--list", "M", "--nonce", "0" * 32, "--require", "sha256:0-10"], ["L"]),
+      )
+      for words, shown, why in (
+          (["--key", "K"], "--key <KEY>", "without '--signature'"),
+          (["--signature", "S"], "--signature <SIG>", "without '--key'"),
+          (["--key", "K", "--signature", "S", "--signature-checked"], "--key <KEY>", "with '--signature-checked'"),
+          (["--key", "K", "--signature-checked"], "--key <KEY>", "without '--signature'"),
+          (["--signature", "S", "--signature-checked"], "--signature <SIG>", "without '--key'"),
+      )),
+    *(([*command, "--key", "K", "--signature", "S", "L"], "error: the argument '--key <KEY>' cannot be used without '--quote'\n")
+      for command in (["boot"], ["events", "--json"], ["events"])),
+    (["boot", "--signature", "S", "L"], "error: the argument '--signature <SIG>' cannot be used without '--quote'\n"),
     (["attest", "--nonce", "00", "L", "M", "Q"],
      f"error: the following required arguments were not provided:\n  {REQUIRE}\n\n"
      f"Usage: ima-agent attest {NONCE} {REQUIRE} <LOG> <LIST> <QUOTE> [EXPECTED]\n{MORE}"),
@@ -258,7 +290,7 @@ def sentence_of(words, line, folder):
 def fault_in_words(line, words, folder):
     """The name of the input that a fault is of, or None, and what is wrong with it."""
     if found := re.fullmatch(r"failed: read (.*)", line, re.DOTALL):
-        return None, unread(found[1], folder)
+        return None, unread(found[1], folder, takes_only_files(words))
     if found := re.fullmatch(r"failed: write (.*)", line, re.DOTALL):
         return None, f"cannot write {found[1]}"
     if found := re.fullmatch(r"refused: too long (.*)", line, re.DOTALL):
@@ -282,6 +314,9 @@ def fault_in_words(line, words, folder):
         return refused_known(words, folder), f"line {found[2]}: {KNOWN[int(found[1])]}"
     if found := re.fullmatch(r"refused: quote fault (\d+)", line):
         return inputs["quote"], quote_sentence(int(found[1]), words, folder)
+    if found := re.fullmatch(r"refused: signature fault (\d+)", line):
+        number = int(found[1])
+        return inputs["key" if number in OF_KEYS else "signature"], SIGNATURE[number]
     if found := re.fullmatch(r"refused: key fault (\d+)", line):
         return inputs["key"], KEY[int(found[1])]
     if found := re.fullmatch(r"refused: checkpoint fault (\d+)", line):
@@ -323,7 +358,7 @@ def names_of(words):
         return {"log": "standard input"}, []
     asked = read_words(words)
     kinds = INPUTS[asked.command]
-    named = {"checkpoint": "--resume", "expected": "--expected", "quote": "--quote", "list": "--list"}
+    named = {"checkpoint": "--resume", "expected": "--expected", "quote": "--quote", "list": "--list", "key": "--key", "signature": "--signature"}
     named = {kind: asked.values.get(option) for kind, option in named.items()}
     inputs = {**named, **dict(zip(kinds, asked.names))}
     if asked.values.get("--before") is not None:
@@ -331,8 +366,15 @@ def names_of(words):
     return inputs, asked.names[len(kinds):]
 
 
-def unread(name, folder):
-    """That the file of this name cannot be read, and what the system says why, if it still says so."""
+def takes_only_files(words):
+    """Whether a signature is verified: then no input is read but regular files."""
+    return bool(words) and read_words(words).values.get("--key") is not None
+
+
+def unread(name, folder, takes_only_files):
+    """That the file of this name cannot be read, and what the system says why, if it still says so; or that it is no regular file."""
+    if takes_only_files and (folder / name).exists() and not (folder / name).is_file():
+        return f"cannot read {name}: it is no regular file"
     place = os.open(folder, os.O_RDONLY)
     try:
         file = os.open(name, os.O_RDONLY, dir_fd=place)
@@ -368,6 +410,14 @@ def hints_due(words, folder, given):
     if words[0] not in SEEN_BY or not are_regular(words, folder, given):
         return b""
     return "".join(f"{line}\n" for line in next_steps(words, folder, given or b"")).encode()
+
+
+def signing_due(words, line):
+    """The line that says what to do about a refused signature, or a quote's key that is no public area, or no bytes."""
+    if found := re.fullmatch(rb"refused: signature fault (\d+)", line):
+        return f"{SIGNATURE_HINTS[int(found[1])]}\n".encode()
+    found = re.fullmatch(rb"refused: key fault (\d+)", line)
+    return f"{NO_AREA}\n".encode() if found and words[0] != "key" and int(found[1]) <= LAST_OF_AREAS else b""
 
 
 def mistake_due(words, line, folder, given):
@@ -406,7 +456,8 @@ def case_fault(command, folder, output):
     given = (folder / command.input).read_bytes() if command.input else None
     try:
         wanted = hints_due(command.words, folder, given) if status == 1 else b"" if line is None else sentence_of(command.words, line, folder)
-        wanted = wanted and wanted + (mistake_due(command.words, line, folder, given) if line else b"")
+        wanted = wanted and wanted + (mistake_due(command.words, line, folder, given) + signing_due(command.words, line) if line else b"")
+        wanted = f"{UNSIGNED}\n".encode() if status == 4 and line is None else wanted
     except (Fault, KeyError, ValueError) as error:
         return f"no table has the words of {text!r}: {error!r}"
     if is_of_usage(said) if wanted is None else said == wanted:
@@ -555,6 +606,36 @@ def mistaken_commands():
         yield f"{mistake or 'no mistake'}: {words}", words, f"refused: {refused}\n".encode(), said
 
 
+def signed_commands():
+    """Commands by a quote whose signature or key is refused, or at whose signature nobody looked; status, last line and what a terminal gets."""
+    asked, quoted = ["--nonce", NONCE_GIVEN, "--require=sha256:0-10"], ["firmware.log", "ima.list", "quote.msg"]
+    boot = ["boot", *asked, "--quote=quote.msg", "--list=ima.list"]
+    yield "nobody looked", ["attest", *asked, *quoted], 4, b"signature not checked\n", [UNSIGNED]
+    longer = ["firmware.log", "longer.list", "quote.msg"]
+    yield "nobody looked, of a list that grew", ["attest", *asked, *longer], 4, b"signature not checked\n", [UNSIGNED]
+    yield "nobody looked, as JSON", ["attest", "--json", *asked, *quoted], 4, b'"verdict":"signature not checked"}\n', [UNSIGNED]
+    yield "nobody looked, of a boot", [*boot, "firmware.log"], 4, b"boot_variable unknown\n", [UNSIGNED]
+    yield "the caller did", ["attest", "--signature-checked", *asked, *quoted], 0, b"verdict match\n", []
+    yield "a valid signature", ["attest", "--key=AK.pem", "--signature=quote.sig", *asked, *quoted], 0, b"signature valid\nverdict match\n", []
+    for key, signature, status, line, name, sentence, hint in (
+        ("AK.pem", "empty", 4, "signature fault 1", "empty", SIGNATURE[1], SIGNATURE_HINTS[1]),
+        ("AK.pem", "quote.msg", 4, "signature fault 2", "quote.msg", SIGNATURE[2], SIGNATURE_HINTS[2]),
+        ("AK.pem", "changed.sig", 4, "signature fault 7", "changed.sig", SIGNATURE[7], SIGNATURE_HINTS[7]),
+        ("short.pem", "quote.sig", 4, "signature fault 9", "short.pem", SIGNATURE[9], SIGNATURE_HINTS[9]),
+        ("quote.msg", "quote.sig", 2, "key fault 1", "quote.msg", KEY[1], NO_AREA),
+        ("empty", "quote.sig", 2, "key fault 1", "empty", KEY[1], NO_AREA),
+    ):
+        words, said = [f"--key={key}", f"--signature={signature}"], [f"{name}: {sentence}", hint]
+        yield f"{line}, of {name}", ["attest", *words, *asked, *quoted], status, f"refused: {line}\n".encode(), said
+        yield f"{line}, of {name} and a boot", [*boot, *words, "firmware.log"], status, f"refused: {line}\n".encode(), said
+    for name in ("firmware.log", "ima.list", "quote.msg", "AK.pem", "quote.sig"):
+        words = ["attest", "--key=AK.pem", "--signature=quote.sig", *asked, *quoted]
+        piped = [each.replace(name, "pipe") for each in words]
+        yield f"a pipe in place of {name}", piped, 3, b"failed: read pipe\n", ["cannot read pipe: it is no regular file"]
+    words = [*boot, "--key=AK.pem", "--signature=quote.sig", "pipe"]
+    yield "a pipe as the log of a boot", words, 3, b"failed: read pipe\n", ["cannot read pipe: it is no regular file"]
+
+
 def piped_commands():
     """Commands with an input that is a pipe, of which something differs, or that refuse it: what to do next would be said of a file."""
     differs, quoted = ["firmware.log", "shorter.list", "expected.txt"], ["--nonce", NONCE_GIVEN, "--signature-checked", "--require=sha256:0-10"]
@@ -657,7 +738,12 @@ def make_samples(folder):
     """The sample boot, what differs from it, and what is taken for it by mistake."""
     for name in ("firmware.log", "ima.list", "ima.ascii", "expected.txt", "tpm2_pcrread.txt"):
         shutil.copy(SAMPLES / "real-boot" / name, folder)
-    shutil.copy(SAMPLES / "quoted" / "quote.msg", folder)
+    for name in ("quote.msg", "quote.sig", "AK.pem"):
+        shutil.copy(SAMPLES / "quoted" / name, folder)
+    signature = (folder / "quote.sig").read_bytes()
+    (folder / "changed.sig").write_bytes(signature[:-1] + bytes([signature[-1] ^ 1]))
+    (folder / "short.pem").write_text((folder / "AK.pem").read_text().rstrip("\n"))
+    os.mkfifo(folder / "pipe")
     shutil.copy(SAMPLES / "ovmf-boot" / "secure-boot.list", folder / "other.list")
     listed, values = (folder / "ima.list").read_bytes(), (folder / "expected.txt").read_text()
     (folder / "longer.list").write_bytes(listed + listed[-95:])
@@ -761,6 +847,17 @@ class Further(harness.TestCase):
             self.check(f"{title}, on a terminal", left_on_terminal(command, self.room), plain._replace(said=said))
             self.check(f"{title}, explained", left_elsewhere(explained, self.room), plain._replace(said=said))
             self.check(f"{title}, explained on a terminal", left_on_terminal(explained, self.room), plain._replace(said=said))
+
+    def test_signatures(self):
+        """What to do about a signature or a key comes on a terminal, and with --explain elsewhere; no pipe is read where a signature is verified."""
+        make_samples(self.room)
+        for title, words, status, end, lines in signed_commands():
+            said = "".join(f"{line}\n" for line in lines).encode()
+            plain = ended_elsewhere(words, self.room)
+            self.check(f"{title}, elsewhere", (plain.status, plain.output[-len(end):], plain.said), (status, end, b""))
+            self.check(f"{title}, on a terminal", ended_on_terminal(words, self.room), plain._replace(said=said))
+            if words[0] == "attest":
+                self.check(f"{title}, explained", ended_elsewhere(["attest", "--explain", *words[1:]], self.room), plain._replace(said=said))
 
     def test_pipes(self):
         """An input that is a pipe is read once, so that a command ends, and nothing is said of what to do next."""

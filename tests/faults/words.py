@@ -27,6 +27,8 @@ NUMBERED = {
     "known_files KnownFault": ("Known", "line"),
     "tpm_quotes QuoteFault": ("Quote", None),
     "attestations QuoteRefusal": ("Quote", None),
+    "tpm_signatures SignatureFault": ("Signature", None),
+    "signed_messages SignatureRefusal": ("Signature", None),
     "tpm_keys KeyFault": ("Key", None),
     "agent_inputs NotResumed": ("Checkpoint", None),
     "measure_book BookFault": ("Book", None),

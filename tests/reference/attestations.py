@@ -1,4 +1,4 @@
-"""The judgement on a log and a list by a quote of the TPM. Who signed the quote is not looked at here."""
+"""The judgement on a log and a list by a quote of the TPM. Who signed the quote is not looked at here: what is known of that is given, as a word."""
 
 from typing import NamedTuple
 
@@ -12,6 +12,8 @@ from .texts import read_expected, read_requirement
 from .verdict import Report, boot_aggregate_state, confirmed_prefix, prefix_report, report_at, strays_in
 
 LEAST_NONCE = 16
+# What is known of a quote's signature, in the words of a report: nothing, that the caller verified it, or that it was verified here.
+NOT_CHECKED, CHECKED, VALID = "not checked", "checked", "valid"
 
 
 class NotAttested(Exception):
@@ -85,15 +87,19 @@ def confirmed_by(quote, expected):
 
 class AttestReport(NamedTuple):
     """What a quote states; the report on log and list, with rows of expected registers that the quote confirms; None if there were no expected
-    registers, else whether it confirms them; how the quote compares; whether its signature was checked; and the checkpoint of what the report
+    registers, else whether it confirms them; how the quote compares; what is known of its signature; and the checkpoint of what the report
     is on."""
 
     quote: Quote
     report: Report
     is_confirmed: bool | None
     is_quoted: bool
-    is_signed: bool
+    signature: str
     end: Checkpoint
+
+    @property
+    def is_signed(self):
+        return self.signature != NOT_CHECKED
 
     @property
     def expected(self):
@@ -129,8 +135,8 @@ class AttestReport(NamedTuple):
         stated += [f"signer {quote.signer.hex()}"]
         stated += [f"clock {quote.clock} resets {quote.resets} restarts {quote.restarts} {'safe' if quote.is_safe else 'unsafe'}"]
         stated += [f"firmware {quote.firmware}"]
-        last = verdict if self.is_signed else "signature not checked"
-        return "".join(f"{line}\n" for line in [*stated, *lines, f"quote {word}", last])
+        concluded = [f"quote {word}", *(["signature valid"] if self.signature == VALID else []), verdict if self.is_signed else "signature not checked"]
+        return "".join(f"{line}\n" for line in [*stated, *lines, *concluded])
 
     def as_json(self):
         """The report as JSON."""
@@ -141,7 +147,7 @@ class AttestReport(NamedTuple):
         counts = dict(self.report.counts)
         compared = {"expected": word for word in self.expected} | ({"registers": report["registers"]} if self.is_confirmed else {})
         against = {name: report[name] for name in ("extends", "known_from", "unknown") if name in report}
-        concluded = {"quote": "match" if self.is_quoted else "differ", "signature": "checked" if self.is_signed else "not checked",
+        concluded = {"quote": "match" if self.is_quoted else "differ", "signature": self.signature,
                      "verdict": report["verdict"] if self.is_signed else "signature not checked"}
         return {**stated, **counts, **compared, **against, **concluded}
 
@@ -192,7 +198,7 @@ def is_confirmed(prefix, quote):
     return boot_aggregate_state(prefix.before, prefix.stated) == "good" and quote.is_of(prefix.after.value)
 
 
-def quoted_report(boot, start, entries, fault, quote, is_signed, prefix, stated):
+def quoted_report(boot, start, entries, fault, quote, signature, prefix, stated):
     """The report by a quote on what a list has from a checkpoint on: entries, and the fault that ends them, or None. It is on the shortest prefix
     that the quote confirms, if that is sought and there is one; else on the whole list, or its fault is raised. What extends a register that
     is not its own is told by the report."""
@@ -207,10 +213,10 @@ def quoted_report(boot, start, entries, fault, quote, is_signed, prefix, stated)
         report = report_at(boot, end, rows)
     strays = strays_in(boot.events, end.stray)
     report = report._replace(strays=strays, matches=is_confirmed(end, quote) and not strays)
-    return AttestReport(quote, report, is_stated, quote.is_of(end.after.value), is_signed, end)
+    return AttestReport(quote, report, is_stated, quote.is_of(end.after.value), signature, end)
 
 
-def attest_report(log, measurements, message, nonce, require, takes_sha1=False, is_signed=True, state=None, prefix=False,
+def attest_report(log, measurements, message, nonce, require, takes_sha1=False, signature=CHECKED, state=None, prefix=False,
                   expected=None):
     """The report by a quote on the bytes of a log and of a list, or of what follows the checkpoint that `state` is, where `require` is a text, and
     `expected` a text or None; or the fault that comes first."""
@@ -222,4 +228,4 @@ def attest_report(log, measurements, message, nonce, require, takes_sha1=False, 
     start = start or before_a_list(before)
     if start.before.banks != before.banks:
         raise CheckpointFault.OTHER_BOOT.fault()
-    return quoted_report(boot, start, *read_prefix(measurements, start.entries), quote, is_signed, prefix, stated)
+    return quoted_report(boot, start, *read_prefix(measurements, start.entries), quote, signature, prefix, stated)

@@ -59,7 +59,9 @@ def number_within(least, most):
 
 # What a quote has to be given with, and what goes only with one.
 BESIDE_QUOTE = {"--list": Option(str, None), "--nonce": Option(str, None), "--require": Option(str, None)}
-ONLY_BESIDE_QUOTE = {**BESIDE_QUOTE, "--sha1": Option(FLAG, False), "--signature-checked": Option(FLAG, False)}
+# By what a quote's signature is known to be valid, or by whose word.
+SIGNING = {"--key": Option(str, None), "--signature": Option(str, None), "--signature-checked": Option(FLAG, False)}
+ONLY_BESIDE_QUOTE = {**BESIDE_QUOTE, "--sha1": Option(FLAG, False), **SIGNING}
 # What tells which data of a log is confirmed.
 CONFIRMING = {"--expected": Option(str, None), "--quote": Option(str, None), **ONLY_BESIDE_QUOTE}
 
@@ -88,7 +90,7 @@ COMMANDS = {
         "--require": Option(str, None, is_required=True),
         KNOWN: Option(str, [], is_repeated=True),
         "--sha1": Option(FLAG, False),
-        "--signature-checked": Option(FLAG, False),
+        **SIGNING,
         "--prefix": Option(FLAG, False),
         "--save": Option(str, None),
         "--resume": Option(str, None),
@@ -147,7 +149,7 @@ def read_words(words):
         raise USAGE
     if is_json_of_binary(values) or (name == "events" and has_wrong_pair(values)) or not is_hexadecimal(values.get("--nonce", "")):
         raise USAGE
-    if name in ("events", "boot") and has_wrong_quote(values):
+    if (name in ("events", "boot") and has_wrong_quote(values)) or has_wrong_signing(values):
         raise USAGE
     defaults = {option: it.default for option, it in command.options.items()}
     return Words(name, names, {**defaults, **values})
@@ -189,6 +191,11 @@ def has_wrong_quote(values):
     if "--quote" in values:
         return "--expected" in values or not BESIDE_QUOTE.keys() <= values.keys()
     return not ONLY_BESIDE_QUOTE.keys().isdisjoint(values)
+
+
+def has_wrong_signing(values):
+    """Whether a key is given without a signature, or the other way round, or both beside the word that the signature was verified."""
+    return ("--key" in values) != ("--signature" in values) or ("--key" in values and "--signature-checked" in values)
 
 
 def read_arguments(command, words):

@@ -74,6 +74,16 @@ def key_fault(name):
     return Fault(f"refused: key fault {number}", "key", number=number)
 
 
+# The refusals of a signature by name, from 1 on: those of its bytes from left to right, those of a signature that the key does not make, and those
+# of a key.
+SIGNATURE_REFUSALS = ("Truncated", "UnknownScheme", "UnknownHash", "Trailing", "OtherScheme", "OtherHash", "NotSigned", "OtherKey", "OtherPem")
+
+
+def signature_fault(name):
+    number = SIGNATURE_REFUSALS.index(name) + 1
+    return Fault(f"refused: signature fault {number}", "signature", status=4, number=number)
+
+
 class ReplayFault(IntEnum):
     BAD_TEMPLATE_DIGEST = 1
 

@@ -28,6 +28,7 @@ EC_PUBLIC_KEY = bytes.fromhex("06072a8648ce3d0201")
 # Of DER: its tags, and NULL.
 INTEGER, BIT_STRING, SEQUENCE = b"\x02", b"\x03", b"\x30"
 NO_PARAMETERS = bytes.fromhex("0500")
+PEM_BEGIN, PEM_END = "-----BEGIN PUBLIC KEY-----", "-----END PUBLIC KEY-----"
 PEM_LINE = 64
 
 
@@ -95,6 +96,13 @@ class EccKey(NamedTuple):
         return der(SEQUENCE, der(SEQUENCE, EC_PUBLIC_KEY, self.curve.identifier), der(BIT_STRING, b"\0", point))
 
 
+def pem_of(key):
+    """The key as PEM (RFC 7468, section 13)."""
+    text = b64encode(key.public_key_info()).decode()
+    lines = [text[place : place + PEM_LINE] for place in range(0, len(text), PEM_LINE)]
+    return "".join(f"{line}\n" for line in [PEM_BEGIN, *lines, PEM_END])
+
+
 class Area(NamedTuple):
     """What a public area states: its name, which begins with the number of its hash, its attributes, the scheme, its hash or None, and the key."""
 
@@ -108,14 +116,8 @@ class Area(NamedTuple):
     def has(self, attribute):
         return self.attributes >> attribute & 1 == 1
 
-    def pem(self):
-        """The key as PEM (RFC 7468, section 13)."""
-        text = b64encode(self.key.public_key_info()).decode()
-        lines = [text[place : place + PEM_LINE] for place in range(0, len(text), PEM_LINE)]
-        return "".join(f"{line}\n" for line in ["-----BEGIN PUBLIC KEY-----", *lines, "-----END PUBLIC KEY-----"])
-
     def text(self, part="all"):
-        name, pem = f"name {self.name.hex()}\n", self.pem()
+        name, pem = f"name {self.name.hex()}\n", pem_of(self.key)
         if part != "all":
             return {"name": f"{self.name.hex()}\n", "pem": pem}[part]
         hashed = f" {self.scheme_hash.name}" if self.scheme_hash else ""
@@ -124,7 +126,7 @@ class Area(NamedTuple):
     def as_json(self, part="all"):
         """The key as JSON, or its name or its PEM alone."""
         hashed = {"hash": self.scheme_hash.name} if self.scheme_hash else {}
-        whole = {"name": self.name.hex(), "type": self.key.type, "bits": self.key.bits, "scheme": self.scheme, **hashed, "pem": self.pem()}
+        whole = {"name": self.name.hex(), "type": self.key.type, "bits": self.key.bits, "scheme": self.scheme, **hashed, "pem": pem_of(self.key)}
         return whole if part == "all" else {part: whole[part]}
 
 

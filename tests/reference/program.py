@@ -8,7 +8,7 @@ import subprocess
 from pathlib import Path
 from typing import Callable, NamedTuple
 
-from .attestations import asked_quote, quoted_report, read_state, sound_requirement, stated_rows
+from .attestations import CHECKED, NOT_CHECKED, VALID, asked_quote, quoted_report, read_state, sound_requirement, stated_rows
 from .boot_answers import Boot
 from .checkpoint import before_a_list, read_checkpoint
 from .command_line import HelpAsked, VersionAsked, read_words
@@ -43,6 +43,7 @@ from .measurement_list import (
     replay,
 )
 from .registers import ALGORITHMS, BY_NAME, SHA1, Registers, registers_value
+from .signatures import Lacking, check_signed
 from .texts import read_expected, read_hexadecimal, read_names, read_printed, read_requirement, read_selection
 from .verdict import list_report, places, prefix_report, prefix_that_matches, report_at
 
@@ -61,12 +62,18 @@ class Unanswered(Exception):
     """What the reference leaves to the program: help, workers whose order may show, and without a kit the version."""
 
 
+class LacksCryptography(Unanswered):
+    """What the reference leaves to the program on a machine without cryptography for Python: signatures."""
+
+
 class Inputs:
-    """Files by name, below a folder, which can also be written, and standard input, of which so many bytes are taken."""
+    """Files by name, below a folder, which can also be written, and standard input, of which so many bytes are taken. It may be that only regular files
+    are taken, as one of which standard input then counts."""
 
     def __init__(self, folder, standard_input, most_bytes):
         self.folder = os.open(folder, os.O_RDONLY | os.O_DIRECTORY)
         self.standard_input, self.most_bytes = standard_input, most_bytes
+        self.takes_only_regular_files = False
 
     def close(self):
         os.close(self.folder)
@@ -76,6 +83,8 @@ class Inputs:
         if name == "/dev/stdin":
             return lambda: self.limited(name, self.standard_input)
         try:
+            if self.takes_only_regular_files and not stat.S_ISREG(os.stat(name, dir_fd=self.folder).st_mode):
+                raise OSError(f"{name} is no regular file")
             file = open(name, "rb", opener=lambda path, flags: os.open(path, flags, dir_fd=self.folder))
         except IsADirectoryError:
             # (the system opens it, and then does not read it)
@@ -319,15 +328,25 @@ def verify_command(inputs, values, log, listed, expected):
     return told_of(report, report.matches)
 
 
+def signature_of(inputs, values, message):
+    """What is known of the signature of a message; or why it is refused."""
+    if values["--key"] is None:
+        return CHECKED if values["--signature-checked"] else NOT_CHECKED
+    check_signed(inputs.load(values["--key"]), message, inputs.load(values["--signature"]))
+    return VALID
+
+
 def report_by_quote(inputs, values, load_log, listed, message, expected=None):
     """The report on a log, whose bytes a call gives, and on a list by the message of a quote."""
     nonce = bytes.fromhex(values["--nonce"])
     required = sound_requirement(values["--require"], nonce, values["--sha1"])
-    quote = asked_quote(inputs.load(message), nonce, required)
+    message = inputs.load(message)
+    signature = signature_of(inputs, values, message)
+    quote = asked_quote(message, nonce, required)
     log = load_log()
     rows = stated_rows(quote, None if expected is None else inputs.load(expected))
     boot, known, start, entries, fault = read_boot(inputs, values, log, listed, lambda text: read_state(text, quote))
-    report = quoted_report(boot, start, entries, fault, quote, values["--signature-checked"], values["--prefix"], rows)
+    report = quoted_report(boot, start, entries, fault, quote, signature, values["--prefix"], rows)
     report = report.looked_at(unknown_up_to(report.end, known, start, entries))
     if not report.end.leaves_room:
         raise MEMORY
@@ -430,6 +449,7 @@ def answer(words, folder=".", standard_input=b"", most_bytes=MOST_BYTES):
         if words:
             asked = read_words(words)
             as_json = asked.values["--json"]
+            inputs.takes_only_regular_files = asked.values.get("--key") is not None
             told = COMMANDS[asked.command](inputs, asked.values, *asked.names)
         else:
             told = registers_of_hexadecimal(inputs)
@@ -438,6 +458,8 @@ def answer(words, folder=".", standard_input=b"", most_bytes=MOST_BYTES):
         text, status = json_lines([fault.as_json()]) if as_json else f"{fault.line}\n", fault.status
     except HelpAsked:
         raise Unanswered("help") from None
+    except Lacking:
+        raise LacksCryptography("this machine has no cryptography for Python") from None
     except VersionAsked:
         text, status = version_lines(), 0
     finally:

@@ -186,7 +186,7 @@ fn help_end_of_other<'a>(command: &str) -> &'a str {
     }
 }
 
-/// The help of a selection of PCRs: which these are, with two examples; the grammar of selections; and what else is to be said of it.
+/// The help of a selection of PCRs: which these are, with examples; the grammar of selections; and what else is to be said of it.
 macro_rules! selection_help {
     ($which:literal $(, $more:literal)?) => {
         concat!(
@@ -211,13 +211,9 @@ pub(crate) fn help_of<'a>(command: &str, id: &str) -> &'a str {
         "json" => help_of_json(command),
         "nonce" => "The quote's nonce, in hexadecimal, 16 bytes or more",
         "sha1" => "Accept PCRs in the SHA-1 bank alone: SHA-1 has collisions",
-        "key" => "\
-Key that must have signed QUOTE: NAME.pub of
-`ima-enroll`, or as `ima-agent key --print pem` prints it",
-        "signature" => "Signature of QUOTE, as `tpm2_quote -s` writes it",
-        "signature-checked" => "\
-You have verified the signature of QUOTE yourself, in
-place of --key and --signature",
+        "key" => "The machine's key: public area, or PEM of `ima-agent key`",
+        "signature" => "Its signature of QUOTE, as `tpm2_quote -s` writes it",
+        "signature-checked" => "Without these: you have verified the signature yourself",
         _ => match command {
             "verify" | "attest" => help_of_verdict(command, id),
             "measure" => help_of_measure(id),
@@ -240,10 +236,7 @@ fn help_of_expected<'a>(command: &str) -> &'a str {
 fn help_of_require<'a>(command: &str) -> &'a str {
     match command {
         "attest" | "events" | "boot" => selection_help!(
-            "\
-PCRs that must be quoted, 0 to 10 among them, such as
-sha256:0-10 or sha256:0-7,sha384:8-10.
-"
+            "PCRs that must be quoted, 0 to 10 at least: sha256:0-10.\n"
         ),
         "replay" => selection_help!(
             "\
@@ -307,9 +300,7 @@ fn help_of_verdict<'a>(command: &str, id: &str) -> &'a str {
         ("attest", "prefix") => "Judge the shortest prefix of LIST that QUOTE confirms",
         (_, "prefix") => "Judge the shortest prefix of LIST that matches",
         (_, "save") => "If the verdict is `match`, write a checkpoint to FILE",
-        ("attest", _) => "\
-Continue from your own checkpoint of this boot in FILE:
-LIST has only the bytes after it",
+        ("attest", _) => "LIST follows your own checkpoint of this boot in FILE",
         _ => "\
 Continue from your own checkpoint in FILE: LIST has
 only the bytes after it",

@@ -9,6 +9,7 @@ ghost use Rattle.ima_agent.specs.Program.{IsFaultOf, IsOutputFor};
 ghost use Rattle.ima_agent.specs.ShowingBoot.{AreCompared, IsNoBootFor, IsNoEarlierLog, ShowsBoot, places_of};
 
 use crate::matches::matched_in;
+use crate::quoted::load_log;
 use crate::streams::Prepared;
 use agent_inputs::{AgentFiles, RunFault, load_input};
 use agent_plans::{ConfirmedBy, Form};
@@ -36,7 +37,7 @@ pub(crate) fn boot_for<F: AgentFiles>(
     ensures kept { OnErr result (F.replaced files.new ≡ F.replaced files.old) }
     ensures fault { IfErr result (IsFaultOf (F.inputs files.old) (tasks.Boot log.now confirmed_by.now before.now) form) }
 {
-    let bytes = load_input(alloc, files, Some(log))?;
+    let bytes = load_log(alloc, files, log, confirmed_by)?;
     boot_output(alloc, files, &bytes, confirmed_by, before.as_deref(), form)
 }
 

@@ -7,8 +7,9 @@ ghost use Rattle.ima_agent.specs.Program.{IsOutcome, Streams};
 ghost use Rattle.ima_agent.specs.ShowingEvents.{ShowsEventsIn, ShowsPlainEventsIn, ShowsToldOf, plain_lines};
 
 use crate::matches::matched_in;
+use crate::quoted::load_log;
 use crate::streams::{DONE, Sent, StreamFault};
-use agent_inputs::{AgentFiles, RunFault, load_input};
+use agent_inputs::{AgentFiles, RunFault};
 use agent_plans::{ConfirmedBy, DataShown, Form};
 use boot_log::LogView;
 use byte_streams::{Failed, Sink};
@@ -30,7 +31,7 @@ pub(crate) fn events_for<F: AgentFiles, S: Sink>(
     ensures { Streams form (IsOutcome (F.inputs files.old) (tasks.Events log.now requested confirmed_by.now) form (F.replaced files.old) (F.replaced files.new))
         (S.state sink.old) (S.state sink.new) result }
 {
-    let bytes = match load_input(alloc, files, Some(log)) {
+    let bytes = match load_log(alloc, files, log, confirmed_by) {
         Ok(bytes) => bytes,
         Err(fault) => return Err(StreamFault::Run(fault)),
     };

@@ -20,7 +20,7 @@ pub use agent_inputs::{
 };
 pub use agent_plans::{
     AttestOptions, ComparisonKind, ComparisonOptions, ConfirmedBy, DataShown, Form, Measurement,
-    NameEnd, Names, Plan, Print, Query, Quoting, Scope, Task,
+    NameEnd, Names, Plan, Print, Query, Quoting, Scope, SigningOptions, Task,
 };
 pub use answers::{write_positions, write_report};
 pub use boot_verdict::{

@@ -1,6 +1,7 @@
 //! The registers that match by a quote: those that it is of, and that the list does not extend.
 
-ghost use Rattle.std.specs.Prelude.{◌≡◌, ◌++◌, map, option_map, IfErr, IfOk, OnOk};
+ghost use Rattle.std.specs.Prelude.{◌≡◌, ◌++◌, Some, map, option_map, IfErr, IfOk, OnOk};
+ghost use Rattle.agent_inputs.specs.Loading.{Holds, IsInputFault};
 ghost use Rattle.agent_plans.specs.declared.plan.ConfirmedBy.TheVariants as confirmed;
 ghost use Rattle.attestations.specs.Quoted.{bank_selection_of};
 ghost use Rattle.boot_verdict.specs.Names.{ReadsAsLog};
@@ -11,8 +12,8 @@ ghost use Rattle.judging.specs.Queries.{attested_with};
 ghost use Rattle.ima_agent.specs.Matching.{AreMatched, is_of_log, places_by, places_in, quoted_places};
 
 use crate::matches::Matched;
-use agent_inputs::{AgentFiles, RunFault};
-use agent_plans::Quoting;
+use agent_inputs::{AgentFiles, RunFault, load_input};
+use agent_plans::{ConfirmedBy, Quoting, SigningOptions};
 use attestations::Selected;
 use boot_verdict::LIST_REGISTER;
 use judging::{Answer, Answered, Input, Request, answer_request, attesting_by};
@@ -42,6 +43,37 @@ pub(crate) fn quoted_in<F: AgentFiles>(
         places: Some(places_by(alloc, &given)?),
         status: status_of_answer(&given),
     })
+}
+
+/// The log in the file of this name. Where a signature is verified, the log and all that is read after it have to be regular files.
+pub(crate) fn load_log<F: AgentFiles>(
+    alloc: Global,
+    files: &mut F,
+    log: &str,
+    confirmed_by: &ConfirmedBy,
+) -> Result<Vec<u8>, RunFault>
+    ensures all { IfOk result (λ bytes. Holds (F.inputs files.old) (Some log.now) bytes.items) }
+    ensures fault { IfErr result (IsInputFault (F.inputs files.old) (Some log.now)) }
+    ensures inputs { F.inputs files.new ≡ F.inputs files.old }
+    ensures replaced { F.replaced files.new ≡ F.replaced files.old }
+{
+    if is_by_key(confirmed_by) {
+        files.take_only_regular_files();
+    }
+    load_input(alloc, files, Some(log))
+}
+
+// Whether a signature is verified.
+fn is_by_key(confirmed_by: &ConfirmedBy) -> bool {
+    matches!(
+        confirmed_by,
+        ConfirmedBy::Quote(
+            Quoting {
+                signing: SigningOptions::ByKey { .. },
+                ..
+            },
+        )
+    )
 }
 
 // The registers that match by an answer: none, unless all is well with it.

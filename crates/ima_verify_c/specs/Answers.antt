@@ -1,10 +1,10 @@
 -- What a call with these bytes requests, and what it gives.
-use Rattle.std.specs.Prelude.{ℕ, ◌==◌, if◌then◌else◌, Bool, List, ◌∷◌, bytes_eq, codes, length, Option, None, Some, option_map, ◌≡◌, ℤ, pos, ◌<◌, ◌≤◌, ◌⊎◌, false, [], ◌++◌, drop, Result, Ok, Err, unwrap_or}
+use Rattle.std.specs.Prelude.{ℕ, ◌==◌, if◌then◌else◌, Bool, List, ◌∷◌, bytes_eq, codes, length, Option, None, Some, option_map, ◌≡◌, ℤ, pos, ◌<◌, ◌≤◌, ◌⊎◌, false, true, [], ◌++◌, drop, Result, Ok, Err, unwrap_or}
 use Rattle.agent_plans.specs.declared.plan.Scope.{Scope}
 use Rattle.agent_plans.specs.declared.plan.Scope.TheVariants.{Prefix, Whole}
 use Rattle.cells.specs.declared.writer.Form.{Form}
 use Rattle.cells.specs.declared.writer.Form.TheVariants.{Json, Text}
-use Rattle.judging.specs.Requests.{Any, Attests, Requested, Compares, Judgement, KeyOf, ListRegistersOf, ListVerdictOf, LogRegistersOf, Nothing, PositionsOf, Requires, These, VerdictOf}
+use Rattle.judging.specs.Requests.{Any, Attests, ByCaller, ByKey, Requested, Compares, Judgement, KeyOf, ListRegistersOf, ListVerdictOf, LogRegistersOf, NotChecked, Nothing, PositionsOf, Requires, Signing, These, VerdictOf}
 use Rattle.judging.specs.Inputs.{BytesOf, Where}
 use Rattle.agent_inputs.specs.declared.fault.FaultKind.{FaultKind}
 use Rattle.agent_inputs.specs.declared.fault.FaultKind.TheVariants as kinds
@@ -79,21 +79,35 @@ requested_of_list list expected require known = requested_by Nothing ListVerdict
 abbrev pub requested_of_more : List ℕ → List ℕ → List ℕ → List ℕ → List ℕ → List Where → Bool → Requested
 requested_of_more log state more expected require known prefix = requested_by Any (verdict_of log state prefix) more expected require known
 
--- Whether a quote is of a log and a list, or of its confirmed prefix, from a checkpoint on, if there is one.
-abbrev pub requested_of_attestation : List ℕ → List ℕ → List ℕ → List ℕ → List ℕ → List ℕ → List Where → Bool → Bool → Bool → Requested
-requested_of_attestation log state more message nonce require known takes_sha1 is_signed prefix = Attests (record {
+-- By what a message is known to be signed: by the key and the signature, if both have bytes; else by the word of the caller, if he gives it; else
+-- by nothing. There is no such thing where one of both has bytes alone, or the caller gives his word beside them: so he asks for nothing.
+abbrev pub signing_by : Option (List ℕ) → Option (List ℕ) → Bool → Option Signing
+signing_by None None false = Some NotChecked
+signing_by None None true = Some ByCaller
+signing_by (Some key) (Some signature) false = Some (ByKey (BytesOf key) (BytesOf signature))
+signing_by (Some key) (Some signature) true = None
+signing_by (Some key) None is_signed = None
+signing_by None (Some signature) is_signed = None
+
+abbrev pub signing_in : List ℕ → List ℕ → Bool → Option Signing
+signing_in key signature is_signed = signing_by (given_bytes key) (given_bytes signature) is_signed
+
+-- Whether a quote is of a log and a list, or of its confirmed prefix, from a checkpoint on, if there is one; if something is asked for.
+abbrev pub requested_of_attestation : List ℕ → List ℕ → List ℕ → List ℕ → List ℕ → List ℕ → List ℕ → List ℕ → List Where → Bool → Bool → Bool
+    → Option Requested
+requested_of_attestation log state more message key signature nonce require known takes_sha1 is_signed prefix = option_map (λ signing. Attests (record {
   log = BytesOf log;
   list = BytesOf more;
   message = BytesOf message;
   nonce = nonce;
   required = require;
   takes_sha1 = takes_sha1;
-  is_signed = is_signed;
+  signing = signing;
   expected = None;
   scope = scope_of prefix;
   resume = resume_of state;
   known = known;
-})
+})) (signing_in key signature is_signed)
 
 -- The registers after a list alone, or after a log.
 abbrev pub requested_of_registers : Bool → List ℕ → Requested
@@ -130,6 +144,7 @@ head_told size kinds.Memory number place = told_with size 7 number place
 head_told size kinds.Quote number place = told_with size 8 number place
 head_told size kinds.Key number place = told_with size 9 number place
 head_told size kinds.Known number place = told_with size 10 number place
+head_told size kinds.Signature number place = told_with size 11 number place
 head_told size kind number place = told_with size 0 None None
 
 -- What is told of a text of this size, which is the line of the fault, if there is one.
@@ -186,9 +201,10 @@ pub record AnswersMore (IsAnswer : List ℕ → ℕ → Option RunFault → List
 -- ---- answers
 
 -- What a call returns after a fault of this kind: as the program's exit status 2 if an input is refused, and 3 if memory ran out; but 2 also of
--- a refused quote, where the program has 4, since a call returns that where there is too little room.
+-- a refused quote or signature, where the program has 4, since a call returns that where there is too little room.
 abbrev pub kind_answer : FaultKind → ℕ
 kind_answer kinds.Quote = 2
+kind_answer kinds.Signature = 2
 kind_answer kind = (said_of kind).2
 
 abbrev pub fault_answer : RunFault → ℕ
@@ -221,6 +237,20 @@ IsAnswerAndNext request form text status fault state =
 -- The answer, whatever checkpoint there is.
 abbrev pub IsAnswerTo : Requested → Form → List ℕ → ℕ → Option RunFault → Type 0
 IsAnswerTo request form text status fault = (state : List ℕ) × IsAnswerAndNext request form text status fault state
+
+-- Nothing can be asked for so: nothing was read or written, and there is no checkpoint.
+pub record IsUnasked (answer : ℤ) (told : Told) (old new : List ℕ) (next_size : ℕ) (next_old next_new : List ℕ) : Type 0 where
+  pub answer_is : answer ≡ pos 6
+  pub told_is : told ≡ told_of 0 None
+  pub same : new ≡ old
+  pub next_size_is : next_size ≡ 0
+  pub next_same : next_new ≡ next_old
+
+-- The answer to what is asked for, if something is.
+abbrev pub AnswersAsked : Option Requested → Form → ℤ → Told → List ℕ → List ℕ → ℕ → List ℕ → List ℕ → Type 0
+AnswersAsked (Some request) form answer told old new next_size next_old next_new =
+    AnswersMore (IsAnswerAndNext request form) answer told old new next_size next_old next_new
+AnswersAsked None form answer told old new next_size next_old next_new = IsUnasked answer told old new next_size next_old next_new
 
 -- ---- lines
 

@@ -2,11 +2,11 @@
 //! the caller's memory to a text in the caller's room. `bindings/c/ima_verify.h` says it to C, and has the functions that call these.
 //!
 //! Each call returns a number: 0 or 1 as the command of the same name exits, with its output in the room; 2 if an input is refused, or 3 if
-//! memory ran out, with the line of the fault in the room; 4 if there is too little room, which is then as it was; for lines 5 if there are more,
-//! and 6 if the position is none. In any case `told` has the size of the text, and the fault if the text is the line of one. With `json` the text is
-//! that of the command with `--json`. `require` names registers that must be among the expected ones, as `sha256:0-10`; the word `none` names
-//! none. `known` lists known files, as a FILE of `--known`; a caller joins the texts of several, each of whole lines. It counts if `known_given`, even
-//! without bytes: then no file is known. It is given only where `require` names registers.
+//! memory ran out, with the line of the fault in the room; 4 if there is too little room, which is then as it was; for lines 5 if there are more;
+//! and 6 if the position is none, or nothing can be asked for so. In any case `told` has the size of the text, and the fault if the text is the line
+//! of one. With `json` the text is that of the command with `--json`. `require` names registers that must be among the expected ones, as
+//! `sha256:0-10`; the word `none` names none. `known` lists known files, as a FILE of `--known`; a caller joins the texts of several, each of whole
+//! lines. It counts if `known_given`, even without bytes: then no file is known. It is given only where `require` names registers.
 #![tactic(auto)]
 
 mod replies;
@@ -16,12 +16,12 @@ mod told;
 ghost use Rattle.std.specs.Prelude.{◌≡◌};
 ghost use Rattle.judging.specs.Requests.{ExpectedOf};
 ghost use Rattle.judging.specs.Inputs.{BytesOf};
-ghost use Rattle.ima_verify_c.specs.Answers.{Answers, AnswersMore, GivesEntries, GivesEvents, IsAnswerAndNext, IsAnswerTo, requested_of_attestation, requested_of_key, requested_of_list, requested_of_more, requested_of_positions, requested_of_registers, requested_of_verdict, form_of, given_bytes, interface_version, known_in};
+ghost use Rattle.ima_verify_c.specs.Answers.{Answers, AnswersAsked, AnswersMore, GivesEntries, GivesEvents, IsAnswerAndNext, IsAnswerTo, requested_of_attestation, requested_of_key, requested_of_list, requested_of_more, requested_of_positions, requested_of_registers, requested_of_verdict, form_of, given_bytes, interface_version, known_in};
 
-use crate::replies::{give, give_both, give_lines};
+use crate::replies::{give, give_asked, give_both, give_lines};
 use crate::requests::{
     form_of, given_bytes, key_in, known_in, registers_on, requested_by, resume_of, scope_of,
-    verdict_of,
+    signing_in, verdict_of,
 };
 use agent_plans::Form;
 use judging::{AttestRequest, Input, ReportKind, Request, Required};
@@ -141,8 +141,12 @@ pub extern "C" fn ima_verify_raw_more<'a>(
 /// Whether the message of a quote is of a firmware event log and a measurement list that grows: 0 if they are attested by it, else 1. `state`,
 /// `more`, `prefix` and `next` are as those of [`ima_verify_raw_more`]; the checkpoint that is gone on from must be of the quote's boot, by the
 /// TPM's counts of resets and restarts. The message must have this nonce, of at least 16 bytes, and select each register that `require` names:
-/// in any case 0 to 10, and none in the SHA-1 bank alone unless `takes_sha1`. Nothing is attested unless `is_signed` says that the caller has
-/// verified the message's signature by the machine's attestation key, which must be a restricted one.
+/// in any case 0 to 10, and none in the SHA-1 bank alone unless `takes_sha1`.
+///
+/// `key` is the machine's attestation key, its public area or the PEM that [`ima_verify_raw_key`] gives of it, and `signature` the signature of the
+/// message, which must be by this key. Without bytes in both nothing is attested unless `is_signed` says that the caller has verified the
+/// signature by the machine's attestation key, which must be a restricted one. 6 if one of both has bytes alone, or if `is_signed` is said beside
+/// them: nothing is then read or written.
 #[unsafe(no_mangle)]
 pub extern "C" fn ima_verify_raw_attest<'a>(
     alloc: Global,
@@ -150,6 +154,8 @@ pub extern "C" fn ima_verify_raw_attest<'a>(
     state: &'a [u8],
     more: &'a [u8],
     message: &'a [u8],
+    key: &'a [u8],
+    signature: &'a [u8],
     nonce: &'a [u8],
     require: &'a [u8],
     known: &'a [u8],
@@ -163,25 +169,27 @@ pub extern "C" fn ima_verify_raw_attest<'a>(
     out: &mut [u8],
     told: &mut Told,
 ) -> i32
-    ensures { AnswersMore (IsAnswerAndNext
-        (requested_of_attestation log.now state.now more.now message.now nonce.now require.now (known_in known_given known.now) takes_sha1 is_signed prefix)
-        (form_of json)) result told.new out.old out.new next_size.new next.old next.new }
+    ensures { AnswersAsked (requested_of_attestation log.now state.now more.now message.now key.now signature.now nonce.now require.now
+        (known_in known_given known.now) takes_sha1 is_signed prefix) (form_of json) result told.new out.old out.new next_size.new next.old next.new }
 {
     let texts = [Input::Bytes(known)];
-    let request = Request::Attestation(AttestRequest {
-        log: Input::Bytes(log),
-        list: Input::Bytes(more),
-        message: Input::Bytes(message),
-        nonce,
-        required: require,
-        known: known_in(known_given, &texts),
-        takes_sha1,
-        is_signed,
-        expected: None,
-        scope: scope_of(prefix),
-        resume: resume_of(state),
-    });
-    give_both(alloc, request, form_of(json), next, next_size, out, told)
+    let request = match signing_in(key, signature, is_signed) {
+        Some(signing) => Some(Request::Attestation(AttestRequest {
+            log: Input::Bytes(log),
+            list: Input::Bytes(more),
+            message: Input::Bytes(message),
+            nonce,
+            required: require,
+            known: known_in(known_given, &texts),
+            takes_sha1,
+            signing,
+            expected: None,
+            scope: scope_of(prefix),
+            resume: resume_of(state),
+        })),
+        None => None,
+    };
+    give_asked(alloc, request, form_of(json), next, next_size, out, told)
 }
 
 /// The expected registers that a text which tpm2_pcrread or tpm2_checkquote printed states, of those that a selection such as `sha256:0-10`

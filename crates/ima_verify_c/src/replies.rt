@@ -3,7 +3,7 @@
 ghost use Rattle.std.specs.Prelude.{◌≡◌, ◌≤◌, ◌⊎◌, None, length, option_map, IfOk, IfSome};
 ghost use Rattle.agent_inputs.specs.declared.fault.RunFault.TheVariants.{Memory};
 ghost use Rattle.judging.specs.Requests.{requested_of};
-ghost use Rattle.ima_verify_c.specs.Answers.{Answers, AnswersMore, AreGiven, answer_of_status, fault_answer, GivesFound, GivesPiece, IsAnswerAndNext, IsAnswerTo, IsGiven, IsLineOf, IsRefusal};
+ghost use Rattle.ima_verify_c.specs.Answers.{Answers, AnswersAsked, AnswersMore, AreGiven, answer_of_status, fault_answer, GivesFound, GivesPiece, IsAnswerAndNext, IsAnswerTo, IsGiven, IsLineOf, IsRefusal};
 
 use crate::told::Told;
 use agent_inputs::{FaultKind, RunFault};
@@ -34,7 +34,7 @@ const TOO_SHORT: i32 = 4;
 /// What a call returns if there are more lines.
 const MORE: u8 = 5;
 
-/// What a call returns if a position is none.
+/// What a call returns if a position is none, or nothing can be asked for so.
 const MISUSED: i32 = 6;
 
 /// Gives the answer to what is asked of bytes in memory, or the line of a fault, in this form.
@@ -83,6 +83,28 @@ pub(crate) fn give_both(
         Err(fault) => {
             *next_size = 0;
             give_fault(alloc, form, &fault, out, told)
+        }
+    }
+}
+
+/// Gives the answer and the text of the checkpoint of what it is on, if something is asked for; else nothing, and no checkpoint.
+pub(crate) fn give_asked(
+    alloc: Global,
+    request: Option<Request<'_>>,
+    form: Form,
+    next: &mut [u8],
+    next_size: &mut usize,
+    out: &mut [u8],
+    told: &mut Told,
+) -> i32
+    ensures { AnswersAsked (option_map requested_of request.entry) form result told.new out.old out.new next_size.new next.old next.new }
+{
+    match request {
+        Some(request) => give_both(alloc, request, form, next, next_size, out, told),
+        None => {
+            *next_size = 0;
+            *told = Told::of(0, None);
+            MISUSED
         }
     }
 }
@@ -149,12 +171,13 @@ fn give_fault(alloc: Global, form: Form, fault: &RunFault, out: &mut [u8], told:
     }
 }
 
-// What a call returns after a fault: the program's exit status, but that of a refused quote, which would say that there is too little room.
+// What a call returns after a fault: the program's exit status, but that of a refused quote or signature, which would say that there is too little
+// room.
 fn answer_after(fault: &RunFault) -> u8
     ensures { result ≡ fault_answer fault.now }
 {
     match fault.head().kind {
-        FaultKind::Quote => REFUSED,
+        FaultKind::Quote | FaultKind::Signature => REFUSED,
         _ => status_of(fault),
     }
 }

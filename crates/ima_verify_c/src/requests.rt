@@ -1,11 +1,11 @@
 //! What a call with these bytes asks for.
 
 ghost use Rattle.std.specs.Prelude.{◌≡◌, [], if◌then◌else◌, map, option_map};
-ghost use Rattle.judging.specs.Requests.{requested_of, judgement_of, location_of, requires_of};
-ghost use Rattle.ima_verify_c.specs.Answers.{requested_by, requested_of_key, requested_of_registers, form_of, given_bytes, purpose_of, required_by, resume_of, scope_of, verdict_of};
+ghost use Rattle.judging.specs.Requests.{requested_of, judgement_of, location_of, requires_of, signing_of};
+ghost use Rattle.ima_verify_c.specs.Answers.{requested_by, requested_of_key, requested_of_registers, form_of, given_bytes, purpose_of, required_by, resume_of, scope_of, signing_in, verdict_of};
 
 use agent_plans::{Form, Scope};
-use judging::{Comparison, Input, ReportKind, Request, Required};
+use judging::{Comparison, Input, ReportKind, Request, Required, Signing};
 use tpm_keys::{KeyPart, Purpose};
 
 /// JSON, or lines of text.
@@ -47,6 +47,26 @@ pub(crate) fn verdict_of<'a>(log: &'a [u8], state: &'a [u8], prefix: bool) -> Re
         log: Input::Bytes(log),
         scope: scope_of(prefix),
         resume: resume_of(state),
+    }
+}
+
+/// By what a message is known to be signed: by the key and the signature, if they have bytes, or by the word of the caller. Nothing, if one of them
+/// has bytes alone, or he gives his word beside them.
+pub(crate) fn signing_in<'a>(
+    key: &'a [u8],
+    signature: &'a [u8],
+    is_signed: bool,
+) -> Option<Signing<'a>>
+    ensures { option_map signing_of result ≡ signing_in key.now signature.now is_signed }
+{
+    match (given_bytes(key), given_bytes(signature)) {
+        (None, None) if is_signed => Some(Signing::ByCaller),
+        (None, None) => Some(Signing::NotChecked),
+        (Some(key), Some(signature)) if !is_signed => Some(Signing::ByKey {
+            key: Input::Bytes(key),
+            signature: Input::Bytes(signature),
+        }),
+        _ => None,
     }
 }
 

@@ -44,6 +44,7 @@ impl Told {
             FaultKind::Quote => 8,
             FaultKind::Key => 9,
             FaultKind::Known => 10,
+            FaultKind::Signature => 11,
             _ => return Told::with(size, 0, None, None),
         };
         Told::with(size, kind, head.number, head.place)
