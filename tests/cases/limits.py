@@ -294,7 +294,12 @@ class Limits(harness.TestCase):
         name = "input" if words else "-"
         is_taken, has_function = size <= MOST_BYTES, size in LIBRARY_SIZES and self.has_function(words)
         if is_taken or has_function:
-            unlimited = reference.answer(words, short, b"" if words else (short / "input").read_bytes(), 2 * MOST_BYTES)
+            try:
+                unlimited = reference.answer(words, short, b"" if words else (short / "input").read_bytes(), 2 * MOST_BYTES)
+            except reference.LacksCryptography:
+                with self.subTest(title=title):
+                    self.lacks("cryptography for Python")
+                return
         if is_asked:
             self.ask(title, words, unlimited if is_taken else (2, f"refused: too long {name}\n"), None if words else "input")
         if has_function:
