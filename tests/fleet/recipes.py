@@ -61,7 +61,6 @@ class Reader:
         entries = len(read_list((BOOT / "ima.list").read_bytes()))
         (self.folder / "sys/kernel/security/ima/runtime_measurements_count").write_text(f"{entries}\n")
         (self.folder / "samples").symlink_to(ROOT / "samples")
-        shutil.copy(ROOT / "attest/verify", self.folder / "bin/ima-attest")
         for name, words in COMMANDS.items():
             command = self.folder / "bin" / name
             command.write_text(f'#!/bin/sh\nexec {words.format(root=ROOT, **vars(self), python=self.tools.python)} "$@"\n')
