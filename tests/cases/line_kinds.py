@@ -1,5 +1,5 @@
-"""The kinds of lines of JSON, by docs/schema.json: which kinds a command prints, and which parts of the schema a line has. No other module is
-needed for that."""
+"""The kinds of lines of JSON, by docs/schema.json: which kinds a command prints, and which parts of the schema a line has. That takes no
+jsonschema."""
 
 import json
 import re
@@ -40,6 +40,11 @@ def name_of(part):
 
 
 KINDS = [name_of(part) for part in SCHEMA["oneOf"]]
+
+
+def lines_in(text):
+    """The lines of an output."""
+    return text.decode().split("\n")[:-1]
 
 
 def words_in(pattern):

@@ -13,7 +13,6 @@ absent somewhere. The schema must describe each member. json.md, event-data.md, 
 else. The script counts lines, members and values."""
 
 import json
-import random
 import re
 import sys
 import tempfile
@@ -21,18 +20,13 @@ from pathlib import Path
 
 TESTS = Path(__file__).resolve().parents[1]
 sys.path[:0] = [str(TESTS), str(TESTS / "faults")]
-import boots  # noqa: E402
-import damaged  # noqa: E402
-import events  # noqa: E402
 import form  # noqa: E402
-import growing  # noqa: E402
 import harness  # noqa: E402
-import json_lines  # noqa: E402
-import known  # noqa: E402
 import reference  # noqa: E402
 from answers import agrees  # noqa: E402
 from harness import ROOT  # noqa: E402
-from line_kinds import DEFINED, KINDS, OUTPUTS, SCHEMA, fault_of_output, kinds_of, name_of, visited, words_in  # noqa: E402
+from line_kinds import DEFINED, ERROR, KINDS, OUTPUTS, SCHEMA, fault_of_output, kinds_of, lines_in, name_of, visited, words_in  # noqa: E402
+from sampled_lines import SOURCES, Answers  # noqa: E402
 
 try:
     from jsonschema import Draft202012Validator as Validator
@@ -41,8 +35,6 @@ except ImportError:
 
 # Values that no case can have: an error of the program itself.
 NOWHERE = {("fault.kind", "gather")}
-LISTED_ENTRIES = 100
-RANDOM_LOGS, EVENTS_OF_A_LOG, RANDOM_BOOTS, DAMAGES_OF_A_KIND, TRIALS_OF_A_KIND, RANDOM_LISTS = 4, 40, 30, 6, 4, 40
 # What `events --explain` and `boot` show as JSON within the lines of their text.
 IN_TEXT = {"events": re.compile(r"  (\{.*\})"), "boot": re.compile(r"[a-z_]+ [^{]*?(\{.*\})")}
 CONTENT = "content"
@@ -75,11 +67,6 @@ def fault_by(validator, value):
     return None if fault is None else f"{fault.json_path}: {fault.message[-200:]}"
 
 
-def lines_in(text):
-    """The lines of an output."""
-    return text.decode().split("\n")[:-1]
-
-
 # Lines of the cases.
 
 
@@ -106,7 +93,8 @@ def commands_of_cases(is_sought):
 
 
 def lines_of_case(case, command, shared):
-    """The lines of a command: those of the case, or of the file that it names; or the reference's, if the case leaves out some of them."""
+    """The lines of a command: those of the case, or of the file that it names; or the reference's, if the case leaves out some of them, and it has an
+    answer."""
     wanted = command.wanted
     if command.output and command.output in (section.name for section in case.sections):
         files = dict(shared)
@@ -115,110 +103,15 @@ def lines_of_case(case, command, shared):
         wanted = lines_in(files[command.output])
     if not any("..." in line for line in wanted):
         return wanted
-    with tempfile.TemporaryDirectory() as folder:
-        case.lay(Path(folder), shared)
-        lines = lines_in(reference.answer(command.words, folder)[1])
+    try:
+        with tempfile.TemporaryDirectory() as folder:
+            case.lay(Path(folder), shared)
+            lines = lines_in(reference.answer(command.words, folder)[1])
+    except reference.Unanswered:
+        return [line for line in wanted if "..." not in line]
     if not agrees(wanted, lines) and not agrees(wanted[: len(lines)], lines):
         raise form.Malformed(command.line, "the reference answers otherwise")
     return lines
-
-
-# Lines that the reference answers.
-
-
-class Answers(growing.Room):
-    """A folder with files, in which the reference answers. What it answers as JSON is kept, each with the arguments."""
-
-    def __init__(self, folder):
-        super().__init__(None, folder)
-        self.told, self.unanswered = [], []
-
-    def ask(self, *words):
-        """Keeps an answer."""
-        words = [words[0], "--json", *(word for word in words[1:] if word != "--json")]
-        title = " ".join(words)
-        try:
-            lines = lines_in(reference.answer(words, self.folder)[1])
-        except reference.LacksCryptography:
-            self.unanswered.append(title)
-        else:
-            self.told.append((title, words, [json.loads(line) for line in lines]))
-
-    def answer(self, *words, command=("verify",)):
-        """Keeps an answer, and gives that without `--json` where it is not asked for."""
-        before = self.saved()
-        self.ask(*command, *words)
-        self.restore(before)
-        return reference.answer([*command, *words], self.folder)
-
-
-def ask_of_json_lines(room):
-    """The commands of json_lines.py, with a shorter list."""
-    json_lines.ENTRIES = LISTED_ENTRIES
-    for words in json_lines.commands(room.folder):
-        room.ask(*words)
-
-
-def ask_of_events(room):
-    """Events and boots that are made at random, by expected PCRs or a quote."""
-    for seed in range(RANDOM_LOGS):
-        chance = random.Random(seed)
-        log = events.random_log(chance, EVENTS_OF_A_LOG)
-        for words in events.events_by(events.put(room.folder, chance, log, log)):
-            if "--json" in words:
-                room.ask(*words)
-    for seed in range(RANDOM_BOOTS):
-        chance = random.Random(seed)
-        log, earlier = events.random_boots(chance, events.EVENTS_OF_A_BOOT)
-        for words in events.boots_by(events.put(room.folder, chance, log, earlier, 0.9)):
-            if "--json" in words:
-                room.ask(*words)
-
-
-def ask_of_damaged(room):
-    """Damaged logs, lists, messages of quotes and keys, and boots that are changed at random."""
-    sample = ["attest", "--nonce", damaged.NONCE.hex(), "--require", "sha256:0-10"]
-    commands = {
-        "registers after the log": [["registers", "input"], ["events", "input"]],
-        "verdict on the log and the first entry": [["verify", "input", "first", "tenth"]],
-        "entries of the list": [["show", "input"], ["replay", "input"]],
-        "verdict on the log and the list": [["verify", "log", "input", "tenth"], ["locate", "log", "input", "tenth"]],
-        "verdict by a quote": [[*sample, "log", "list", "input"]],
-        "key of RSA": [["key", "input"]],
-        "key of a curve": [["key", "input"]],
-        "endorsement key": [["key", "--endorsement", "input"]],
-    }
-    chance = random.Random(1)
-    room.put(log=damaged.LOG, list=damaged.LIST, first=damaged.FIRST_ENTRY, tenth=damaged.TENTH)
-    for kind, (data, *_) in damaged.KINDS.items():
-        for places_in, changed in damaged.DAMAGES.values():
-            for place in chance.sample(places_in(data), DAMAGES_OF_A_KIND):
-                room.put(input=changed(data, place))
-                for words in commands[kind]:
-                    room.ask(*words)
-    for _ in range(RANDOM_BOOTS):
-        log, listed, message = boots.random_boot(chance)
-        room.put(log=log, list=listed, quote=message)
-        room.ask("attest", *growing.QUOTED, *chance.choice(([], ["--prefix"])), "log", "list", "quote")
-
-
-def ask_of_growing(room):
-    """Lists in parts, damaged checkpoints, and boots with expected PCRs by a quote."""
-    chance = random.Random(1)
-    for _, trials in growing.trials():
-        for trial, *given in chance.sample(trials, min(TRIALS_OF_A_KIND, len(trials))):
-            trial(room, *given)
-
-
-def ask_of_known(room):
-    """Lists with known files."""
-    for seed in range(RANDOM_LISTS):
-        for _ in known.judged(room, seed):
-            pass
-
-
-SOURCES = {"json_lines.py": ask_of_json_lines, "events.py": ask_of_events, "damaged.py": ask_of_damaged, "growing.py": ask_of_growing,
-           "known.py": ask_of_known}
 
 
 # What the schema has.
@@ -314,6 +207,12 @@ def members_in_column(head, rows):
     return list(dict.fromkeys(name for row in rows.splitlines() for name in re.findall(r"`(\w+)`", row.split("|")[place])))
 
 
+def kinds_by_commands(page):
+    """Each command in the table of json.md, and the kinds of its lines."""
+    for names, kinds in re.findall(r"^\| (`.*?) \| (.*) \|$", page, re.MULTILINE):
+        yield from ((name, {*re.findall(r"`(\w+)`", kinds)} & {*KINDS}) for name in re.findall(r"`(\w+)`", names))
+
+
 def members_described(name):
     """The members of a definition; `_hex` goes with the name before it."""
     return list(dict.fromkeys(member.removesuffix("_hex") for member in DEFINED[name]["properties"])) if name in DEFINED else []
@@ -350,7 +249,7 @@ class Schema(harness.TestCase):
     def test_schema(self):
         """the schema is one, and describes each part"""
         Validator.check_schema(SCHEMA)
-        self.check("parts that nothing describes", [name for name, part in PARTS if not is_described(part) and ("." in name or part is DEFINED[name])], [])
+        self.check("parts that nothing describes", [name for name, part in PARTS if not is_described(part) and part.keys() != {"required"}], [])
         integers = [(name, part) for name, part in PARTS if part.get("type") == "integer"]
         self.check("numbers without bounds", [name for name, part in integers if not {"minimum", "maximum"} <= part.keys()], [])
         used = {reference for reference in re.findall(r'"#/\$defs/(\w+)"', json.dumps(SCHEMA))}
@@ -394,9 +293,7 @@ class Schema(harness.TestCase):
         unlisted = sorted(name for name in {CONTENT, *within(DEFINED[CONTENT])} & OBJECTS.keys() - members_of_pages().keys())
         self.check("objects of contents that no page has", unlisted, [])
         page = (ROOT / "docs/json.md").read_text()
-        rows = re.findall(r"^\| (`.*?) \| (.*) \|$", page, re.MULTILINE)
-        found = {command: {word for word in re.findall(r"`(\w+)`", kinds) if word in KINDS} for names, kinds in rows for command in re.findall(r"`(\w+)`", names)}
-        self.check("kinds by commands", found, {command: {*words_in(pattern)} - {"error"} for command, pattern in OUTPUTS.items()})
+        self.check("kinds by commands", dict(kinds_by_commands(page)), {name: {*words_in(output)} - {ERROR} for name, output in OUTPUTS.items()})
         shown = [kinds_of(json.loads(line)) for line in EXAMPLE.findall(page)]
         self.check("kinds that have no example", [kind for kind in KINDS if [kind] not in shown], [])
         self.check("examples that are of no kind", [kinds for kinds in shown if len(kinds) != 1], [])
