@@ -35,7 +35,7 @@ loop-line-preserved c =
 pub returns : goal.returns
 returns c =
     λ text e.
-        let was = c.loop-line.invariant.3 text e in
-        let none : chunks_rest c.loop-line.line-iterator ≡ [] = nil_from_length (chunks_rest c.loop-line.line-iterator) c.in-None.ensures.steps.1.0 in
-        let empty = is_empty was.0 (sym none ∙ was.1) in
-        sym (append-nil c.loop-line.text.items) ∙ ap (λ (xs : List ℕ). c.loop-line.text.items ++ xs) (sym empty) ∙ was.2
+    let was = c.loop-line.invariant.3 text e in
+    let none : chunks_rest c.loop-line.line-iterator ≡ [] = nil_from_length (chunks_rest c.loop-line.line-iterator) c.in-None.ensures.steps.1.0 in
+    let empty = is_empty was.0 (sym none ∙ was.1) in
+    sym (append-nil c.loop-line.text.items) ∙ ap (λ (xs : List ℕ). c.loop-line.text.items ++ xs) (sym empty) ∙ was.2
