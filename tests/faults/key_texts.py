@@ -1,6 +1,6 @@
 #!/usr/bin/env python3
-"""Compares what `check_signed` answers on keys as text with the reference and Python's cryptography: on public areas of attestation keys with each scheme,
-on PEM that cryptography and openssl write, on other texts that begin as PEM does, and on PEM and public areas that are changed at random.
+"""Compares what `check_signed` answers on keys as text with the reference and Python's cryptography: on public areas of attestation keys with each
+scheme, on PEM that cryptography and openssl write, on other texts that begin as PEM does, and on PEM and public areas that are changed at random.
 
 tests/faults/key_texts.py [PROGRAM]: what answers questions on signatures, by default the program of crates/signature_lines that was built here.
 
@@ -64,7 +64,8 @@ class Key:
         """The numbers of a signature."""
         if scheme == "ecdsa":
             size = (self.public.key_size + 7) // 8
-            return [value.to_bytes(size, "big").lstrip(b"\0") for value in utils.decode_dss_signature(self.private.sign(message, ec.ECDSA(HASHES[hash])))]
+            signature = self.private.sign(message, ec.ECDSA(HASHES[hash]))
+            return [value.to_bytes(size, "big").lstrip(b"\0") for value in utils.decode_dss_signature(signature)]
         mode = padding.PSS(padding.MGF1(HASHES[hash]), padding.PSS.DIGEST_LENGTH) if scheme == "rsapss" else padding.PKCS1v15()
         return [self.private.sign(message, mode, HASHES[hash])]
 
@@ -77,7 +78,8 @@ class Key:
         fields = [areas.short(1 if self.is_rsa else 0x23), areas.short(name), areas.long(attributes), *areas.sized(policy), areas.short(0x10),
                   *([areas.short(SCHEMES[scheme]), areas.short(HASH_IDS[hash])] if scheme else [areas.short(0x10)])]
         if self.is_rsa:
-            fields += [areas.short(self.public.key_size), areas.long(exponent), *areas.sized(self.numbers.n.to_bytes(self.public.key_size // 8, "big"))]
+            modulus = self.numbers.n.to_bytes(self.public.key_size // 8, "big")
+            fields += [areas.short(self.public.key_size), areas.long(exponent), *areas.sized(modulus)]
         else:
             curve = {256: 3, 384: 4, 521: 5}[self.public.key_size]
             coordinates = [value.to_bytes((self.public.key_size + 7) // 8, "big") for value in (self.numbers.x, self.numbers.y)]
@@ -191,7 +193,8 @@ class KeyTexts(harness.TestCase):
         """Texts that mean the same, or hold the key beside something else."""
         text = b"".join(pem.split(b"\n")[1:-2])
         yield from (pem.replace(b"\n", b"\r\n"), pem[:-1], pem + b"\n", b"\n" + pem, b" " + pem, pem + pem, pem + b"\0", pem.replace(b"\n", b" \n"))
-        yield from (b"\xef\xbb\xbf" + pem, pem.replace(b"PUBLIC KEY", b"RSA PUBLIC KEY"), pem.replace(b"=", b""), pem.replace(FIRST, FIRST + b"\nA: b\n"))
+        yield from (b"\xef\xbb\xbf" + pem, pem.replace(b"PUBLIC KEY", b"RSA PUBLIC KEY"), pem.replace(b"=", b""))
+        yield pem.replace(FIRST, FIRST + b"\nA: b\n")
         for width in (63, 76, len(text)):
             lines = [text[place : place + width] for place in range(0, len(text), width)]
             yield b"".join(line + b"\n" for line in [FIRST, *lines, LAST])
@@ -235,8 +238,8 @@ class KeyTexts(harness.TestCase):
         for key in self.keys:
             made = list(self.signatures_of(key))
             for scheme, hash in product(key.schemes, HASHES):
-                variants = [key.area(scheme, hash), key.area(scheme, hash, exponent=65537 if key.is_rsa else 0), key.area(scheme, hash, policy=bytes(32)),
-                            key.area(scheme, hash, name=0xC), key.area(scheme, hash, strip=True)]
+                others = ({}, {"exponent": 65537 if key.is_rsa else 0}, {"policy": bytes(32)}, {"name": 0xC}, {"strip": True})
+                variants = [key.area(scheme, hash, **other) for other in others]
                 for *by, is_plain, signature in made:
                     answer = self.answer_of([scheme, hash], by, is_plain)
                     wanted += [((area, MESSAGE, signature), answer) for area in (variants if answer == "valid" else variants[:1])]

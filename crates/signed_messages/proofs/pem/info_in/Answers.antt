@@ -6,9 +6,9 @@ use Rattle.signed_messages.proofs.pem.info_in.Goals as goal
 pub returns-in-Ok-clause-found : goal.returns-in-Ok-clause-found
 returns-in-Ok-clause-found c =
     λ numbers key bytes known e.
-        let text = key_base64 numbers in
-        let is = c.deref.ensures.value ∙ c.in_ok-text.ensures text (c.between.ensures text e) in
-        decoded_is numbers key c.deref.result.now c.in-Ok.info.items bytes known is c.in-Ok.ensures.strict c.in-Ok.ensures.ok
+    let text = key_base64 numbers in
+    let is = c.deref.ensures.value ∙ c.in_ok-text.ensures text (c.between.ensures text e) in
+    decoded_is numbers key c.deref.result.now c.in-Ok.info.items bytes known is c.in-Ok.ensures.strict c.in-Ok.ensures.ok
 
 pub returns-in-Err-DecodeError-clause-fault : goal.returns-in-Err-DecodeError-clause-fault
 returns-in-Err-DecodeError-clause-fault c = inr (

@@ -6,7 +6,13 @@ use Rattle.signed_messages.proofs.LineLaws.{first_chunk, is_empty}
 use Rattle.signed_messages.proofs.pem.joined.Goals as goal
 
 pub loop-line-init : goal.loop-line-init
-loop-line-init c = (search rules, search rules, search rules, λ text e. (text, (let rest : chunks_rest c.into_iter-line-iterator.result ≡ c.args.lines.now = search rules in rest ∙ e), ap (λ (xs : List ℕ). xs ++ text) c.new-text.ensures.items))
+loop-line-init c =
+    let rest : chunks_rest c.into_iter-line-iterator.result ≡ c.args.lines.now = search rules in (
+      search rules,
+      search rules,
+      search rules,
+      λ text e. (text, rest ∙ e, ap (λ (xs : List ℕ). xs ++ text) c.new-text.ensures.items),
+    )
 
 pub loop-line-preserved : goal.loop-line-preserved
 loop-line-preserved c =
@@ -35,7 +41,7 @@ loop-line-preserved c =
 pub returns : goal.returns
 returns c =
     λ text e.
-        let was = c.loop-line.invariant.3 text e in
-        let none : chunks_rest c.loop-line.line-iterator ≡ [] = nil_from_length (chunks_rest c.loop-line.line-iterator) c.in-None.ensures.steps.1.0 in
-        let empty = is_empty was.0 (sym none ∙ was.1) in
-        sym (append-nil c.loop-line.text.items) ∙ ap (λ (xs : List ℕ). c.loop-line.text.items ++ xs) (sym empty) ∙ was.2
+    let was = c.loop-line.invariant.3 text e in
+    let none : chunks_rest c.loop-line.line-iterator ≡ [] = nil_from_length (chunks_rest c.loop-line.line-iterator) c.in-None.ensures.steps.1.0 in
+    let empty = is_empty was.0 (sym none ∙ was.1) in
+    sym (append-nil c.loop-line.text.items) ∙ ap (λ (xs : List ℕ). c.loop-line.text.items ++ xs) (sym empty) ∙ was.2

@@ -10,4 +10,4 @@ invariant-loop-line l =
     × goal.iterator-loop-line.is_finite l.line-iterator
     × (chunks_size l.line-iterator ≡ 65)
     × ((text : List ℕ) → l.fn.lines ≡ in_lines text
-        → (rest : List ℕ) × (chunks_rest l.line-iterator ≡ in_lines rest) × (l.text.items ++ rest ≡ text))
+    → (rest : List ℕ) × (chunks_rest l.line-iterator ≡ in_lines rest) × (l.text.items ++ rest ≡ text))
