@@ -3,12 +3,12 @@
  *     library FUNCTION RESULT TEXT ROOM NEXT NEXT_ROOM INPUT..
  *
  * FUNCTION is the name of a function without ima_verify_. After it can stand :json for that form, :prefix if the confirmed prefix is asked
- * for, :list for the registers of a list, :signed if a quote's signature was checked, and :endorsement for a key of that purpose. INPUT are
- * its files, and ROOM is the size of its buffer. RESULT and the file TEXT are the answer that it has with ample memory, and the file NEXT is
- * the checkpoint that it gives in a buffer of NEXT_ROOM bytes; a function that gives none has no such buffer. In the Nth turn the Nth
- * allocation is refused, until a turn ends with none refused. Each turn calls twice: the call whose allocation is refused has the answer, or
- * says that memory ran out, and then leaves the checkpoint's buffer as it was; the next one has the answer. The fault that a call tells must
- * be that of its text.
+ * for, :list for the registers of a list, :signed if a quote's signature was checked, :by_key if it is given with a key, :known for known files,
+ * and :endorsement for a key of that purpose. INPUT are its files, and ROOM is the size of its buffer. RESULT and the file TEXT are the answer
+ * that it has with ample memory, and the file NEXT is the checkpoint that it gives in a buffer of NEXT_ROOM bytes; a function that gives none
+ * has no such buffer. In the Nth turn the Nth allocation is refused, until a turn ends with none refused. Each turn calls twice: the call whose
+ * allocation is refused has the answer, or says that memory ran out, and then leaves the checkpoint's buffer as it was; the next one has the
+ * answer. The fault that a call tells must be that of its text.
  *
  * Of entries and events a turn calls until the last line has come: by pieces for which there is ROOM, or, if that is too short for a line,
  * by single lines. What comes must be TEXT, also where a call in between says that memory ran out.
@@ -27,7 +27,7 @@
 #include <sys/stat.h>
 #include <unistd.h>
 
-enum { MOST_BLOCKS = 1 << 16, MOST_TURNS = 100000, MOST_INPUTS = 7, MARGIN = 64, FREED = 0xdd, UNUSED = 0xa7, LINE = 256 };
+enum { MOST_BLOCKS = 1 << 16, MOST_TURNS = 100000, MOST_INPUTS = 9, MARGIN = 64, FREED = 0xdd, UNUSED = 0xa7, LINE = 256 };
 
 struct answer {
     enum ima_verify_result result;
@@ -191,8 +191,19 @@ static int inputs_of(const char *function) {
                      {"key", 1}};
     for (size_t i = 0; i < sizeof functions / sizeof functions[0]; i++)
         if (is(function, functions[i].name))
-            return functions[i].inputs + has(function, ":known");
+            return functions[i].inputs + 2 * has(function, ":by_key") + has(function, ":known");
     return 0;
+}
+
+/* Gives a quote what comes after its requirement: a key and a signature, and known files. */
+static void add_last(const char *function, const struct ima_verify_bytes *last, struct ima_verify_quoted *quoted) {
+    quoted->signature_checked = has(function, ":signed");
+    if (has(function, ":by_key")) {
+        quoted->key = *last++;
+        quoted->signature = *last++;
+    }
+    if ((quoted->judges_known = has(function, ":known")))
+        quoted->known = *last;
 }
 
 static bool gives_checkpoint(const char *function) {
@@ -230,16 +241,12 @@ static enum ima_verify_result call(const char *function, const struct ima_verify
     }
     if (is(function, "attest")) {
         struct ima_verify_quoted quoted = {.log = in[0], .list = in[1], .message = in[2], .nonce = in[3], .require = in[4]};
-        quoted.signature_checked = has(function, ":signed");
-        if ((quoted.judges_known = has(function, ":known")))
-            quoted.known = in[5];
+        add_last(function, in + 5, &quoted);
         return ima_verify_attest(&quoted, form, out);
     }
     if (is(function, "attest_more")) {
         struct ima_verify_quoted quoted = {.log = in[0], .list = in[2], .message = in[3], .nonce = in[4], .require = in[5]};
-        quoted.signature_checked = has(function, ":signed");
-        if ((quoted.judges_known = has(function, ":known")))
-            quoted.known = in[6];
+        add_last(function, in + 6, &quoted);
         return ima_verify_attest_more(&quoted, in[1], has(function, ":prefix"), form, next, out);
     }
     struct ima_verify_evidence evidence = {.log = in[0], .list = in[1], .expected = in[2], .require = in[3]};
@@ -276,7 +283,8 @@ static bool has_text(struct ima_verify_bytes text, const struct room *room, bool
 
 /* The fault that a line says. */
 static struct ima_verify_fault fault_in(struct ima_verify_bytes line) {
-    static const char *const kinds[] = {"", "command", "log", "list", "replay", "expected", "checkpoint", "", "quote", "key", "known"};
+    static const char *const kinds[] = {"", "command", "log", "list", "replay", "expected", "checkpoint", "", "quote", "key",
+                                        "known", "signature"};
     struct ima_verify_fault fault = {IMA_VERIFY_NO_FAULT, 0, IMA_VERIFY_NO_PLACE};
     char text[LINE] = "", kind[LINE] = "";
     unsigned number = 0;

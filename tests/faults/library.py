@@ -32,8 +32,8 @@ JSON_MEMORY = b'{"fault":{"kind":"memory","message":"failed: memory"}}\n'
 # The command of each function that has another name, and the option that the last of its inputs is the value of.
 COMMANDS = {"entries": "show", "verdict": "verify", "registers:list": "replay", "key:endorsement": "key --endorsement"}
 OPTIONS = {"verdict": "--require", "locate": "--require", "replay": "--require", "expected": "--registers"}
-# The program's status where nothing is attested, what it then prints of a quote that it refuses, and the library's results.
-NOT_ATTESTED, QUOTE_REFUSED = 4, b"refused: quote fault"
+# The program's status where nothing is attested, what it then prints of a quote or a signature that it refuses, and the library's results.
+NOT_ATTESTED, QUOTE_REFUSED = 4, re.compile(rb"refused: (?:quote|signature) fault")
 DIFFERS, REFUSED = 1, 2
 # The first 97 entries of the sample's list, and the first three.
 PREFIX_BYTES, THREE_ENTRIES_BYTES = 11731, 292
@@ -48,7 +48,7 @@ ELSEWHERE |= {"mmap", "munmap", "mremap", "brk", "sbrk", "strdup", "strndup"}
 @dataclass
 class Case:
     """A function, as library.c names it, what it is given, and the files of that, of which the last may have an option's value, or after that
-    known digests."""
+    a key and a signature, or known digests."""
 
     function: str
     title: str
@@ -77,6 +77,9 @@ class Case:
         flags = ["--prefix"] if ":prefix" in self.function else []
         flags += [f"--save={save}"] if self.is_more() else []
         if self.is_by_quote():
+            if ":by_key" in self.function:
+                *inputs, key, signature = inputs
+                flags += [f"--key={key}", f"--signature={signature}"]
             log, *state, listed, message, nonce, require = inputs
             flags += ["--signature-checked"] if ":signed" in self.function else []
             flags += [f"--resume={it}" for it in state if it.read_bytes()]
@@ -133,6 +136,7 @@ def made_files(folder, program):
     message, nonce = ((ROOT / "samples/quoted" / name).read_bytes() for name in ("quote.msg", "nonce"))
     area, curve, endorsement = ((ROOT / "samples/keys" / name).read_bytes() for name in ("ak-rsassa.pub", "ak-p521.pub", "ek-rsa.pub"))
     nonce, known = bytes.fromhex(nonce.decode()), (ROOT / "samples/known/SHA256SUMS").read_bytes()
+    signed = {name: (ROOT / "samples/signed" / name).read_bytes() for name in SIGNED}
     made = {
         "log": log,
         "one event": bytes.fromhex((ROOT / "samples/one-event.hex").read_text()),
@@ -179,6 +183,11 @@ def made_files(folder, program):
         "no registers": b"nothing",
         "none": NONE_REQUIRED,
         "empty": b"",
+        **signed,
+        "changed rsassa.sig": signed["rsassa.sig"][:-1] + bytes([signed["rsassa.sig"][-1] ^ 1]),
+        "cut rsassa.tpmt": signed["rsassa.tpmt"][:-1],
+        "cut rsassa.pub": signed["rsassa.pub"][:-1],
+        "cut rsassa.pem": signed["rsassa.pem"][:-1],
     }
     files = {}
     for number, (name, content) in enumerate(made.items()):
@@ -192,12 +201,18 @@ def made_files(folder, program):
     files["damaged"].write_bytes(text[:-2])
     files["quoted"] = folder / "quoted"
     files["quoted"].write_bytes(attest_report(log, listed, message, nonce, "sha256:0-10").next)
+    files["quoted by rsassa"] = folder / "quoted-by-rsassa"
+    files["quoted by rsassa"].write_bytes(attest_report(log, listed, signed["rsassa.msg"], nonce, "sha256:0-10").next)
     quoted = read_checkpoint(files["quoted"].read_bytes())
     files["other counts"] = folder / "other-counts"
     files["other counts"].write_bytes(quoted._replace(boot=(quoted.boot[0], quoted.boot[1] + 1)).text())
     files["other version"].write_bytes(text.replace(b"checkpoint 3", b"checkpoint 2"))
     return files
 
+
+# Of the quotes by keys of each kind what is given: messages, keys as area and PEM, and signatures in both forms.
+SIGNED = ("rsassa.msg", "rsassa.pub", "rsassa.pem", "rsassa.sig", "rsassa.tpmt", "rsapss.msg", "rsapss.pem", "rsapss.tpmt",
+          "p256.msg", "p256.pub", "p256.pem", "p256.sig", "p521.pub")
 
 # What each function takes, by names of files, and in which forms.
 BOTH = ("", ":json")
@@ -269,6 +284,32 @@ CASES = (
     (("attest_more",), BOTH, (
         ("the real boot", "log", "empty", "list", "message", "nonce", "low"),
     )),
+    (("attest:by_key",), BOTH, (
+        ("the real boot", "log", "list", "rsassa.msg", "nonce", "low", "rsassa.pub", "rsassa.sig"),
+        ("a key as PEM", "log", "list", "rsassa.msg", "nonce", "low", "rsassa.pem", "rsassa.tpmt"),
+        ("a changed list", "log", "changed list", "rsapss.msg", "nonce", "low", "rsapss.pem", "rsapss.tpmt"),
+        ("a list that is cut short", "log", "cut list", "rsassa.msg", "nonce", "low", "rsassa.pub", "rsassa.tpmt"),
+        ("a signature that is cut short", "log", "list", "rsassa.msg", "nonce", "low", "rsassa.pem", "cut rsassa.tpmt"),
+        ("a changed signature", "log", "list", "rsassa.msg", "nonce", "low", "rsassa.pem", "changed rsassa.sig"),
+        ("a signature of another message", "cut log", "list", "message", "nonce", "low", "rsassa.pub", "rsassa.sig"),
+        ("another key", "log", "cut list", "rsassa.msg", "nonce", "low", "p256.pub", "rsassa.tpmt"),
+        ("a key by which no signature is verified", "log", "list", "rsassa.msg", "nonce", "low", "p521.pub", "rsassa.sig"),
+        ("a key as PEM that is cut short", "log", "list", "rsassa.msg", "nonce", "low", "cut rsassa.pem", "rsassa.sig"),
+        ("a key's area that is cut short", "log", "list", "rsassa.msg", "nonce", "low", "cut rsassa.pub", "rsassa.sig"),
+        ("a key for endorsement", "log", "list", "rsassa.msg", "nonce", "low", "endorsement", "rsassa.sig"),
+        ("another nonce", "log", "list", "rsassa.msg", "another nonce", "low", "rsassa.pub", "rsassa.sig"),
+        ("a nonce that is too short", "log", "list", "rsassa.msg", "short nonce", "low", "cut rsassa.pub", "rsassa.sig"),
+    )),
+    (("attest:by_key",), ("",), (
+        # (each of its calls takes a tenth of a second, so there are few: the quote is refused after its signature)
+        ("a key on a curve as PEM, and another nonce", "log", "list", "p256.msg", "another nonce", "low", "p256.pem", "p256.sig"),
+    )),
+    (("attest_more:by_key", "attest_more:by_key:prefix"), BOTH, (
+        ("a longer list", "log", "empty", "longer list", "rsassa.msg", "nonce", "low", "rsassa.pem", "rsassa.sig"),
+        ("nothing after a checkpoint", "log", "quoted by rsassa", "empty", "rsassa.msg", "nonce", "low", "rsassa.pub", "rsassa.tpmt"),
+        ("a damaged checkpoint", "log", "damaged", "rest", "rsassa.msg", "nonce", "low", "rsassa.pub", "rsassa.tpmt"),
+        ("a changed signature", "log", "damaged", "rest", "rsassa.msg", "nonce", "low", "rsassa.pub", "changed rsassa.sig"),
+    )),
     (("replay",), BOTH, (
         ("the real boot", "list", "tenth", "ten"),
         ("the real boot, and nothing required", "list", "tenth", "none"),
@@ -314,6 +355,10 @@ CASES = (
         ("nothing after a checkpoint", "log", "quoted", "empty", "message", "nonce", "low", "few known"),
         ("a digest by SHA-1", "one event", "quoted", "empty", "message", "nonce", "low", "weak"),
     )),
+    (("attest_more:by_key:known",), BOTH, (
+        ("the real boot", "log", "empty", "list", "rsassa.msg", "nonce", "low", "rsassa.pub", "rsassa.sig", "known"),
+        ("known files that are none", "log", "empty", "list", "rsassa.msg", "nonce", "low", "rsassa.pem", "rsassa.sig", "message"),
+    )),
     (("expected",), BOTH, (
         ("what was printed", "printed", "empty"),
         ("a range of it", "printed", "range"),
@@ -352,7 +397,7 @@ def answer_to(case, program, following, files):
     status of what is not attested, the library refuses the quote, or says that the verdict is not `match`."""
     answer = subprocess.run([program, *case.words(following)], capture_output=True, timeout=SECONDS)
     if case.is_by_quote() and answer.returncode == NOT_ATTESTED:
-        return REFUSED if QUOTE_REFUSED in answer.stdout else DIFFERS, answer.stdout
+        return REFUSED if QUOTE_REFUSED.search(answer.stdout) else DIFFERS, answer.stdout
     if answer.returncode not in (0, 1, 2):
         raise RuntimeError(f"{program} {case.function} of {case.title}: status {answer.returncode}, {answer.stderr[-500:]!r}")
     if case.function == "entries" and answer.returncode == 2:
