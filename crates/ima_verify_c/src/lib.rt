@@ -18,7 +18,7 @@ ghost use Rattle.judging.specs.Requests.{ExpectedOf};
 ghost use Rattle.judging.specs.Inputs.{BytesOf};
 ghost use Rattle.ima_verify_c.specs.Answers.{Answers, AnswersAsked, AnswersMore, GivesEntries, GivesEvents, IsAnswerAndNext, IsAnswerTo, requested_of_attestation, requested_of_key, requested_of_list, requested_of_more, requested_of_positions, requested_of_registers, requested_of_verdict, form_of, given_bytes, interface_version, known_in};
 
-use crate::replies::{give, give_asked, give_both, give_lines};
+use crate::replies::{give, give_both, give_lines, give_nothing};
 use crate::requests::{
     form_of, given_bytes, key_in, known_in, registers_on, requested_by, resume_of, scope_of,
     signing_in, verdict_of,
@@ -172,24 +172,24 @@ pub extern "C" fn ima_verify_raw_attest<'a>(
     ensures { AnswersAsked (requested_of_attestation log.now state.now more.now message.now key.now signature.now nonce.now require.now
         (known_in known_given known.now) takes_sha1 is_signed prefix) (form_of json) result told.new out.old out.new next_size.new next.old next.new }
 {
-    let texts = [Input::Bytes(known)];
-    let request = match signing_in(key, signature, is_signed) {
-        Some(signing) => Some(Request::Attestation(AttestRequest {
-            log: Input::Bytes(log),
-            list: Input::Bytes(more),
-            message: Input::Bytes(message),
-            nonce,
-            required: require,
-            known: known_in(known_given, &texts),
-            takes_sha1,
-            signing,
-            expected: None,
-            scope: scope_of(prefix),
-            resume: resume_of(state),
-        })),
-        None => None,
+    let Some(signing) = signing_in(key, signature, is_signed) else {
+        return give_nothing(next_size, told);
     };
-    give_asked(alloc, request, form_of(json), next, next_size, out, told)
+    let texts = [Input::Bytes(known)];
+    let request = Request::Attestation(AttestRequest {
+        log: Input::Bytes(log),
+        list: Input::Bytes(more),
+        message: Input::Bytes(message),
+        nonce,
+        required: require,
+        known: known_in(known_given, &texts),
+        takes_sha1,
+        signing,
+        expected: None,
+        scope: scope_of(prefix),
+        resume: resume_of(state),
+    });
+    give_both(alloc, request, form_of(json), next, next_size, out, told)
 }
 
 /// The expected registers that a text which tpm2_pcrread or tpm2_checkquote printed states, of those that a selection such as `sha256:0-10`

@@ -1,9 +1,9 @@
 //! Gives an answer to the caller: a text in the caller's room, what is told of it, and a number.
 
-ghost use Rattle.std.specs.Prelude.{◌≡◌, ◌≤◌, ◌⊎◌, None, length, option_map, IfOk, IfSome};
+ghost use Rattle.std.specs.Prelude.{◌≡◌, ◌≤◌, ◌⊎◌, None, length, option_map, pos, IfOk, IfSome};
 ghost use Rattle.agent_inputs.specs.declared.fault.RunFault.TheVariants.{Memory};
 ghost use Rattle.judging.specs.Requests.{requested_of};
-ghost use Rattle.ima_verify_c.specs.Answers.{Answers, AnswersAsked, AnswersMore, AreGiven, answer_of_status, fault_answer, GivesFound, GivesPiece, IsAnswerAndNext, IsAnswerTo, IsGiven, IsLineOf, IsRefusal};
+ghost use Rattle.ima_verify_c.specs.Answers.{Answers, AnswersMore, AreGiven, answer_of_status, fault_answer, GivesFound, GivesPiece, IsAnswerAndNext, IsAnswerTo, IsGiven, IsLineOf, IsRefusal, told_of};
 
 use crate::told::Told;
 use agent_inputs::{FaultKind, RunFault};
@@ -87,26 +87,15 @@ pub(crate) fn give_both(
     }
 }
 
-/// Gives the answer and the text of the checkpoint of what it is on, if something is asked for; else nothing, and no checkpoint.
-pub(crate) fn give_asked(
-    alloc: Global,
-    request: Option<Request<'_>>,
-    form: Form,
-    next: &mut [u8],
-    next_size: &mut usize,
-    out: &mut [u8],
-    told: &mut Told,
-) -> i32
-    ensures { AnswersAsked (option_map requested_of request.entry) form result told.new out.old out.new next_size.new next.old next.new }
+/// Gives nothing, and no checkpoint, where nothing can be asked for so.
+pub(crate) fn give_nothing(next_size: &mut usize, told: &mut Told) -> i32
+    ensures answer { result ≡ pos 6 }
+    ensures told { told.new ≡ told_of 0 None }
+    ensures size { next_size.new ≡ 0 }
 {
-    match request {
-        Some(request) => give_both(alloc, request, form, next, next_size, out, told),
-        None => {
-            *next_size = 0;
-            *told = Told::of(0, None);
-            MISUSED
-        }
-    }
+    *next_size = 0;
+    *told = Told::of(0, None);
+    MISUSED
 }
 
 /// Gives a piece of lines, and sets the position to where the next begin; nothing, if there is no piece since the position is none; or the
