@@ -12,8 +12,8 @@ from pathlib import Path
 
 ROOT = Path(__file__).resolve().parent.parent
 DOCS, FLEET_DOCS, SAMPLES = "share/doc/ima-agent", "share/doc/fleet-verify", "share/ima-agent/samples"
-PAGES = ("attest.md", "investigate.md", "library.md", "cli.md", "reports.txt", "errors.txt", "json.md", "json.txt", "verdict.md", "formats.md", "layouts.txt", "examples.txt",
-         "standards.txt", "event-data.md", "trust.md", "trust.svg")
+PAGES = ("attest.md", "investigate.md", "library.md", "cli.md", "reports.txt", "errors.txt", "json.md", "schema.json", "verdict.md", "formats.md", "layouts.txt",
+         "examples.txt", "standards.txt", "event-data.md", "trust.md", "trust.svg")
 FLEET_PAGE, FLEET = "fleet.md", "share/ima-agent/python/fleet_verify-*.whl"
 
 LINK = re.compile(r"(!?)\[((?:[^][]|\[[^][]*\])*)\]\(([^()\s]+)\)")

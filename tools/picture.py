@@ -12,7 +12,6 @@ LINE = 18  # between two lines of text
 # How far each part is relied upon: its words, its fill, and its border.
 KINDS = {
     "proved": ("proved: every function meets its contract", "#d9f0dd", 'stroke="#1b6e2d" stroke-width="3"'),
-    "tested": ("tested: a script over openssl", "#dbe8f8", 'stroke="#1f4e8c" stroke-width="1.5"'),
     "trusted": ("trusted: nothing here checks it", "#f3efe4", 'stroke="#7a6a3a" stroke-width="1.5" stroke-dasharray="7 4"'),
     "result": ("", "#ffffff", 'stroke="#222222" stroke-width="1.5"'),
 }
@@ -33,9 +32,8 @@ BOXES = (
     Box(50, 260, 330, 80, "trusted", "Firmware", ("measures what it starts, before it starts it,", "and logs each event")),
     Box(50, 370, 330, 80, "trusted", "Linux with IMA", ("measures the files that its policy names,", "and lists each entry")),
     Box(540, 70, 320, 60, "trusted", "Key and nonce", ("kept here; a new nonce for each answer",)),
-    Box(540, 170, 320, 70, "tested", "ima-attest", ("openssl verifies that the key", "signed the quote")),
-    Box(540, 290, 320, 160, "proved", "ima-agent attest", (
-        "a TPM made the quote, for the nonce;", "log and list are read exactly, or refused;", "neither extends the other's PCRs;",
+    Box(540, 170, 320, 280, "proved", "ima-agent attest", (
+        "the key signed the quote;", "a TPM made the quote, for the nonce;", "log and list are read exactly, or refused;", "neither extends the other's PCRs;",
         "template digests are valid;", "replayed, they give the quoted PCRs,", "each required one among them;", "the boot aggregate is good",
     )),
     Box(540, 510, 150, 60, "result", "verdict match", ("status 0",)),
@@ -45,16 +43,14 @@ BOXES = (
 # Points from tail to head, the label, and the place of its middle.
 ARROWS = (
     (((540, 100), (380, 100)), "nonce", (460, 92)),
-    (((380, 200), (540, 200)), "quote", (460, 192)),
+    (((380, 200), (540, 200)), "signed quote", (460, 192)),
     (((380, 310), (540, 310)), "firmware.log", (460, 302)),
     (((380, 410), (540, 410)), "ima.list", (460, 402)),
     (((120, 260), (120, 220)), "extends", (158, 246)),
     (((50, 410), (32, 410), (32, 180), (50, 180)), "extends", (78, 358)),
     (((640, 130), (640, 170)), "", (0, 0)),
-    (((640, 240), (640, 290)), "signed quote", (694, 270)),
     (((615, 450), (615, 510)), "all hold", (650, 485)),
     (((760, 450), (760, 510)), "otherwise", (802, 485)),
-    (((860, 205), (878, 205), (878, 540), (860, 540)), "", (0, 0)),
 )
 
 PANELS = ((20, 400, "The machine"), (510, 375, "The verifier"))

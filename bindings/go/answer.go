@@ -222,15 +222,15 @@ func (a answer) listVerdict(byKnown bool) (ListVerdict, error) {
 	})
 }
 
-// attestation reads the verdict by a quote on a list that has so many bytes after a checkpoint, where the caller has checked the
-// quote's signature, or has not; and the next checkpoint, as more does.
-func (a answer) attestation(from checkpoint, size uint64, byKnown, prefix, signatureChecked bool) (Attestation, checkpoint, error) {
+// attestation reads the verdict by a quote on a list that has so many bytes after a checkpoint, where this has to be known of the quote's
+// signature; and the next checkpoint, as more does.
+func (a answer) attestation(from checkpoint, size uint64, byKnown, prefix bool, signature SignatureState) (Attestation, checkpoint, error) {
 	reached := from
 	v, err := read(a, func(r *reader, o object) Attestation {
 		v := Attestation{Quoted: r.quoted(o), Signer: r.bytes(o, "signer"), Clock: r.clock(member[object](r, o, "clock")),
 			Firmware: r.number(o, "firmware", math.MaxUint64), Events: r.number(o, "events", math.MaxUint64),
 			Locality: uint8(r.number(o, "locality", math.MaxUint8)), Entries: r.number(o, "entries", math.MaxUint64),
-			SignatureChecked: signatureChecked, JSON: a.line(), JudgesKnown: byKnown, KnownFrom: knownFrom(from, byKnown)}
+			Signature: signature, JSON: a.line(), JudgesKnown: byKnown, KnownFrom: knownFrom(from, byKnown)}
 		v.Confirmed, v.Unconfirmed = r.confirmed(o, v.Entries)
 		v.BootAggregate = oneOf(r, o, "boot_aggregate", BootAggregateGood, BootAggregateWrong, BootAggregateNoBank, BootAggregateMissing)
 		v.Extends = r.strays(o, v.Events, covered(v.Confirmed, v.Entries))
@@ -239,9 +239,9 @@ func (a answer) attestation(from checkpoint, size uint64, byKnown, prefix, signa
 		isConfirmed := v.QuoteMatches && v.BootAggregate == BootAggregateGood
 		r.require((v.Confirmed != 0) == (prefix && isConfirmed))
 		isAttested := isConfirmed && v.Extends == nil && v.Unknown == nil
-		v.Matches = isAttested && signatureChecked
-		r.require((oneOf(r, o, "signature", "checked", "not checked") == "checked") == signatureChecked)
-		r.require(member[string](r, o, "verdict") == conclusion(isAttested, signatureChecked) && a.result == resultOf(v.Matches))
+		v.Matches = isAttested && signature != SignatureNotChecked
+		r.require(oneOf(r, o, "signature", SignatureNotChecked, SignatureChecked, SignatureValid) == signature)
+		r.require(member[string](r, o, "verdict") == conclusion(isAttested, signature) && a.result == resultOf(v.Matches))
 		reached = a.reached(r, from, size, covered(v.Confirmed, v.Entries), v.Confirmed != 0, v.Matches)
 		return v
 	})
@@ -249,9 +249,9 @@ func (a answer) attestation(from checkpoint, size uint64, byKnown, prefix, signa
 }
 
 // conclusion is the verdict of a report by a quote.
-func conclusion(isAttested, signatureChecked bool) string {
+func conclusion(isAttested bool, signature SignatureState) string {
 	switch {
-	case !signatureChecked:
+	case signature == SignatureNotChecked:
 		return "signature not checked"
 	case isAttested:
 		return "match"

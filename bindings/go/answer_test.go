@@ -255,7 +255,7 @@ func TestNumbersUpToTheirEndsAreRead(t *testing.T) {
 	large = strings.NewReplacer(`[10]`, `[0,23]`, `"milliseconds":5,"resets":1,"restarts":0`,
 		`"milliseconds":`+most+`,"resets":4294967295,"restarts":4294967295`,
 		`"firmware":7,"events":1,"locality":0`, `"firmware":`+most+`,"events":`+most+`,"locality":255`)
-	a, err := attestationIn(done, large.Replace(attested), true)
+	a, err := attestationIn(done, large.Replace(attested), SignatureChecked)
 	equal(t, []interface{}{err, a.Clock}, []interface{}{nil, Clock{math.MaxUint64, math.MaxUint32, math.MaxUint32, true}})
 	equal(t, []interface{}{a.Firmware, a.Events, a.Locality, a.Matches}, []interface{}{uint64(math.MaxUint64), uint64(math.MaxUint64), uint8(255), true})
 	equal(t, a.Quoted[AlgorithmSHA1], []int{0, 23})
@@ -654,6 +654,7 @@ func TestRefusalsAreWhatIsReported(t *testing.T) {
 		{"refused: key fault 22", faultOf(KindKey, 22, noPlace), RefusedError{Kind: KindKey, Number: 22}},
 		{"refused: list fault 1 at entry 18446744073709551614", faultOf(KindList, 1, noPlace-1),
 			RefusedError{Kind: KindList, Number: 1, Place: noPlace - 1, HasPlace: true}},
+		{"refused: signature fault 9", faultOf(KindSignature, 9, noPlace), RefusedError{Kind: KindSignature, Number: 9}},
 		{"refused: command line", faultOf(KindArgument, 0, noPlace), RefusedError{Kind: KindArgument}},
 		// (kind, number and place are not those that the line spells, but those that are reported)
 		{"refused: something else", faultOf(KindLog, 9, 7), RefusedError{Kind: KindLog, Number: 9, Place: 7, HasPlace: true}},
@@ -685,7 +686,7 @@ func TestWrongRefusalsAreNoRefusals(t *testing.T) {
 
 // A result has no error; a refusal has one of the kinds of inputs; memory that ran out has its own kind.
 func TestReportedErrorIsOfTheResult(t *testing.T) {
-	for kind := uint32(0); kind < 11; kind++ {
+	for kind := uint32(0); kind < 13; kind++ {
 		fault := told{kind: kind, number: 1, place: 2, size: uint64(len(listFault))}
 		found := answeredWith(refused, listFault, fault)
 		if _, isKind := kinds[kind]; isKind {
@@ -706,7 +707,7 @@ func TestReportedErrorIsOfTheResult(t *testing.T) {
 			checkUnexpected(t, found, report)
 		}
 	}
-	equal(t, len(kinds), 9)
+	equal(t, len(kinds), 10)
 }
 
 func TestErrorsSayWhatIsWrong(t *testing.T) {
@@ -714,7 +715,7 @@ func TestErrorsSayWhatIsWrong(t *testing.T) {
 	equal(t, (&RefusedError{Line: "refused: log fault 2", Kind: KindLog, Number: 2}).Error(), "refused: log fault 2")
 	equal(t, (&RefusedError{Line: "refused: command line", Kind: KindArgument}).Error(),
 		"refused: command line (PCRs are named as in sha256:0-10, with PCR 10, or as in 0-10; "+
-			"known files need such a requirement; a quote needs PCRs 0 to 10, and a nonce of at least 16 bytes)")
+			"known files need such a requirement; a quote needs PCRs 0 to 10, a nonce of at least 16 bytes, and both a key and a signature, or none)")
 	equal(t, (&UnexpectedError{5, 10, []byte("text\n")}).Error(),
 		`libima_verify gave the result 5 and the size 10, with a text that begins "text\n"`)
 }

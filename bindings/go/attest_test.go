@@ -37,7 +37,12 @@ func spelled(digits string) []byte {
 }
 
 func quoteOfSample() Quote {
-	return Quote{Message: quoteMessage, Nonce: quoteNonce, Require: "sha256:0-10", SignatureChecked: true}
+	return Quote{Key: sampleKey, Nonce: quoteNonce, Message: quoteMessage, Signature: sampleSignature, Require: "sha256:0-10"}
+}
+
+// checkedQuote is the sample's quote where the caller says whether he verified a signature.
+func checkedQuote(isChecked bool) Quote {
+	return Quote{Message: quoteMessage, Nonce: quoteNonce, Require: "sha256:0-10", SignatureChecked: isChecked}
 }
 
 func attest(t *testing.T, log, list []byte, quote Quote) Attestation {
@@ -66,21 +71,68 @@ func quoteFault(number uint64) RefusedError {
 
 func TestQuoteOfTheSampleMatches(t *testing.T) {
 	found := attest(t, bootLog, bootList, quoteOfSample())
-	equal(t, []interface{}{found.Matches, found.QuoteMatches, found.SignatureChecked, found.BootAggregate, found.Extends == nil},
-		[]interface{}{true, true, true, BootAggregateGood, true})
+	equal(t, []interface{}{found.Matches, found.QuoteMatches, found.Signature, found.BootAggregate, found.Extends == nil},
+		[]interface{}{true, true, SignatureValid, BootAggregateGood, true})
 	equal(t, []uint64{found.Events, uint64(found.Locality), found.Entries, found.Firmware}, []uint64{24, 0, 99, 2312897626142815798})
 	equal(t, found.Quoted, map[Algorithm][]int{AlgorithmSHA256: {0, 1, 2, 3, 4, 5, 6, 7, 8, 9, 10}})
 	equal(t, found.Signer, quoteMessage[8:42])
 	equal(t, found.Clock, Clock{626, 1, 0, true})
-	equal(t, strings.HasSuffix(found.JSON, `"quote":"match","signature":"checked","verdict":"match"}`), true)
+	equal(t, strings.HasSuffix(found.JSON, `"quote":"match","signature":"valid","verdict":"match"}`), true)
+	quote := quoteOfSample()
+	quote.Signature = tpmtSignature
+	equal(t, attest(t, bootLog, bootList, quote), found)
+}
+
+func TestSignatureMayBeVerifiedByTheCaller(t *testing.T) {
+	found, wanted := attest(t, bootLog, bootList, checkedQuote(true)), attest(t, bootLog, bootList, quoteOfSample())
+	wanted.Signature = SignatureChecked
+	wanted.JSON = strings.Replace(wanted.JSON, `"signature":"valid"`, `"signature":"checked"`, 1)
+	equal(t, found, wanted)
 }
 
 func TestNothingIsAttestedWithoutASignature(t *testing.T) {
-	quote := quoteOfSample()
-	quote.SignatureChecked = false
-	found := attest(t, bootLog, bootList, quote)
-	equal(t, []bool{found.Matches, found.QuoteMatches, found.SignatureChecked}, []bool{false, true, false})
+	found := attest(t, bootLog, bootList, checkedQuote(false))
+	equal(t, []interface{}{found.Matches, found.QuoteMatches, found.Signature}, []interface{}{false, true, SignatureNotChecked})
 	equal(t, strings.HasSuffix(found.JSON, `"signature":"not checked","verdict":"signature not checked"}`), true)
+}
+
+// Of a key and a signature both are given, or neither; and with them the caller says nothing of the signature.
+func TestWordOfTheCallerStandsInPlaceOfKeyAndSignature(t *testing.T) {
+	wanted := RefusedError{Line: "refused: command line", Kind: KindArgument}
+	for _, c := range []struct {
+		key, signature []byte
+		isChecked      bool
+	}{{sampleKey, nil, false}, {nil, sampleSignature, false}, {[]byte{}, nil, false}, {nil, []byte{}, false}, {sampleKey, nil, true},
+		{nil, sampleSignature, true}, {sampleKey, sampleSignature, true}, {[]byte{}, []byte{}, true}} {
+		quote := checkedQuote(c.isChecked)
+		quote.Key, quote.Signature = c.key, c.signature
+		checkQuoteRefused(t, wanted, quote)
+	}
+}
+
+// Key and signature are looked at before the quote, the log, the list and known files.
+func TestOtherSignaturesAndKeysAreRefused(t *testing.T) {
+	for _, c := range []struct {
+		key, signature []byte
+		kind           Kind
+		number         uint64
+	}{{sampleKey, turned(sampleSignature, 0), KindSignature, notSigned}, {sampleKey, make([]byte, 256), KindSignature, notSigned},
+		{sampleKey, []byte{}, KindSignature, cutSignature}, {sampleKey, joined(tpmtSignature, []byte("x")), KindSignature, trailing},
+		{sampleKey[1:], sampleSignature, KindKey, 1}, {[]byte{}, sampleSignature, KindKey, 1}, {[]byte{}, []byte{}, KindKey, 1},
+		{sampleKey[:len(sampleKey)-1], sampleSignature, KindSignature, otherPEM}} {
+		wanted := RefusedError{Line: fmt.Sprintf("refused: %s fault %d", c.kind, c.number), Kind: c.kind, Number: c.number}
+		quote := quoteOfSample()
+		quote.Key, quote.Signature = c.key, c.signature
+		checkQuoteRefused(t, wanted, quote)
+		for _, log := range [][]byte{nil, bootLog} {
+			s := quoteSession(t, log, Known([]byte("x")))
+			found, err := s.Attest(nil, quote)
+			checkRefused(t, err, wanted)
+			equal(t, []interface{}{found, s.State()}, []interface{}{Attestation{}, []byte(nil)})
+		}
+		quote.Message = nil
+		checkQuoteRefused(t, wanted, quote)
+	}
 }
 
 func TestQuoteOfAnotherBootDiffers(t *testing.T) {
@@ -88,7 +140,7 @@ func TestQuoteOfAnotherBootDiffers(t *testing.T) {
 	later := append(bootLog[:len(bootLog):len(bootLog)], event...)
 	for _, inputs := range [][2][]byte{{bootLog, longer}, {bootLog, bootList[:len(bootList)-95]}, {bootLog, nil}, {later, bootList}} {
 		found := attest(t, inputs[0], inputs[1], quoteOfSample())
-		equal(t, []bool{found.Matches, found.QuoteMatches, found.SignatureChecked}, []bool{false, false, true})
+		equal(t, []interface{}{found.Matches, found.QuoteMatches, found.Signature}, []interface{}{false, false, SignatureValid})
 	}
 }
 
@@ -100,21 +152,23 @@ func TestEntryOfAnotherRegisterIsNotAttested(t *testing.T) {
 }
 
 func TestOtherQuotesAreRefused(t *testing.T) {
-	quote := quoteOfSample()
+	quote := checkedQuote(true)
 	for size := 0; size < len(quoteMessage); size++ {
 		quote.Message = quoteMessage[:size]
 		checkQuoteRefused(t, quoteFault(1), quote)
 	}
-	quote = quoteOfSample()
-	for _, nonce := range [][]byte{quoteNonce[:16], make([]byte, 20), append([]byte{quoteNonce[0] ^ 1}, quoteNonce[1:]...)} {
-		quote.Nonce = nonce
-		checkQuoteRefused(t, quoteFault(11), quote)
-	}
-	quote = quoteOfSample()
-	quote.TakesSHA1 = true
-	for _, require := range []string{"sha256:0-11", "sha1:0-10", "sha256:0-10,sha512:10"} {
-		quote.Require = require
-		checkQuoteRefused(t, quoteFault(12), quote)
+	for _, given := range []Quote{quoteOfSample(), checkedQuote(true)} {
+		quote := given
+		for _, nonce := range [][]byte{quoteNonce[:16], make([]byte, 20), append([]byte{quoteNonce[0] ^ 1}, quoteNonce[1:]...)} {
+			quote.Nonce = nonce
+			checkQuoteRefused(t, quoteFault(11), quote)
+		}
+		quote = given
+		quote.TakesSHA1 = true
+		for _, require := range []string{"sha256:0-11", "sha1:0-10", "sha256:0-10,sha512:10"} {
+			quote.Require = require
+			checkQuoteRefused(t, quoteFault(12), quote)
+		}
 	}
 }
 
@@ -132,17 +186,17 @@ func TestArgumentsThatDoNotSuitAQuoteAreRefused(t *testing.T) {
 }
 
 // The verdict by a quote on a whole list, with the checkpoint that only a match has.
-func attestationIn(result int32, text string, signatureChecked bool) (Attestation, error) {
+func attestationIn(result int32, text string, signature SignatureState) (Attestation, error) {
 	given := of(result, text)
 	if result == done {
 		given.next = []byte(stateText)
 	}
-	found, _, err := given.attestation(checkpoint{}, 300, false, false, signatureChecked)
+	found, _, err := given.attestation(checkpoint{}, 300, false, false, signature)
 	return found, err
 }
 
-func readAttestation(result int32, text string, signatureChecked bool) error {
-	found, err := attestationIn(result, text, signatureChecked)
+func readAttestation(result int32, text string, signature SignatureState) error {
+	found, err := attestationIn(result, text, signature)
 	if err != nil && (found.Matches || found.Quoted != nil) {
 		panic("an attestation with an error")
 	}
@@ -150,11 +204,17 @@ func readAttestation(result int32, text string, signatureChecked bool) error {
 }
 
 func TestRightReportsByAQuoteAreRead(t *testing.T) {
-	found, err := attestationIn(done, attested, true)
-	equal(t, err, nil)
-	equal(t, found, Attestation{Quoted: map[Algorithm][]int{AlgorithmSHA1: {10}, AlgorithmSHA256: {0, 1, 10}}, Signer: []byte{0, 11},
-		Clock: Clock{5, 1, 0, true}, Firmware: 7, Events: 1, Entries: 3, BootAggregate: BootAggregateGood, QuoteMatches: true,
-		SignatureChecked: true, Matches: true, JSON: strings.TrimSuffix(attested, "\n")})
+	for _, signature := range []SignatureState{SignatureValid, SignatureChecked} {
+		text := strings.Replace(attested, "checked", string(signature), 1)
+		found, err := attestationIn(done, text, signature)
+		equal(t, err, nil)
+		equal(t, found, Attestation{Quoted: map[Algorithm][]int{AlgorithmSHA1: {10}, AlgorithmSHA256: {0, 1, 10}}, Signer: []byte{0, 11},
+			Clock: Clock{5, 1, 0, true}, Firmware: 7, Events: 1, Entries: 3, BootAggregate: BootAggregateGood, QuoteMatches: true,
+			Signature: signature, Matches: true, JSON: strings.TrimSuffix(text, "\n")})
+		text = strings.NewReplacer(`"quote":"match"`, `"quote":"differ"`, `"verdict":"match"`, `"verdict":"differ"`).Replace(text)
+		found, err = attestationIn(differs, text, signature)
+		equal(t, []interface{}{err, found.Matches, found.Signature}, []interface{}{nil, false, signature})
+	}
 }
 
 func TestWrongReportsByAQuoteAreNone(t *testing.T) {
@@ -166,6 +226,7 @@ func TestWrongReportsByAQuoteAreNone(t *testing.T) {
 		{`"entries":3,`, ``}, {`"locality":0`, `"locality":256`}, {`"good"`, `"wrong"`}, {`"good"`, `"fine"`},
 		{`"quote":"match"`, `"quote":"differ"`}, {`"quote":"match"`, `"quote":"Match"`}, {`"quote":"match",`, ``},
 		{`"signature":"checked"`, `"signature":"not checked"`}, {`"signature":"checked",`, ``}, {`,"verdict":"match"`, ``},
+		{`"signature":"checked"`, `"signature":"valid"`}, {`"signature":"checked"`, `"signature":"Checked"`}, {`"signature":"checked"`, `"signature":true`},
 		{`"verdict":"match"`, `"verdict":"differ"`}, {`"verdict":"match"`, `"verdict":"signature not checked"`},
 		{`"entries":3`, `"entries":3,"confirmed":2`}, {`"quote"`, `"extends":[` + strayEntry + `],"quote"`}, {`"quote"`, `"extends":[],"quote"`},
 	} {
@@ -173,14 +234,21 @@ func TestWrongReportsByAQuoteAreNone(t *testing.T) {
 		if text == attested {
 			t.Fatalf("no change: %q", change[0])
 		}
-		checkUnexpected(t, readAttestation(done, text, true), text)
+		checkUnexpected(t, readAttestation(done, text, SignatureChecked), text)
 	}
 	unsigned := strings.Replace(attested, `"checked","verdict":"match"`, `"not checked","verdict":"signature not checked"`, 1)
-	equal(t, readAttestation(differs, unsigned, false), nil)
-	checkUnexpected(t, readAttestation(done, unsigned, false), unsigned)
-	checkUnexpected(t, readAttestation(differs, unsigned, true), unsigned)
-	checkUnexpected(t, readAttestation(done, attested, false), attested)
-	checkUnexpected(t, readAttestation(differs, attested, true), attested)
+	valid := strings.Replace(attested, `"checked"`, `"valid"`, 1)
+	for text, right := range map[string]SignatureState{unsigned: SignatureNotChecked, attested: SignatureChecked, valid: SignatureValid} {
+		for _, signature := range []SignatureState{SignatureNotChecked, SignatureChecked, SignatureValid} {
+			for _, result := range []int32{done, differs} {
+				if signature == right && (result == done) == (right != SignatureNotChecked) {
+					equal(t, readAttestation(result, text, signature), nil)
+				} else {
+					checkUnexpected(t, readAttestation(result, text, signature), text)
+				}
+			}
+		}
+	}
 }
 
 func quoteSession(t *testing.T, log []byte, options ...Option) *Session {
@@ -208,15 +276,17 @@ func checkQuotedStateRefused(t *testing.T, log, state []byte, quote Quote, numbe
 }
 
 func TestListInTwoPartsIsAttestedAsTheWhole(t *testing.T) {
-	whole, wanted := attest(t, bootLog, bootList, quoteOfSample()), quotedStateAfter(t, 99, 1, 0)
-	for _, count := range cuts {
-		s := quoteSession(t, bootLog)
-		if count > 0 {
-			s = quoteSession(t, bootLog, Resume(quotedStateAfter(t, count, 1, 0)))
+	for _, quote := range []Quote{quoteOfSample(), checkedQuote(true)} {
+		whole, wanted := attest(t, bootLog, bootList, quote), quotedStateAfter(t, 99, 1, 0)
+		for _, count := range cuts {
+			s := quoteSession(t, bootLog)
+			if count > 0 {
+				s = quoteSession(t, bootLog, Resume(quotedStateAfter(t, count, 1, 0)))
+			}
+			equal(t, s.Offset(), uint64(ends[count]))
+			found, err := s.Attest(bootList[ends[count]:], quote)
+			equal(t, []interface{}{err, found, s.State(), s.Offset()}, []interface{}{nil, whole, wanted, uint64(ends[99])})
 		}
-		equal(t, s.Offset(), uint64(ends[count]))
-		found, err := s.Attest(bootList[ends[count]:], quoteOfSample())
-		equal(t, []interface{}{err, found, s.State(), s.Offset()}, []interface{}{nil, whole, wanted, uint64(ends[99])})
 	}
 }
 
@@ -242,26 +312,31 @@ func TestPrefixIsWhatIsQuoted(t *testing.T) {
 }
 
 func TestNoMatchLeavesASessionByQuotesAsItWas(t *testing.T) {
-	state, unsigned := quotedStateAfter(t, 50, 1, 0), quoteOfSample()
-	unsigned.SignatureChecked = false
+	state := quotedStateAfter(t, 50, 1, 0)
 	for _, c := range []struct {
 		end   int
 		quote Quote
-	}{{99, unsigned}, {98, quoteOfSample()}} {
+	}{{99, checkedQuote(false)}, {98, checkedQuote(true)}, {98, quoteOfSample()}} {
 		s := quoteSession(t, bootLog, Resume(state))
 		found, err := s.Attest(bootList[ends[50]:ends[c.end]], c.quote)
 		equal(t, []interface{}{err, found.Matches, s.State()}, []interface{}{nil, false, state})
 	}
+	s, quote := quoteSession(t, bootLog, Resume(state)), quoteOfSample()
+	quote.Signature = turned(sampleSignature, 0)
+	_, err := s.Attest(bootList[ends[50]:], quote)
+	checkRefused(t, err, RefusedError{Line: "refused: signature fault 7", Kind: KindSignature, Number: notSigned})
+	equal(t, s.State(), state)
+	found, err := s.Attest(bootList[ends[50]:], quoteOfSample())
+	equal(t, []interface{}{err, found.Matches, s.State()}, []interface{}{nil, true, quotedStateAfter(t, 99, 1, 0)})
 }
 
 func TestConfirmedPartIsGivenWithoutASignature(t *testing.T) {
-	unsigned, state := quoteOfSample(), quotedStateAfter(t, 50, 1, 0)
-	unsigned.SignatureChecked = false
+	state := quotedStateAfter(t, 50, 1, 0)
 	for _, options := range [][]Option{{Prefix()}, {Resume(state), Prefix()}} {
 		s := quoteSession(t, bootLog, options...)
 		before := s.State()
-		found, err := s.Attest(longer[s.Offset():], unsigned)
-		equal(t, []interface{}{err, found.Matches, found.QuoteMatches, found.SignatureChecked}, []interface{}{nil, false, true, false})
+		found, err := s.Attest(longer[s.Offset():], checkedQuote(false))
+		equal(t, []interface{}{err, found.Matches, found.QuoteMatches, found.Signature}, []interface{}{nil, false, true, SignatureNotChecked})
 		equal(t, []interface{}{found.Confirmed, found.Entries, found.Unconfirmed}, []interface{}{uint64(99), uint64(100), (*Unconfirmed)(nil)})
 		equal(t, []interface{}{strings.HasSuffix(found.JSON, `"verdict":"signature not checked"}`), s.State()}, []interface{}{true, before})
 	}
@@ -304,7 +379,7 @@ func TestStateOfAnotherBootIsNotAttested(t *testing.T) {
 		checkQuotedStateRefused(t, bootLog, other, quoteOfSample(), 4)
 	}
 	for _, place := range []int{at + 3, at + 7} {
-		quote := quoteOfSample()
+		quote := checkedQuote(true)
 		quote.Message = clone(quoteMessage)
 		quote.Message[place] ^= 1
 		checkQuotedStateRefused(t, bootLog, state, quote, 4)
@@ -343,7 +418,7 @@ func TestAttestationsWithOtherCheckpointsAreNone(t *testing.T) {
 	} {
 		given := of(c.result, c.text)
 		given.next = []byte(c.next)
-		_, reached, err := given.attestation(checkpoint{}, c.size, false, c.prefix, true)
+		_, reached, err := given.attestation(checkpoint{}, c.size, false, c.prefix, SignatureChecked)
 		equal(t, []bool{err == nil, string(reached.text) == c.next && c.isWanted}, []bool{c.isWanted, c.isWanted})
 	}
 }

@@ -42,30 +42,24 @@ func ExampleAttest() {
 	if err != nil {
 		log.Fatal(err)
 	}
-	message, key := read(filepath.Join(quoted, "quote.msg")), read(filepath.Join(quoted, "AK.pem")) // (the machine's own restricted key)
-	signature := read(filepath.Join(quoted, "quote.sig"))
-	checked, err := imaverify.VerifyQuote(key, signature, message)
-	if err != nil {
-		log.Fatal(err) // errors.Is(err, imaverify.ErrSignature), if the signature is not the key's
+	quote := imaverify.Quote{
+		Key:       read(filepath.Join(quoted, "AK.pem")), // the machine's own restricted key, as PEM or its public area
+		Nonce:     nonce,
+		Message:   read(filepath.Join(quoted, "quote.msg")),
+		Signature: read(filepath.Join(quoted, "quote.sig")),
+		Require:   "sha256:0-10",
 	}
-	quote := imaverify.Quote{Message: message, Nonce: nonce, Require: "sha256:0-10", SignatureChecked: checked}
 	verdict, err := imaverify.Attest(read("firmware.log"), read("ima.list"), quote)
 	if err != nil {
-		log.Fatal(err) // such as "refused: quote fault 11", if the nonce is another
+		log.Fatal(err) // such as "refused: signature fault 7", if the signature is not by the key
 	}
-	fmt.Println(verdict.Matches, verdict.Entries, verdict.Quoted[imaverify.AlgorithmSHA256])
-	// Output: true 99 [0 1 2 3 4 5 6 7 8 9 10]
-}
-
-func ExampleVerifyQuote() {
-	quoted := filepath.Join("..", "quoted")
-	key, message := read(filepath.Join(quoted, "AK.pem")), read(filepath.Join(quoted, "quote.msg"))
-	fmt.Println(imaverify.VerifyQuote(key, read(filepath.Join(quoted, "quote.sig")), message))
-	checked, err := imaverify.VerifyQuote(key, read(filepath.Join(quoted, "quote.tpmt")), message) // a TPMT_SIGNATURE
-	fmt.Println(checked, errors.Is(err, imaverify.ErrSignature))
+	fmt.Println(verdict.Matches, verdict.Signature, verdict.Entries, verdict.Quoted[imaverify.AlgorithmSHA256])
+	quote.Message = append([]byte("x"), quote.Message...)
+	_, err = imaverify.Attest(read("firmware.log"), read("ima.list"), quote)
+	fmt.Println(err)
 	// Output:
-	// true <nil>
-	// false true
+	// true valid 99 [0 1 2 3 4 5 6 7 8 9 10]
+	// refused: signature fault 7
 }
 
 func ExampleReadKey() {
@@ -74,7 +68,7 @@ func ExampleReadKey() {
 		log.Fatal(err) // such as "refused: key fault 15", if the key is not restricted
 	}
 	fmt.Println(key.Type, key.Bits, key.Scheme, key.Hash)
-	// (after a credential that was made to this name was activated, the PEM is the machine's)
+	// (after a credential that was made to this name was activated, the key is the machine's)
 	fmt.Println(len(key.Name), bytes.Equal(key.PEM, read(filepath.Join("..", "keys", "ak-p256.pem"))))
 	// Output:
 	// ecc 256 ecdsa sha256

@@ -9,8 +9,8 @@
 // Verify(log, list, expected, "sha256:0-10"). With such a requirement a verdict is a match only if no event of the log extends PCR
 // 10 and each entry of the list names it. With the option Known each entry but the boot aggregate must also be of a known file. Entries
 // and Events go through the inputs themselves. A Session is for a list that grows, and for one that grew after the expected PCRs were read.
-// Attest compares a log and a list with a quote in place of expected PCRs, and VerifyQuote verifies the quote's signature, by the key
-// that ReadKey reads.
+// Attest compares a log and a list with a quote in place of expected PCRs, and verifies its signature by the machine's attestation key.
+// ReadKey says what a key is.
 //
 // If an input or a selection is refused, the error is a *RefusedError. If memory runs out, it is ErrOutOfMemory. If the
 // library's answer is not as its header describes, it is an *UnexpectedError. With any error the result is the zero value, whose
@@ -116,19 +116,35 @@ func (v Verdict) Compared() int {
 	return compared(v.Rows)
 }
 
-// Quote is the message of a quote, and what a verdict by it needs.
+// Quote is a quote with its signature, and what a verdict by it needs.
 //
-// Message is what the TPM signed, a TPMS_ATTEST: the file that `tpm2_quote -m` writes. Nonce is the verifier's own for this quote,
-// used once: 16 bytes or more. Require names the PCRs that must be quoted, at least 0 to 10, such as "sha256:0-10"; one of the SHA-1
-// bank alone is refused unless TakesSHA1. SignatureChecked is what VerifyQuote gives for this Message, or says that the caller has
-// verified the signature otherwise, with the machine's attestation key, as VerifyQuote asks for it. If it is false there is no match.
+// Key is the machine's attestation key: the public area for which a credential was activated, as ReadKey reads it, or the PEM that ReadKey
+// gives for it. It is of RSA with 2048 to 4096 bits, or of the curve P-256 or P-384. A PEM does not tell a key that also signs messages that
+// no TPM made from another, so keep one only of an area that ReadKey took. Nonce is the verifier's own for this quote, used once: 16 bytes
+// or more. Message is what the TPM signed, a TPMS_ATTEST: the file that `tpm2_quote -m` writes. Signature is the file that `tpm2_quote -s`
+// writes, with `-f plain` or without: RSASSA, RSAPSS or ECDSA, by SHA-256, SHA-384 or SHA-512. Require names the PCRs that must be quoted, at
+// least 0 to 10, such as "sha256:0-10"; one of the SHA-1 bank alone is refused unless TakesSHA1.
+//
+// SignatureChecked is for a key that is not taken, such as one of the curve P-521. In place of Key and Signature, which are then nil, it says
+// that the caller has verified the signature of this same Message by the machine's attestation key. Without any of these there is no match.
 type Quote struct {
-	Message          []byte
+	Key              []byte
 	Nonce            []byte
+	Message          []byte
+	Signature        []byte
 	Require          string
 	TakesSHA1        bool
 	SignatureChecked bool
 }
+
+// SignatureState says what is known of a quote's signature.
+type SignatureState string
+
+const (
+	SignatureNotChecked SignatureState = "not checked" // nobody verified it
+	SignatureChecked    SignatureState = "checked"     // the caller says that he verified it
+	SignatureValid      SignatureState = "valid"       // it is by the key of the Quote
+)
 
 // Clock is a TPM's clock and its counts when it made a quote. Milliseconds says how long the TPM has had power since it was last
 // cleared, and Resets how often it was reset since then: each boot is one reset. Restarts says how often it was restarted or resumed
@@ -145,32 +161,32 @@ type Clock struct {
 
 // Attestation is the verdict on a log and a list by a quote.
 //
-// Matches says that QuoteMatches, that the boot aggregate is good, that Extends and Unknown are empty, and that the caller has checked
-// the signature. It covers the PCRs in Quoted, and no others. QuoteMatches says that the quote is of the values to which log and list
+// Matches says that QuoteMatches, that the boot aggregate is good, that Extends and Unknown are empty, and that the Signature is valid, or
+// checked by the caller. It covers the PCRs in Quoted, and no others. QuoteMatches says that the quote is of the values to which log and list
 // replay. Quoted has the numbers of the PCRs that the quote selects, ascending, for each bank of which it selects any. Signer is the
 // qualified name of the key that signed, and Firmware the version of the TPM's firmware, as the quote states them. JSON is the
 // report, without the line feed. Extends has the first event that extends PCR 10, and the first entry that extends another.
 //
 // Confirmed and Unconfirmed are as in Verdict: only a Session with Prefix gives them. So are JudgesKnown, KnownFrom and Unknown.
 type Attestation struct {
-	Quoted           map[Algorithm][]int
-	Signer           []byte
-	Clock            Clock
-	Firmware         uint64
-	Events           uint64
-	Locality         uint8
-	Entries          uint64
-	BootAggregate    BootAggregate
-	QuoteMatches     bool
-	SignatureChecked bool
-	Matches          bool
-	JSON             string
-	Confirmed        uint64
-	Unconfirmed      *Unconfirmed
-	Extends          []Stray
-	JudgesKnown      bool
-	KnownFrom        uint64
-	Unknown          []uint64
+	Quoted        map[Algorithm][]int
+	Signer        []byte
+	Clock         Clock
+	Firmware      uint64
+	Events        uint64
+	Locality      uint8
+	Entries       uint64
+	BootAggregate BootAggregate
+	QuoteMatches  bool
+	Signature     SignatureState
+	Matches       bool
+	JSON          string
+	Confirmed     uint64
+	Unconfirmed   *Unconfirmed
+	Extends       []Stray
+	JudgesKnown   bool
+	KnownFrom     uint64
+	Unknown       []uint64
 }
 
 // ListVerdict is the verdict on a list without a log, and expected PCRs.
@@ -275,7 +291,7 @@ const (
 // Name is the name by which TPMs know the key: the number of a hash, in two bytes, and that hash of the area. (The Signer of an
 // Attestation is the key's qualified name, which is another.) Bits is the size of the modulus, or 256, 384 or 521 for the curves
 // P-256, P-384 and P-521. Scheme is fixed in the key, and Hash is that of the scheme, or empty if it has none. PEM is the public key
-// as `openssl pkey -pubin` writes it, which VerifyQuote takes.
+// as `openssl pkey -pubin` writes it, which Attest takes.
 type Key struct {
 	Name   []byte
 	Type   KeyType
@@ -289,8 +305,8 @@ type Key struct {
 type Kind string
 
 const (
-	// The selection of PCRs, required or asked for, is not of its form, or does not suit a quote or known files; or a nonce is too short. It has
-	// no number.
+	// The selection of PCRs, required or asked for, is not of its form, or does not suit a quote or known files; or a nonce is too short; or a
+	// Quote has a key or a signature alone, or says beside them that its signature was checked. It has no number.
 	KindArgument Kind = "argument"
 
 	KindLog      Kind = "log"
@@ -309,6 +325,10 @@ const (
 
 	// A line of the known files has a digest by SHA-1 (1), or is no digest and name (2).
 	KindKnown Kind = "known"
+
+	// The signature of a quote is none (1 to 4), or not by the key and on the message (5 to 7); or the key is one that is not taken (8), or no
+	// PEM of such a key (9).
+	KindSignature Kind = "signature"
 )
 
 // RefusedError is the error of an input that is refused. Kind, Number and Place are as the library reports them; Place is the
@@ -325,7 +345,7 @@ type RefusedError struct {
 func (r *RefusedError) Error() string {
 	if r.Kind == KindArgument {
 		return r.Line + " (PCRs are named as in sha256:0-10, with PCR 10, or as in 0-10; " +
-			"known files need such a requirement; a quote needs PCRs 0 to 10, and a nonce of at least 16 bytes)"
+			"known files need such a requirement; a quote needs PCRs 0 to 10, a nonce of at least 16 bytes, and both a key and a signature, or none)"
 	}
 	return r.Line
 }
@@ -430,11 +450,12 @@ func Verify(log, list, expected []byte, require string, options ...Option) (Verd
 	return askFor(read, func(out []byte) (int32, told) { return callVerdict(log, list, expected, []byte(require), known, out) })
 }
 
-// Attest gives the verdict on a firmware event log and a measurement list by a quote. No file of PCR values is needed. It verifies
-// no signature: VerifyQuote does.
+// Attest gives the verdict on a firmware event log and a measurement list by a quote with its signature. No file of PCR values is needed.
 //
-// A message that is no quote, has another nonce, or does not select a required PCR is refused with KindQuote; a requirement that is
-// not of its form or leaves out one of the PCRs 0 to 10, and a nonce that is too short, with KindArgument. The one option is Known.
+// A signature that is not by the key and on the message is refused with KindSignature, and what is no key with KindKey, or if it begins as PEM
+// does with KindSignature. A message that is no quote, has another nonce, or does not select a required PCR is refused with KindQuote; a
+// requirement that is not of its form or leaves out one of the PCRs 0 to 10, and a nonce that is too short, with KindArgument. The one option
+// is Known.
 func Attest(log, list []byte, quote Quote, options ...Option) (Attestation, error) {
 	known, err := knownIn(options)
 	if err != nil {
@@ -483,8 +504,8 @@ func ListRegisters(list []byte) ([]Register, error) {
 //
 // The key is restricted, never leaves the TPM that made it, signs, and does not decrypt. It signs by SHA-256, SHA-384 or SHA-512, and
 // is of RSA with 2048 bits or more, or of the curve P-256, P-384 or P-521; any other is refused with KindKey. Whose TPM it is in, the
-// area does not say, and anyone can write one. Take the PEM for VerifyQuote only after a credential was activated that was made to the
-// Name and to the machine's endorsement key. `ima-enroll` does that, and keeps the PEM.
+// area does not say, and anyone can write one. Take the area, or its PEM, for Attest only after a credential was activated that was made to
+// the Name and to the machine's endorsement key. `ima-enroll` does that, and keeps both.
 func ReadKey(area []byte) (Key, error) {
 	return readKey(area, false)
 }

@@ -263,6 +263,9 @@ func (r *reader) entry(o object, number uint64) Entry {
 	return e
 }
 
+// leastBits are those of the modulus of a key of RSA.
+const leastBits = 2048
+
 func (r *reader) key(o object) Key {
 	k := Key{Name: r.bytes(o, "name"), Type: oneOf(r, o, "type", KeyTypeRSA, KeyTypeECC), Bits: int(r.number(o, "bits", math.MaxUint16)),
 		Scheme: Scheme(member[string](r, o, "scheme")), PEM: []byte(member[string](r, o, "pem"))}

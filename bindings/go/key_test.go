@@ -173,18 +173,31 @@ func TestHashesOfNames(t *testing.T) {
 	}
 }
 
-func TestKeyOfAPublicAreaVerifiesAQuote(t *testing.T) {
+// TestKeysThatAreReadVerifyQuotes has the area and its PEM; of another key neither, and of one on P-521 no signature is verified.
+func TestKeysThatAreReadVerifyQuotes(t *testing.T) {
 	block, _ := pem.Decode(sampleKey)
 	public, err := x509.ParsePKIXPublicKey(block.Bytes)
 	succeed(err)
-	key, err := ReadKey(rsaArea(public.(*rsa.PublicKey).N.Bytes(), 0x0b, 0, 0x14, 0x0b))
+	area := rsaArea(public.(*rsa.PublicKey).N.Bytes(), 0x0b, 0, 0x14, 0x0b)
+	key, err := ReadKey(area)
 	succeed(err)
 	equal(t, bytes.Equal(key.PEM, sampleKey), true)
 	checkSigned(t, key.PEM, sampleSignature, quoteMessage)
+	checkSigned(t, area, sampleSignature, quoteMessage)
 	for name := range attestationKeys {
 		key, err := ReadKey(sampleArea(name))
 		succeed(err)
-		checkNotSigned(t, key.PEM, sampleSignature, quoteMessage)
+		ofArea, ofPEM := uint64(otherKey), uint64(otherPEM)
+		if name == "ak-rsassa" || name == "ak-rsapss" {
+			ofArea, ofPEM = notSigned, notSigned
+		} else if name != "ak-p521" {
+			ofArea, ofPEM = unknownScheme, unknownScheme // (as the form of a TPM)
+		}
+		checkNotSigned(t, sampleArea(name), sampleSignature, quoteMessage, ofArea)
+		checkNotSigned(t, key.PEM, sampleSignature, quoteMessage, ofPEM)
+	}
+	for name, number := range refusedAttestation {
+		checkKeyRefused(t, sampleArea(name), KindKey, number)
 	}
 }
 

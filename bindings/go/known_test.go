@@ -210,7 +210,7 @@ var knowing = map[string]func(status int32, text string) (judged, error){
 	attested: func(status int32, text string) (judged, error) {
 		given := of(status, text)
 		given.next = []byte(stateOf(status))
-		v, _, err := given.attestation(checkpoint{}, 300, true, false, true)
+		v, _, err := given.attestation(checkpoint{}, 300, true, false, SignatureChecked)
 		return judged{v.Matches, v.JudgesKnown, v.KnownFrom, v.Unknown, v.JSON}, err
 	},
 }

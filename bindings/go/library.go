@@ -48,6 +48,7 @@ var kinds = map[uint32]Kind{
 	C.IMA_VERIFY_QUOTE:      KindQuote,
 	C.IMA_VERIFY_KEY:        KindKey,
 	C.IMA_VERIFY_KNOWN:      KindKnown,
+	C.IMA_VERIFY_SIGNATURE:  KindSignature,
 }
 
 // told is what a call reports of its text: the size, and the error that the text is the line of.
@@ -122,7 +123,8 @@ func callAttest(log, state, data []byte, quote Quote, known knownFiles, prefix b
 	var nextSize C.size_t
 	require := []byte(quote.Require)
 	result, given := givenBy(C.ima_verify_raw_attest(start(log), size(log), start(state), size(state), start(data), size(data),
-		start(quote.Message), size(quote.Message), start(quote.Nonce), size(quote.Nonce), start(require), size(require),
+		start(quote.Message), size(quote.Message), start(quote.Key), size(quote.Key), start(quote.Signature), size(quote.Signature),
+		start(quote.Nonce), size(quote.Nonce), start(require), size(require),
 		start(known.text), size(known.text), C.bool(known.areGiven),
 		C.bool(quote.TakesSHA1), C.bool(quote.SignatureChecked), C.bool(prefix), true,
 		start(next), size(next), &nextSize, start(out), size(out), &t), &t)

@@ -132,13 +132,40 @@ func (s *Session) Attest(data []byte, quote Quote) (Attestation, error) {
 
 // attestFrom gives the verdict by a quote on the list of a checkpoint followed by these bytes, and the next checkpoint.
 func attestFrom(log []byte, from checkpoint, data []byte, quote Quote, known knownFiles, prefix bool) (Attestation, checkpoint, error) {
+	quote, signature, err := quote.signing()
+	if err != nil {
+		return Attestation{}, from, err
+	}
 	given, err := askForBoth(make([]byte, room), make([]byte, room), func(next, out []byte) (int32, uint64, told) {
 		return callAttest(log, from.text, data, quote, known, prefix, next, out)
 	})
 	if err != nil {
 		return Attestation{}, from, err
 	}
-	return given.attestation(from, uint64(len(data)), known.areGiven, prefix, quote.SignatureChecked)
+	return given.attestation(from, uint64(len(data)), known.areGiven, prefix, signature)
+}
+
+// signing gives the quote as the library takes it, to which no bytes are no key and no signature, and what a report says of the signature.
+func (q Quote) signing() (Quote, SignatureState, error) {
+	switch {
+	case q.Key == nil && q.Signature == nil && q.SignatureChecked:
+		return q, SignatureChecked, nil
+	case q.Key == nil && q.Signature == nil:
+		return q, SignatureNotChecked, nil
+	case q.Key == nil || q.Signature == nil || q.SignatureChecked:
+		return Quote{}, "", &RefusedError{Line: "refused: command line", Kind: KindArgument}
+	default:
+		q.Key, q.Signature = someBytes(q.Key), someBytes(q.Signature)
+		return q, SignatureValid, nil
+	}
+}
+
+// someBytes are these bytes, or in place of none a zero, which is refused for the same reason: it ends too early.
+func someBytes(data []byte) []byte {
+	if len(data) == 0 {
+		return []byte{0}
+	}
+	return data
 }
 
 // more is More for a call with so many bytes.

@@ -10,7 +10,7 @@ process that reads and verifies one machine after another by `ima_verify`, and r
 workers; a row has the round's medians. `start, stop` is what the whole command takes but for the time in which it gives verdicts: before, its
 workers are not there yet, as a loop's clock starts once its library is loaded. Every machine must match.
 
-The status is 1 if the fleet has less than 0.7 of so many workers times a loop, or by quotes less than 0.6 of these 0.7."""
+The status is 1 if the fleet has less than 0.7 of so many workers times a loop, or by quotes less than 0.7 of these 0.7."""
 
 import os
 import re
@@ -37,7 +37,7 @@ WORKERS = (1, 2, 3, 4)
 ENTRIES = 20_000
 SECONDS = 600
 # How much of so many workers times a loop the fleet must have, and by quotes.
-LEAST, LEAST_BY_QUOTES = 0.7, 0.6 * 0.7
+LEAST, LEAST_BY_QUOTES = 0.7, 0.7 * 0.7
 HEAD = (
     "Machines", "Workers", "One loop", "Fleet", "By quotes", "So many loops", "Fleet / (workers × loop)", "Fleet / loops", "By quotes / fleet",
     "Start, stop", "Load",

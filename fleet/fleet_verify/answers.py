@@ -15,7 +15,7 @@ from .work import SLOW
 _BEGINNINGS = (',"known_from":', ',"quote":', ',"verdict":')
 _END = re.compile(
     r'(?:,"known_from":\d+,"unknown":\[(?P<unknown>(?:\d+(?:,\d+)*)?)\])?'
-    r'(?:,"quote":"(?P<quote>match|differ)","signature":"checked")?'
+    r'(?:,"quote":"(?P<quote>match|differ)","signature":"valid")?'
     r',"verdict":"(?P<verdict>match|differ)"\}$'
 )
 

@@ -12,7 +12,7 @@ from .verdict import NOTHING_EXPECTED
 
 LOG, LIST, EXPECTED = FILES
 QUOTE, SIGNATURE = QUOTED_FILES[2:]
-KEY, BEFORE, SIGNED, NO_LIST = "key.pem", "before.log", "signed.txt", "no.list"
+KEY, BEFORE, SIGNED, NO_LIST = "key", "before.log", "signed.txt", "no.list"
 _OF_LIST = 10
 # Which errors are the list's, after log, quote or expected registers were taken (docs/errors.txt).
 _OF_BROKEN_LIST = ("list", "replay")
@@ -23,7 +23,6 @@ class Criteria:
     """What a boot is judged by, and how much of it is shown. With a key and a nonce that is a quote, else expected registers."""
 
     program: str
-    attest: str
     require: Optional[str]
     known: Sequence[str]
     before: Optional[str]
@@ -37,6 +36,11 @@ class Criteria:
     @property
     def is_quoted(self) -> bool:
         return self.key is not None
+
+    @property
+    def signed(self) -> List[str]:
+        """The arguments by which a quote has to be signed, with the nonce."""
+        return [f"--key={KEY}", f"--signature={SIGNATURE}", f"--nonce={self.nonce}", *(["--sha1"] if self.sha1 else [])]
 
     @property
     def requirement(self) -> List[str]:
@@ -235,13 +239,10 @@ def boot_of(folder: Path, criteria: Criteria, work: Path) -> Boot:
 def _judged(criteria: Criteria, work: Path, known: int, unread: Sequence[str]) -> Judgement:
     """What the program judges, by so many known files. As in a run, nothing is no match; and neither is a boot of which a file is not read."""
     words = [*criteria.requirement, *(f"--known=known{number}" for number in range(known)), *(["--prefix"] if criteria.prefix else [])]
-    expected = [EXPECTED] if (work / EXPECTED).exists() or not criteria.is_quoted else []
+    command, names = ["verify"], [LOG, LIST, EXPECTED]
     if criteria.is_quoted:
-        command = [criteria.attest, f"--key={KEY}", f"--nonce={criteria.nonce}", f"--quote={QUOTE}", f"--signature={SIGNATURE}", *words]
-        command += ["--sha1"] if criteria.sha1 else []
-    else:
-        command = [criteria.program, "verify", *words]
-    reply = ask([*command, "--json", "--explain", "--", LOG, LIST, *expected], work, criteria.seconds, Output(), (0, 1))
+        command, names = ["attest", *criteria.signed], [LOG, LIST, QUOTE, *([EXPECTED] if (work / EXPECTED).exists() else [])]
+    reply = ask([criteria.program, *command, *words, "--json", "--explain", "--", *names], work, criteria.seconds, Output(), (0, 1))
     if reply.is_whole and unread:
         reply = Reply(STOPPED, [], 0, unread[0])
     elif reply.is_whole and not criteria.is_quoted and not all(line.get("registers") for line in reply.lines):
@@ -258,8 +259,7 @@ def _confirming(boot: Boot, criteria: Criteria, work: Path) -> List[str]:
     if boot.proof.word != "match":
         return []
     if report.get("confirmed", report["entries"]) == report["entries"]:
-        words = [f"--quote={QUOTE}", f"--list={LIST}", f"--nonce={criteria.nonce}", *criteria.requirement, "--signature-checked"]
-        return [*words, *(["--sha1"] if criteria.sha1 else [])]
+        return [f"--quote={QUOTE}", f"--list={LIST}", *criteria.signed, *criteria.requirement]
     if report.get("expected") != "confirmed":
         return []
     (work / SIGNED).write_text("".join(f"{row['bank']} {row['register']} {row['expected']}\n" for row in report["registers"]))

@@ -1,4 +1,4 @@
-"""Finds and calls the program `ima-agent`, or `ima-attest` beside it, and takes its output as lines of JSON. What it says is not judged here,
+"""Finds and calls the program `ima-agent`, and takes its output as lines of JSON. What it says is not judged here,
 but nothing passes for a success that is not whole."""
 
 import json

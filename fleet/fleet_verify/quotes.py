@@ -22,6 +22,8 @@ CREATE TABLE nonces (
 # How many of its nonces a machine is asked with: those that are unused first, of which few are young enough.
 MOST_NONCES = 8
 MOST_KEY_BYTES = 16 * 1024
+# Where a machine's key may be: its public area, or else its PEM, which does not say what the key may sign.
+KEY_FILES = ("NAME.pub", "NAME.pem", "NAME/NAME.pub", "NAME/NAME.pem")
 
 # Why an answer by a quote is not recorded as it came.
 TOO_OLD = "stale: the nonce of its quote is older than --max-age, or of a time to come"
@@ -33,11 +35,12 @@ _OF_VERDICT = (
 
 
 def key_of(folder: str, name: str) -> Tuple[Optional[str], Optional[str]]:
-    """The PEM of the machine of this name, if the folder of keys has it, or why it is not taken: NAME.pem, or, only where that is not there,
-    NAME/NAME.pem, as `ima-enroll` keeps it. No name leads out of the folder."""
+    """The key of the machine of this name, by Latin-1, if the folder of keys has it, or why it is not taken: the first that is there of KEY_FILES,
+    the last two as `ima-enroll` keeps them. No name leads out of the folder."""
     if "/" in name or name in (".", ".."):
         return None, None
-    for path, shown in ((f"{folder}/{name}.pem", "NAME.pem"), (f"{folder}/{name}/{name}.pem", "NAME/NAME.pem")):
+    for shown in KEY_FILES:
+        path = f"{folder}/{shown.replace('NAME', name)}"
         try:
             text = read_file(path, follow_symlinks=True)
         except (FileNotFoundError, NotADirectoryError):

@@ -22,7 +22,7 @@ and whether that is confirmed, and each entry of its list with whether it is kno
 FOLDER has firmware.log, ima.list, and expected.txt. With --key and --nonce the boot is judged by a quote: FOLDER has quote.msg and
 quote.sig, and expected.txt may be there. Without them nobody signed the expected registers. No link, pipe or device there is read.
 
-The verdict is that of the program ima-agent, or of ima-attest beside it for a quote. The page is whole: it loads nothing.
+The verdict is that of the program ima-agent. The page is whole: it loads nothing.
 
 Exit status: that of the program: 0 if the verdict is match; 1 if it is differ; 2 if an input is refused; 3 if a file of FOLDER cannot be read,
 the program failed or is not there, or the page could not be written; 4 if a quote does not hold. With 2, 3 and 4 there is a page, too, which
@@ -120,7 +120,7 @@ def options_of(words: Sequence[str]) -> argparse.Namespace:
     add("--known", metavar="FILE", action="append", default=[], help="what sha256sum printed of known files; may be given several times")
     add("--prefix", action="store_true", help="judge the shortest prefix of the list that the registers confirm")
     add("--before", metavar="OLD_LOG", action=Once, help="the log of an earlier boot: what differs is shown")
-    add("--key", metavar="PEM", action=Once, help="the key of the machine's TPM, with --nonce: judge by the quote")
+    add("--key", metavar="KEY", action=Once, help="the key of the machine's TPM, NAME.pub or its PEM, with --nonce: judge by the quote")
     add("--nonce", metavar="HEX", action=Once, help="the nonce that was given out for the quote, with --key")
     add("--sha1", action="store_true", help="with --key: take registers that are required in the SHA-1 bank alone")
     add("--title", metavar="TEXT", action=Once, help="the page's title (default: FOLDER)")
@@ -141,7 +141,7 @@ def criteria_of(options: argparse.Namespace) -> Criteria:
     program = program_of(options.program)
     require = options.require or "sha256:0-10"
     return Criteria(
-        str(program), str(program.with_name("ima-attest")), None if require == NONE else require, options.known, options.before, options.key,
+        str(program), None if require == NONE else require, options.known, options.before, options.key,
         options.nonce, options.prefix, options.sha1, options.most, options.seconds,
     )
 

@@ -22,8 +22,6 @@ NOTHING_EXPECTED = "nothing to compare: no register is expected"
 NO_KEY = "no key: the verifier has none of this machine"
 NO_NONCE = "no nonce: none was given out for this machine, or each is used or too old"
 NO_QUOTE = "no quote: {}"
-BAD_KEY = "bad key: {}"
-BAD_SIGNATURE = "bad signature: it is not by this machine's key and on this quote"
 
 # Why a machine is unreadable whose quote answers no nonce of late.
 USED = "stale: an earlier verdict used the nonce of its quote"
@@ -31,6 +29,9 @@ USED = "stale: an earlier verdict used the nonce of its quote"
 # The library's line on a checkpoint that is not as it was made, and why no verdict goes on from one of a longer list.
 DAMAGED = "refused: checkpoint fault 1"
 SHORTER = "list: it is shorter than at the checkpoint"
+
+# How the text of a key begins that is no public area.
+PEM = b"-----BEGIN"
 
 # Its line on a quote with another nonce.
 OTHER_NONCE = "refused: quote fault 11"
@@ -71,7 +72,7 @@ class Given:
 
     Attributes:
         checkpoint: Where its last match stopped, by Latin-1.
-        key: The PEM of its attestation key.
+        key: The public area or the PEM of its attestation key, by Latin-1.
         nonces: Those that were given out for it, in hexadecimal digits, each with whether an earlier verdict used it.
         no_key: Why its key was not taken, if there is one.
     """
@@ -95,7 +96,7 @@ def known_texts(text: Optional[bytes]) -> Fields:
 
 
 def require_fitness(require: str, is_poll: bool, known: Optional[bytes] = None, is_quoted: bool = False) -> None:
-    """Makes sure that this process has the library, whose verdicts tell what log and list extend, with sessions for a poll, and what verifies
+    """Makes sure that this process has the library, whose verdicts tell what log and list extend, with sessions for a poll, and which verifies
     the signatures of quotes; and that it takes this text for what is required, and this one of known files.
 
     Otherwise there is an ImportError, or a ValueError, and no error of a class of `ima_verify`: the client may lack the package. The library
@@ -105,7 +106,7 @@ def require_fitness(require: str, is_poll: bool, known: Optional[bytes] = None, 
     import ima_verify
     from ima_verify import Kind
 
-    if not hasattr(Kind, "KNOWN"):
+    if not hasattr(Kind, "SIGNATURE"):
         raise ImportError("the package ima_verify is of an earlier version")
     if is_quoted:
         require_quotes(require)
@@ -126,20 +127,14 @@ def require_quotes(require: str) -> None:
     import ima_verify
 
     try:
-        ima_verify.verify_quote(b"", b"", b"")
-    except ima_verify.Misuse:
-        pass  # (no key is empty)
-    except ima_verify.Error as fault:
-        raise ImportError(str(fault)) from None
-    try:
-        ima_verify.attest(b"", b"", b"", nonce=bytes(32), require=require, signature_checked=False)
+        ima_verify.attest(b"", bytes(32), b"", b"", b"", b"", require=require)
     except ima_verify.Misuse:
         raise ValueError(
             f"--require {require!r} is no selection with each register from 0 to 10 in a bank other than sha1, as sha256:0-10: a quote has to "
             "select these (--unquoted takes others)"
         ) from None
     except ima_verify.Refused:
-        pass  # (no quote is empty)
+        pass  # (no key is empty)
     except ima_verify.Error as fault:
         raise ImportError(str(fault)) from None
 
@@ -199,21 +194,32 @@ def judge_quote(inputs: Inputs, checkpoint: Optional[bytes], given: Given, asked
     of late."""
     import ima_verify
 
-    _, _, message, signature = inputs
+    message, signature = inputs[2:]
     assert message is not None and signature is not None and given.key is not None
-    try:
-        ima_verify.verify_quote(given.key, signature, message)
-    except ima_verify.InvalidSignature:
-        return {"verdict": "refused", "cause": BAD_SIGNATURE}
-    except ima_verify.Misuse as fault:
-        return {"verdict": "refused", "cause": BAD_KEY.format(fault)}
-    for nonce in (nonce for nonce, is_used in given.nonces if not is_used):
+    key = given.key.encode("latin-1")
+    unused = [nonce for nonce, is_used in given.nonces if not is_used]
+    # (a quote has the bytes of its nonce: of the others one is asked for, to learn what else is wrong with it)
+    for nonce in [nonce for nonce in unused if bytes.fromhex(nonce) in message] or unused[:1]:
         try:
-            return {"signer": signer_of(given.key), "nonce": nonce, **judge_attested(inputs, checkpoint, nonce, asked, known)}
+            judged = judge_attested(inputs, checkpoint, key, nonce, asked, known)
+            return {"signer": signer_of(key), "nonce": nonce, **judged}
         except ima_verify.Refused as fault:
             if fault.message != OTHER_NONCE:
                 raise
+    if not unused:
+        require_signed(key, message, signature, asked.require)
     return by_no_unused_nonce(message, given, asked)
+
+
+def require_signed(key: bytes, message: bytes, signature: bytes, require: str) -> None:
+    """Refuses the key, or a signature that is not by it and on this message. (The library judges these before all else.)"""
+    import ima_verify
+
+    try:
+        ima_verify.attest(key, bytes(32), message, signature, b"", b"", require=require)
+    except ima_verify.Refused as fault:
+        if fault.kind in (ima_verify.Kind.KEY, ima_verify.Kind.SIGNATURE):
+            raise
 
 
 def by_no_unused_nonce(message: bytes, given: Given, asked: Asked) -> Fields:
@@ -225,20 +231,20 @@ def by_no_unused_nonce(message: bytes, given: Given, asked: Asked) -> Fields:
     return {"verdict": "refused", "cause": OTHER_NONCE}
 
 
-def judge_attested(inputs: Inputs, checkpoint: Optional[bytes], nonce: str, asked: Asked, known: Optional[bytes]) -> Fields:
-    """The verdict by a quote whose signature was verified, and the counts of the TPM's clock."""
+def judge_attested(inputs: Inputs, checkpoint: Optional[bytes], key: bytes, nonce: str, asked: Asked, known: Optional[bytes]) -> Fields:
+    """The verdict by a quote and its signature by this key, and the counts of the TPM's clock."""
     import ima_verify
 
-    log, measurements, message, _ = inputs
-    assert log is not None and message is not None
-    quoted: Fields = {"nonce": bytes.fromhex(nonce), "require": asked.require, "signature_checked": True}
+    log, measurements, message, signature = inputs
+    assert log is not None and message is not None and signature is not None
+    quoted = key, bytes.fromhex(nonce), message, signature
     if asked.is_poll:
         session = ima_verify.Session.by_quotes(log, state=checkpoint, **known_texts(known))
-        found = session.attest(measurements or b"", message, **quoted)
+        found = session.attest(*quoted, measurements or b"", require=asked.require)
         fields = reached(session, found)
     else:
         assert measurements is not None
-        found, fields = ima_verify.attest(log, measurements, message, **quoted, **known_texts(known)), {}
+        found, fields = ima_verify.attest(*quoted, log, measurements, require=asked.require, **known_texts(known)), {}
     return {**verdict_fields(found), **fields, "resets": found.clock.resets, "restarts": found.clock.restarts}
 
 
@@ -247,16 +253,18 @@ def has_nonce(message: bytes, nonce: str, require: str) -> bool:
     import ima_verify
 
     try:
-        ima_verify.attest(b"", b"", message, nonce=bytes.fromhex(nonce), require=require, signature_checked=False)
+        ima_verify.attest(None, bytes.fromhex(nonce), message, None, b"", b"", require=require, signature_checked=False)
     except ima_verify.Refused as fault:
         return fault.kind is not ima_verify.Kind.QUOTE
     return False
 
 
-def signer_of(pem: str) -> str:
+def signer_of(key: bytes) -> str:
     """The SHA-256 of a key's SubjectPublicKeyInfo, which is what its PEM has between its lines."""
-    body = pem.split("-----")[2]
-    return hashlib.sha256(base64.b64decode(body)).hexdigest()
+    import ima_verify
+
+    pem = key.decode() if key.startswith(PEM) else ima_verify.read_key(key).pem
+    return hashlib.sha256(base64.b64decode(pem.split("-----")[2])).hexdigest()
 
 
 def without_quote(fields: Fields) -> Fields:

@@ -22,10 +22,13 @@ NONCE = (QUOTED / "nonce").read_text().strip()
 OF_QUOTE = "quote match"
 LOW = f"quoted sha256 {' '.join(map(str, range(11)))}"
 LAST_ENTRY = 95  # bytes
+VALID = "signature valid"
 EV_EVENT_TAG = 6
 LOG = read_log((BOOT / "firmware.log").read_bytes())
 ENTRIES = read_list((BOOT / "ima.list").read_bytes())
 SECONDS = 240  # after which a call hangs, however busy the machine is
+# All that `ima-attest` needs beside ima-agent.
+TOOL = "readlink"
 # A dd to which each read gives 16 bytes, as a file system may, unless it asks for full blocks.
 SHORT_READS = """
     for word; do
@@ -67,6 +70,9 @@ class Evidence:
 
 
 GOOD = Evidence()  # samples/quoted
+# Why a message is not taken as signed (docs/errors.txt).
+NO_SIGNATURE, SIGNATURE_TRAILING = (1, 2, 3, 4), 4
+OTHER_SCHEME, OTHER_HASH, NOT_SIGNED, OTHER_KEY, OTHER_PEM = 5, 6, 7, 8, 9
 EXPECTED = BOOT / "expected.txt"  # the values of all registers of its bank
 
 
@@ -99,6 +105,10 @@ class AttestTests(harness.TestCase):
             shutil.copy(ROOT / "attest" / script, cls.bin / installed)
         cls.agent = cls.bin / "ima-agent"
         cls.agent.symlink_to(cls.program)
+        cls.tool = cls.folder / "tool"
+        cls.tool.mkdir()
+        cls.tool.joinpath(TOOL).symlink_to(shutil.which(TOOL))
+        cls.verifier_path = f"{cls.bin}:{cls.tool}"
         cls.use(os.environ)
 
     @classmethod
@@ -114,19 +124,24 @@ class AttestTests(harness.TestCase):
             self.check(f"no temporary file is left by {words}", left, [])
         return Ended(ended.returncode, ended.stdout.decode(), ended.stderr.decode())
 
+    def signed(self, evidence, folder=None):
+        """The evidence, with the signature of its quote: its own."""
+        return evidence
+
     def attest(self, evidence=GOOD, settings=None, folder=None, **changes):
-        """A call with this evidence, but for these changes."""
-        return self.call(replace(evidence, **changes).words(), folder, **(settings or {}))
+        """A call with this evidence, but for these changes, on a computer that has no openssl: nothing but `readlink`."""
+        words = self.signed(replace(evidence, **changes), folder).words()
+        return self.call(words, folder, **{"PATH": self.verifier_path, **(settings or {})})
 
     def attest_from(self, path, evidence):
         """A call whose standard input is a file."""
-        return self.call(["bash", "-c", 'exec "${@:2}" <"$1"', "bash", str(path), *evidence.words()])
+        return self.call(["bash", "-c", 'exec "${@:2}" <"$1"', "bash", str(path), *self.signed(evidence).words()])
 
     def said_on_terminal(self, evidence):
         """The status of a call, and what it says on standard error where that is a terminal."""
         primary, terminal = os.openpty()
         with os.fdopen(primary, "rb", buffering=0) as shown:
-            ended = subprocess.run(evidence.words(), env=self.environment, stdin=subprocess.DEVNULL, stdout=subprocess.DEVNULL,
+            ended = subprocess.run(self.signed(evidence).words(), env=self.environment, stdin=subprocess.DEVNULL, stdout=subprocess.DEVNULL,
                                    stderr=terminal, timeout=SECONDS)
             os.close(terminal)
             try:
@@ -144,15 +159,9 @@ class AttestTests(harness.TestCase):
         """Settings with which a script stands in for a tool; what it stands in for is `$real`."""
         folder = Path(tempfile.mkdtemp(dir=self.folder))
         real = shutil.which(name, path=self.environment["PATH"]) or "false"
-        if name == "openssl":  # (of the key itself the real one is asked)
-            body = f'[[ $1 != pkey ]] || exec "$real" "$@"\n{body}'
         folder.joinpath(name).write_text(f"#!/bin/bash\nreal={real}\n{body}\n")
         folder.joinpath(name).chmod(0o755)
         return {"PATH": f"{folder}:{self.environment['PATH']}"}
-
-    def have_verified(self, body):
-        """Has a script stand in for openssl until the test ends."""
-        self.environment = {**self.environment, **self.stand_in("openssl", body)}
 
     def state(self, name, values, algorithm=SHA256):
         """A message that states these values of registers 0 to 10 of a bank."""
@@ -174,33 +183,64 @@ class AttestTests(harness.TestCase):
             self.agent.symlink_to(self.program)
 
     def check_match(self, title, ended, quoted=LOW):
-        """The verdict is `match`, by a quote of registers 0 to 10, or of others, and nothing else is said."""
+        """The verdict is `match`, by a signed quote of registers 0 to 10, or of others, and nothing else is said."""
         lines = ended.output.splitlines()
-        found = (ended.status, lines[:1], lines[-2:], ended.errors)
-        self.check(title, found, (0, [quoted], [OF_QUOTE, "verdict match"], ""))
+        found = (ended.status, lines[:1], lines[-3:], ended.errors)
+        self.check(title, found, (0, [quoted], [OF_QUOTE, VALID, "verdict match"], ""))
 
-    def check_refused(self, title, ended, status=4, words="the quote does not hold"):
-        """There is no report, and a sentence says why."""
+    def check_refused(self, title, ended, status, words):
+        """There is no report, and a sentence of the script says why."""
         self.check(title, (ended.status, ended.output, words in ended.errors or ended.errors), (status, "", True))
 
+    def check_line(self, title, ended, status, *lines):
+        """There is no report, but one of these lines of the program."""
+        found = (ended.status, ended.output.removesuffix("\n") in lines or ended.output, ended.errors)
+        self.check(title, found, (status, True, ""))
+
     def check_fault(self, title, ended, number):
-        """The program refuses the quote: there is no report, but the number of its fault."""
-        self.check(title, (ended.status, ended.output, ended.errors), (4, f"refused: quote fault {number}\n", ""))
+        """The program refuses the quote, whose message is signed: there is no report, but the number of its fault."""
+        self.check_line(title, ended, 4, f"refused: quote fault {number}")
+
+    def check_unsigned(self, title, ended, *numbers):
+        """The program does not take the quote's message as signed: there is no report, but the number of the refusal, which is one of these."""
+        self.check_line(title, ended, 4, *(f"refused: signature fault {number}" for number in numbers or (NOT_SIGNED,)))
+
+    def check_key(self, title, ended, number):
+        """The program refuses a public area: there is no report, but the number of its fault."""
+        self.check_line(title, ended, 2, f"refused: key fault {number}")
+
+    def check_unread(self, title, ended, name):
+        """The program does not read the file of this name: there is no report, but the name."""
+        self.check_line(title, ended, 3, f"failed: read {name}")
 
     def check_differ(self, title, ended, *rows):
         """The verdict is `differ`, and the report has these rows. The quote is of other values, unless a row says that it is not."""
-        lines, rows = ended.output.splitlines(), [*rows, *([] if OF_QUOTE in rows else ["quote differ"])]
+        lines, rows = ended.output.splitlines(), [*rows, *([] if OF_QUOTE in rows else ["quote differ"]), VALID]
         lacking = [row for row in rows if row not in lines]
         self.check(title, (ended.status, ended.last, lacking, ended.errors), (1, "verdict differ", [], ""))
 
 
-class LenientTests(AttestTests):
-    """Tests without a TPM: openssl, which is asked of keys alone, takes any signature of any message."""
+class OwnKeyTests(AttestTests):
+    """Tests without a TPM: messages are signed by a key that openssl made, which signs anything."""
 
     needed = ("openssl",)
 
-    def setUp(self):
-        self.have_verified("exit 0")
+    @classmethod
+    def setUpClass(cls):
+        super().setUpClass()
+        cls.secret, cls.own, cls.signatures = cls.folder / "own.key", cls.folder / "own.pem", {}
+        for words in (["genpkey", "-algorithm", "RSA", "-pkeyopt", "rsa_keygen_bits:2048", "-out", cls.secret],
+                      ["pkey", "-in", cls.secret, "-pubout", "-out", cls.own]):
+            subprocess.run(["openssl", *words], check=True, capture_output=True)
+
+    def signed(self, evidence, folder=None):
+        """The evidence, with a signature by the own key, which is written anew for each call; of no message if there is no such file."""
+        quote = Path(folder or self.folder, evidence.quote)
+        message = quote.read_bytes() if quote.is_file() else b""
+        if message not in self.signatures:
+            ended = subprocess.run(["openssl", "dgst", "-sha256", "-sign", self.secret], input=message, check=True, capture_output=True)
+            self.signatures[message] = ended.stdout
+        return replace(evidence, key=self.own, signature=self.put("own.sig", self.signatures[message]))
 
 
 def turned(data):

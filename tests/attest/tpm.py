@@ -6,13 +6,34 @@ import shutil
 from dataclasses import replace
 
 from authorities import Authority
-from calling import ENTRIES, LAST_ENTRY, LOG, LOW, NEEDED, NONCE, OF_QUOTE, SECOND_KERNEL, AttestTests, Evidence, executable, moved, turned
+from calling import (
+    ENTRIES,
+    LAST_ENTRY,
+    LOG,
+    LOW,
+    NEEDED,
+    NO_SIGNATURE,
+    NONCE,
+    NOT_SIGNED,
+    OF_QUOTE,
+    OTHER_HASH,
+    OTHER_KEY,
+    OTHER_PEM,
+    OTHER_SCHEME,
+    SECOND_KERNEL,
+    AttestTests,
+    Evidence,
+    executable,
+    moved,
+    turned,
+)
 from emulated import BOOT, ROOT, emulated, entry_extensions
 from lists import EXTENDS_TEN
 from reference.measurement_list import Entry, list_spelling
 from reference.registers import ALGORITHMS, SHA1, SHA256
 
 LOWEST = "0,1,2,3,4,5,6,7,8,9"
+HASHES = ("sha256", "sha384", "sha512")
 BLOCK = re.compile(r"^```sh\n(.*?)^```$", re.MULTILINE | re.DOTALL)
 NAME = "box"  # the machine's
 
@@ -61,7 +82,7 @@ class MachineTests(AttestTests):
     def on_verifier(self, block, folder=None, **settings):
         """Runs a block on the verifier, which has no TPM."""
         own = {"keys": str(self.keys), "name": NAME, "vendor": str(self.vendor.certificate), "TPM2TOOLS_TCTI": "none"}
-        return self.call(["bash", "-c", block], folder=folder or self.verifier, **{**own, **settings})
+        return self.call(["/bin/bash", "-c", block], folder=folder or self.verifier, **{**own, **settings})
 
     def send(self, name):
         """Copies a folder of the machine to the verifier."""
@@ -93,7 +114,9 @@ class MachineTests(AttestTests):
         self.check(title, (ended.status, ended.output, ended.errors), (0, "", ""))
 
     def verdict(self, **settings):
-        return self.on_verifier(self.verdict_block, folder=self.verifier / "evidence", **{"nonce": self.nonce, **settings})
+        """The verdict by attest.md's block, for which the verifier has no openssl."""
+        own = {"nonce": self.nonce, "PATH": self.verifier_path}
+        return self.on_verifier(self.verdict_block, folder=self.verifier / "evidence", **{**own, **settings})
 
     def verdict_on_quote(self, title):
         """The verdict on a new quote."""
@@ -107,19 +130,20 @@ class MachineTests(AttestTests):
         """What the machine sent."""
         names = {"quote": "quote.msg", "signature": "quote.sig", "log": "firmware.log", "list": "ima.list"}
         files = {field: self.verifier / "evidence" / name for field, name in names.items()}
-        return Evidence(nonce=self.nonce, key=self.keys / NAME / f"{NAME}.pem", **files)
+        return Evidence(nonce=self.nonce, key=self.keys / NAME / f"{NAME}.pub", **files)
 
     def make_key(self, name, handle, scheme="rsassa"):
-        """Another key of the machine's TPM, at a handle, and its public part."""
+        """Another key of the machine's TPM, at a handle, and its public part, as PEM and as its area."""
         self.must("an endorsement key", "tpm2_createek", "-c", "ek.ctx", "-G", "rsa")
         made = ("-G", "rsa", "-g", "sha256", "-s", scheme, "-u", f"{name}.pem", "-f", "pem")
         self.must(f"a key: {name}", "tpm2_createak", "-C", "ek.ctx", "-c", f"{name}.ctx", *made)
+        self.must(f"its area: {name}", "tpm2_readpublic", "-c", f"{name}.ctx", "-o", f"{name}.pub")
         self.must(f"{name} stays", "tpm2_evictcontrol", "-c", f"{name}.ctx", handle)
 
-    def quoted(self, selection, name, handle="0x81010002", nonce=None, scheme="rsassa", hashed="sha256"):
-        """A quote of other registers, by another key, or with another nonce."""
+    def quoted(self, selection, name, handle="0x81010002", nonce=None, scheme="rsassa", hashed="sha256", form="plain"):
+        """A quote of other registers, by another key, with another nonce, or with its signature in another form."""
         files = {field: self.home / f"{name}.{end}" for field, end in (("quote", "msg"), ("signature", "sig"))}
-        written = ("-m", files["quote"], "-s", files["signature"], "-f", "plain")
+        written = ("-m", files["quote"], "-s", files["signature"], "-f", form)
         asked = ("-l", selection, "-q", nonce or self.nonce, "--scheme", scheme, "-g", hashed)
         self.check(f"a quote is made: {name}", self.call(["tpm2_quote", "-c", handle, *asked, *written]).status, 0)
         return files
@@ -147,7 +171,7 @@ class Machine(MachineTests):
         self.check("attest.md: another nonce each time", self.on_verifier(self.nonce_block).output.strip() != nonce)
         self.check_match("attest.md: the verdict", self.verdict_on_quote("attest.md"))
         self.check_refused("attest.md: no nonce", self.verdict(nonce=""), 64, "--nonce is missing or empty")
-        self.check_refused("attest.md: no such machine", self.verdict(name="other"), 3, "no regular file has this name")
+        self.check_unread("attest.md: no such machine", self.verdict(name="other"), self.keys / "other/other.pub")
         stale = nonce.translate(str.maketrans("0123456789abcdef", "123456789abcdef0"))
         self.check_fault("attest.md: a stale nonce", self.verdict(nonce=stale), 11)
         ended = self.attest(self.sent, expected=self.verifier / "evidence/expected.txt")
@@ -159,28 +183,40 @@ class Machine(MachineTests):
         empty, sent, fields = self.put("empty", b""), self.sent, ("key", "quote", "signature")
         self.check_match("what the machine sent", self.attest(sent))
         for name in fields:
-            self.check_refused(f"an empty file: {name}", self.attest(sent, **{name: empty}))
+            ended = self.attest(sent, **{name: empty})
+            if name == "key":
+                self.check_key(f"an empty file: {name}", ended, 1)
+            else:
+                self.check_unsigned(f"an empty file: {name}", ended, *NO_SIGNATURE, NOT_SIGNED)
             for title, path in (("a missing file", self.folder / "none"), ("a folder", self.scratch)):
-                self.check_refused(f"{title}: {name}", self.attest(sent, **{name: path}), 3, "cannot read")
+                self.check_unread(f"{title}: {name}", self.attest(sent, **{name: path}), path)
             for other in {*fields, "list"} - {name}:
-                self.check_refused(f"{name} is the {other}", self.attest(sent, **{name: getattr(sent, other)}))
+                ended = self.attest(sent, **{name: getattr(sent, other)})
+                lines = [f"refused: signature fault {number}" for number in (*NO_SIGNATURE, OTHER_SCHEME, OTHER_HASH, NOT_SIGNED)]
+                lines = [f"refused: key fault {number}" for number in range(1, 12)] if name == "key" else lines
+                self.check_line(f"{name} is the {other}", ended, 2 if name == "key" else 4, *lines)
         ended = self.attest(sent, log=empty)
         self.check("an empty file: log", (ended.status, ended.output), (2, "refused: log fault 1 at event 0\n"))
         self.check_differ("an empty file: list", self.attest(sent, list=empty), "boot_aggregate missing")
         for name in ("log", "list"):
-            self.check_refused(f"a missing file: {name}", self.attest(sent, **{name: "none"}), 3, "cannot read 'none'")
+            self.check_unread(f"a missing file: {name}", self.attest(sent, **{name: "none"}), "none")
 
     def test_foreign_evidence(self):
         """One thing is changed or taken from elsewhere."""
         sent = self.sent
         message = sent.quote.read_bytes()
-        self.check_refused("a changed hash of the values", self.attest(sent, quote=self.put("changed", turned(message))))
+        self.check_unsigned("a changed hash of the values", self.attest(sent, quote=self.put("changed", turned(message))))
         self.make_key("other", "0x81010003")
-        self.check_refused("another key", self.attest(sent, key=self.home / "other.pem"))
         other = self.quoted(f"sha256:{LOWEST},10", "by-other", handle="0x81010003")
-        self.check_refused("another key's quote", self.attest(sent, **other))
-        self.check_refused("another key's signature", self.attest(sent, signature=other["signature"]))
-        self.check_match("another key's quote, by that key", self.attest(sent, **other, key=self.home / "other.pem"))
+        for form in ("pem", "pub"):
+            key = self.home / f"other.{form}"
+            self.check_unsigned(f"another key: {form}", self.attest(sent, key=key))
+            self.check_match(f"another key's quote, by that key: {form}", self.attest(sent, **other, key=key))
+        self.check_unsigned("another key's quote", self.attest(sent, **other))
+        self.check_unsigned("another key's signature", self.attest(sent, signature=other["signature"]))
+        pem = self.keys / NAME / f"{NAME}.pem"
+        self.check_match("the key as PEM", self.attest(sent, key=pem))
+        self.check_unsigned("the key as PEM, and another key's quote", self.attest(sent, **other, key=pem))
         self.check_fault("an earlier quote", self.attest(sent, **self.quoted(f"sha256:{LOWEST},10", "earlier", nonce=NONCE)), 11)
 
     def test_other_selections(self):
@@ -245,11 +281,11 @@ class Machine(MachineTests):
                 path.unlink()
 
     def test_unrestricted_keys(self):
-        """A key that is not restricted signs any message. Only that the verifier keeps no such key prevents a message with all that its TPM
-        would say, which is taken; one that does not begin as its TPM's does is refused."""
+        """A key that is not restricted signs any message. Its public area says so, and is refused. By its PEM a message with all that its TPM would
+        say is taken, which only a verifier prevents that keeps no such key; one that does not begin as its TPM's does is refused."""
         self.must("a parent is made", "tpm2_createprimary", "-C", "o", "-c", "parent.ctx")
         free = "fixedtpm|fixedparent|sensitivedataorigin|userwithauth|sign"
-        self.must("a key is made", "tpm2_create", "-C", "parent.ctx", "-G", "rsa:rsassa:null", "-a", free, "-c", "free.ctx")
+        self.must("a key is made", "tpm2_create", "-C", "parent.ctx", "-G", "rsa:rsassa:null", "-a", free, "-c", "free.ctx", "-u", "free.pub")
         self.must("its public part", "tpm2_readpublic", "-c", "free.ctx", "-f", "pem", "-o", "free.pem")
         message = self.sent.quote.read_bytes()
         signed = ("-c", "free.ctx", "-g", "sha256", "-s", "rsassa", "-f", "plain", "-o", "free.sig")
@@ -257,8 +293,13 @@ class Machine(MachineTests):
                                ("of another type", message[:5] + b"\x17" + message[6:])):
             forged = self.put("forged.msg", changed)
             self.must(f"a message {title} is signed", "tpm2_sign", *signed, str(forged))
-            ended = self.attest(self.sent, quote=forged, key=self.home / "free.pem", signature=self.home / "free.sig")
-            self.check_fault(f"a message {title}, by a key that signs anything", ended, 2)
+            given = {"quote": forged, "signature": self.home / "free.sig"}
+            self.check_fault(f"a message {title}, by a key that signs anything", self.attest(self.sent, key=self.home / "free.pem", **given), 2)
+            self.check_key(f"a message {title}, by the area of that key", self.attest(self.sent, key=self.home / "free.pub", **given), 15)
+        self.must("a quote's message is signed", "tpm2_sign", *signed, str(self.sent.quote))
+        given = {"signature": self.home / "free.sig"}
+        self.check_match("a quote's message, by a key that signs anything", self.attest(self.sent, key=self.home / "free.pem", **given))
+        self.check_key("a quote's message, by the area of that key", self.attest(self.sent, key=self.home / "free.pub", **given), 15)
 
     def test_other_registers(self):
         """Registers that programs can reset or extend have the values that register 10 should have."""
@@ -383,9 +424,9 @@ class Polled(MachineTests):
 class Keys(MachineTests):
     """Keys of each kind, and quotes of each bank."""
 
-    KEYS = (("rsa", "sha256", "rsassa"), ("rsa", "sha384", "rsassa"), ("rsa", "sha512", "rsassa"), ("rsa3072", "sha256", "rsassa"),
-            ("rsa", "sha256", "rsapss"), ("rsa3072", "sha384", "rsapss"), ("rsa", "sha512", "rsapss"),
-            ("ecc", "sha256", "ecdsa"), ("ecc384", "sha384", "ecdsa"), ("ecc521", "sha512", "ecdsa"), ("ecc", "sha384", "ecdsa"))
+    KEYS = (*(("rsa", hashed, scheme) for scheme in ("rsassa", "rsapss") for hashed in HASHES), ("rsa3072", "sha256", "rsassa"),
+            ("rsa3072", "sha384", "rsapss"), *((kind, hashed, "ecdsa") for kind in ("ecc", "ecc384") for hashed in HASHES))
+    OTHER = ("ecc521", "sha512", "ecdsa")
 
     def banked(self, entries):
         """The log with the four banks that the TPM has, which extend what it was extended with, and the list."""
@@ -397,37 +438,55 @@ class Keys(MachineTests):
         log = LOG._replace(declared=declared, events=[widened(event) for event in LOG.events]).spelling()
         return {"log": self.put("banked.log", log), "list": self.put("banked.list", list_spelling(entries))}
 
+    def made(self, kind, hashed, scheme):
+        """A key, and a quote of three banks by it with the signature in each form: what the verifier has, by the form."""
+        name, selection = f"{kind}-{hashed}-{scheme}", "+".join(f"{bank}:{LOWEST},10" for bank in HASHES)
+        made = ("-G", kind, "-g", hashed, "-s", scheme, "-u", f"{name}.pem", "-f", "pem")
+        self.must(f"a key: {name}", "tpm2_createak", "-C", "ek.ctx", "-c", f"{name}.ctx", *made)
+        self.must(f"its area: {name}", "tpm2_readpublic", "-c", f"{name}.ctx", "-o", f"{name}.pub")
+        asked = {"handle": self.home / f"{name}.ctx", "scheme": scheme, "hashed": hashed}
+        quotes = {form: self.quoted(selection, f"{name}-{form}", form=form, **asked) for form in ("plain", "tss")}
+        return {form: Evidence(nonce=self.nonce, key=self.home / f"{name}.pub", **quote, **self.banked(ENTRIES)) for form, quote in quotes.items()}
+
     def test_keys(self):
-        """A key of each scheme and hash, and a quote of three banks by it."""
+        """A key of each scheme and hash, as area and as PEM, and a quote of three banks by it, with the signature in each form."""
         self.must("an endorsement key", "tpm2_createek", "-c", "ek.ctx", "-G", "rsa")
-        banked, files = self.banked(ENTRIES), []
-        banks = ("sha256", "sha384", "sha512")
-        selection = "+".join(f"{bank}:{LOWEST},10" for bank in banks)
-        early = self.put("early.list", list_spelling(ENTRIES[:-1]))
-        for kind, hashed, scheme in self.KEYS:
-            name = f"{kind}-{hashed}-{scheme}"
-            made = ("-G", kind, "-g", hashed, "-s", scheme, "-u", f"{name}.pem", "-f", "pem")
-            self.must(f"a key: {name}", "tpm2_createak", "-C", "ek.ctx", "-c", f"{name}.ctx", *made)
-            given = self.quoted(selection, name, handle=self.home / f"{name}.ctx", scheme=scheme, hashed=hashed)
-            evidence = Evidence(nonce=self.nonce, key=self.home / f"{name}.pem", **given, **banked)
-            ended = self.attest(evidence, require=",".join(f"{bank}:0-10" for bank in banks))
-            self.check_match(f"a quote of three banks by a key: {name}", ended)
-            found = [line for line in ended.output.splitlines() if line.startswith("quoted ")]
-            self.check(f"all banks are quoted: {name}", found, [LOW.replace("sha256", bank) for bank in banks])
-            self.check_differ(f"a list that lacks its last entry: {name}", self.attest(evidence, list=early))
-            message = self.put("changed.msg", turned(given["quote"].read_bytes()))
-            self.check_refused(f"a changed message: {name}", self.attest(evidence, quote=message))
-            files.append(evidence)
-        for number, evidence in enumerate(files):
-            ended = self.attest(evidence, key=files[number - 1].key)
-            self.check_refused(f"a quote by {evidence.key.stem}, and the key of another", ended)
+        early, all_banks = self.put("early.list", list_spelling(ENTRIES[:-1])), ",".join(f"{bank}:0-10" for bank in HASHES)
+        files = [evidence for key in self.KEYS for evidence in self.made(*key).values()]
+        for number, area in enumerate(files):
+            for evidence in (area, replace(area, key=area.key.with_suffix(".pem"))):
+                name = f"{evidence.key.name}, {evidence.signature.stem}"
+                ended = self.attest(evidence, require=all_banks)
+                self.check_match(f"a quote of three banks by a key: {name}", ended)
+                found = [line for line in ended.output.splitlines() if line.startswith("quoted ")]
+                self.check(f"all banks are quoted: {name}", found, [LOW.replace("sha256", bank) for bank in HASHES])
+                self.check_differ(f"a list that lacks its last entry: {name}", self.attest(evidence, list=early))
+                message = self.put("changed.msg", turned(evidence.quote.read_bytes()))
+                self.check_unsigned(f"a changed message: {name}", self.attest(evidence, quote=message))
+                changed = self.put("changed.sig", turned(evidence.signature.read_bytes()))
+                self.check_unsigned(f"a changed signature: {name}", self.attest(evidence, signature=changed))
+                other = files[number - 2].key.with_suffix(evidence.key.suffix)
+                ended = self.attest(evidence, key=other)
+                self.check_unsigned(f"a quote by {name}, and the key of another", ended, *NO_SIGNATURE, OTHER_SCHEME, OTHER_HASH, NOT_SIGNED)
+
+    def test_other_keys(self):
+        """A key whose signatures are not verified here: the caller verifies them, and says so to ima-agent."""
+        self.must("an endorsement key", "tpm2_createek", "-c", "ek.ctx", "-G", "rsa")
+        for form, evidence in self.made(*self.OTHER).items():
+            self.check_unsigned(f"the area of a key on P-521: {form}", self.attest(evidence), OTHER_KEY)
+            self.check_unsigned(f"the PEM of a key on P-521: {form}", self.attest(evidence, key=evidence.key.with_suffix(".pem")), OTHER_PEM)
+            if form == "plain":
+                words = ["-sha512", "-verify", evidence.key.with_suffix(".pem"), "-signature", evidence.signature, evidence.quote]
+                self.must("openssl verifies it", "openssl", "dgst", *map(str, words))
+            words = ["--nonce", evidence.nonce, "--require", evidence.require, "--signature-checked"]
+            ended = self.call(["ima-agent", "attest", *words, *map(str, (evidence.log, evidence.list, evidence.quote))])
+            self.check(f"the caller says so: {form}", (ended.status, ended.last, "signature valid" in ended.output), (0, "verdict match", False))
 
     def test_banks(self):
         """A bank of each algorithm, alone and with others."""
         self.must("an endorsement key", "tpm2_createek", "-c", "ek.ctx", "-G", "ecc")
-        made = ("-G", "ecc", "-g", "sha256", "-s", "ecdsa", "-u", "AK.pem", "-f", "pem")
-        self.must("a key", "tpm2_createak", "-C", "ek.ctx", "-c", "AK.ctx", *made)
-        banked, key = self.banked(ENTRIES), self.home / "AK.pem"
+        self.must("a key", "tpm2_createak", "-C", "ek.ctx", "-c", "AK.ctx", "-G", "ecc", "-g", "sha256", "-s", "ecdsa", "-u", "AK.pub")
+        banked, key = self.banked(ENTRIES), self.home / "AK.pub"
 
         def attested(selection, require, **changes):
             given = self.quoted(selection, "banks", handle=self.home / "AK.ctx", scheme="ecdsa")
@@ -437,7 +496,7 @@ class Keys(MachineTests):
             self.check_match(f"a quote of {bank} alone", attested(f"{bank}:{LOWEST},10", f"{bank}:0-10"), LOW.replace("sha256", bank))
         low = LOW.replace("sha256", "sha1")
         self.check_match("a quote of sha1 alone, as is asked for", attested(f"sha1:{LOWEST},10", "sha1:0-10", sha1=True), low)
-        self.check_refused("a quote of sha1 alone", attested(f"sha1:{LOWEST},10", "sha1:0-10"), 64, "of SHA-1 alone only with --sha1")
+        self.check_line("a quote of sha1 alone", attested(f"sha1:{LOWEST},10", "sha1:0-10"), 2, "refused: command line")
         ended = attested(f"sha256:{LOWEST}+sha384:10", "sha256:0-9,sha384:10")
         self.check_match("registers of two banks", ended, f"quoted sha256 {LOWEST.replace(',', ' ')}")
         ended = attested(f"sha512:{LOWEST},10+sha256:{LOWEST},10", "sha256:0-10,sha512:0-10")

@@ -1,5 +1,6 @@
 """The programs of the bindings' pages: what they read, and what they must print."""
 
+import base64
 import hashlib
 import re
 
@@ -50,7 +51,7 @@ func main() {{
 }}
 
 """
-GO_QUOTE = """	verdict, err := attested(files[0], files[1], files[2], files[3], files[4], string(files[5]))
+GO_QUOTE = """	verdict, err := attested(files[0], string(files[1]), files[2], files[3], files[4], files[5])
 	if err != nil {
 		log.Fatal(err)
 	}
@@ -80,23 +81,36 @@ def page_of(language):
 
 def quote_page_of(language):
     """The first example of a language's page, of a quote, as a program."""
-    begun = go_call(GO_QUOTE, *FILES[:2], "quote.msg", "quote.sig", "AK.pem", "nonce", imports=("encoding/hex", "strings")) if language == "go" else ""
+    names = "AK.pub", "nonce", "quote.msg", "quote.sig", *FILES[:2]
+    begun = go_call(GO_QUOTE, *names, imports=("encoding/hex", "strings")) if language == "go" else ""
     return begun + examples_of(language)[0]
+
+
+def quoting_area():
+    """The public area of the key that signed the sample's quote: RSASSA with SHA-256 (TPM 2.0 Library, part 2, TPM2B_PUBLIC)."""
+    info = base64.b64decode(b"".join((QUOTED / "AK.pem").read_bytes().splitlines()[1:-1]))
+    modulus = info[-5 - 256:-5]  # (after it: the exponent)
+    area = bytes.fromhex("0001000b0005007200000010" "0014000b" "0800" "00000000" "0100") + modulus
+    return len(area).to_bytes(2, "big") + area
 
 
 def quote_inputs(folder):
     """Folders with what the programs of a quote read, each with what they must print: a line, or as a pattern a part of an error."""
-    files = {name: (QUOTED / name).read_bytes() for name in ("quote.msg", "quote.sig", "AK.pem", "nonce")}
-    files |= {name: (SAMPLE / name).read_bytes() for name in FILES[:2]}
-    message, unsigned = files["quote.msg"], "the signature is not by this key and on this message|^Error: Signature$"  # (Rust prints its name)
+    files = {name: (QUOTED / name).read_bytes() for name in ("quote.msg", "quote.sig", "nonce")}
+    files |= {"AK.pub": quoting_area(), **{name: (SAMPLE / name).read_bytes() for name in FILES[:2]}}
+    message, pem = files["quote.msg"], (QUOTED / "AK.pem").read_bytes()
     for name, changes, wanted in (
         ("a boot", {}, "match 99\n"),
+        ("a key as PEM", {"AK.pub": pem}, "match 99\n"),
+        ("a TPMT_SIGNATURE", {"quote.sig": (QUOTED / "quote.tpmt").read_bytes()}, "match 99\n"),
         ("a shorter list", {"ima.list": files["ima.list"][:-95]}, "differ 98\n"),
         ("another nonce", {"nonce": b"00" * 20 + b"\n"}, "refused: quote fault 11"),
-        ("another message", {"quote.msg": message[:-1] + bytes([message[-1] ^ 1])}, unsigned),
-        ("a TPMT_SIGNATURE", {"quote.sig": (QUOTED / "quote.tpmt").read_bytes()}, unsigned),
-        ("no signature", {"quote.sig": b""}, unsigned),
-        ("no key", {"AK.pem": message}, "not the PEM of a public key"),
+        ("another message", {"quote.msg": message[:-1] + bytes([message[-1] ^ 1])}, "refused: signature fault 7"),
+        ("another key", {"AK.pub": (ROOT / "samples/keys/ak-rsassa.pub").read_bytes()}, "refused: signature fault 7"),
+        ("no signature", {"quote.sig": b""}, "refused: signature fault 1"),
+        ("no key", {"AK.pub": message}, "refused: key fault 1"),
+        ("an empty key", {"AK.pub": b""}, "refused: key fault 1"),
+        ("a PEM that is cut", {"AK.pub": pem[:-1]}, "refused: signature fault 9"),
     ):
         (folder / name).mkdir(parents=True)
         for file, data in {**files, **changes}.items():

@@ -27,6 +27,7 @@ from reference.boot_answers import Boot  # noqa: E402
 from reference.event_texts import guid_text  # noqa: E402
 from reference.fields import number  # noqa: E402
 from reference.json_texts import json_text  # noqa: E402
+from reference.keys import PEM_LINE  # noqa: E402
 from reference.known_files import Unknown  # noqa: E402
 from reference.log import Event, Log  # noqa: E402
 from reference.measurement_list import BOOT_AGGREGATE, IMA_NG, Entry, entry_of, list_spelling, list_text, replay  # noqa: E402
@@ -88,6 +89,10 @@ def with_empty_lines(text, end=b"\n"):
     return lambda size: end * (size - len(text)) + text
 
 
+def with_bytes_after(data):
+    return lambda size: data + bytes(size - len(data))
+
+
 def printed_of_size(size):
     """What tpm2_pcrread prints, after a bank that is not known, with very many lines."""
     line, text = b"    0 : 0x00\n", PRINTED.encode()
@@ -101,6 +106,13 @@ def known_of_size(size):
     line = f"{'0' * 64}  \n".encode()
     count, rest = divmod(size - len(KNOWN), 2 * len(line))
     return KNOWN[:-1] + b"a" * (rest + count * len(line)) + b"\n" + line * count
+
+
+def pem_of_size(size):
+    """PEM of very many lines, which is no key's."""
+    begin, end = (b"-----%s PUBLIC KEY-----\n" % word for word in (b"BEGIN", b"END"))
+    count, rest = divmod(size - len(begin) - len(end), PEM_LINE + 1)
+    return begin + (b"A" * PEM_LINE + b"\n") * count + b"A" * rest + end
 
 
 def hexadecimal_of_size(size):
@@ -125,7 +137,10 @@ KNOWN = f"{SHA256.hash(b'abc').hex()}  sh\n".encode()
 SAMPLE = ROOT / "samples/quoted"
 QUOTE = (SAMPLE / "quote.msg").read_bytes()[: -SHA256.size] + SHA256.hash(b"".join(REGISTERS.value(SHA256, register) for register in range(11)))
 AREA = (ROOT / "samples/keys/ak-rsassa.pub").read_bytes()
-ATTEST = f"attest --nonce {(SAMPLE / 'nonce').read_text().strip()} --require sha256:0-10 --signature-checked"
+# A key that signed the sample's quote, and so not this one, and signatures by it, in both forms.
+KEY, SIGNATURE, TPM_SIGNATURE = ((SAMPLE / name).read_bytes() for name in ("AK.pem", "quote.sig", "quote.tpmt"))
+BY_QUOTE = f"attest --nonce {(SAMPLE / 'nonce').read_text().strip()} --require sha256:0-10"
+ATTEST = f"{BY_QUOTE} --signature-checked"
 
 
 @dataclass(frozen=True)
@@ -148,8 +163,17 @@ INPUTS = (
         "show input", "replay input", f"replay --require {REQUIRE} input expected", "verify L input expected",
         "locate L input expected", f"{ATTEST} L input quote", f"{ATTEST} --prefix L input quote",
     )),
-    Input("message that goes on after a quote", lambda size: QUOTE + bytes(size - len(QUOTE)), (f"{ATTEST} L list input",), QUOTE + b"\0"),
-    Input("public area and bytes after it", lambda size: AREA + bytes(size - len(AREA)), ("key input", "key --endorsement input"), AREA + b"\0"),
+    Input("message that goes on after a quote", with_bytes_after(QUOTE), (
+        f"{ATTEST} L list input", f"{BY_QUOTE} --key key --signature signature L list input",
+    ), QUOTE + b"\0"),
+    Input("public area and bytes after it", with_bytes_after(AREA), (
+        "key input", "key --endorsement input", f"{BY_QUOTE} --key input --signature signature L list quote",
+    ), AREA + b"\0"),
+    Input("PEM and bytes after it", with_bytes_after(KEY), (f"{BY_QUOTE} --key input --signature signature L list quote",), KEY + b"\0"),
+    Input("PEM of very many lines", pem_of_size, (f"{BY_QUOTE} --key input --signature signature L list quote",), pem_of_size(1000)),
+    Input("signature and bytes after it", with_bytes_after(TPM_SIGNATURE), (
+        f"{BY_QUOTE} --key key --signature input L list quote",
+    ), TPM_SIGNATURE + b"\0"),
     Input("96 expected registers after empty lines", with_empty_lines(EXPECTED.encode()), (
         "verify L list input", f"verify --require {REQUIRE} L list input", "locate L list input", f"replay --require {REQUIRE} list input",
         "events --explain --expected input L", "boot --expected input L",
@@ -270,7 +294,12 @@ class Limits(harness.TestCase):
         name = "input" if words else "-"
         is_taken, has_function = size <= MOST_BYTES, size in LIBRARY_SIZES and self.has_function(words)
         if is_taken or has_function:
-            unlimited = reference.answer(words, short, b"" if words else (short / "input").read_bytes(), 2 * MOST_BYTES)
+            try:
+                unlimited = reference.answer(words, short, b"" if words else (short / "input").read_bytes(), 2 * MOST_BYTES)
+            except reference.LacksCryptography:
+                with self.subTest(title=title):
+                    self.lacks("cryptography for Python")
+                return
         if is_asked:
             self.ask(title, words, unlimited if is_taken else (2, f"refused: too long {name}\n"), None if words else "input")
         if has_function:
@@ -281,7 +310,7 @@ class Limits(harness.TestCase):
         shorter = self.folder()
         for each in (self.room, shorter):
             files = {"L": LOG.spelling(), "list": list_spelling(ENTRIES), "expected": EXPECTED.encode(), "f": b"abc", "quote": QUOTE,
-                     "short": KNOWN}
+                     "short": KNOWN, "key": KEY, "signature": SIGNATURE}
             for name, data in files.items():
                 (each / name).write_bytes(data)
         for size in SIZES:

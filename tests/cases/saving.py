@@ -54,8 +54,9 @@ class Saving(harness.TestCase):
     def setUp(self):
         self.program, self.room, shared = harness.argument(), self.folder(), form.read_shared()
         self.checkpoint, self.quoted_checkpoint = shared["checkpoint"], shared["quoted-checkpoint"]
-        for name, data in (("log", shared["log"]), ("list", shared["list"]), ("expected", EXPECTED), ("quote", shared["quote"])):
-            self.lay(name, data)
+        self.lay("expected", EXPECTED)
+        for name in ("log", "list", "quote", "signing-key", "signature", "signature-of-text"):
+            self.lay(name, shared[name])
 
     def lay(self, name, data=OTHER, mode=0o644):
         (self.room / name).write_bytes(data)
@@ -123,6 +124,15 @@ class Saving(harness.TestCase):
         self.wants((4, BY_QUOTE + b"signature not checked\n"), self.left(), self.started(*words))
         left = {**self.left(), FILE: (stat.S_IFREG | 0o600, self.quoted_checkpoint, False)}
         self.wants((0, BY_QUOTE + b"verdict match\n"), left, self.started(*words, "--signature-checked"))
+
+    def test_attest_by_a_key(self):
+        """`attest` with a key, which saves where the signature is valid, and else leaves FILE"""
+        self.lay(FILE, mode=0o644)
+        words = ["attest", "--nonce", NONCE, "--require", "sha256:0-10", "--save", FILE, "--key", "signing-key", "--signature"]
+        evidence = ["log", "list", "quote"]
+        self.wants((4, b"refused: signature fault 7\n"), self.left(), self.started(*words, "signature-of-text", *evidence))
+        left = {**self.left(), FILE: (stat.S_IFREG | 0o600, self.quoted_checkpoint, False)}
+        self.wants((0, BY_QUOTE + b"signature valid\nverdict match\n"), left, self.started(*words, "signature", *evidence))
 
     def test_names_taken(self):
         """names beside it are taken: by a file that anyone may read, by links, which are not followed, by a folder, and by LIST"""

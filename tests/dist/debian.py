@@ -10,19 +10,18 @@ from installed import DOCS, FOLDER, MULTIARCH, RELEASE, run, samples
 
 TOOLS, CALLS = FOLDER / "tools", FOLDER / "calls"
 # What all packages need of a system, and what the fleet's does.
-BASE, FLEET = ("libc6", "python3"), ("python3-cryptography", "python3-jinja2")
+BASE, FLEET = ("libc6", "python3"), ("python3-jinja2",)
 
 # What dpkg and apt read of each package. VERSION is that of the release, and GLIBC the least that has what it is linked with.
 AMD64, ALL, SAME = {"Architecture": "amd64"}, {"Architecture": "all"}, {"Architecture": "amd64", "Multi-Arch": "same"}
 FIELDS = {
-    "ima-agent": {**AMD64, "Section": "admin", "Depends": "libc6 (>= GLIBC)", "Recommends": "openssl, tpm2-tools (>= 5)", "Suggests": "jq"},
+    "ima-agent": {**AMD64, "Section": "admin", "Depends": "libc6 (>= GLIBC)", "Suggests": "jq, openssl, tpm2-tools (>= 5)"},
     "ima-collect": {**ALL, "Section": "admin", "Recommends": "tpm2-tools (>= 5)"},
     "libima-verify1": {**SAME, "Section": "libs", "Depends": "libc6 (>= GLIBC)"},
     "libima-verify-dev": {**SAME, "Section": "libdevel", "Depends": "libima-verify1 (= VERSION)", "Suggests": "pkgconf | pkg-config"},
-    "python3-ima-verify": {**ALL, "Section": "python", "Depends": "python3 (>= 3.8), libima-verify1 (>= VERSION)",
-                           "Suggests": "python3-cryptography (>= 37)"},
+    "python3-ima-verify": {**ALL, "Section": "python", "Depends": "python3 (>= 3.8), libima-verify1 (>= VERSION)"},
     "fleet-verify": {**ALL, "Section": "admin", "Suggests": "python3-distributed (<< 2023), python3-distributed (>= 2022.12.1), "
-                     "python3-fsspec (>= 2022.11)", "Depends": "python3 (>= 3.9), python3-cryptography (>= 37), python3-ima-verify (<< 2), "
+                     "python3-fsspec (>= 2022.11)", "Depends": "python3 (>= 3.9), python3-ima-verify (<< 2), "
                      "python3-ima-verify (>= 1.0), python3-jinja2 (>= 3.0), ima-agent (>= VERSION)"},
 }
 RELATIONS = ("Architecture", "Multi-Arch", "Section", "Depends", "Pre-Depends", "Recommends", "Suggests", "Maintainer", "Version", "Priority")

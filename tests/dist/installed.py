@@ -29,7 +29,7 @@ LONGER, CHANGED = FOLDER / "longer.list", FOLDER / "changed.list"
 # The files of a release but for its samples, by folder: those that are programs, all others, and what goes with the fleet's wheel.
 PROGRAMS = {"": ["install"], "bin/": ["ima-agent", "ima-attest", "ima-collect", "ima-enroll"], "lib/": ["libima_verify.so.1"]}
 DOCS = ["CHANGELOG.md", "VERSION", "attest.md", "cli.md", "errors.txt", "event-data.md", "examples.txt", "formats.md", "ima-agent.spdx.json",
-        "investigate.md", "json.md", "json.txt", "layouts.txt", "library.md", "reports.txt", "standards.txt", "trust.md", "trust.svg",
+        "investigate.md", "json.md", "layouts.txt", "library.md", "reports.txt", "schema.json", "standards.txt", "trust.md", "trust.svg",
         "verdict.md"]
 OTHERS = {
     "": ["README.md", "SHA256SUMS"], "debug/": ["ima-agent.debug", "libima_verify.so.1.debug"], "include/": ["ima_verify.h"],

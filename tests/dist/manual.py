@@ -2,12 +2,13 @@
 
 - ima-agent.1: commands, synopses, options with their values and defaults, and statuses are those of the program's help, which has at most 40
   lines for a command. Tables and lines of faults are those of docs/errors.txt, lines of reports those of docs/reports.txt, members those of
-  docs/json.txt.
+  docs/schema.json.
 - ima_verify.3: functions with their types, and constants, are those of the header. It names no other function.
 - ima-attest.1, ima-enroll.1, ima-collect.1: the options are those of the usage.
 - fleet-verify.1, ima-report.1: options with their values and defaults are those of the help. The statuses of the first are those of
   docs/fleet.md, of the second those of its help."""
 
+import json
 import os
 import re
 import subprocess
@@ -19,10 +20,11 @@ from header import constants_of, functions_of
 MACROS = re.compile(r"^\.(?:It|Li|Ql|Pa|Cm|Ar|Fl|Dv|Fn|Fa|Dq|Xr|Pq|Sx)\b")
 # The functions of the header that make inputs.
 HELPERS = {"ima_verify_text", "ima_verify_none"}
-# A table of docs/errors.txt and its rows; a line of docs/reports.txt, who has it, and what it means; a member in docs/json.txt.
+# A table of docs/errors.txt and its rows; a line of docs/reports.txt, who has it, and what it means.
 TABLE = re.compile(r"^([A-Z][a-z]+ faults) \(.*\n((?:(?: {1,2}[0-9]+  .*| {5,}.*)\n)+)", re.MULTILINE)
 REPORTED = re.compile(r"^  (?P<line>\S.*?) {2,}(?:(?P<of>\S+(?: \S+)*) {2,})?(?P<text>\S.*)$")
-MEMBER = re.compile(r"^  ([a-z_]+)  ", re.MULTILINE)
+# The kinds of docs/schema.json whose members the page has, of which each is on a line of its own.
+KINDS = (("verify", "attest", "replay"), ("places",), ("pcrs",), ("key",))
 MOST_LINES = 40  # (of a command's help)
 # An option in the help of a command in Python, and its default.
 PYTHONS = re.compile(r"^  (?:-(?P<short>\w), )?--(?P<name>[a-z0-9-]+)(?: (?P<value>[A-Z_]+))?(?: {2,}(?P<help>\S.*))?$")
@@ -148,9 +150,9 @@ def check_reports(page):
 
 
 def check_members(page):
-    """The members of reports, places, PCRs and keys are those of docs/json.txt."""
-    parts = re.split(r"\n\n", (ROOT / "docs/json.txt").read_text())
-    wanted = [member for part in parts if part.startswith(("A report:", "Places:", "PCRs:", "A key:")) for member in MEMBER.findall(part)]
+    """The members of reports, places, PCRs and keys are those of docs/schema.json."""
+    kinds = json.loads((ROOT / "docs/schema.json").read_text())["$defs"]
+    wanted = [member for group in KINDS for member in {name: None for kind in group for name in kinds[kind]["properties"]}]
     lines = [line for line in page.part("JSON") if line.startswith(".Li ")]
     found = re.findall(r"[a-z_]+", " ".join(line.removeprefix(".Li ") for line in lines if line != ".Li fault"))
     yield from differences(f"{page.name}: JSON", sorted(wanted), sorted(found))

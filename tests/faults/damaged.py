@@ -1,7 +1,7 @@
 #!/usr/bin/env python3
 """Compares what the library for C and `tests/reference/` answer on damaged inputs: each prefix of the sample's log, of its list, of the message
-of its quote and of public areas of keys, and each of these with the lowest bit of one byte turned; 100,000 small boots that are changed at
-random; and 20,000 selections of registers, of which half are changed at random.
+of its quote, of public areas of keys, and of messages, keys and signatures where a signature is verified, and each of these with the lowest bit of
+one byte turned; 100,000 small boots that are changed at random; and 20,000 selections of registers, of which half are changed at random.
 
 tests/faults/damaged.py [LIBRARY]: a libima_verify.so; without it `dist/library` makes one, which builds what is not up to date.
 
@@ -24,12 +24,13 @@ import boots  # noqa: E402
 import harness  # noqa: E402
 from c_library import Call, Library, Unlike  # noqa: E402
 from harness import ROOT  # noqa: E402
-from reference.attestations import attest_report  # noqa: E402
+from reference.attestations import VALID, attest_report  # noqa: E402
 from reference.faults import Fault  # noqa: E402
 from reference.keys import read_key  # noqa: E402
 from reference.log import read_log  # noqa: E402
 from reference.measurement_list import IMA_REGISTER, read_list  # noqa: E402
 from reference.registers import ALGORITHMS, REGISTERS, Registers, register_line  # noqa: E402
+from reference.signatures import LACKS_CRYPTOGRAPHY, check_signed  # noqa: E402
 from reference.texts import pcrread_text, read_expected, read_requirement, read_selection  # noqa: E402
 from reference.verdict import verdict  # noqa: E402
 
@@ -39,9 +40,12 @@ FIRST_ENTRY = LIST[:101]
 MESSAGE = (ROOT / "samples/quoted/quote.msg").read_bytes()
 NONCE = bytes.fromhex((ROOT / "samples/quoted/nonce").read_text())
 TENTH = next(line for line in (BOOT / "expected.txt").read_bytes().splitlines() if line.startswith(b"sha256 10 "))
-ROOM = 65536
+ROOM, BY_KEY = 65536, "attest by key"
 RSA_AREA, CURVE_AREA, ENDORSEMENT_AREA = ((ROOT / "samples/keys" / f"{name}.pub").read_bytes() for name in ("ak-rsassa", "ak-p256", "ek-rsa"))
 SEEDS, BOOTS_OF_A_SEED, SELECTIONS_OF_A_SEED = 20, 5000, 1000
+# Quotes and their signatures, by one key of each kind.
+SIGNED = {name: {end: (ROOT / "samples/signed" / f"{name}.{end}").read_bytes() for end in ("pub", "pem", "msg", "tpmt", "sig")}
+          for name in ("rsassa", "rsapss", "p256")}
 AT_RESET = Registers(ALGORITHMS)
 PRINTED = pcrread_text(AT_RESET).encode()
 RANGES = {"all": range(REGISTERS)}
@@ -72,6 +76,12 @@ def attested(log, listed, message, nonce, require):
     return report.text(), report.matches
 
 
+def attested_by_key(log, listed, message, key, signature, nonce, require):
+    check_signed(key, message, signature)
+    report = attest_report(log, listed, message, nonce, require.decode(), signature=VALID)
+    return report.text(), report.matches
+
+
 def registers(log):
     return read_log(log).registers().text(), True
 
@@ -99,6 +109,24 @@ KINDS = {
     "key of a curve": (CURVE_AREA, "key", lambda area: [area], key),
     "endorsement key": (ENDORSEMENT_AREA, "endorsement key", lambda area: [area], endorsement_key),
 }
+
+
+def signed_kinds():
+    """The same of a message, a key and a signature in each form, where the others stay."""
+    for name, parts in SIGNED.items():
+        for key, signature in (("pub", "tpmt"), ("pem", "sig")):
+            for damaged in (*["msg"] * (key == "pub"), key, signature):
+                def inputs(data, parts=parts, ends=("msg", key, signature), damaged=damaged):
+                    return [LOG, LIST, *(data if end == damaged else parts[end] for end in ends), NONCE, b"sha256:0-10"]
+
+                yield f"{name}.{damaged} with {name}.{key} and {name}.{signature}", (parts[damaged], BY_KEY, inputs, attested_by_key)
+
+
+def is_signed(kind):
+    return KINDS[kind][1] == BY_KEY
+
+
+KINDS |= dict(signed_kinds())
 # What a function takes beside the inputs: a requirement, and its form.
 NOTHING_REQUIRED, AS_TEXT, OF_LOG = b"none", False, False
 NO_KNOWN, KNOWN_IS_NOT_GIVEN = b"", False
@@ -119,6 +147,10 @@ def library_answer(library, function, inputs):
             log, listed, message, *others = inputs
             inputs = [log, NO_STATE, listed, message, NO_KEY, NO_SIGNATURE, *others, NO_KNOWN]
             return library.ask_by_quote(inputs, KNOWN_IS_NOT_GIVEN, SHA1_IS_NOT_TAKEN, IS_SIGNED, OF_WHOLE, AS_TEXT)[:2]
+        if function == BY_KEY:
+            log, listed, message, key, signature, *others = inputs
+            inputs = [log, NO_STATE, listed, message, key, signature, *others, NO_KNOWN]
+            return library.ask_by_quote(inputs, KNOWN_IS_NOT_GIVEN, SHA1_IS_NOT_TAKEN, not IS_SIGNED, OF_WHOLE, AS_TEXT)[:2]
         if function in ("key", "endorsement key"):
             return library.ask_for_key(*inputs, function != "key", AS_TEXT)
         if function == "registers":
@@ -150,6 +182,8 @@ def compared(file, kind, damage):
     counts, wrong = Counter(), []
     for place in places_in(data):
         inputs = inputs_with(damaged(data, place))
+        if b"" in inputs and function == BY_KEY:
+            continue  # (a key or a signature of no bytes is none for the library)
         wanted, found = answer_of(lambda: decide(*inputs)), library_answer(library, function, inputs)
         counts[kind_of_answer(wanted)] += 1
         if wanted != found:
@@ -235,7 +269,7 @@ def totals(runs):
 
 class Damaged(harness.TestCase):
     def test_answers(self):
-        file, groups = self.library(), [(kind, damage) for kind in KINDS for damage in DAMAGES]
+        file, groups = self.library(), [(kind, damage) for kind in KINDS for damage in DAMAGES if not (LACKS_CRYPTOGRAPHY and is_signed(kind))]
         with ProcessPoolExecutor(os.cpu_count()) as pool:
             runs = [pool.submit(compared, str(file), *group) for group in groups]
             changed = [pool.submit(compared_boots, str(file), seed) for seed in range(SEEDS)]
@@ -244,6 +278,9 @@ class Damaged(harness.TestCase):
                 self.check_answers(f"{kind}, {damage}", *run.result())
             self.check_answers("boots that are changed at random, by a quote", *totals(changed))
             self.check_answers("selections", *totals(selections))
+        if LACKS_CRYPTOGRAPHY:
+            with self.subTest(title="signatures"):
+                self.lacks("cryptography for Python")
 
     def check_answers(self, title, counts, wrong):
         answers = ", ".join(f"{answer} {times}" for answer, times in sorted(counts.items()))

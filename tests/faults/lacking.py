@@ -34,6 +34,7 @@ SCRIPTS = {
     "tests/fleet/test FOLDER": ("fsspec",),
     "tests/faults/signatures.py": ("cryptography",),
     "tests/pages/recipes.py PROGRAM": ("jq",),
+    "tests/cases/run PROGRAM attest/signatures-by-rsa": ("cryptography",),
 }
 SECONDS = 600
 

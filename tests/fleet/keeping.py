@@ -28,15 +28,16 @@ MEBIBYTE = 1024 * 1024
 PAGE, MOST_PAGES = 4096, 32
 LONG_AGO = "2020-01-01T00:00:00.000+00:00"
 
-# Prints the report of the library on the quote in each folder, which has the nonce after it.
+# Prints the report of the library on the quote in each folder, which has a key before it, and the nonce after it.
 ATTESTED = """
 import sys
 from pathlib import Path
 import ima_verify
 require, *words = sys.argv[1:]
-for folder, nonce in zip(words[::2], words[1::2]):
-    log, measurements, message = (Path(folder, file).read_bytes() for file in ("firmware.log", "ima.list", "quote.msg"))
-    found = ima_verify.attest(log, measurements, message, nonce=bytes.fromhex(nonce), require=require, signature_checked=True)
+for key, folder, nonce in zip(words[::3], words[1::3], words[2::3]):
+    names = "quote.msg", "quote.sig", "firmware.log", "ima.list"
+    files = (Path(folder, name).read_bytes() for name in names)
+    found = ima_verify.attest(Path(key).read_bytes(), bytes.fromhex(nonce), *files, require=require)
     print(found.json)
 """
 COLUMNS = (
@@ -158,9 +159,9 @@ def test_quoted_report(tools):
     machines, table = make_machines(folder, 2), folder / "verdicts.db"
     keys = give_quotes(tools, machines, table, SAMPLE / "expected.txt")
     status, *_ = tools.verify("--workers", 1, "--poll", machines, table, by=("--keys", keys))
-    rows = query(table, "SELECT log, nonce, report FROM verdicts ORDER BY machine")
+    rows = query(table, "SELECT machine, log, nonce, report FROM verdicts ORDER BY machine")
     tools.check("reports by quotes: status, and the clock that is kept apart", (status, query(table, "SELECT count(clock) FROM given")), (0, [(2,)]))
-    words = [word for log, nonce, _ in rows for word in (Path(log).parent, nonce)]
+    words = [word for name, log, nonce, _ in rows for word in (keys / f"{name}.pub", Path(log).parent, nonce)]
     said = tools.start(["-c", ATTESTED, REQUIRE, *words]).communicate(timeout=SECONDS)[0]
     tools.check("reports by quotes are those of the library", [report for *_, report in rows], said.splitlines())
 

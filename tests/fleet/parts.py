@@ -54,7 +54,7 @@ for others, reports in (
     ([second], [MATCH, MATCH, MATCH]),
     ([{**second, "verdict": "refused"}], [MATCH, MATCH]),
     ([second], [MATCH, KNOWN.format("", "match")]),
-    ([second], [MATCH, QUOTED.format("match", "checked", "match")]),
+    ([second], [MATCH, QUOTED.format("match", "valid", "match")]),
     ([{**second, "nonce": "00"}], [MATCH, MATCH]),
     ([{**second, "verdict": "slow"}], [MATCH]),
 ):
@@ -71,10 +71,10 @@ for verdict, report in (
     (answer,) = read_answers(text, MACHINES, asked(known="files")).answers
     print(answer["verdict"], answer.get("unknown"), answer.get("first_unknown"), answer.get("cause"))
 for verdict, report, given in (
-    ("match", QUOTED.format("match", "checked", "match"), {"nonce": "00"}), ("match", MATCH, {"nonce": "00"}),
-    ("match", QUOTED.format("match", "checked", "match"), {}), ("match", QUOTED.format("differ", "checked", "match"), {"nonce": "00"}),
-    ("match", QUOTED.format("match", "not checked", "match"), {"nonce": "00"}),
-    ("differ", QUOTED.format("match", "checked", "match"), {"nonce": "00"}),
+    ("match", QUOTED.format("match", "valid", "match"), {"nonce": "00"}), ("match", MATCH, {"nonce": "00"}),
+    ("match", QUOTED.format("match", "valid", "match"), {}), ("match", QUOTED.format("differ", "valid", "match"), {"nonce": "00"}),
+    ("match", QUOTED.format("match", "not checked", "match"), {"nonce": "00"}), ("match", QUOTED.format("match", "checked", "match"), {"nonce": "00"}),
+    ("differ", QUOTED.format("match", "valid", "match"), {"nonce": "00"}),
 ):
     text = "\\n".join([json.dumps({"worker": "here", "answers": [{**first, "verdict": verdict, **given}], "seconds": 1}), report])
     (answer,) = read_answers(text, MACHINES, asked(is_quoted=True)).answers
@@ -568,8 +568,8 @@ def test_types(tools):
     files = sorted((ROOT / "fleet/fleet_verify").glob("*.py"))
     tools.check("functions without types", [name for file in files for name in untyped(file)], [])
     python = python_with("mypy")
-    lacking = [name for name in ("jinja2", "cryptography") if python and not has(python, name)]
-    tools.lacks(*([] if python else ["mypy: whether the types of fleet_verify are right"]), *(f"{name} beside mypy" for name in lacking))
+    lacking = ["jinja2 beside mypy"] if python and not has(python, "jinja2") else []
+    tools.lacks(*([] if python else ["mypy: whether the types of fleet_verify are right"]), *lacking)
     words = [python, "-m", "mypy", "--cache-dir", "/dev/null"]
     done = subprocess.run(words, cwd=ROOT / "fleet", capture_output=True, text=True, timeout=4 * SECONDS)
     tools.check("mypy --strict", (done.returncode, done.stdout if done.returncode else ""), (0, ""))

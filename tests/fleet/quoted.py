@@ -5,7 +5,7 @@ tests/fleet/quoted.py MACHINES GIVEN KEYS EXPECTED
 
 MACHINES is a table of machines, each with a folder, and GIVEN the folder into which `fleet-verify nonces --folder` wrote their nonces.
 Into each machine's folder come `quote.msg`, of the registers 0 to 10 that the text EXPECTED states, and `quote.sig`; and into the folder
-KEYS the keys, which are of RSA 2048: a few, which the machines have in turn. It needs the package `cryptography`."""
+KEYS the public areas of the keys, which are of RSA 2048: a few, which the machines have in turn. It needs the package `cryptography`."""
 
 import hashlib
 import subprocess
@@ -16,6 +16,8 @@ HEAD = bytes.fromhex("ff5443478018")  # of a quote that a TPM made
 SELECTED = bytes.fromhex("00000001000b03ff0700")  # one bank, sha256, registers 0 to 10
 CLOCK = bytes(7) + b"\1" + (3).to_bytes(4, "big") + bytes(4) + b"\1"  # a millisecond, three resets, no restart, safe
 SIGNERS = 4
+MODULUS = 256  # bytes, which are the last of an area
+AREA = (Path(__file__).resolve().parents[2] / "samples/keys/ak-rsassa.pub").read_bytes()[:-MODULUS]
 LOW = range(11)
 
 
@@ -36,12 +38,11 @@ def quote_message(nonce, digest):
 
 
 def answer(machines, given, keys, expected):
-    from cryptography.hazmat.primitives import hashes, serialization
+    from cryptography.hazmat.primitives import hashes
     from cryptography.hazmat.primitives.asymmetric import padding, rsa
 
-    form = serialization.Encoding.PEM, serialization.PublicFormat.SubjectPublicKeyInfo
     signers = [rsa.generate_private_key(65537, 2048) for _ in range(SIGNERS)]
-    pems = [signer.public_key().public_bytes(*form) for signer in signers]
+    areas = [AREA + signer.public_key().public_numbers().n.to_bytes(MODULUS, "big") for signer in signers]
     digest = quoted_digest(expected.read_text())
     keys.mkdir(exist_ok=True)
     for number, line in enumerate(machines.read_text().splitlines()):
@@ -49,7 +50,7 @@ def answer(machines, given, keys, expected):
         message = quote_message(bytes.fromhex((given / name).read_text()), digest)
         Path(folder, "quote.msg").write_bytes(message)
         Path(folder, "quote.sig").write_bytes(signers[number % SIGNERS].sign(message, padding.PKCS1v15(), hashes.SHA256()))
-        (keys / f"{name}.pem").write_bytes(pems[number % SIGNERS])
+        (keys / f"{name}.pub").write_bytes(areas[number % SIGNERS])
 
 
 def give_quotes(processes, machines, verdicts, expected, answering=None):

@@ -41,9 +41,9 @@ OLD = "stale: the nonce of its quote is older than --max-age, or of a time to co
 USED = "stale: an earlier verdict used the nonce of its quote"
 NO_NONCE = "no nonce: none was given out for this machine, or each is used or too old"
 OTHER_NONCE, LESS_QUOTED = "refused: quote fault 11", "refused: quote fault 12"
-BAD_SIGNATURE = "bad signature: it is not by this machine's key and on this quote"
-NO_PEM = "bad key: the key is not the PEM of a public key alone (-----BEGIN PUBLIC KEY-----)"
-WEAK = "bad key: an RSA key has 2048 bits or more and an odd exponent from 65537"
+CUT_SIGNATURE, NO_SCHEME, BAD_SIGNATURE, BAD_PEM = (f"refused: signature fault {number}" for number in (1, 2, 7, 9))
+NO_AREA, UNRESTRICTED = "refused: key fault 1", "refused: key fault 15"
+RSASSA, RSAPSS = (bytes.fromhex(f"{scheme}000b0100") for scheme in ("0014", "0016"))  # how a TPMT_SIGNATURE begins, by SHA-256, of 256 bytes
 ABSENT = "no quote: {}: FileNotFoundError: [Errno 2] No such file or directory"
 
 # What happens before the second poll. All other machines' lists grow, but for those of an even number.
@@ -134,6 +134,13 @@ class Quotes:
     def keys(self):
         return self.folder / "keys"
 
+    def keep_key(self, machine):
+        """The verifier has a machine's key: the public area, or of every other machine only the PEM."""
+        for form in ("pub", "pem"):
+            (self.keys / f"{machine.name}.{form}").unlink(missing_ok=True)
+        kept = machine.tpm.key if machine.number % 2 else machine.tpm.area
+        shutil.copy(kept, self.keys / f"{machine.name}{kept.suffix}")
+
     def call(self, *words, seconds=SECONDS):
         """The status of a call of fleet-verify, and what it printed on both streams."""
         words = [self.tools.python, ROOT / "fleet/verify.py", *words]
@@ -192,7 +199,7 @@ def test_quotes(tools):
         quotes.each(start)
         quotes.keys.mkdir()
         for machine in machines:
-            shutil.copy(machine.tpm.key, quotes.keys / f"{machine.name}.pem")
+            quotes.keep_key(machine)
         quotes.table.write_text("".join(machine.line() for machine in machines))
         verdicts = folder / "verdicts.db"
         test_nonces(quotes, verdicts)
@@ -411,12 +418,18 @@ def test_keys(tools):
         (folder / name / f"{name}.pem").write_text(name)
     (folder / "i").mkdir()
     (folder / "i/i.pem").symlink_to("../a.pem")
+    for name in ("k.pub", "k.pem", "l/l.pub", "l/l.pem", "m.pem", "m/m.pub", "n.pem"):
+        (folder / name).parent.mkdir(exist_ok=True)
+        (folder / name).write_text(f"{name[-3:]} of {name[0]}")
+    os.mkfifo(folder / "n.pub")
     wanted = {
         "a": ("a", None), "b": ("b in a folder", None), "c": (None, "no key: NAME.pem cannot be read: OSError: it is no regular file"),
         "d": (None, "no key: NAME.pem cannot be read: OSError: [Errno 40] Too many levels of symbolic links"),
         "e": (None, "no key: NAME.pem has more than 16384 bytes"), "h": (None, "no key: NAME.pem cannot be read: OSError: it is no regular file"),
         "h.pem": ("h.pem", None), "i": ("a", None), "j": (16 * 1024 * "j", None), **dict.fromkeys(("f", "../out", "..", ".", "", "a.pem", "h/h", "i/i", "x" * 251), (None, None)),
-        "x" * 255: (None, "no key: NAME.pem cannot be read: OSError: [Errno 36] File name too long"),
+        "x" * 255: (None, "no key: NAME.pub cannot be read: OSError: [Errno 36] File name too long"),
+        "k": ("pub of k", None), "l": ("pub of l", None), "m": ("pem of m", None),
+        "n": (None, "no key: NAME.pub cannot be read: OSError: it is no regular file"),
     }
     tools.check("keys that are found: none in place of one that cannot be read", {name: key_of(str(folder), name) for name in wanted}, wanted)
     asked = Asked(REQUIRE, False, True, 60)
@@ -546,7 +559,8 @@ class Case:
     @property
     def key(self):
         """Its key, as the verifier has it."""
-        return self.quotes.keys / f"{self.machine.name}.pem"
+        area = self.quotes.keys / f"{self.machine.name}.pub"
+        return area if area.exists() else area.with_suffix(".pem")
 
     def quote(self, nonce, *selection):
         """Its TPM makes another quote."""
@@ -614,11 +628,12 @@ class Case:
 
     def sign(self, message, bits=2048):
         """A key of openssl, which signs anything, is its key, and signs this message."""
-        secret = self.quotes.folder / "secret.key"
+        secret, public = self.quotes.folder / "secret.key", self.quotes.keys / f"{self.machine.name}.pem"
+        self.key.unlink()
         message_file, signature = (self.folder / name for name in EVIDENCE[2:])
         message_file.write_bytes(message)
         for words in (
-            ["genrsa", "-out", secret, bits], ["rsa", "-in", secret, "-pubout", "-out", self.key],
+            ["genrsa", "-out", secret, bits], ["rsa", "-in", secret, "-pubout", "-out", public],
             ["dgst", "-sha256", "-sign", secret, "-out", signature, message_file],
         ):
             subprocess.run(["openssl", *map(str, words)], check=True, capture_output=True)
@@ -641,11 +656,11 @@ BAD_QUOTES = {
     6: (lambda case: case.change("quote.msg", turned), "refused", BAD_SIGNATURE),
     7: (lambda case: case.change("quote.sig", turned), "refused", BAD_SIGNATURE),
     8: (lambda case: case.change("quote.msg", lambda data: data[:-1]), "refused", BAD_SIGNATURE),
-    9: (lambda case: case.change("quote.sig", lambda data: data[:-1]), "refused", BAD_SIGNATURE),
+    9: (lambda case: case.change("quote.sig", lambda data: data[:-1]), "refused", NO_SCHEME),
     10: (lambda case: case.remove("quote.msg"), "refused", ABSENT.format("quote")),
     11: (lambda case: case.remove("quote.sig"), "refused", ABSENT.format("signature")),
     12: (lambda case: case.key.unlink(), "refused", "no key: the verifier has none of this machine"),
-    13: (lambda case: case.key.write_text("key"), "refused", NO_PEM),
+    13: (lambda case: case.key.write_text("key"), "refused", NO_AREA),
     14: (Case.forget_nonces, "refused", NO_NONCE),
     15: (lambda case: case.quote(""), "refused", OTHER_NONCE),
     16: (lambda case: case.quote(case.nonce, f"sha256:{LOW[:-3]}"), "refused", LESS_QUOTED),
@@ -658,20 +673,23 @@ BAD_QUOTES = {
 ODD_QUOTES = {
     1: (lambda case: case.quote_for(2), "refused", OTHER_NONCE),
     2: (lambda case: case.quote_for(1), "refused", OTHER_NONCE),
-    3: (lambda case: case.change("quote.sig", lambda data: bytes.fromhex("0014000b0100") + data), "refused", BAD_SIGNATURE),
+    3: (lambda case: case.change("quote.sig", lambda data: RSASSA + data), "refused", BAD_SIGNATURE),
     4: (lambda case: case.change("quote.msg", lambda _: b""), "refused", BAD_SIGNATURE),
-    5: (lambda case: case.change("quote.sig", lambda _: b""), "refused", BAD_SIGNATURE),
+    5: (lambda case: case.change("quote.sig", lambda _: b""), "refused", CUT_SIGNATURE),
     6: (Case.make_fifo, "unreadable", "quote: OSError: it is no regular file"),
     7: (lambda case: os.truncate(case.folder / "quote.sig", MOST_BYTES + 1), "refused", "refused: too long signature"),
     8: (lambda case: case.quote(case.nonce, f"sha1:{LOW}"), "refused", LESS_QUOTED),
     9: (lambda case: case.sign_changed(lambda data: data[:-1]), "refused", "refused: quote fault 1"),
     10: (lambda case: case.sign_changed(lambda data: bytes(1) + data[1:]), "refused", "refused: quote fault 2"),
-    11: (lambda case: case.sign_changed(lambda data: data, 1024), "refused", WEAK),
+    11: (lambda case: case.sign_changed(lambda data: data, 1024), "refused", BAD_PEM),
     12: (Case.have_two, "match", None),
     13: (Case.empty_nonce, "failed", "Misuse: a nonce has 16 bytes or more, and not 0"),
     14: (Case.enroll, "match", None),
     15: (lambda case: case.quote("cd" * 32), "refused", OTHER_NONCE),
     16: (Case.sign_other_registers, "differ", None),
+    17: (lambda case: case.change("quote.sig", lambda data: RSASSA + data), "match", None),
+    18: (lambda case: shutil.copy(ROOT / "samples/keys/unrestricted.pub", case.key), "refused", UNRESTRICTED),
+    19: (lambda case: case.change("quote.sig", lambda data: RSAPSS + data), "match", None),
 }
 
 
@@ -690,7 +708,7 @@ def check_cases(quotes, title, verdicts, cases):
     quotes.check(f"{title}: who has a nonce", {name for name, _ in with_nonce}, with_report)
     quotes.check(f"{title}: these nonces are used", set(with_nonce) <= set(used), True)
     for machine in quotes.machines:
-        shutil.copy(machine.tpm.key, quotes.keys / f"{machine.name}.pem")
+        quotes.keep_key(machine)
 
 
 def test_bad_quotes(quotes, verdicts):

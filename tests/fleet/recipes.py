@@ -61,7 +61,6 @@ class Reader:
         entries = len(read_list((BOOT / "ima.list").read_bytes()))
         (self.folder / "sys/kernel/security/ima/runtime_measurements_count").write_text(f"{entries}\n")
         (self.folder / "samples").symlink_to(ROOT / "samples")
-        shutil.copy(ROOT / "attest/verify", self.folder / "bin/ima-attest")
         for name, words in COMMANDS.items():
             command = self.folder / "bin" / name
             command.write_text(f'#!/bin/sh\nexec {words.format(root=ROOT, **vars(self), python=self.tools.python)} "$@"\n')
@@ -120,7 +119,7 @@ def test_recipes(tools):
 
 def enroll(reader):
     """Makes the machine's key, and keeps its public part."""
-    kept = f"tpm2_readpublic -Q -c {HANDLE} -f pem -o keys/host-1.pem"
+    kept = f"tpm2_readpublic -Q -c {HANDLE} -o keys/host-1.pub"
     reader.tools.check("the page: a key", reader.ran(f"{ROOT}/attest/collect --enroll enroll\n{kept}"), (0, "", ""))
 
 

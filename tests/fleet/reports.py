@@ -93,13 +93,12 @@ def is_built():
 
 
 def program_of(tools):
-    """The folder with `ima-agent`, which is the program that is built, or the reference in its place; and with `ima-attest` beside it."""
+    """The folder with `ima-agent`, which is the program that is built, or the reference in its place."""
     folder = tools.folder / "program"
     folder.mkdir(exist_ok=True)
     built = Path(os.environ.get("IMA_AGENT", PROGRAM))
     reference = f'PYTHONDONTWRITEBYTECODE=1 PYTHONPATH={ROOT / "tests"} exec {sys.executable} -m reference "$@"'
     write_program(folder / "ima-agent", f'exec {built} "$@"' if is_built() else reference)
-    shutil.copy(ROOT / "attest/verify", folder / "ima-attest")
     return folder
 
 
@@ -341,7 +340,7 @@ def test_report_by_quote(tools, folder):
     tools.check("a quote of another list", told, (1, ("differ", False), True))
     weak = [(boot, *asked, nonce, "--require", "sha1:0-10", *words) for words in ((), ("--sha1",))]
     found = [(status, judged(page)[0]) for status, page, _ in reports_of(tools, weak)]
-    tools.check("a quote of SHA-1 alone is asked for only with --sha1", found, [(64, "failed"), (4, "refused")])
+    tools.check("a quote of SHA-1 alone is asked for only with --sha1", found, [(2, "refused"), (4, "refused")])
     text, _ = state_of(unasked[1])
     tools.check("a quote that is not looked at", ("Not quoted" in text, "was not looked at" in text), (True, True))
     calls = [(boot, *words) for words in (("--nonce", nonce), tuple(asked[:2]), ("--sha1",), ("--frobnicate",), ("--require", "a", "--require", "b"))]
@@ -366,9 +365,7 @@ def test_unsafe_clock(tools, folder, boot, quoted):
     programs.mkdir()
     good, clock = tools.folder / "program/ima-agent", '"resets":1,"restarts":0,"safe":true'
     other = clock.replace("1", "2").replace("0", "1").replace("true", "false")
-    unsafe = f"""[ "$2" = --signature-checked ] || exec '{good}' "$@"; '{good}' "$@" | sed 's/{clock}/{other}/'"""
-    program = program_that(programs / "ima-agent", "attest", unsafe, good)
-    shutil.copy(ROOT / "attest/verify", programs / "ima-attest")
+    program = program_that(programs / "ima-agent", "attest", f"""'{good}' "$@" | sed 's/{clock}/{other}/'""", good)
     status, page, _ = report_of(tools, boot, "--program", program, *quoted)
     found = (status, judged(page), [each.text for each in page.all("dd")][3])
     tools.check("a quote whose clock is not safe", found, (0, ("match", True), "626 ms, 2 resets, 1 restart; not safe"))
@@ -662,7 +659,7 @@ def test_heads(tools, folder):
     message = (QUOTED / "quote.msg").read_bytes()
     signer = message[8:8 + int.from_bytes(message[6:8], "big")].hex()  # (TPM 2.0 Part 2, TPMS_ATTEST: after its magic and type)
     said = dict(zip((each.text for each in page.all("dt")), (each.text for each in page.all("dd"))))
-    wanted = {"Quote": "log and list make the quoted PCRs; signature checked", "Key": signer, "Unknown entries": "3 (entries checked from 0)"}
+    wanted = {"Quote": "log and list make the quoted PCRs; signature valid", "Key": signer, "Unknown entries": "3 (entries checked from 0)"}
     tools.check("what a report says of a quote", {name: said[name] for name in wanted}, wanted)
 
 

@@ -36,6 +36,11 @@ class Tpm:
         """The PEM of its attestation key."""
         return self.folder / "key.pem"
 
+    @property
+    def area(self):
+        """Its public area."""
+        return self.folder / "key.pub"
+
     def tool(self, *words):
         """Runs one of tpm2-tools, which has to succeed: what it prints."""
         environment = {**os.environ, "TPM2TOOLS_TCTI": f"swtpm:host=127.0.0.1,port={self.port}"}
@@ -67,11 +72,12 @@ class Tpm:
             self.emulator.wait()
 
     def make_key(self):
-        """Makes the attestation key, which stays, and its PEM."""
+        """Makes the attestation key, which stays, its PEM and its public area."""
         context = self.folder / "key.ctx"
         self.tool("tpm2_createprimary", "-C", "e", "-G", self.kind, "-a", ATTRIBUTES, "-c", context)
         self.tool("tpm2_evictcontrol", "-C", "o", "-c", context, HANDLE)
         self.tool("tpm2_readpublic", "-c", HANDLE, "-f", "pem", "-o", self.key)
+        self.tool("tpm2_readpublic", "-c", HANDLE, "-o", self.area)
 
     def boot(self, log):
         """Starts anew, and measures what the events of a log say."""

@@ -391,7 +391,7 @@ class Recipes(harness.TestCase):
             folder, found = self.folder(), EXAMPLE.findall("".join(blocks))
             lay_out(folder)
             printed = printed_by([command for command, _ in found], folder)
-            self.check(f"each of {page} is run", len(printed) == len(found) + 1 and len(found) > 4)
+            self.check(f"each of {page} is run", len(printed) == len(found) + 1 and len(found) > 3)
             for (command, lines), output in zip(found, printed):
                 is_right = not lines or re.fullmatch(pattern_of(lines), output)
                 self.check(command, None if is_right else f"printed {output!r}", None)

@@ -1,4 +1,4 @@
-"""The fields of entries with the kernel's other templates (docs/json.txt)."""
+"""The fields of entries with the kernel's other templates (docs/schema.json)."""
 
 from .fields import Cut, Fields
 from .registers import BY_NAME

@@ -67,8 +67,8 @@ class LacksCryptography(Unanswered):
 
 
 class Inputs:
-    """Files by name, below a folder, which can also be written, and standard input, of which so many bytes are taken. From some call on, only regular
-    files are taken, of which standard input is taken for one."""
+    """Files by name, below a folder, which can also be written, and standard input, of which so many bytes are taken. It may be that only regular files
+    are taken, as one of which standard input then counts."""
 
     def __init__(self, folder, standard_input, most_bytes):
         self.folder = os.open(folder, os.O_RDONLY | os.O_DIRECTORY)
@@ -338,7 +338,6 @@ def signature_of(inputs, values, message):
 
 def report_by_quote(inputs, values, load_log, listed, message, expected=None):
     """The report on a log, whose bytes a call gives, and on a list by the message of a quote."""
-    inputs.takes_only_regular_files = values["--key"] is not None
     nonce = bytes.fromhex(values["--nonce"])
     required = sound_requirement(values["--require"], nonce, values["--sha1"])
     message = inputs.load(message)
@@ -450,6 +449,7 @@ def answer(words, folder=".", standard_input=b"", most_bytes=MOST_BYTES):
         if words:
             asked = read_words(words)
             as_json = asked.values["--json"]
+            inputs.takes_only_regular_files = asked.values.get("--key") is not None
             told = COMMANDS[asked.command](inputs, asked.values, *asked.names)
         else:
             told = registers_of_hexadecimal(inputs)

@@ -77,7 +77,7 @@ class Registers:
         return "".join(register_line(*row) for row in self.changed())
 
     def as_json(self):
-        """These registers as JSON (docs/json.txt)."""
+        """These registers as JSON (docs/schema.json)."""
         return registers_value(self.changed())
 
 

@@ -15,8 +15,9 @@ try:
     from cryptography.exceptions import InvalidSignature
     from cryptography.hazmat.primitives import hashes
     from cryptography.hazmat.primitives.asymmetric import ec, padding, rsa, utils
+    LACKS_CRYPTOGRAPHY = False
 except ModuleNotFoundError:
-    hashes = None
+    LACKS_CRYPTOGRAPHY = True
 
 # The hashes of signatures that are taken.
 HASHES = (SHA256, SHA384, SHA512)
@@ -62,7 +63,7 @@ def refuse_unless(holds, refusal):
 
 def is_verified(verify):
     """Whether cryptography takes what a call has it verify."""
-    if hashes is None:
+    if LACKS_CRYPTOGRAPHY:
         raise Lacking
     try:
         verify()

@@ -15,6 +15,7 @@ import time
 from pathlib import Path
 
 import inputs
+from reference.attestations import VALID, attest_report
 from reference.boot_answers import Boot
 from reference.known_files import read_known, unknown_entries
 from reference.measured_data import matching_registers
@@ -372,6 +373,31 @@ def uneven_files():
     return [(what, measure_time(1, contents), measure_time(4, contents))]
 
 
+def attested(program, kind, option):
+    """The time of a call on the sample boot by the quote that a key of this kind signed, with the arguments that `option` makes of the quote's name."""
+    signed, (log, measurements) = ROOT / "samples/signed", (ROOT / "samples/real-boot" / name for name in ("firmware.log", "ima.list"))
+    message, nonce = signed / f"{kind}.msg", (ROOT / "samples/quoted/nonce").read_text().strip()
+    report = attest_report(log.read_bytes(), measurements.read_bytes(), message.read_bytes(), bytes.fromhex(nonce), "sha256:0-10", signature=VALID)
+    words = ["--key", signed / f"{kind}.pub", "--signature", signed / f"{kind}.tpmt", "--nonce", nonce, "--require", "sha256:0-10"]
+    return median_time(option(words, [log, measurements], message), report.text().encode(), program=program)
+
+
+def signatures():
+    """`attest` with a key and a signature, by keys of each kind; `ima-attest`; and tpm2_checkquote, which verifies a signature alone."""
+    times = {f"attest, 99 entries, by {kind}": attested(PROGRAM, kind, lambda words, names, message: ["attest", *words, *names, message])
+             for kind in ("rsassa", "rsapss", "rsa3072", "p256", "p384")}
+    script, quoted = FOLDER / "ima-attest", ROOT / "samples/quoted"
+    shutil.copy(ROOT / "attest/verify", script)
+    (FOLDER / "ima-agent").symlink_to(PROGRAM)
+    times["ima-attest, the same by rsassa"] = attested(script, "rsassa", lambda words, names, message: ["--quote", message, *words, *names])
+    if shutil.which("tpm2_checkquote"):
+        words = [f"-u{quoted / 'AK.pem'}", f"-m{quoted / 'quote.msg'}", f"-s{quoted / 'quote.tpmt'}", f"-q{(quoted / 'nonce').read_text().strip()}"]
+        times["tpm2_checkquote of a quote by rsassa, without log and list"] = median_of_tools(["tpm2_checkquote", *words])
+    for what, seconds in times.items():
+        if seconds is not None:
+            print(f"{f'{what}, in milliseconds':<90}{seconds * 1000:8.2f}")
+
+
 def starts():
     """The time that a start of the script adds to one of the program itself, when all is built."""
     words = ["show", NO_INPUT]
@@ -399,6 +425,7 @@ def main():
     print(f"\n{'':<90}{'ratio':>8}")
     for ratio in ratios:
         print_ratio(*ratio)
+    signatures()
     starts()
     for complaint in complaints:
         print(f"tools/bench/run: wrong: {complaint}", file=sys.stderr)

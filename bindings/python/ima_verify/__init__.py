@@ -21,8 +21,8 @@ match only if no event of the log extends register 10 and each entry of the list
 With `known`, texts as sha256sum prints them, each entry must be of a file whose digest is in one of them, except the boot aggregate, with which a
 list begins. The verdict has the numbers of the others in `unknown`.
 
-`attest` compares a log and a list with a quote in place of expected registers, and `verify_quote` verifies the quote's signature, by the key
-that `read_key` reads.
+`attest` compares a log and a list with a quote in place of expected registers, and verifies its signature by the machine's attestation key.
+`read_key` says what a key is.
 
 `entries(measurements)` and `events(log)` go through the inputs themselves. A `Session` is for a list that grows, and for one that grew after
 the expected registers were read.
@@ -39,28 +39,25 @@ otherwise what the system's loader finds as `libima_verify.so.1`. It is loaded b
 `LoadError`, which is an ImportError, or if it is of an earlier version `VersionError`, which is a LoadError."""
 
 from enum import Enum
-from typing import TYPE_CHECKING, Iterable, Literal, Optional, Tuple, Union
+from typing import Iterable, NamedTuple, Optional, Tuple, Union, overload
 
 from . import _answers, _library
-from ._errors import Error, InvalidSignature, Kind, LibraryError, LoadError, Misuse, OutOfMemory, Refused, VersionError
+from ._errors import Error, Kind, LibraryError, LoadError, Misuse, OutOfMemory, Refused, VersionError
 from ._library import JSON, TEXT, BytesLike
 from ._listings import Entries, Events
 from ._results import (
     Algorithm, Attestation, BootAggregate, Clock, Entry, Event, Key, KeyType, ListVerdict, LogAlgorithm, Part, Place, PlaceRow, Places, Register,
-    Report, Row, Scheme, State, Stray, Unconfirmed, Verdict,
+    Report, Row, Scheme, SignatureState, State, Stray, Unconfirmed, Verdict,
 )
-
-if TYPE_CHECKING:
-    from ._signatures import PublicKey
 
 __version__ = "1.0.0"
 
 __all__ = [
-    "Algorithm", "Attestation", "BootAggregate", "BytesLike", "Clock", "Entries", "Entry", "Error", "Event", "Events", "InvalidSignature", "Key",
-    "KeyType", "Kind", "LibraryError", "ListVerdict", "LoadError", "LogAlgorithm", "Misuse", "NOTHING", "Nothing", "OutOfMemory", "Part", "Place",
-    "PlaceRow", "Places", "Refused", "Register", "Report", "Row", "Scheme", "Session", "State", "Stray", "Unconfirmed", "Verdict", "VersionError",
+    "Algorithm", "Attestation", "BootAggregate", "BytesLike", "Clock", "Entries", "Entry", "Error", "Event", "Events", "Key", "KeyType", "Kind",
+    "LibraryError", "ListVerdict", "LoadError", "LogAlgorithm", "Misuse", "NOTHING", "Nothing", "OutOfMemory", "Part", "Place", "PlaceRow", "Places",
+    "Refused", "Register", "Report", "Row", "Scheme", "Session", "SignatureState", "State", "Stray", "Unconfirmed", "Verdict", "VersionError",
     "attest", "entries", "events", "expected", "list_registers", "locate", "read_endorsement_key", "read_key", "registers", "replay", "report",
-    "show", "verify", "verify_quote", "version",
+    "show", "verify", "version",
 ]
 
 
@@ -212,8 +209,20 @@ class Session:
         session._known = _copied(_joined(known, session._require))
         return session
 
+    @overload
     def attest(
-        self, data: BytesLike, message: BytesLike, *, nonce: BytesLike, require: str, signature_checked: bool, takes_sha1: bool = False
+        self, key: Text, nonce: BytesLike, quote: BytesLike, signature: BytesLike, data: BytesLike, *, require: str, takes_sha1: bool = False
+    ) -> Attestation: ...
+
+    @overload
+    def attest(
+        self, key: None, nonce: BytesLike, quote: BytesLike, signature: None, data: BytesLike, *, require: str, takes_sha1: bool = False,
+        signature_checked: bool,
+    ) -> Attestation: ...
+
+    def attest(
+        self, key: Optional[Text], nonce: BytesLike, quote: BytesLike, signature: Optional[BytesLike], data: BytesLike, *,
+        require: str, takes_sha1: bool = False, signature_checked: Optional[bool] = None,
     ) -> Attestation:
         """The verdict by a quote on the list that the state covers, followed by these bytes, which may be none.
 
@@ -221,25 +230,24 @@ class Session:
         `clock.restarts` are those of the last one. (A suspend counts as a restart: then begin a new session with the whole list.)
 
         Args:
-            message, nonce, require, signature_checked, takes_sha1: As for the function `attest`.
+            key, nonce, quote, signature, require, takes_sha1, signature_checked: As for the function `attest`.
 
         Raises:
             Refused: As `attest` does; or the state is damaged, of another boot, or of no quote (CHECKPOINT, 4).
             Misuse: As `attest` does.
 
-        >>> message, nonce = Path("../quoted/quote.msg").read_bytes(), bytes.fromhex(Path("../quoted/nonce").read_text())
-        >>> quoted = {"message": message, "nonce": nonce, "require": "sha256:0-10", "signature_checked": True}
+        >>> key, quote, signature = (Path("../quoted", name).read_bytes() for name in ("AK.pem", "quote.msg", "quote.sig"))
+        >>> given = key, bytes.fromhex(Path("../quoted/nonce").read_text()), quote, signature
         >>> session = ima_verify.Session.by_quotes(log, prefix=True)
-        >>> found = session.attest(measurements + measurements[-95:], **quoted)  # (an entry more than is quoted)
+        >>> found = session.attest(*given, measurements + measurements[-95:], require="sha256:0-10")  # (an entry more than is quoted)
         >>> found.matches, found.confirmed, found.entries, session.offset == len(measurements)
         (True, 99, 100, True)
         >>> later = ima_verify.Session.by_quotes(log, state=session.state)
-        >>> later.attest(measurements[later.offset:], **quoted).matches
+        >>> later.attest(*given, measurements[later.offset:], require="sha256:0-10").matches
         True
         """
-        start = self._reached
-        quoted = message, nonce, require, signature_checked, takes_sha1
-        found, self._reached = _attested(self._log, start, data, *quoted, self._known, self._prefix)
+        quoted = _Quoted(key, nonce, quote, signature, require, takes_sha1, signature_checked)
+        found, self._reached = _attested(self._log, self._reached, data, quoted, self._known, self._prefix)
         return found
 
     @property
@@ -253,72 +261,60 @@ class Session:
         return self._reached.bytes
 
 
-def verify_quote(key: Union[BytesLike, str, "PublicKey"], signature: BytesLike, message: BytesLike) -> Literal[True]:
-    """Verifies the signature of a quote: True if it is by this key and on this message. Otherwise it raises an error, and returns nothing.
+@overload
+def attest(
+    key: Text, nonce: BytesLike, quote: BytesLike, signature: BytesLike, log: BytesLike, measurements: BytesLike, *,
+    require: str, takes_sha1: bool = False, known: Optional[Known] = None,
+) -> Attestation: ...
 
-    The result is what `attest` takes as `signature_checked`. This needs the package `cryptography`, from version 37 on, for which this
-    package's extra `quotes` asks.
 
-    Args:
-        key: The machine's attestation key: the `pem` that `read_key` gives for a public area whose credential was activated, or such a key
-            as `cryptography` loads it. RSA of 2048 bits or more, or of the curve P-256, P-384 or P-521. A key that is not restricted, or was
-            imported, also signs messages that no TPM made, and a PEM does not tell it from another.
-        signature: The file that `tpm2_quote -f plain -s` writes: RSASSA, RSAPSS or ECDSA, by SHA-256, SHA-384 or SHA-512. Without
-            `-f plain` it is a TPMT_SIGNATURE, which is refused.
-        message: What the TPM signed, as for `attest`.
-
-    Raises:
-        InvalidSignature: The signature is not by this key, or not on this message, or of another form.
-        Misuse: The key is not one of these, or is not PEM of a public key alone. (It may be a private key, or a certificate.)
-        LoadError: The package `cryptography` is not there, or is too old.
-
-    >>> quoted = Path("../quoted")
-    >>> key, message, signature, tpmt = ((quoted / name).read_bytes() for name in ("AK.pem", "quote.msg", "quote.sig", "quote.tpmt"))
-    >>> ima_verify.verify_quote(key, signature, message)
-    True
-    >>> ima_verify.verify_quote(key, tpmt, message)  # (a TPMT_SIGNATURE)
-    Traceback (most recent call last):
-    ima_verify._errors.InvalidSignature: the signature is not by this key and on this message, in plain form and by SHA-256, SHA-384 or SHA-512
-    """
-    try:
-        from . import _signatures
-    except (ImportError, AttributeError) as error:
-        raise LoadError(f"verify_quote needs the package cryptography, from version 37 on: {error}") from error
-    return _signatures.verify(key, signature, message)
+@overload
+def attest(
+    key: None, nonce: BytesLike, quote: BytesLike, signature: None, log: BytesLike, measurements: BytesLike, *,
+    require: str, takes_sha1: bool = False, known: Optional[Known] = None, signature_checked: bool,
+) -> Attestation: ...
 
 
 def attest(
-    log: BytesLike, measurements: BytesLike, message: BytesLike, *,
-    nonce: BytesLike, require: str, signature_checked: bool, takes_sha1: bool = False, known: Optional[Known] = None,
+    key: Optional[Text], nonce: BytesLike, quote: BytesLike, signature: Optional[BytesLike], log: BytesLike, measurements: BytesLike, *,
+    require: str, takes_sha1: bool = False, known: Optional[Known] = None, signature_checked: Optional[bool] = None,
 ) -> Attestation:
-    """The verdict on a firmware event log and a measurement list by a quote. No file of register values is needed.
-
-    This verifies no signature: `verify_quote` does.
+    """The verdict on a firmware event log and a measurement list by a quote with its signature. No file of register values is needed.
 
     Args:
-        message: What the TPM signed, a TPMS_ATTEST: the file that `tpm2_quote -m` writes.
+        key: The machine's attestation key: the public area for which a credential was activated, as `read_key` reads it, or the `pem` that
+            `read_key` gives for it. It is of RSA with 2048 to 4096 bits, or of the curve P-256 or P-384. A PEM does not tell a key that also
+            signs messages that no TPM made from another, so keep one only of an area that `read_key` took.
         nonce: The verifier's own nonce for this quote, used once: 16 bytes or more.
+        quote: What the TPM signed, a TPMS_ATTEST: the file that `tpm2_quote -m` writes.
+        signature: The file that `tpm2_quote -s` writes, with `-f plain` or without: RSASSA, RSAPSS or ECDSA, by SHA-256, SHA-384 or SHA-512.
+        log, measurements: As for `verify`.
         require: The registers that must be quoted, at least 0 to 10, such as `sha256:0-10`.
-        signature_checked: `verify_quote(key, signature, message)`, of this same message; or whether the caller has verified it otherwise,
-            with the machine's attestation key, as `verify_quote` asks for it. There is no default; if it is False, there is no match.
         takes_sha1: Whether a register may be required in the SHA-1 bank alone.
         known: As for `verify`.
+        signature_checked: For a key that is not taken, such as one of the curve P-521, in place of key and signature, which are then None: whether
+            the caller has verified the signature of this same message by the machine's attestation key. If it is False, there is no match.
 
     Raises:
-        Refused: The message is no quote, has another nonce, or does not select a required register; a text of `known`, the log or the list is
-            not of its form, or the template digest of an entry does not match.
+        Refused: The key is none (KEY), or not one of these (SIGNATURE, 8 and 9); the signature is not by it and on this message (SIGNATURE, 1 to
+            7); the message is no quote, has another nonce, or does not select a required register (QUOTE); a text of `known`, the log or the
+            list is not of its form, or the template digest of an entry does not match.
         Misuse: `require` is not of its form, leaves out one of the registers 0 to 10, or names one of the SHA-1 bank alone; or the nonce is
             too short.
 
-    >>> message, nonce = Path("../quoted/quote.msg").read_bytes(), bytes.fromhex(Path("../quoted/nonce").read_text())
-    >>> found = ima_verify.attest(log, measurements, message, nonce=nonce, require="sha256:0-10", signature_checked=True)
+    >>> key, quote, signature = (Path("../quoted", name).read_bytes() for name in ("AK.pem", "quote.msg", "quote.sig"))
+    >>> nonce = bytes.fromhex(Path("../quoted/nonce").read_text())
+    >>> found = ima_verify.attest(key, nonce, quote, signature, log, measurements, require="sha256:0-10")
     >>> found.matches, found.entries, found.quoted[ima_verify.Algorithm.SHA256][-1], found.clock.resets
     (True, 99, 10, 1)
-    >>> ima_verify.attest(log, measurements, message, nonce=nonce, require="sha256:0-10", signature_checked=False).matches
+    >>> ima_verify.attest(key, nonce, quote, signature[::-1], log, measurements, require="sha256:0-10")
+    Traceback (most recent call last):
+    ima_verify._errors.Refused: refused: signature fault 7
+    >>> ima_verify.attest(None, nonce, quote, None, log, measurements, require="sha256:0-10", signature_checked=False).matches
     False
     """
-    quoted = message, nonce, require, signature_checked, takes_sha1
-    found, _ = _attested(log, _answers.START, measurements, *quoted, _joined(known, require), False)
+    quoted = _Quoted(key, nonce, quote, signature, require, takes_sha1, signature_checked)
+    found, _ = _attested(log, _answers.START, measurements, quoted, _joined(known, require), False)
     return found
 
 
@@ -357,9 +353,9 @@ def read_key(area: BytesLike) -> Key:
     """The attestation key of a public area.
 
     It is restricted, never leaves the TPM that made it, signs, and does not decrypt. It signs by SHA-256, SHA-384 or SHA-512, and is of RSA with
-    2048 bits or more, or of the curve P-256, P-384 or P-521. Whose TPM it is in, the area does not say, and anyone can write one. Take its `pem`
-    for `verify_quote` only after a credential was activated that was made to its `name` and to the machine's endorsement key. `ima-enroll` does
-    that, and keeps the PEM.
+    2048 bits or more, or of the curve P-256, P-384 or P-521. Whose TPM it is in, the area does not say, and anyone can write one. Take the area, or
+    its `pem`, for `attest` only after a credential was activated that was made to its `name` and to the machine's endorsement key. `ima-enroll`
+    does that, and keeps both.
 
     Args:
         area: A TPM2B_PUBLIC: the file that `tpm2_createak -u` writes.
@@ -482,23 +478,50 @@ def show(measurements: BytesLike) -> bytes:
     return b"".join(iter(_library.Pieces("entries", measurements, TEXT).next, b""))
 
 
+class _Quoted(NamedTuple):
+    """A quote, and what is asked of it."""
+
+    key: Optional[Text]
+    nonce: BytesLike
+    message: BytesLike
+    signature: Optional[BytesLike]
+    require: str
+    takes_sha1: bool
+    signature_checked: Optional[bool]
+
+
 def _attested(
-    log: BytesLike, start: _answers.Checkpoint, data: BytesLike, message: BytesLike, nonce: BytesLike, require: str, signature_checked: bool,
-    takes_sha1: bool, known: Optional[BytesLike], prefix: bool,
+    log: BytesLike, start: _answers.Checkpoint, data: BytesLike, quoted: _Quoted, known: Optional[BytesLike], prefix: bool
 ) -> Tuple[Attestation, _answers.Checkpoint]:
     """The verdict by a quote on the list of a checkpoint followed by these bytes, and the next checkpoint."""
-    for name, value in (("signature_checked", signature_checked), ("takes_sha1", takes_sha1)):
-        if not isinstance(value, bool):
-            raise TypeError(f"{name} is True or False, and not {value!r}")
+    signature, by_key = _signing_of(quoted)
+    require, takes_sha1, judges_known = quoted.require, quoted.takes_sha1, known is not None
+    if not isinstance(takes_sha1, bool):
+        raise TypeError(f"takes_sha1 is True or False, and not {takes_sha1!r}")
     if not isinstance(require, str):
         raise TypeError(f"require is a text, and not {require!r}")
-    judges_known = known is not None
-    inputs = log, start.text, data, message, nonce, _required(require), b"" if known is None else known
-    size = memoryview(nonce).nbytes
+    inputs = log, start.text, data, quoted.message, *by_key, quoted.nonce, _required(require), b"" if known is None else known
+    size = memoryview(quoted.nonce).nbytes
     if size < _NONCE_BYTES:
         raise Misuse(f"a nonce has {_NONCE_BYTES} bytes or more, and not {size}")
-    answer = _library.call_more("attest", inputs, (judges_known, takes_sha1, signature_checked, prefix), require)
-    return _answers.read_attestation(*answer, signature_checked, start, memoryview(data).nbytes, judges_known, prefix)
+    flags = judges_known, takes_sha1, signature is SignatureState.CHECKED, prefix
+    answer = _library.call_more("attest", inputs, flags, require)
+    return _answers.read_attestation(*answer, signature, start, memoryview(data).nbytes, judges_known, prefix)
+
+
+def _signing_of(quoted: _Quoted) -> Tuple[SignatureState, Tuple[BytesLike, BytesLike]]:
+    """What a report says of the quote's signature, and the key and the signature for the library, to which no bytes are none."""
+    key, signature, checked = quoted.key, quoted.signature, quoted.signature_checked
+    if key is None and signature is None and isinstance(checked, bool):
+        return SignatureState.CHECKED if checked else SignatureState.NOT_CHECKED, (b"", b"")
+    if key is None or signature is None or checked is not None:
+        raise TypeError("attest takes a key and a signature, or None for both and signature_checked, which is True or False")
+    return SignatureState.VALID, (_some_bytes(_bytes_of(key)), _some_bytes(signature))
+
+
+def _some_bytes(data: BytesLike) -> BytesLike:
+    """These bytes, or in place of none a zero, which is refused for the same reason: it ends too early."""
+    return data if memoryview(data).nbytes else bytes(1)
 
 
 def _judged(

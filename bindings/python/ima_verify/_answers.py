@@ -9,7 +9,7 @@ from ._errors import Kind, Refused
 from ._library import DIFFERS, DONE, unexpected
 from ._results import (
     Algorithm, Attestation, BootAggregate, Clock, Entry, Event, Key, KeyType, ListVerdict, LogAlgorithm, Part, Place, PlaceRow, Places, Register,
-    Report, Row, Scheme, State, Stray, Unconfirmed, Verdict,
+    Report, Row, Scheme, SignatureState, State, Stray, Unconfirmed, Verdict,
 )
 
 REGISTERS, LIST_REGISTER = 24, 10
@@ -141,10 +141,9 @@ def read_list_verdict(result: int, text: bytes, judges_known: bool = False) -> L
 
 
 def read_attestation(
-    result: int, text: bytes, state: bytes, signature_checked: bool, start: Checkpoint, size: int, judges_known: bool, has_prefix: bool
+    result: int, text: bytes, state: bytes, signature: SignatureState, start: Checkpoint, size: int, judges_known: bool, has_prefix: bool
 ) -> Tuple[Attestation, Checkpoint]:
-    """The verdict by a quote that a report states, where the caller has checked the signature, or has not; and the next checkpoint, as of
-    `read_more`."""
+    """The verdict by a quote that a report states, where this has to be known of its signature; and the next checkpoint, as of `read_more`."""
     with _reading(result, text):
         report = _object_of(text)
         aggregate, events, entries = BootAggregate(report["boot_aggregate"]), _number(report, "events"), _number(report, "entries")
@@ -155,16 +154,15 @@ def read_attestation(
         is_confirmed = quote_matches and aggregate is BootAggregate.GOOD
         _require((confirmed is not None) == (has_prefix and is_confirmed))
         is_attested = is_confirmed and not extends and not unknown
-        matches = is_attested and signature_checked
-        verdict = ("match" if is_attested else "differ") if signature_checked else "signature not checked"
-        _require((report["quote"], report["signature"]) == (
-            "match" if quote_matches else "differ", "checked" if signature_checked else "not checked"
-        ))
+        is_signed = signature is not SignatureState.NOT_CHECKED
+        matches = is_attested and is_signed
+        verdict = ("match" if is_attested else "differ") if is_signed else "signature not checked"
+        _require((report["quote"], report["signature"]) == ("match" if quote_matches else "differ", signature.value))
         _require((result, report["verdict"]) == (DONE if matches else DIFFERS, verdict))
         found = Attestation(
             _quoted_of(_member(report, "quoted", list)), _bytes(report, "signer"), _clock_of(_member(report, "clock", dict)),
-            _number(report, "firmware"), events, _number(report, "locality", 255), entries, aggregate, quote_matches, signature_checked,
-            matches, text[:-1].decode(), extends, confirmed, unconfirmed, first, unknown,
+            _number(report, "firmware"), events, _number(report, "locality", 255), entries, aggregate, quote_matches, signature, matches,
+            text[:-1].decode(), extends, confirmed, unconfirmed, first, unknown,
         )
         return found, _reached_by(found, state, start, size)
 

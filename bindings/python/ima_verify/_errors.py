@@ -17,6 +17,7 @@ class Kind(str, enum.Enum):
     QUOTE = "quote"  # the message of a quote: it is none (1 to 10), has another nonce (11), or lacks a required register (12)
     KEY = "key"  # the public area of a key: it is none (1 to 10), or the key lacks what its purpose needs (11 to 22)
     KNOWN = "known"  # the known files: a line has a digest by SHA-1 (1), or is no digest and name (2)
+    SIGNATURE = "signature"  # that of a quote: it is none (1 to 4), or not by the key (5 to 7); or the key is not taken (8), or its PEM (9)
 
 
 class Error(Exception):
@@ -56,12 +57,8 @@ class Misuse(Error, ValueError):
     """An argument has no meaning, such as an empty `require`."""
 
 
-class InvalidSignature(Error):
-    """The signature is not by the key and on the message, or it is by SHA-1 or in another form than the plain one."""
-
-
 class LoadError(Error, ImportError):
-    """The shared library cannot be used: it is not there, or is another file. Or `verify_quote` lacks the package `cryptography`."""
+    """The shared library cannot be used: it is not there, or is another file."""
 
 
 class VersionError(LoadError):

@@ -24,8 +24,9 @@ TEXT, JSON = False, True
 NO_FAULT, ARGUMENT, MEMORY = 0, 1, 7
 KINDS = {
     2: Kind.LOG, 3: Kind.LIST, 4: Kind.REPLAY, 5: Kind.EXPECTED, 6: Kind.CHECKPOINT, 8: Kind.QUOTE, 9: Kind.KEY, 10: Kind.KNOWN,
+    11: Kind.SIGNATURE,
 }
-WITHOUT_PLACES = Kind.CHECKPOINT, Kind.QUOTE, Kind.KEY
+WITHOUT_PLACES = Kind.CHECKPOINT, Kind.QUOTE, Kind.KEY, Kind.SIGNATURE
 NO_PLACE = c_uint64(-1).value
 
 # A report on all 96 registers of 4 banks has less, even if all values differ.
@@ -52,7 +53,7 @@ FUNCTIONS = {
     "locate": (4, (c_bool,)),
     "replay": (4, (c_bool, c_bool)),
     "more": (6, (c_bool, c_bool, c_bool, c_void_p, c_size_t, _SIZE)),
-    "attest": (7, (c_bool, c_bool, c_bool, c_bool, c_bool, c_void_p, c_size_t, _SIZE)),
+    "attest": (9, (c_bool, c_bool, c_bool, c_bool, c_bool, c_void_p, c_size_t, _SIZE)),
     "expected": (2, (c_bool,)),
     "registers": (1, (c_bool, c_bool)),
     "key": (1, (c_bool, c_bool)),

@@ -229,6 +229,14 @@ class Clock:
     safe: bool
 
 
+class SignatureState(enum.Enum):
+    """What is known of a quote's signature."""
+
+    NOT_CHECKED = "not checked"  # nobody verified it
+    CHECKED = "checked"  # the caller says that he verified it
+    VALID = "valid"  # it is by the key that was given
+
+
 @dataclass(frozen=True)
 class Attestation:
     """The verdict on a log and a list by a quote. As a condition, it is true exactly if it is a match.
@@ -243,8 +251,8 @@ class Attestation:
         entries: How many entries the list has.
         boot_aggregate: How the list's first entry compares with the log.
         quote_matches: Whether the quote is of the values to which log and list replay.
-        signature_checked: What the caller said.
-        matches: Whether `quote_matches`, the boot aggregate is good, `extends` and `unknown` are empty, and the caller checked the signature. It
+        signature: VALID, if it is by the key that was given; otherwise what the caller said.
+        matches: Whether `quote_matches`, the boot aggregate is good, `extends` and `unknown` are empty, and the signature is VALID or CHECKED. It
             covers the registers in `quoted`, and no others.
         json: The report as JSON, without the line feed.
         extends: The first event that extends register 10, and the first entry that extends another.
@@ -261,7 +269,7 @@ class Attestation:
     entries: int
     boot_aggregate: BootAggregate
     quote_matches: bool
-    signature_checked: bool
+    signature: SignatureState
     matches: bool
     json: str
     extends: Tuple[Stray, ...] = ()
@@ -304,7 +312,7 @@ class Key:
         bits: The size of the modulus, or 256, 384 or 521 for the curves P-256, P-384 and P-521.
         scheme: The scheme that is fixed in it.
         hash: The hash of the scheme, or None if it has none.
-        pem: The public key as `openssl pkey -pubin` writes it, which `verify_quote` takes.
+        pem: The public key as `openssl pkey -pubin` writes it, which `attest` takes.
     """
 
     name: bytes

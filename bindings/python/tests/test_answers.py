@@ -19,7 +19,7 @@ sys.path.insert(0, str(ROOT / "bindings/python"))
 
 import fake
 import ima_verify
-from ima_verify import NOTHING, Kind, _answers, _library
+from ima_verify import NOTHING, Kind, SignatureState, _answers, _library
 
 LOG, LIST, EXPECTED, ASCII, REGISTER_LINES = (
     (ROOT / "samples/real-boot" / name).read_bytes() for name in ("firmware.log", "ima.list", "expected.txt", "ima.ascii", "registers.txt")
@@ -39,7 +39,8 @@ STRAYING = REPORT.replace(b'"verdict":"match"', EXTENDS)
 ATTESTED = (b'{"quoted":[{"bank":"sha1","registers":[10]},{"bank":"sha256","registers":[0,1,10]}],"signer":"000b' + 64 * b"a" + b'",'
             b'"clock":{"milliseconds":5,"resets":1,"restarts":0,"safe":true},"firmware":7,"events":1,"locality":0,"entries":3,'
             b'"boot_aggregate":"good","quote":"match","signature":"checked","verdict":"match"}\n')
-UNSIGNED = b'"signature":"checked","verdict":"match"', b'"signature":"not checked","verdict":"signature not checked"'
+VALID = ATTESTED.replace(b'"signature":"checked"', b'"signature":"valid"')
+UNSIGNED = ATTESTED.replace(b'"signature":"checked","verdict":"match"', b'"signature":"not checked","verdict":"signature not checked"')
 MISSING = b'{"bank":"sha1","register":4,"state":"missing"}'
 LACKING = REPORT.replace(b'}],"verdict":"match"', b"}," + MISSING + b'],"verdict":"differ"')
 LACKING_PLACES = PLACES.replace(b'}],"located":true', b'},{"bank":"sha1","register":4,"place":"missing"}],"located":false')
@@ -66,14 +67,14 @@ NONE = _library.NO_PLACE
 STATE = b"ima-agent checkpoint 3\nentries 3\nbytes 300\nboot_aggregate none\n"
 
 
-def read_attestation(result, text, signature_checked):
+def read_attestation(result, text, signature):
     """The verdict by a quote on a whole list, with the checkpoint that only a match has."""
-    return _answers.read_attestation(result, text, b"" if result else STATE, signature_checked, _answers.START, 300, False, False)[0]
+    return _answers.read_attestation(result, text, b"" if result else STATE, signature, _answers.START, 300, False, False)[0]
 
 
 def read_known_attestation(result, text):
-    """The same by known files, where the signature was checked."""
-    return _answers.read_attestation(result, text, b"" if result else STATE, True, _answers.START, 300, True, False)[0]
+    """The same by known files, where the caller verified the signature."""
+    return _answers.read_attestation(result, text, b"" if result else STATE, SignatureState.CHECKED, _answers.START, 300, True, False)[0]
 
 
 def with_unknown(report, numbers):
@@ -245,22 +246,24 @@ class Answers(unittest.TestCase):
                 self.check_wrong(read, 1, DIFFERING.replace(64 * b"0", value))
 
     def test_right_reports_by_a_quote_are_read(self):
-        found = read_attestation(0, ATTESTED, True)
+        found = read_attestation(0, VALID, SignatureState.VALID)
         quoted = {ima_verify.Algorithm.SHA1: (10,), ima_verify.Algorithm.SHA256: (0, 1, 10)}
         self.assertEqual((found.quoted, found.signer.hex(), found.firmware), (quoted, "000b" + 64 * "a", 7))
         self.assertEqual((found.clock, found.events, found.locality, found.entries), (ima_verify.Clock(5, 1, 0, True), 1, 0, 3))
         self.assertEqual((found.boot_aggregate, found.extends), (ima_verify.BootAggregate.GOOD, ()))
-        self.assertEqual((found.quote_matches, found.signature_checked, found.matches, bool(found)), (True, True, True, True))
-        self.assertEqual(found.json, ATTESTED[:-1].decode())
-        for old, new in ((b'"quote":"match"', b'"quote":"differ"'), (b'"good"', b'"wrong"'),
-                         (b'"quote"', b'"extends":[{"entry":2,"register":11}],"quote"')):
-            text = ATTESTED.replace(old, new)
-            differing = read_attestation(1, text.replace(b'"verdict":"match"', b'"verdict":"differ"'), True)
-            self.assertEqual((differing.matches, differing.signature_checked, bool(differing)), (False, True, False))
-        unsigned = ATTESTED.replace(*UNSIGNED)
-        for text in (unsigned, unsigned.replace(b'"quote":"match"', b'"quote":"differ"')):
-            found = read_attestation(1, text, False)
-            self.assertEqual((found.matches, found.signature_checked, bool(found)), (False, False, False))
+        self.assertEqual((found.quote_matches, found.signature, found.matches, bool(found)), (True, SignatureState.VALID, True, True))
+        self.assertEqual(found.json, VALID[:-1].decode())
+        for state, attested in ((SignatureState.VALID, VALID), (SignatureState.CHECKED, ATTESTED)):
+            found = read_attestation(0, attested, state)
+            self.assertEqual((found.matches, found.signature, bool(found)), (True, state, True))
+            for old, new in ((b'"quote":"match"', b'"quote":"differ"'), (b'"good"', b'"wrong"'),
+                             (b'"quote"', b'"extends":[{"entry":2,"register":11}],"quote"')):
+                text = attested.replace(old, new)
+                differing = read_attestation(1, text.replace(b'"verdict":"match"', b'"verdict":"differ"'), state)
+                self.assertEqual((differing.matches, differing.signature, bool(differing)), (False, state, False))
+        for text in (UNSIGNED, UNSIGNED.replace(b'"quote":"match"', b'"quote":"differ"')):
+            found = read_attestation(1, text, SignatureState.NOT_CHECKED)
+            self.assertEqual((found.matches, found.signature, bool(found)), (False, SignatureState.NOT_CHECKED, False))
 
     def test_numbers_up_to_their_ends_are_read(self):
         """Counts of 64 bits, such as the version of a firmware to which the TPM adds a constant, and smaller ones."""
@@ -275,7 +278,7 @@ class Answers(unittest.TestCase):
         text = ATTESTED.replace(b"[10]", b"[0,23]").replace(
             b'"milliseconds":5,"resets":1,"restarts":0', b'"milliseconds":%b,"resets":4294967295,"restarts":4294967295' % most).replace(
             b'"firmware":7,"events":1,"locality":0', b'"firmware":%b,"events":%b,"locality":255' % (most, most))
-        found = read_attestation(0, text, True)
+        found = read_attestation(0, text, SignatureState.CHECKED)
         self.assertEqual(found.clock, ima_verify.Clock(2**64 - 1, 2**32 - 1, 2**32 - 1, True))
         self.assertEqual((found.firmware, found.events, found.locality, found.matches), (2**64 - 1, 2**64 - 1, 255, True))
         self.assertEqual(found.quoted[ima_verify.Algorithm.SHA1], (0, 23))
@@ -294,20 +297,23 @@ class Answers(unittest.TestCase):
             (b'"locality":0', b'"locality":256'), (b'"good"', b'"wrong"'), (b'"good"', b'"fine"'), (b'"boot_aggregate":"good",', b""),
             (b'"quote":"match"', b'"quote":"differ"'), (b'"quote":"match"', b'"quote":"Match"'), (b'"quote":"match",', b""),
             (b'"signature":"checked"', b'"signature":"not checked"'), (b'"signature":"checked",', b""),
-            (b'"signature":"checked"', b'"signature":true'),
+            (b'"signature":"checked"', b'"signature":true'), (b'"signature":"checked"', b'"signature":"valid"'),
+            (b'"signature":"checked"', b'"signature":"Checked"'),
             (b'"verdict":"match"', b'"verdict":"differ"'), (b'"verdict":"match"', b'"verdict":"signature not checked"'),
             (b',"verdict":"match"', b""), (b'"entries":3', b'"entries":3,"confirmed":2'),
             (b'"quote"', b'"extends":[{"entry":2,"register":11}],"quote"'), (b'"quote"', b'"extends":[],"quote"'), (ATTESTED, FAULT),
-        ), True)
-        unsigned = ATTESTED.replace(*UNSIGNED)
-        for status, text, is_checked in (
-            (1, ATTESTED, True), (0, ATTESTED, False), (1, ATTESTED, False), (0, unsigned, True), (1, unsigned, True), (0, unsigned, False),
-            (1, unsigned.replace(b'"verdict":"signature not checked"', b'"verdict":"differ"'), False),
-            (1, unsigned.replace(b'"verdict":"signature not checked"', b'"verdict":"match"'), False),
-        ):
-            self.check_wrong(read_attestation, status, text, is_checked)
+        ), SignatureState.CHECKED)
+        reports = {SignatureState.VALID: VALID, SignatureState.CHECKED: ATTESTED, SignatureState.NOT_CHECKED: UNSIGNED}
+        for state, text in reports.items():
+            for status in (0, 1):
+                for other in SignatureState:
+                    if other is not state or status == (state is not SignatureState.NOT_CHECKED):
+                        self.check_wrong(read_attestation, status, text, other)
+        for verdict in (b"differ", b"match"):
+            text = UNSIGNED.replace(b'"verdict":"signature not checked"', b'"verdict":"%b"' % verdict)
+            self.check_wrong(read_attestation, 1, text, SignatureState.NOT_CHECKED)
         for size in range(len(ATTESTED)):
-            self.check_wrong(read_attestation, 0, ATTESTED[:size], True)
+            self.check_wrong(read_attestation, 0, ATTESTED[:size], SignatureState.CHECKED)
 
     def test_wrong_reports_with_missing_registers_are_no_verdicts(self):
         self.check_changes(_answers.read_verdict, 1, LACKING, (
@@ -797,7 +803,8 @@ class Failures(unittest.TestCase):
             (Kind.LIST, 1, 2, "refused: list fault 1 at entry 2"), (Kind.REPLAY, 1, 2, "refused: replay fault 1 at entry 2"),
             (Kind.EXPECTED, 1, 2, "refused: expected fault 1 at line 2"), (Kind.EXPECTED, 6, NONE, "refused: expected fault 6"),
             (Kind.CHECKPOINT, 3, NONE, "refused: checkpoint fault 3"), (Kind.QUOTE, 11, NONE, "refused: quote fault 11"),
-            (Kind.KEY, 22, NONE, "refused: key fault 22"), (Kind.KNOWN, 2, 17, "refused: known fault 2 at line 17"),
+            (Kind.KEY, 22, NONE, "refused: key fault 22"), (Kind.SIGNATURE, 9, NONE, "refused: signature fault 9"),
+            (Kind.KNOWN, 2, 17, "refused: known fault 2 at line 17"),
             (Kind.LIST, 1, 0, "refused: list fault 1 at entry 0"),
             (Kind.LIST, 2**32 - 1, 2**64 - 2, "refused: list fault 4294967295 at entry 18446744073709551614"),
         ):
@@ -813,12 +820,15 @@ class Failures(unittest.TestCase):
         for name, inputs in (
             ("registers", (b"",)), ("registers", (bytes(32),)), ("registers", (LOG[:-1],)), ("verdict", (LOG, LIST[:-1], EXPECTED, b"none", b"")),
             ("verdict", (LOG, LIST.replace(b"/bin/helper", b"/bin/helpex"), EXPECTED, b"none", b"")), ("verdict", (LOG, LIST, b"x", b"none", b"")),
-            ("expected", (b"", b"")), ("expected", (b"sha256:\n  0 : x\n", b"")), ("attest", (LOG, b"", LIST, b"", bytes(16), b"sha256:0-10", b"")),
+            ("expected", (b"", b"")), ("expected", (b"sha256:\n  0 : x\n", b"")),
+            ("attest", (LOG, b"", LIST, b"", b"", b"", bytes(16), b"sha256:0-10", b"")),
+            ("attest", (LOG, b"", LIST, b"", b"x", b"x", bytes(16), b"sha256:0-10", b"")),
+            ("attest", (LOG, b"", LIST, b"", b"-----BEGIN", b"x", bytes(16), b"sha256:0-10", b"")),
             ("key", (b"",)), ("key", (LOG,)), ("replay", (LIST, EXPECTED, b"sha256:10", 64 * b"a" + b"  /a\nx")),
             ("replay", (LIST, EXPECTED, b"sha256:10", 40 * b"a" + b"  /a\n")),
         ):
             room, size = ctypes.create_string_buffer(1), ctypes.c_size_t()
-            quoted = False, False, True, False, False, room, 1, ctypes.byref(size)
+            quoted = False, False, False, False, False, room, 1, ctypes.byref(size)
             pair, by_known = (False, False), (True, False)
             options = {"registers": pair, "key": pair, "verdict": pair, "replay": by_known, "attest": quoted}.get(name, (False,))
             line = []
@@ -834,10 +844,11 @@ class Failures(unittest.TestCase):
             self.assertEqual([f"{caught.exception}\n"], line)
 
     def test_wrong_refusals_are_no_refusals(self):
-        for fault in (fake.NO_FAULT, (8, 1, 2), (11, 1, NONE), (99, 1, NONE), (_library.MEMORY, 0, NONE), (_library.ARGUMENT, 0, NONE),
+        for fault in (fake.NO_FAULT, (8, 1, 2), (12, 1, NONE), (99, 1, NONE), (_library.MEMORY, 0, NONE), (_library.ARGUMENT, 0, NONE),
                       fake.fault_of(Kind.LIST, 0, 2), fake.fault_of(Kind.LOG, 0), fake.fault_of(Kind.CHECKPOINT, 3, 3),
                       fake.fault_of(Kind.CHECKPOINT, 0), fake.fault_of(Kind.QUOTE, 11, 3), fake.fault_of(Kind.QUOTE, 0),
-                      fake.fault_of(Kind.KEY, 1, 3), fake.fault_of(Kind.KEY, 0)):
+                      fake.fault_of(Kind.KEY, 1, 3), fake.fault_of(Kind.KEY, 0), fake.fault_of(Kind.SIGNATURE, 7, 3),
+                      fake.fault_of(Kind.SIGNATURE, 0)):
             self.check_wrong(REFUSED, fault)
         for result in (-1, TOO_SHORT, MISUSED, 7, 1 << 30):
             self.check_wrong(result)
@@ -888,13 +899,13 @@ class Errors(unittest.TestCase):
 
     def test_all_errors_have_one_base(self):
         for error, other in ((ima_verify.Refused, Exception), (ima_verify.OutOfMemory, MemoryError), (ima_verify.Misuse, ValueError),
-                             (ima_verify.InvalidSignature, Exception), (ima_verify.LoadError, ImportError),
+                             (ima_verify.LoadError, ImportError),
                              (ima_verify.VersionError, ima_verify.LoadError), (ima_verify.LibraryError, RuntimeError)):
             self.assertTrue(issubclass(error, ima_verify.Error) and issubclass(error, other))
         self.assertFalse(issubclass(ima_verify.Refused, ValueError))
         exported = {name for name in ima_verify.__all__ if isinstance(getattr(ima_verify, name), type)}
         errors = {name for name in exported if issubclass(getattr(ima_verify, name), BaseException)}
-        self.assertEqual(errors, {"Error", "Refused", "OutOfMemory", "Misuse", "InvalidSignature", "LoadError", "VersionError", "LibraryError"})
+        self.assertEqual(errors, {"Error", "Refused", "OutOfMemory", "Misuse", "LoadError", "VersionError", "LibraryError"})
 
     def test_refusal_can_be_pickled(self):
         for place in (None, 0, 5):

@@ -3,7 +3,6 @@
 From bindings/python: IMA_VERIFY_LIBRARY=/path/to/libima_verify.so python3 -m unittest discover tests"""
 
 import doctest
-import importlib.util
 import inspect
 import os
 import sys
@@ -17,8 +16,6 @@ import ima_verify
 
 SAMPLE = ROOT / "samples/real-boot"
 CALLS = [name for name in ima_verify.__all__ if inspect.isfunction(getattr(ima_verify, name))] + ["Session"]
-if importlib.util.find_spec("cryptography") is None:
-    CALLS.remove("verify_quote")
 
 
 class Examples(unittest.TestCase):

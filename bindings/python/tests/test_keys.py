@@ -3,8 +3,8 @@ here.
 
 From bindings/python: IMA_VERIFY_LIBRARY=/path/to/libima_verify.so python3 -m unittest discover tests"""
 
+import base64
 import hashlib
-import importlib.util
 import pickle
 import sys
 import unittest
@@ -60,6 +60,11 @@ def rsa_area(modulus, scheme=(0x14, 0x0B), name_hash=0x0B, bits=None, exponent=0
     size = numbers(8 * len(modulus) if bits is None else bits)
     head = numbers(1, name_hash) + bytes.fromhex("00050072") + sized(b"")
     return sized(head + numbers(0x10, *scheme) + size + exponent.to_bytes(4, "big") + sized(modulus))
+
+
+def modulus_in(pem):
+    """The modulus of a key of RSA with 2048 bits, in a PEM."""
+    return base64.b64decode(b"".join(pem.splitlines()[1:-1]))[33:289]
 
 
 def turned(data, place, bit):
@@ -128,18 +133,28 @@ class Keys(unittest.TestCase):
         area = rsa_area(b"\x80" + bytes(65528 // 8 - 1))
         self.assertEqual(ima_verify.read_key(area).bits, 65528)
 
-    @unittest.skipUnless(importlib.util.find_spec("cryptography"), "this machine has no cryptography for Python")
-    def test_pem_is_of_the_key_that_verifies_quotes(self):
-        from cryptography.hazmat.primitives.serialization import load_pem_public_key
-
+    def test_keys_that_are_read_verify_quotes(self):
+        """The area and its PEM; of another key neither, and of one on P-521 no signature is verified."""
         stored, message, signature = ((QUOTED / name).read_bytes() for name in ("AK.pem", "quote.msg", "quote.sig"))
-        modulus = load_pem_public_key(stored).public_numbers().n
-        key = ima_verify.read_key(rsa_area(modulus.to_bytes(256, "big")))
-        self.assertEqual(key.pem.encode(), stored)
-        self.assertIs(ima_verify.verify_quote(key.pem, signature, message), True)
+        log, measurements = ((ROOT / "samples/real-boot" / name).read_bytes() for name in ("firmware.log", "ima.list"))
+        nonce = bytes.fromhex((QUOTED / "nonce").read_text())
+
+        def attest(key):
+            return ima_verify.attest(key, nonce, message, signature, log, measurements, require="sha256:0-10")
+
+        area = rsa_area(modulus_in(stored))
+        self.assertEqual(ima_verify.read_key(area).pem.encode(), stored)
+        self.assertTrue(attest(area))
+        self.assertTrue(attest(ima_verify.read_key(area).pem))
         for name in ATTESTATION:
-            with self.assertRaises(ima_verify.InvalidSignature):
-                ima_verify.verify_quote(ima_verify.read_key(area_of(name)).pem, signature, message)
+            for key, not_taken in ((area_of(name), 8), (ima_verify.read_key(area_of(name)).pem, 9)):
+                with self.assertRaisesRegex(ima_verify.Refused, r"^refused: signature fault \d$") as caught:
+                    attest(key)
+                self.assertEqual(caught.exception.number == not_taken, name == "ak-p521")
+                self.assertTrue(caught.exception.number in (2, 7, not_taken))
+        for name, number in REFUSED_AS_ATTESTATION.items():
+            with self.assertRaisesRegex(ima_verify.Refused, f"^refused: key fault {number}$"):
+                attest(area_of(name))
 
     def test_arguments_of_other_types_are_type_errors(self):
         for read in READS:

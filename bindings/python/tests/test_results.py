@@ -21,8 +21,9 @@ sys.path[:0] = [str(ROOT / "bindings/python"), str(ROOT / "tools/bench")]
 
 import ima_verify
 import inputs
-from ima_verify import NOTHING, Algorithm, BootAggregate, Entry, Event, Kind, Part, Place, PlaceRow, Register, Row, Session, State, Stray
-from ima_verify import _library
+from ima_verify import (
+    NOTHING, Algorithm, BootAggregate, Entry, Event, Kind, Part, Place, PlaceRow, Register, Row, Session, SignatureState, State, Stray, _library
+)
 from reference.log import EV_NO_ACTION, read_log
 from reference.log import Event as LogEvent
 from reference.measurement_list import BOOT_AGGREGATE, IMA_NG, entry_of, list_spelling, list_text, read_list
@@ -35,7 +36,9 @@ LOG, LIST, EXPECTED, ASCII, REGISTERS, PRINTED = (
     (SAMPLE / name).read_bytes()
     for name in ("firmware.log", "ima.list", "expected.txt", "ima.ascii", "registers.txt", "tpm2_pcrread.txt")
 )
-QUOTED, MESSAGE = ((ROOT / "samples/quoted" / name).read_bytes() for name in ("sha256.txt", "quote.msg"))
+QUOTED, KEY, MESSAGE, SIGNATURE, TPMT_SIGNATURE = (
+    (ROOT / "samples/quoted" / name).read_bytes() for name in ("sha256.txt", "AK.pem", "quote.msg", "quote.sig", "quote.tpmt")
+)
 NONCE = bytes.fromhex((ROOT / "samples/quoted/nonce").read_text())
 SUMS, BEFORE = ((ROOT / "samples/known" / name).read_bytes() for name in ("SHA256SUMS", "before-violations.expected"))
 LAST_ENTRY_SIZE = 95
@@ -95,7 +98,7 @@ class Sample(unittest.TestCase):
             ima_verify.replay(LONGER, EXPECTED, require="sha256:10"), *ima_verify.registers(LOG), *ima_verify.entries(LIST),
             *ima_verify.events(LOG).algorithms, Session(LOG, EXPECTED, require=NOTHING, prefix=True).more(LIST + b"x"),
         ]
-        unhashable = [*ima_verify.events(LOG), ima_verify.attest(LOG, LIST, MESSAGE, nonce=NONCE, require="sha256:0-10", signature_checked=True)]
+        unhashable = [*ima_verify.events(LOG), ima_verify.attest(KEY, NONCE, MESSAGE, SIGNATURE, LOG, LIST, require="sha256:0-10")]
         for result in (*results, *results[0].rows, *results[2].rows, results[-1].unconfirmed, *unhashable, unhashable[-1].clock):
             for field in dataclasses.fields(result):
                 with self.assertRaises(dataclasses.FrozenInstanceError):
@@ -309,14 +312,14 @@ class KnownFiles(unittest.TestCase):
 
     def calls(self, known, log=LOG, measurements=LIST):
         """The calls that give verdicts by these known files, of each function that takes them."""
-        quoted = {"nonce": NONCE, "signature_checked": True, **self.GIVEN}
+        quoted = KEY, NONCE, MESSAGE, SIGNATURE
         return (
             lambda: ima_verify.verify(log, measurements, EXPECTED, **self.GIVEN, known=known),
             lambda: ima_verify.report(log, measurements, EXPECTED, **self.GIVEN, known=known),
             lambda: ima_verify.replay(measurements, EXPECTED, **self.GIVEN, known=known),
-            lambda: ima_verify.attest(log, measurements, MESSAGE, **quoted, known=known),
+            lambda: ima_verify.attest(*quoted, log, measurements, **self.GIVEN, known=known),
             lambda: Session(log, EXPECTED, **self.GIVEN, known=known).more(measurements),
-            lambda: Session.by_quotes(log, prefix=True, known=known).attest(measurements, MESSAGE, **quoted),
+            lambda: Session.by_quotes(log, prefix=True, known=known).attest(*quoted, measurements, **self.GIVEN),
         )
 
     def test_entries_of_no_known_file_are_told(self):
@@ -346,7 +349,7 @@ class KnownFiles(unittest.TestCase):
         self.assertEqual((found.matches, found.entries, found.known_from, found.unknown), (False, 99, 93, self.VIOLATIONS))
         self.assertEqual((later.state, later.offset), (state, offset))
         by_quotes = Session.by_quotes(LOG, known=[SUMS])
-        self.assertFalse(by_quotes.attest(LIST, MESSAGE, nonce=NONCE, signature_checked=True, **self.GIVEN))
+        self.assertFalse(by_quotes.attest(KEY, NONCE, MESSAGE, SIGNATURE, LIST, **self.GIVEN))
         self.assertIsNone(by_quotes.state)
         # (what the state covers is not looked up again)
         found = Session(LOG, BEFORE, **self.GIVEN, state=state, known=[]).more(b"")
@@ -370,17 +373,23 @@ class KnownFiles(unittest.TestCase):
 class Quoted(unittest.TestCase):
     """A quote of the sample's registers 0 to 10 in the SHA-256 bank."""
 
-    def attest(self, log=LOG, measurements=LIST, message=MESSAGE, *, nonce=NONCE, require="sha256:0-10", signature_checked=True, **more):
-        return ima_verify.attest(log, measurements, message, nonce=nonce, require=require, signature_checked=signature_checked, **more)
+    def attest(
+        self, log=LOG, measurements=LIST, *, key=KEY, nonce=NONCE, quote=MESSAGE, signature=SIGNATURE, require="sha256:0-10", **more
+    ):
+        return ima_verify.attest(key, nonce, quote, signature, log, measurements, require=require, **more)
 
-    def check_refused(self, number, **given):
-        with self.assertRaisesRegex(ima_verify.Refused, f"^refused: quote fault {number}$") as caught:
-            self.attest(**given)
-        self.assertEqual((caught.exception.kind, caught.exception.number, caught.exception.place), (Kind.QUOTE, number, None))
+    def attest_checked(self, *inputs, signature_checked=True, **given):
+        """The verdict where the caller says whether he verified the signature."""
+        return self.attest(*inputs, key=None, signature=None, signature_checked=signature_checked, **given)
+
+    def check_refused(self, number, kind=Kind.QUOTE, attest=None, **given):
+        with self.assertRaisesRegex(ima_verify.Refused, f"^refused: {kind.value} fault {number}$") as caught:
+            (attest or self.attest_checked)(**given)
+        self.assertEqual((caught.exception.kind, caught.exception.number, caught.exception.place), (kind, number, None))
 
     def test_sample_is_attested(self):
         found = self.attest()
-        self.assertEqual((found.matches, bool(found), found.quote_matches, found.signature_checked), (True, True, True, True))
+        self.assertEqual((found.matches, bool(found), found.quote_matches, found.signature), (True, True, True, SignatureState.VALID))
         self.assertEqual((found.events, found.locality, found.entries), (24, 0, 99))
         self.assertEqual((found.boot_aggregate, found.extends), (BootAggregate.GOOD, ()))
         self.assertEqual(found.quoted, {Algorithm.SHA256: tuple(range(11))})
@@ -389,15 +398,40 @@ class Quoted(unittest.TestCase):
         clock = [int.from_bytes(MESSAGE[at + start:at + end], "big") for start, end in ((0, 8), (8, 12), (12, 16))]
         self.assertEqual(found.clock, ima_verify.Clock(*clock, safe=True))
         self.assertEqual(found.firmware, int.from_bytes(MESSAGE[at + 17:at + 25], "big"))
-        self.assertTrue(found.json.endswith('"quote":"match","signature":"checked","verdict":"match"}'))
+        self.assertTrue(found.json.endswith('"quote":"match","signature":"valid","verdict":"match"}'))
         for given in (bytearray(NONCE), memoryview(NONCE)):
             self.assertEqual(self.attest(nonce=given), found)
+        for given in (KEY.decode(), bytearray(KEY), memoryview(KEY)):
+            self.assertEqual(self.attest(key=given, signature=bytearray(SIGNATURE)), found)
+        self.assertEqual(self.attest(signature=TPMT_SIGNATURE), found)
+
+    def test_signature_may_be_verified_by_the_caller(self):
+        found, wanted = self.attest_checked(), self.attest()
+        self.assertEqual((found.matches, found.signature), (True, SignatureState.CHECKED))
+        self.assertEqual(found.json, wanted.json.replace('"signature":"valid"', '"signature":"checked"'))
+        self.assertEqual(dataclasses.replace(found, signature=wanted.signature, json=wanted.json), wanted)
+
+    def test_other_signatures_and_keys_are_refused(self):
+        """Before the quote, the log and the list are looked at, and known files are."""
+        for log, given in ((LOG, {}), (b"", {}), (LOG, {"quote": b""}), (LOG, {"nonce": bytes(16)}), (LOG, {"known": ["x"]})):
+            given, attest = {"log": log, **given}, self.attest
+            for signature in (SIGNATURE[::-1], bytes(256), b"\xff" * 256):
+                self.check_refused(7, Kind.SIGNATURE, attest, **given, signature=signature)
+            self.check_refused(1, Kind.SIGNATURE, attest, **given, signature=b"")
+            self.check_refused(2, Kind.SIGNATURE, attest, **given, signature=b"x" + TPMT_SIGNATURE[1:])
+            self.check_refused(4, Kind.SIGNATURE, attest, **given, signature=TPMT_SIGNATURE + b"x")
+            for key in (KEY[:-1], KEY + b"\n", KEY.replace(b"\n", b"\r\n"), KEY + KEY):
+                self.check_refused(9, Kind.SIGNATURE, attest, **given, key=key)
+            for key in (b"", "", b"x"):
+                self.check_refused(1, Kind.KEY, attest, **given, key=key)
+                self.check_refused(1, Kind.KEY, attest, **given, key=key, signature=b"")
+        self.check_refused(7, Kind.SIGNATURE, self.attest, quote=MESSAGE[:-1] + bytes([MESSAGE[-1] ^ 1]))
 
     def test_without_a_checked_signature_nothing_is_attested(self):
-        found = self.attest(signature_checked=False)
-        self.assertEqual((found.matches, bool(found), found.quote_matches, found.signature_checked), (False, False, True, False))
+        found = self.attest_checked(signature_checked=False)
+        self.assertEqual((found.matches, bool(found), found.quote_matches, found.signature), (False, False, True, SignatureState.NOT_CHECKED))
         self.assertTrue(found.json.endswith('"quote":"match","signature":"not checked","verdict":"signature not checked"}'))
-        self.assertFalse(self.attest(measurements=LONGER, signature_checked=False))
+        self.assertFalse(self.attest_checked(measurements=LONGER, signature_checked=False))
 
     def test_other_logs_and_lists_differ(self):
         later = read_log(LOG)
@@ -405,7 +439,7 @@ class Quoted(unittest.TestCase):
         for log, measurements in ((LOG, LONGER), (LOG, LIST[:-LAST_ENTRY_SIZE]), (LOG, b""), (later.spelling(), LIST)):
             found = self.attest(log, measurements)
             self.assertEqual((found.matches, bool(found), found.quote_matches), (False, False, False))
-        found = self.attest(message=MESSAGE[:-1] + bytes([MESSAGE[-1] ^ 1]))
+        found = self.attest_checked(quote=MESSAGE[:-1] + bytes([MESSAGE[-1] ^ 1]))
         self.assertEqual((found.matches, found.quote_matches, found.boot_aggregate), (False, False, BootAggregate.GOOD))
 
     def test_entry_of_another_register_is_no_match(self):
@@ -416,14 +450,15 @@ class Quoted(unittest.TestCase):
 
     def test_other_quotes_are_refused(self):
         for size in range(len(MESSAGE)):
-            self.check_refused(1, message=MESSAGE[:size])
-        self.check_refused(2, message=b"x" + MESSAGE[1:])
-        self.check_refused(10, message=MESSAGE + b"x")
-        for nonce in (bytes([NONCE[0] ^ 1]) + NONCE[1:], NONCE[:16], NONCE[:-1], NONCE + b"x", bytes(16)):
-            self.check_refused(11, nonce=nonce)
-        for require in ("sha256:0-11", "sha256:0-10,sha384:10", "sha256:0-10,sha1:23"):
-            self.check_refused(12, require=require, takes_sha1=True)
-        self.check_refused(12, require="sha1:0-10", takes_sha1=True)
+            self.check_refused(1, quote=MESSAGE[:size])
+        self.check_refused(2, quote=b"x" + MESSAGE[1:])
+        self.check_refused(10, quote=MESSAGE + b"x")
+        for attest in (self.attest, self.attest_checked):
+            for nonce in (bytes([NONCE[0] ^ 1]) + NONCE[1:], NONCE[:16], NONCE[:-1], NONCE + b"x", bytes(16)):
+                self.check_refused(11, attest=attest, nonce=nonce)
+            for require in ("sha256:0-11", "sha256:0-10,sha384:10", "sha256:0-10,sha1:23"):
+                self.check_refused(12, attest=attest, require=require, takes_sha1=True)
+            self.check_refused(12, attest=attest, require="sha1:0-10", takes_sha1=True)
 
     def test_log_and_list_are_refused_as_ever(self):
         for log, measurements, line in (
@@ -441,18 +476,30 @@ class Quoted(unittest.TestCase):
                 self.attest(nonce=NONCE[:size])
 
     def test_arguments_of_other_types(self):
+        both = "^attest takes a key and a signature, or None for both and signature_checked, which is True or False$"
         for wrong in (None, 1, 0, "yes", b""):
-            self.assertRaisesRegex(TypeError, "^signature_checked is True or False", self.attest, signature_checked=wrong)
+            self.assertRaisesRegex(TypeError, both, self.attest_checked, signature_checked=wrong)
             self.assertRaisesRegex(TypeError, "^takes_sha1 is True or False", self.attest, takes_sha1=wrong)
         for wrong in (None, NOTHING, 5, b"sha256:0-10"):
             self.assertRaisesRegex(TypeError, "^require is a text", self.attest, require=wrong)
-        for name in ("log", "measurements", "message", "nonce"):
+        for name in ("log", "measurements", "quote", "nonce", "signature"):
             for wrong in (None, 5, "a text of twenty bytes"):
                 self.assertRaises(TypeError, self.attest, **{name: wrong})
-        given = {"nonce": NONCE, "require": "sha256:0-10", "signature_checked": True}
+        for wrong in (None, 5, [KEY], Path("AK.pem")):
+            self.assertRaises(TypeError, self.attest, key=wrong)
+        given = {"key": KEY, "nonce": NONCE, "quote": MESSAGE, "signature": SIGNATURE, "log": LOG, "measurements": LIST, "require": "sha256:0-10"}
+        self.assertTrue(ima_verify.attest(**given))
         for name in given:
-            self.assertRaises(TypeError, ima_verify.attest, LOG, LIST, MESSAGE, **{key: value for key, value in given.items() if key != name})
-        self.assertRaises(TypeError, ima_verify.attest, LOG, LIST, MESSAGE, NONCE, "sha256:0-10", True)
+            self.assertRaises(TypeError, ima_verify.attest, **{key: value for key, value in given.items() if key != name})
+        self.assertRaises(TypeError, ima_verify.attest, KEY, NONCE, MESSAGE, SIGNATURE, LOG, LIST, "sha256:0-10")
+
+    def test_word_of_the_caller_stands_in_place_of_key_and_signature(self):
+        both = "^attest takes a key and a signature, or None for both and signature_checked, which is True or False$"
+        for key, signature in ((KEY, SIGNATURE), (KEY, None), (None, SIGNATURE), (b"", b""), (b"", None), (None, b"")):
+            for is_checked in (True, False):
+                self.assertRaisesRegex(TypeError, both, self.attest, key=key, signature=signature, signature_checked=is_checked)
+        for key, signature in ((KEY, None), (None, SIGNATURE), (None, None)):
+            self.assertRaisesRegex(TypeError, both, self.attest, key=key, signature=signature)
 
 
 class NothingRequired(unittest.TestCase):

@@ -17,7 +17,9 @@ sys.path[:0] = [str(ROOT / "bindings/python"), str(ROOT / "tools/bench")]
 import fake
 import ima_verify
 import inputs
-from ima_verify import NOTHING, Algorithm, BootAggregate, Kind, Row, Session, State, Stray, Unconfirmed, _answers, _library
+from ima_verify import (
+    NOTHING, Algorithm, BootAggregate, Kind, Row, Session, SignatureState, State, Stray, Unconfirmed, _answers, _library
+)
 from reference.checkpoint import before_a_list
 from reference.log import EV_NO_ACTION, read_log
 from reference.log import Event as LogEvent
@@ -31,7 +33,7 @@ ENDS = [sum(len(entry.spelling()) for entry in ENTRIES[:count]) for count in ran
 CUTS = 0, 1, 2, 50, 97, 98, 99
 LONGER = LIST + LIST[ENDS[98]:]
 OTHER_LOG = inputs.made_log([SHA256], 24).spelling()
-MESSAGE = (ROOT / "samples/quoted/quote.msg").read_bytes()
+KEY, MESSAGE, SIGNATURE = ((ROOT / "samples/quoted" / name).read_bytes() for name in ("AK.pem", "quote.msg", "quote.sig"))
 NONCE = bytes.fromhex((ROOT / "samples/quoted/nonce").read_text())
 # The files of the list, but for its violations 93, 94 and 97.
 SUMS = (ROOT / "samples/known/SHA256SUMS").read_bytes()
@@ -213,9 +215,9 @@ class Growing(Refusing):
         self.assertTrue(session.more(whole))
         self.assertEqual(session.offset, len(LIST))
         session = Session.by_quotes(LOG)
-        self.assertTrue(session.attest(whole, MESSAGE, nonce=nonce, require="sha256:0-10", signature_checked=True))
+        self.assertTrue(session.attest(KEY, nonce, MESSAGE, SIGNATURE, whole, require="sha256:0-10"))
         self.assertEqual(session.offset, len(LIST))
-        self.assertTrue(ima_verify.attest(LOG, whole, MESSAGE, nonce=nonce, require="sha256:0-10", signature_checked=True))
+        self.assertTrue(ima_verify.attest(KEY, nonce, MESSAGE, SIGNATURE, LOG, whole, require="sha256:0-10"))
 
     def test_other_types_are_no_inputs(self):
         for wrong in (None, 5, [10, 0], "x"):
@@ -498,7 +500,10 @@ class States(Refusing):
 class Quoted(Refusing):
     """Sessions by a quote of the sample's registers 0 to 10."""
 
-    GIVEN = {"nonce": NONCE, "require": "sha256:0-10", "signature_checked": True}
+    # What comes before a list and after it: with key and signature, and where the caller says whether he verified the signature.
+    BY_KEY, GIVEN = (KEY, NONCE, MESSAGE, SIGNATURE), {"require": "sha256:0-10"}
+    BY_CALLER, CHECKED, UNCHECKED = (None, NONCE, MESSAGE, None), {**GIVEN, "signature_checked": True}, {**GIVEN, "signature_checked": False}
+    WAYS = ((*BY_KEY, GIVEN, SignatureState.VALID), (*BY_CALLER, CHECKED, SignatureState.CHECKED))
     # Where the counts are in the message, and which they are.
     AT = MESSAGE.index(NONCE) + len(NONCE) + 8
     BOOT = int.from_bytes(MESSAGE[AT:AT + 4], "big"), int.from_bytes(MESSAGE[AT + 4:AT + 8], "big")
@@ -510,40 +515,55 @@ class Quoted(Refusing):
     def check_no_state(self, state, number, log=LOG, message=MESSAGE):
         session = Session.by_quotes(log, state=state)
         with self.assertRaisesRegex(ima_verify.Refused, f"^refused: checkpoint fault {number}$") as caught:
-            session.attest(b"", message, **self.GIVEN)
+            session.attest(None, NONCE, message, None, b"", **self.CHECKED)
         self.assertEqual((caught.exception.kind, session.state), (Kind.CHECKPOINT, state))
 
     def test_list_in_two_parts_is_as_the_whole(self):
-        whole = ima_verify.attest(LOG, LIST, MESSAGE, **self.GIVEN)
-        for cut in CUTS:
-            state = self.quoted_state(cut) if cut else None
+        for *quoted, given, signature in self.WAYS:
+            whole = ima_verify.attest(*quoted, LOG, LIST, **given)
+            self.assertEqual((whole.matches, whole.signature), (True, signature))
+            for cut in CUTS:
+                state = self.quoted_state(cut) if cut else None
+                session = Session.by_quotes(LOG, state=state)
+                self.assertEqual((session.attest(*quoted, LIST[session.offset:], **given), session.offset), (whole, ENDS[99]))
+                self.assertEqual(session.state, self.quoted_state())
+
+    def test_other_signature_leaves_the_session_as_it_was(self):
+        for state in (None, self.quoted_state(50)):
             session = Session.by_quotes(LOG, state=state)
-            self.assertEqual((session.attest(LIST[session.offset:], MESSAGE, **self.GIVEN), session.offset), (whole, ENDS[99]))
-            self.assertEqual(session.state, self.quoted_state())
+            for key, signature, kind, number in (
+                (KEY, SIGNATURE[::-1], Kind.SIGNATURE, 7), (KEY, b"", Kind.SIGNATURE, 1), (KEY[1:], SIGNATURE, Kind.KEY, None),
+                (KEY[:-1], SIGNATURE, Kind.SIGNATURE, 9), (b"", SIGNATURE, Kind.KEY, 1), ("", b"", Kind.KEY, 1),
+            ):
+                with self.assertRaises(ima_verify.Refused) as caught:
+                    session.attest(key, NONCE, MESSAGE, signature, LIST[session.offset:], **self.GIVEN)
+                self.assertEqual((caught.exception.kind, caught.exception.number), (kind, number or caught.exception.number))
+                self.assertEqual((session.state, session.offset), (state, 0 if state is None else ENDS[50]))
+            self.assertTrue(session.attest(*self.BY_KEY, LIST[session.offset:], **self.GIVEN))
 
     def test_prefix_is_what_is_quoted(self):
         for state in (None, self.quoted_state(50), self.quoted_state()):
             for more, message in ((b"", None), (LIST[ENDS[98]:], None), (b"x", "unconfirmed: list fault 1 at entry 99"),
                                   (changed(98)[ENDS[98]:], "unconfirmed: replay fault 1 at entry 99")):
                 session = Session.by_quotes(LOG, prefix=True, state=state)
-                found = session.attest((LIST + more)[session.offset:], MESSAGE, **self.GIVEN)
+                found = session.attest(*self.BY_KEY, (LIST + more)[session.offset:], **self.GIVEN)
                 self.assertEqual((found.matches, found.confirmed, found.entries), (True, 99, 99 + (len(more) > 1)))
                 self.assertEqual(found.unconfirmed and found.unconfirmed.message, message)
                 self.assertEqual((session.state, session.offset), (self.quoted_state(), ENDS[99]))
 
     def test_no_match_leaves_the_session_as_it_was(self):
         for state in (None, self.quoted_state(50)):
-            for given in ({**self.GIVEN, "signature_checked": False}, self.GIVEN):
+            for quoted, given, end in ((self.BY_CALLER, self.UNCHECKED, 99), (self.BY_CALLER, self.CHECKED, 98), (self.BY_KEY, self.GIVEN, 98)):
                 session = Session.by_quotes(LOG, state=state)
-                end = 98 if given["signature_checked"] else 99
-                self.assertFalse(session.attest(LIST[session.offset:ENDS[end]], MESSAGE, **given))
+                self.assertFalse(session.attest(*quoted, LIST[session.offset:ENDS[end]], **given))
                 self.assertEqual((session.state, session.offset), (state, 0 if state is None else ENDS[50]))
 
     def test_without_a_checked_signature_the_confirmed_part_is_told(self):
         for state in (None, self.quoted_state(50)):
             session = Session.by_quotes(LOG, prefix=True, state=state)
-            found = session.attest(LONGER[session.offset:], MESSAGE, **{**self.GIVEN, "signature_checked": False})
-            self.assertEqual((found.matches, bool(found), found.quote_matches, found.signature_checked), (False, False, True, False))
+            found = session.attest(*self.BY_CALLER, LONGER[session.offset:], **self.UNCHECKED)
+            self.assertEqual((found.matches, bool(found), found.quote_matches), (False, False, True))
+            self.assertIs(found.signature, SignatureState.NOT_CHECKED)
             self.assertEqual((found.confirmed, found.entries, found.unconfirmed), (99, 100, None))
             self.assertTrue(found.json.endswith('"verdict":"signature not checked"}'))
             self.assertEqual(session.state, state)
@@ -551,27 +571,27 @@ class Quoted(Refusing):
     def test_known_files_are_asked_for_from_the_state_on(self):
         for prefix in (False, True):
             session = Session.by_quotes(LOG, prefix=prefix, state=self.quoted_state(50), known=[SUMS])
-            found = session.attest(LIST[ENDS[50]:], MESSAGE, **self.GIVEN)
+            found = session.attest(*self.BY_KEY, LIST[ENDS[50]:], **self.GIVEN)
             self.assertEqual((found.matches, found.quote_matches, found.known_from, found.unknown), (False, True, 50, (93, 94, 97)))
             self.assertEqual((found.entries, found.confirmed), (99, 99 if prefix else None))
             self.assertEqual((session.state, session.offset), (self.quoted_state(50), ENDS[50]))
             session = Session.by_quotes(LOG, prefix=prefix, state=self.quoted_state(98), known=[])
-            found = session.attest(LIST[ENDS[98]:], MESSAGE, **self.GIVEN)
+            found = session.attest(*self.BY_KEY, LIST[ENDS[98]:], **self.GIVEN)
             self.assertEqual((found.matches, found.known_from, found.unknown, session.offset), (False, 98, (98,), ENDS[98]))
             session = Session.by_quotes(LOG, prefix=prefix, state=self.quoted_state(98), known=[SUMS])
-            found = session.attest((LIST if prefix is False else LONGER)[ENDS[98]:], MESSAGE, **self.GIVEN)
+            found = session.attest(*self.BY_KEY, (LIST if prefix is False else LONGER)[ENDS[98]:], **self.GIVEN)
             self.assertEqual((found.matches, found.known_from, found.unknown), (True, 98, ()))
             self.assertEqual((session.state, session.offset), (self.quoted_state(), ENDS[99]))
 
     def test_session_on_registers_takes_quotes(self):
         """Before and after verdicts on registers, with the options of the session."""
         session = Session(LOG, EXPECTED, require="sha256:0-10", prefix=True)
-        found = session.attest(LONGER, MESSAGE, **self.GIVEN)
+        found = session.attest(*self.BY_KEY, LONGER, **self.GIVEN)
         self.assertEqual((found.matches, found.confirmed, found.entries, session.state), (True, 99, 100, self.quoted_state()))
         self.assertTrue(session.more(b""))
         self.assertEqual(session.state, state_after(99))
         session = Session(LOG, EXPECTED, require="sha256:0-10", state=self.quoted_state(50), known=[SUMS])
-        found = session.attest(LIST[ENDS[50]:], MESSAGE, **self.GIVEN)
+        found = session.attest(*self.BY_KEY, LIST[ENDS[50]:], **self.GIVEN)
         self.assertEqual((found.known_from, found.unknown), (50, (93, 94, 97)))
 
     def test_state_of_another_boot_is_refused(self):
@@ -588,27 +608,36 @@ class Quoted(Refusing):
         self.assertTrue(session.more(b""))
         self.assertEqual(session.state, state_after(99))
         with self.assertRaisesRegex(ima_verify.Refused, "^refused: checkpoint fault 4$"):
-            session.attest(b"", MESSAGE, **self.GIVEN)
+            session.attest(*self.BY_KEY, b"", **self.GIVEN)
 
     def test_session_by_quotes_expects_no_registers(self):
         self.assertRaises(ima_verify.Misuse, Session.by_quotes(LOG).more, LIST)
-        self.assertRaises(ima_verify.Misuse, Session.by_quotes(LOG).attest, LIST, MESSAGE, **{**self.GIVEN, "nonce": bytes(15)})
-        self.assertRaises(TypeError, Session.by_quotes(LOG).attest, LIST, MESSAGE, **{**self.GIVEN, "signature_checked": 1})
+        attest = Session.by_quotes(LOG).attest
+        self.assertRaises(ima_verify.Misuse, attest, KEY, bytes(15), MESSAGE, SIGNATURE, LIST, **self.GIVEN)
+        self.assertRaises(TypeError, attest, *self.BY_CALLER, LIST, **{**self.GIVEN, "signature_checked": 1})
+        self.assertRaises(TypeError, attest, *self.BY_CALLER, LIST, **self.GIVEN)
+        self.assertRaises(TypeError, attest, *self.BY_KEY, LIST, **self.CHECKED)
         self.assertRaises(ima_verify.Refused, Session.by_quotes, LOG, state=b"")
 
     def test_inputs_cross_in_order(self):
-        report = ima_verify.attest(LOG, LIST, MESSAGE, **{**self.GIVEN, "signature_checked": False}).json.encode() + b"\n"
-        with fake.library(attest=lambda call: (call.give_state(b""), call.give(1, report))[1]) as calls:
+        differing = (*self.BY_CALLER, LOG, LIST[:ENDS[98]])
+        unchecked, checked = (ima_verify.attest(*differing, **given).json for given in (self.UNCHECKED, self.CHECKED))
+        nonce, valid = 16 * b"e", checked.replace('"signature":"checked"', '"signature":"valid"')
+        for key, signature, given, crosses, is_signed, report in (
+            (None, None, {"signature_checked": False}, [b"", b""], False, unchecked),
+            (None, None, {"signature_checked": True}, [b"", b""], True, checked),
+            (b"g", b"h", {}, [b"g", b"h"], False, valid), ("g", bytearray(b"h"), {}, [b"g", b"h"], False, valid),
+            (b"", b"", {}, [b"\0", b"\0"], False, valid), ("", memoryview(b"h"), {}, [b"\0", b"h"], False, valid),
+        ):
             for takes_sha1 in (False, True):
-                session = Session.by_quotes(b"a", state=STATE)
-                given = {"nonce": 16 * b"e", "require": "f", "signature_checked": False, "takes_sha1": takes_sha1}
-                session.attest(b"c", b"d", **given)
-        for call, takes_sha1 in zip(calls, (False, True)):
-            self.assertEqual(call.inputs, [b"a", STATE, b"c", b"d", 16 * b"e", b"f", b""])
-            self.assertEqual(call.options[:5], (False, takes_sha1, False, False, True))
+                with fake.library(attest=lambda call: (call.give_state(b""), call.give(1, report.encode() + b"\n"))[1]) as calls:
+                    Session.by_quotes(b"a", state=STATE).attest(key, nonce, b"d", signature, b"c", require="f", takes_sha1=takes_sha1, **given)
+                (call,) = calls
+                self.assertEqual(call.inputs, [b"a", STATE, b"c", b"d", *crosses, nonce, b"f", b""])
+                self.assertEqual(call.options[:5], (False, takes_sha1, is_signed, False, True))
 
     def test_answers_that_cannot_be_are_none(self):
-        report = ima_verify.attest(LOG, LIST, MESSAGE, **self.GIVEN).json.encode() + b"\n"
+        report = ima_verify.attest(*self.BY_KEY, LOG, LIST, **self.GIVEN).json.encode() + b"\n"
         state = self.quoted_state()
         on_prefix = report.replace(b'"entries":99', b'"entries":99,"confirmed":99')
         for prefix, status, text, given, size in (
@@ -620,7 +649,7 @@ class Quoted(Refusing):
             with fake.library(attest=lambda call: (call.give_state(given), call.give(status, text))[1]):
                 session = Session.by_quotes(b"", prefix=prefix)
                 with self.assertRaises(ima_verify.LibraryError):
-                    session.attest((ENDS[99] + size) * b"x", b"", **self.GIVEN)
+                    session.attest(*self.BY_KEY, (ENDS[99] + size) * b"x", **self.GIVEN)
             self.assertEqual((session.state, session.offset), (None, 0))
 
 
@@ -857,9 +886,8 @@ class Answers(unittest.TestCase):
 
     def test_known_files_are_copied(self):
         """A text that is alone, too."""
-        quoted = ima_verify.attest(LOG, LIST, MESSAGE, **{**Quoted.GIVEN, "signature_checked": False}).json.encode() + b"\n"
+        quoted = ima_verify.attest(*Quoted.BY_CALLER, LOG, LIST, **Quoted.UNCHECKED).json.encode() + b"\n"
         reports = [text.replace(mark, b'"known_from":3,"unknown":[],' + mark, 1) for text, mark in ((DIFFERING, b'"verdict"'), (quoted, b'"quote"'))]
-        given = {"nonce": 16 * b"e", "require": "f", "signature_checked": False}
         for count, crosses in ((1, b"a\n"), (2, b"a\na\n")):
             texts = [bytearray(b"a\n") for _ in range(count)]
             by_registers, by_quotes = Session(b"", b"", require="e", state=STATE, known=texts), Session.by_quotes(b"", state=STATE, known=texts)
@@ -869,7 +897,7 @@ class Answers(unittest.TestCase):
                 by_registers.more(b"c")
             self.assertEqual(calls[0].inputs[-1], crosses)
             with fake.library(attest=lambda call: (call.give_state(b""), call.give(1, reports[1]))[1]) as calls:
-                by_quotes.attest(b"c", b"d", **given)
+                by_quotes.attest(None, 16 * b"e", b"d", None, b"c", require="f", signature_checked=False)
             self.assertEqual(calls[0].inputs[-1], crosses)
 
     def test_wrong_answers_are_no_verdicts(self):
@@ -899,7 +927,7 @@ class Answers(unittest.TestCase):
             refused = caught.exception
             self.assertEqual((refused.kind, refused.number, refused.place), ("checkpoint", number, None))
             self.assertEqual((refused.kind, refused.message), (Kind.CHECKPOINT, f"refused: checkpoint fault {number}"))
-        for kind, number, place in ((6, 0, NONE), (6, 3, 3), (0, 0, NONE), (7, 0, NONE), (11, 3, NONE)):
+        for kind, number, place in ((6, 0, NONE), (6, 3, 3), (0, 0, NONE), (7, 0, NONE), (12, 3, NONE)):
             self.check_wrong(2, FAULT, fault=(kind, number, place))
 
 

@@ -135,7 +135,7 @@ class Wheel(unittest.TestCase):
             names = sorted(name if name.startswith("ima_verify/") else name.rpartition("/")[2] for name in archive.namelist())
             said = b"".join(archive.read(name) for name in archive.namelist() if name.endswith(("/METADATA", "/WHEEL"))).decode()
             self.assertEqual(archive.read("ima_verify/libima_verify.so"), self.library.read_bytes())
-        modules = "__init__", "_answers", "_errors", "_library", "_listings", "_results", "_signatures"
+        modules = "__init__", "_answers", "_errors", "_library", "_listings", "_results"
         wanted = ["libima_verify.so", "py.typed", *(f"{module}.py" for module in modules)]
         self.assertEqual(names, sorted(["METADATA", "RECORD", "WHEEL", *(f"ima_verify/{name}" for name in wanted)]))
         for line in ("Requires-Python: >=3.8", "Classifier: Typing :: Typed", "Root-Is-Purelib: false", f"Tag: py3-{tag}"):
@@ -148,13 +148,12 @@ class Wheel(unittest.TestCase):
         with zipfile.ZipFile(wheel) as archive:
             self.assertIn(f"\nVersion: {version}\n", archive.read(f"ima_verify-{version}.dist-info/METADATA").decode())
 
-    def test_cryptography_is_an_extra(self):
+    def test_package_needs_no_other(self):
         wheel = self.made()
         with zipfile.ZipFile(wheel) as archive:
             (name,) = (name for name in archive.namelist() if name.endswith(".dist-info/METADATA"))
             metadata = archive.read(name).decode()
-        self.assertEqual(re.findall("^Provides-Extra: (.*)$", metadata, re.MULTILINE), ["quotes"])
-        self.assertRegex(metadata, r"\nRequires-Dist: cryptography>=37; extra == ['\"]quotes['\"]\n")
+        self.assertNotRegex(metadata, "(?m)^(Provides-Extra|Requires-Dist):")
 
     def test_tag_names_the_glibc_that_the_library_asks_for(self):
         if not shutil.which("objdump"):

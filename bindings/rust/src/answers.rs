@@ -2,7 +2,8 @@
 
 use crate::library::{Told, DIFFERS, DONE, MORE, OUT_OF_MEMORY, REFUSED};
 use crate::{Algorithm, Attestation, BootAggregate, Clock, Content, Entry, Error, Event, File, Key, KeyType, Kind, ListVerdict};
-use crate::{LogAlgorithm, Map, Part, Place, PlaceRow, Places, Register, Row, Scheme, State, Stray, Unconfirmed, Value, Verdict};
+use crate::{LogAlgorithm, Map, Part, Place, PlaceRow, Places, Register, Row, Scheme, SignatureState, State, Stray, Unconfirmed};
+use crate::{Value, Verdict};
 use ima_verify_sys as c;
 use serde::de::{DeserializeOwned, Error as _};
 use serde::{Deserialize, Deserializer};
@@ -44,6 +45,7 @@ impl Answer {
             c::IMA_VERIFY_QUOTE => Kind::Quote,
             c::IMA_VERIFY_KEY => Kind::Key,
             c::IMA_VERIFY_KNOWN => Kind::Known,
+            c::IMA_VERIFY_SIGNATURE => Kind::Signature,
             _ => return None,
         };
         let place = Some(self.told.fault_place).filter(|place| *place != c::IMA_VERIFY_NO_PLACE);
@@ -133,15 +135,15 @@ impl Answer {
         })
     }
 
-    /// The verdict by a quote on a list that has so many bytes after a checkpoint, where the caller has checked the quote's
-    /// signature, or has not; and the next checkpoint, as of [`more`](Self::more).
+    /// The verdict by a quote on a list that has so many bytes after a checkpoint, where this has to be known of the quote's signature; and
+    /// the next checkpoint, as of [`more`](Self::more).
     pub(crate) fn attestation(
         self,
         from: &Checkpoint,
         size: u64,
         by_known: bool,
         prefix: bool,
-        signature_checked: bool,
+        signature: SignatureState,
     ) -> Result<(Attestation, Option<Checkpoint>), Error> {
         let known_from = from.looked_from(by_known);
         self.read(|answer| {
@@ -155,11 +157,11 @@ impl Answer {
             let is_confirmed = quote_matches && report.boot_aggregate == BootAggregate::Good;
             (confirmed.is_some() == (prefix && is_confirmed)).then_some(())?;
             let is_attested = is_confirmed && extends.is_empty() && unknown.is_empty();
-            let matches = is_attested && signature_checked;
-            let (signature, verdict) = match (signature_checked, is_attested) {
-                (false, _) => ("not checked", "signature not checked"),
-                (true, true) => ("checked", "match"),
-                (true, false) => ("checked", "differ"),
+            let matches = is_attested && signature != SignatureState::NotChecked;
+            let verdict = match (signature, is_attested) {
+                (SignatureState::NotChecked, _) => "signature not checked",
+                (_, true) => "match",
+                (_, false) => "differ",
             };
             (report.signature == signature && report.verdict == verdict && answer.says(matches)).then_some(())?;
             let reached = answer.reached(from, size, entries, confirmed, matches)?;
@@ -173,7 +175,7 @@ impl Answer {
                 entries,
                 boot_aggregate: report.boot_aggregate,
                 quote_matches,
-                signature_checked,
+                signature,
                 matches,
                 json: answer.line()?,
                 confirmed,
@@ -391,7 +393,7 @@ struct QuoteReport {
     #[serde(flatten)]
     looked: Looked,
     quote: Said,
-    signature: String,
+    signature: SignatureState,
     verdict: String,
     #[serde(default, deserialize_with = "told")]
     confirmed: Option<u64>,

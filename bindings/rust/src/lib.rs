@@ -19,8 +19,8 @@
 //! With such a requirement a verdict is a match only if no event of the log extends PCR 10 and each entry of the list names it. With
 //! [`Required::known`] each entry but the boot aggregate must also be of a known file.
 //! [`entries`] and [`events`] go through the inputs themselves. A [`Session`] is for a list that grows, and for one that grew after
-//! the expected PCRs were read. [`attest`] compares a log and a list with a quote in place of expected PCRs, and `verify_quote`, with
-//! the feature `quotes`, verifies the quote's signature, by the key that [`read_key`] reads.
+//! the expected PCRs were read. [`attest`] compares a log and a list with a quote in place of expected PCRs, and verifies its signature by
+//! the machine's attestation key. [`read_key`] says what a key is.
 //!
 //! Any number of threads may call at once.
 
@@ -31,18 +31,14 @@ mod answers;
 mod library;
 mod lines;
 mod session;
-#[cfg(feature = "quotes")]
-mod signatures;
 
 pub use session::Session;
-#[cfg(feature = "quotes")]
-pub use signatures::verify_quote;
 
 #[cfg(test)]
 mod tests;
 
 /// The examples of the page are compiled.
-#[cfg(all(doctest, feature = "quotes"))]
+#[cfg(doctest)]
 #[doc = include_str!("../README.md")]
 struct Readme;
 
@@ -214,9 +210,11 @@ impl Verdict {
     }
 }
 
-/// The message of a quote, and what a verdict by it needs.
+/// A quote, and what a verdict by it needs.
 #[derive(Debug, Clone, Copy)]
 pub struct Quote<'a> {
+    /// By what its message is known to be signed.
+    pub signing: Signing<'a>,
     /// What the TPM signed, a TPMS_ATTEST: the file that `tpm2_quote -m` writes.
     pub message: &'a [u8],
     /// The verifier's own nonce for this quote, used once: 16 bytes or more.
@@ -225,11 +223,42 @@ pub struct Quote<'a> {
     pub require: &'a str,
     /// Whether a PCR may be required in the SHA-1 bank alone.
     pub takes_sha1: bool,
-    /// What `verify_quote` gives for this message; or whether the caller has verified the signature otherwise, with the machine's
-    /// attestation key, as `verify_quote` asks for it. If it is false there is no match.
-    pub signature_checked: bool,
     /// The texts of known files, as of [`Required::known`], if entries must be of these; in a session of its own ones if this is `None`.
     pub known: Option<&'a [&'a [u8]]>,
+}
+
+/// By what the message of a quote is known to be signed by the machine's attestation key.
+#[derive(Debug, Clone, Copy, PartialEq, Eq)]
+pub enum Signing<'a> {
+    /// By a signature, which is verified.
+    ByKey {
+        /// The public area for which a credential was activated, as [`read_key`] reads it, or the PEM that it gives for it. The key is of RSA
+        /// with 2048 to 4096 bits, or of the curve P-256 or P-384. A PEM does not tell a key that also signs messages that no TPM made from
+        /// another, so keep one only of an area that [`read_key`] took.
+        key: &'a [u8],
+        /// The file that `tpm2_quote -s` writes, with `-f plain` or without: RSASSA, RSAPSS or ECDSA, by SHA-256, SHA-384 or SHA-512.
+        signature: &'a [u8],
+    },
+    /// By the word of the caller, who has verified the signature of this same message: for a key that is not taken, such as one of the curve
+    /// P-521.
+    ByCaller,
+    /// Nobody has verified its signature. There is no match.
+    NotChecked,
+}
+
+/// What is known of a quote's signature.
+#[derive(Debug, Clone, Copy, PartialEq, Eq, Hash, Deserialize)]
+#[non_exhaustive]
+pub enum SignatureState {
+    /// Nobody verified it.
+    #[serde(rename = "not checked")]
+    NotChecked,
+    /// The caller says that he verified it.
+    #[serde(rename = "checked")]
+    Checked,
+    /// It is by the key that was given.
+    #[serde(rename = "valid")]
+    Valid,
 }
 
 /// A TPM's clock and its counts when it made a quote.
@@ -272,10 +301,10 @@ pub struct Attestation {
     pub boot_aggregate: BootAggregate,
     /// The quote is of the values to which log and list replay.
     pub quote_matches: bool,
-    /// What the caller said.
-    pub signature_checked: bool,
-    /// `quote_matches`, the boot aggregate is good, `extends` and `unknown` are empty, and the caller has checked the signature. It covers
-    /// the PCRs in `quoted`, and no others.
+    /// Whether its signature is by the key that was given, or what the caller said.
+    pub signature: SignatureState,
+    /// `quote_matches`, the boot aggregate is good, `extends` and `unknown` are empty, and the signature is valid, or checked by the caller.
+    /// It covers the PCRs in `quoted`, and no others.
     pub matches: bool,
     /// The report as JSON, without the line feed.
     pub json: String,
@@ -436,7 +465,7 @@ pub struct Key {
     pub scheme: Scheme,
     /// The hash of the scheme, if it has one.
     pub hash: Option<Algorithm>,
-    /// The public key as `openssl pkey -pubin` writes it, which `verify_quote` takes.
+    /// The public key as `openssl pkey -pubin` writes it, which [`attest`] takes.
     pub pem: String,
 }
 
@@ -609,6 +638,9 @@ pub enum Kind {
     Key,
     /// A line of the known files has a digest by SHA-1 (1), or is no digest and name (2).
     Known,
+    /// The signature of a quote is none (1 to 4), or not by the key and on the message (5 to 7); or the key is one that is not taken (8), or
+    /// no PEM of such a key (9).
+    Signature,
 }
 
 /// Why there is no result.
@@ -641,10 +673,6 @@ pub enum Error {
     },
     /// The library has this version of the interface, which is too old.
     Version(u32),
-    /// The signature of a quote is not by the key and on the message, or it is by SHA-1 or in another form than the plain one.
-    Signature,
-    /// The key of a quote is not the PEM of a public key alone, or is of another kind or weaker than is taken. This says why.
-    Key(&'static str),
 }
 
 impl fmt::Display for Error {
@@ -661,10 +689,6 @@ impl fmt::Display for Error {
                 write!(f, "libima_verify gave the result {result} and the size {size}")
             }
             Self::Version(found) => write!(f, "libima_verify has version {found} of the interface"),
-            Self::Signature => f.write_str(
-                "the signature is not by this key and on this message, in plain form and by SHA-256, SHA-384 or SHA-512",
-            ),
-            Self::Key(reason) => write!(f, "the key is not taken: {reason}"),
         }
     }
 }
@@ -766,16 +790,15 @@ pub fn verify<'a>(log: &[u8], list: &[u8], expected: &[u8], require: impl Into<R
     answer.verdict(known.is_some())
 }
 
-/// The verdict on a firmware event log and a measurement list by a quote. No file of PCR values is needed.
-///
-/// This verifies no signature: `verify_quote` does, with the feature `quotes`.
+/// The verdict on a firmware event log and a measurement list by a quote with its signature. No file of PCR values is needed.
 ///
 /// ```no_run
-/// # fn judge(log: &[u8], list: &[u8], message: &[u8], nonce: &[u8]) -> Result<(), ima_verify::Error> {
-/// // (here the signature of the message was verified otherwise, with the machine's own restricted key)
-/// let quote =
-///     ima_verify::Quote { message, nonce, require: "sha256:0-10", takes_sha1: false, signature_checked: true, known: None };
-/// let verdict = ima_verify::attest(log, list, &quote)?;
+/// # fn judge(log: &[u8], list: &[u8], key: &[u8], nonce: &[u8], message: &[u8], signature: &[u8]) -> Result<(), ima_verify::Error> {
+/// use ima_verify::{attest, Quote, Signing};
+///
+/// let signing = Signing::ByKey { key, signature }; // the machine's own restricted key
+/// let quote = Quote { signing, message, nonce, require: "sha256:0-10", takes_sha1: false, known: None };
+/// let verdict = attest(log, list, &quote)?;
 /// println!("{} {}", verdict.matches, verdict.entries);
 /// # Ok(())
 /// # }
@@ -783,9 +806,10 @@ pub fn verify<'a>(log: &[u8], list: &[u8], expected: &[u8], require: impl Into<R
 ///
 /// # Errors
 ///
-/// [`Error::Refused`] with [`Kind::Quote`] if the message is no quote, has another nonce, or does not select a required PCR; with
-/// [`Kind::Argument`] if the requirement is not of its form, leaves out one of the PCRs 0 to 10, or names one of the SHA-1 bank
-/// alone, or if the nonce is too short; otherwise as for [`verify`].
+/// [`Error::Refused`] with [`Kind::Signature`] if the signature is not by the key and on the message; with [`Kind::Key`] if the key is none,
+/// or if it begins as PEM does with [`Kind::Signature`]; with [`Kind::Quote`] if the message is no quote, has another nonce, or does not select
+/// a required PCR; with [`Kind::Argument`] if the requirement is not of its form, leaves out one of the PCRs 0 to 10, or names one of the SHA-1
+/// bank alone, or if the nonce is too short; otherwise as for [`verify`].
 pub fn attest(log: &[u8], list: &[u8], quote: &Quote<'_>) -> Result<Attestation, Error> {
     let known = quote.known.map(lines_of);
     let inputs = library::Attested { log, state: &[], data: list, known: known.as_deref(), prefix: false };
@@ -852,8 +876,8 @@ pub fn list_registers(list: &[u8]) -> Result<Vec<Register>, Error> {
 ///
 /// The key is restricted, never leaves the TPM that made it, signs, and does not decrypt. It signs by SHA-256, SHA-384 or SHA-512, and
 /// is of RSA with 2048 bits or more, or of the curve P-256, P-384 or P-521. Whose TPM it is in, the area does not say, and anyone can
-/// write one. Take the PEM for `verify_quote` only after a credential was activated that was made to the name and to the machine's
-/// endorsement key. `ima-enroll` does that, and keeps the PEM.
+/// write one. Take the area, or its PEM, for [`attest`] only after a credential was activated that was made to the name and to the
+/// machine's endorsement key. `ima-enroll` does that, and keeps both.
 ///
 /// ```
 /// # fn main() -> Result<(), Box<dyn std::error::Error>> {

@@ -1,7 +1,7 @@
 //! Calls the C library, as `bindings/c/ima_verify.h` describes it.
 
 use crate::answers::Answer;
-use crate::{Error, Quote};
+use crate::{Error, Quote, Signing};
 use ima_verify_sys as c;
 
 pub(crate) use c::{
@@ -94,18 +94,33 @@ pub(crate) struct Attested<'a> {
 pub(crate) fn attest(inputs: &Attested, quote: &Quote<'_>, next: &mut [u8], out: &mut [u8]) -> (i32, usize, Told) {
     let &Attested { log, state, data, known, prefix } = inputs;
     let (known, known_given) = (known.unwrap_or_default(), known.is_some());
-    let &Quote { message, nonce, require, takes_sha1, signature_checked, .. } = quote;
+    let &Quote { signing, message, nonce, require, takes_sha1, .. } = quote;
+    let (key, signature) = match signing {
+        Signing::ByKey { key, signature } => (some_bytes(key), some_bytes(signature)),
+        Signing::ByCaller | Signing::NotChecked => (&[][..], &[][..]),
+    };
     let (mut next_size, mut told) = (usize::MAX, NOTHING_TOLD);
     // SAFETY: as of `verify_more`.
     let result = unsafe {
         c::ima_verify_raw_attest(
             log.as_ptr(), log.len(), state.as_ptr(), state.len(), data.as_ptr(), data.len(), message.as_ptr(), message.len(),
+            key.as_ptr(), key.len(), signature.as_ptr(), signature.len(),
             nonce.as_ptr(), nonce.len(), require.as_ptr(), require.len(), known.as_ptr(), known.len(), known_given,
-            takes_sha1, signature_checked, prefix, true,
+            takes_sha1, signing == Signing::ByCaller, prefix, true,
             next.as_mut_ptr(), next.len(), &mut next_size, out.as_mut_ptr(), out.len(), &mut told,
         )
     };
     (result, next_size, told)
+}
+
+/// These bytes, or in place of none, which the library takes as no key and no signature, a zero. It is refused for the same reason: it ends
+/// too early.
+fn some_bytes(bytes: &[u8]) -> &[u8] {
+    if bytes.is_empty() {
+        &[0]
+    } else {
+        bytes
+    }
 }
 
 /// Where the lines of entries or events continue.

@@ -2,7 +2,7 @@
 
 use crate::answers::{Answer, Checkpoint};
 use crate::library::{self, ask_for_both, verify_more, zeros, Attested, More, ROOM};
-use crate::{lines_of, Attestation, Error, Quote, Required, Verdict};
+use crate::{lines_of, Attestation, Error, Quote, Required, SignatureState, Signing, Verdict};
 
 /// Verdicts on a measurement list that grows: each is on all of the list so far, but only what is new of it is given.
 ///
@@ -129,6 +129,17 @@ impl Session {
     }
 }
 
+impl Signing<'_> {
+    /// What a report says of the signature.
+    fn state(&self) -> SignatureState {
+        match self {
+            Self::ByKey { .. } => SignatureState::Valid,
+            Self::ByCaller => SignatureState::Checked,
+            Self::NotChecked => SignatureState::NotChecked,
+        }
+    }
+}
+
 /// The verdict by a quote, and the next checkpoint, if it is a match.
 pub(crate) fn attested(
     inputs: &Attested,
@@ -136,7 +147,7 @@ pub(crate) fn attested(
     from: &Checkpoint,
 ) -> Result<(Attestation, Option<Checkpoint>), Error> {
     let answer = ask_for_both(zeros(ROOM)?, zeros(ROOM)?, |next, out| library::attest(inputs, quote, next, out))?;
-    answer.attestation(from, inputs.data.len() as u64, inputs.known.is_some(), inputs.prefix, quote.signature_checked)
+    answer.attestation(from, inputs.data.len() as u64, inputs.known.is_some(), inputs.prefix, quote.signing.state())
 }
 
 #[cfg(test)]

@@ -6,3 +6,4 @@ mod listing;
 pub(crate) mod quoted;
 mod sample;
 mod session;
+mod signatures;

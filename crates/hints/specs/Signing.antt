@@ -1,5 +1,5 @@
 -- What a person is told to do where nobody looked at a quote's signature, or key or signature are refused.
-use Rattle.std.specs.Prelude.{ℕ, ◌<=◌, ◌++◌, ◌∷◌, Bool, true, false, if◌then◌else◌, List, [], codes, Option, None, Some}
+use Rattle.std.specs.Prelude.{ℕ, nat_lt, ◌++◌, ◌∷◌, Bool, if◌then◌else◌, List, [], codes, Option, None, Some}
 use Rattle.agent_plans.specs.declared.plan.Quoting.{Quoting}
 use Rattle.signed_messages.specs.declared.refusal.SignatureRefusal.{SignatureRefusal}
 use Rattle.signed_messages.specs.declared.refusal.SignatureRefusal.TheVariants.{Bytes, OtherScheme, OtherHash, NotSigned, OtherKey, OtherPem}
@@ -19,9 +19,9 @@ refusal_words OtherKey =
     codes "signatures by such keys are not verified here: verify SIG yourself, then say --signature-checked in place of --key and --signature"
 refusal_words OtherPem = codes "give NAME.pub of ima-enroll, or make KEY anew by ima-agent key --print pem"
 
--- The bytes are no public area: the first ten faults are of these, and the others of what an area says.
+-- The bytes are no public area: the faults before 11 are of these, and the others of what an area says.
 abbrev pub is_no_area : KeyFault → Bool
-is_no_area fault = key_fault_number fault <= 10
+is_no_area fault = nat_lt (key_fault_number fault) 11
 
 abbrev pub no_area_words : List ℕ
 no_area_words = codes "KEY is no public area: give NAME.pub of ima-enroll, or PEM as ima-agent key --print pem prints it"

@@ -14,11 +14,10 @@ use command_line::refusal_of;
 use pcr_values::{Selection, SelectionFault};
 use run_progress::Failure;
 use std::alloc::{AllocError, Global};
-use std::fs;
 use std::fs::File;
-use std::io;
 use std::io::Read;
 use std::rt::Files as FileSystem;
+use std::{fs, io};
 
 /// What is wrong with arguments that are within all other limits.
 const TOO_MANY_FILES: &str = "error: 2^32 files or more";
@@ -68,7 +67,10 @@ fn of_fault<R: FileSystem + io::Input>(
             of_reason(alloc, STANDARD_INPUT, read_reason(&mut rt.reader()))
         }
         RunFault::Read(name) if is_refused(rt, name, task) => {
-            shown_line(alloc, &format!(in alloc; "cannot read {name}: it is no regular file")?)
+            shown_line(
+                alloc,
+                &format!(in alloc; "cannot read {name}: it is no regular file")?,
+            )
         }
         RunFault::Read(name) => of_reason(alloc, name, open_reason(rt, name)),
         RunFault::TooLong(_) if matches!(task, Task::Registers) => {

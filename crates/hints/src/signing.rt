@@ -11,8 +11,8 @@ use signed_messages::SignatureRefusal;
 use std::alloc::{AllocError, Global};
 use tpm_keys::KeyFault;
 
-/// The greatest number of the faults of bytes that are no public area.
-const LAST_OF_AREAS: u32 = 10;
+/// The first number of the faults of what an area says; those before are of bytes that are none.
+const FIRST_LACK: u32 = 11;
 
 const UNSIGNED: &str =
     "nobody looked at the signature of QUOTE: give --key and --signature to have it verified";
@@ -73,5 +73,5 @@ pub(crate) fn key_hint(
 fn is_no_area(fault: KeyFault) -> bool
     ensures { result ≡ is_no_area fault }
 {
-    fault.number() <= LAST_OF_AREAS
+    fault.number() < FIRST_LACK
 }

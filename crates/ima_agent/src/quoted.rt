@@ -67,12 +67,10 @@ pub(crate) fn load_log<F: AgentFiles>(
 fn is_by_key(confirmed_by: &ConfirmedBy) -> bool {
     matches!(
         confirmed_by,
-        ConfirmedBy::Quote(
-            Quoting {
-                signing: SigningOptions::ByKey { .. },
-                ..
-            },
-        )
+        ConfirmedBy::Quote(Quoting {
+            signing: SigningOptions::ByKey { .. },
+            ..
+        },)
     )
 }
 

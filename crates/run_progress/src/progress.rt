@@ -58,9 +58,8 @@ impl Failure<'_> {
         ensures { result ≡ is_asked_for self.entry }
     {
         match self {
-            Failure::Fault { task, .. }
-            | Failure::Differs { task }
-            | Failure::Unsigned { task } => is_explained(task),
+            Failure::Fault { task, .. } | Failure::Differs { task } | Failure::Unsigned { task } =>
+                is_explained(task),
             Failure::Refused { .. } | Failure::Arguments { .. } | Failure::Output => false,
         }
     }

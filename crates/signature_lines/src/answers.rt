@@ -3,6 +3,7 @@
 use crate::questions::{NO_BYTES, Words};
 use ecdsa_signatures::verify as verify_ecdsa;
 use rsa_signatures::{verify, verify_pss};
+use signed_messages::{CheckFault, check_signed};
 use std::alloc::{AllocError, Global};
 use tpm_signatures::{Signature, SignatureNumbers, read_signature};
 
@@ -14,6 +15,7 @@ pub(crate) fn answer(alloc: Global, line: &str) -> Result<String, AllocError> {
         Some("rsapss") => verdict(alloc, rsapss(&mut words)),
         Some("ecdsa") => verdict(alloc, ecdsa(&mut words)),
         Some("tpmt") => reading(alloc, &mut words),
+        Some("signed") => checking(alloc, &mut words),
         _ => verdict(alloc, None),
     }
 }
@@ -123,4 +125,31 @@ fn digits(alloc: Global, bytes: &[u8]) -> Result<String, AllocError> {
     } else {
         hex::encode(alloc, bytes)
     }
+}
+
+// What is printed of a signature by the key that a text states.
+fn checking(alloc: Global, words: &mut Words<'_>) -> Result<String, AllocError> {
+    match checked(alloc, words) {
+        None => verdict(alloc, None),
+        Some(Ok(())) => verdict(alloc, Some(true)),
+        Some(Err(CheckFault::Key(fault))) => format!(in alloc; "key fault {}", fault.number()),
+        Some(Err(CheckFault::Signature(refusal))) => {
+            format!(in alloc; "signature fault {}", refusal.number())
+        }
+        Some(Err(CheckFault::Memory)) => Err(AllocError),
+    }
+}
+
+// Whether a message is signed by the key that a text states.
+fn checked(alloc: Global, words: &mut Words<'_>) -> Option<Result<(), CheckFault>> {
+    let key = words.bytes()?;
+    let message = words.bytes()?;
+    let signature = words.bytes()?;
+    words.end()?;
+    Some(check_signed(
+        alloc,
+        key.as_slice(),
+        message.as_slice(),
+        signature.as_slice(),
+    ))
 }

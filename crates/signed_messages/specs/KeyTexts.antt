@@ -1,8 +1,7 @@
 -- Keys as text, and messages signed by them.
-use Rattle.std.specs.Prelude.{◌≡◌, ℕ, ◌⊎◌, Bool, true, false, nat_eq, List, Option, Some, None, codes}
+use Rattle.std.specs.Prelude.{◌≡◌, ℕ, ◌⊎◌, Bool, true, false, nat_eq, List, Some, None, codes}
 use Rattle.std.specs.List.{starts_with}
 use Rattle.byte_fields.specs.Spelling.{IsBytes}
-use Rattle.tpm_keys.specs.declared.fault.KeyFault.{KeyFault}
 use Rattle.tpm_keys.specs.declared.kinds.Purpose.TheVariants.{Attestation}
 use Rattle.tpm_keys.specs.KeyInfo.{key_pem}
 use Rattle.tpm_keys.specs.Purposes.{lack}

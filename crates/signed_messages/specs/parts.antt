@@ -1,1 +1,2 @@
 pub mod PlainReading
+pub mod PemReading

@@ -2,7 +2,10 @@
 
 ghost use Rattle.std.specs.Prelude.{◌≡◌, ◌⊎◌, Err, IfOk, IfErr, IsOk};
 ghost use Rattle.signed_messages.specs.declared.check_fault.CheckFault.TheVariants as faults;
-ghost use Rattle.signed_messages.specs.KeyTexts.{IsAreaFault, IsCheckFault, IsPemFault, IsSignedByArea, IsSignedByPem, IsSignedByText, is_pem};
+ghost use Rattle.signed_messages.specs.declared.refusal.SignatureRefusal.TheVariants.{OtherPem};
+ghost use Rattle.signed_messages.specs.Keys.{MessageKey, key_of};
+ghost use Rattle.signed_messages.specs.KeyTexts.{IsAreaFault, IsCheckFault, IsKeyPem, IsPemFault, IsSignedByArea, IsSignedByPem, IsSignedByText};
+ghost use Rattle.signed_messages.specs.parts.PemReading.{IsInfoIn};
 
 use crate::check::check_signature;
 use crate::check_fault::CheckFault;
@@ -67,7 +70,22 @@ fn check_by_pem(
     ensures fault { IfErr result (IsPemFault pem.now message.now signature.now) }
 {
     let info = info_in(alloc, pem)?;
-    let Some(material) = material_in(&info) else {
+    let key = key_with_pem(alloc, pem, &info)?;
+    Ok(check_signature(key, message, signature)?)
+}
+
+// The key with this PEM, if these bytes are its SubjectPublicKeyInfo: what is there is taken for its numbers, and its PEM compared.
+fn key_with_pem<'a>(
+    alloc: Global,
+    pem: &[u8],
+    info: &'a [u8],
+) -> Result<VerifyingKey<'a>, CheckFault>
+    ensures found { IfOk result (λ key. IsKeyPem pem.now (key_of key)) }
+    ensures one { IsInfoIn pem.now info.now → IfOk result (λ key. (other : MessageKey) → IsKeyPem pem.now other → key_of key ≡ other) }
+    ensures fault { IsInfoIn pem.now info.now → IfErr result (λ fault. (fault ≡ faults.Memory)
+        ⊎ ((fault ≡ faults.Signature OtherPem) × ((other : MessageKey) → IsKeyPem pem.now other → ⊥))) }
+{
+    let Some(material) = material_in(info) else {
         return Err(CheckFault::Signature(SignatureRefusal::OtherPem));
     };
     let Some(key) = key_alone(material) else {
@@ -76,5 +94,5 @@ fn check_by_pem(
     if !is_pem_of(alloc, pem, material)? {
         return Err(CheckFault::Signature(SignatureRefusal::OtherPem));
     }
-    Ok(check_signature(key, message, signature)?)
+    Ok(key)
 }

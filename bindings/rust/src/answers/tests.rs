@@ -5,7 +5,7 @@ use crate::library::{ask, entries as list_entries, log_registers, zeros, Positio
 use crate::library::{DIFFERS, DONE, MORE, OUT_OF_MEMORY, REFUSED, ROOM, TOO_SHORT};
 use crate::lines::{Lines, Source};
 use crate::{Algorithm, Attestation, BootAggregate, Clock, Content, Entry, Error, Event, File, Key, KeyType, Kind, ListVerdict};
-use crate::{LogAlgorithm, Part, Place, Scheme, Stray, Value, Verdict};
+use crate::{LogAlgorithm, Part, Place, Scheme, SignatureState, Stray, Value, Verdict};
 use ima_verify_sys as c;
 use std::collections::VecDeque;
 
@@ -149,10 +149,10 @@ fn list_verdict_of(answer: Answer) -> Result<ListVerdict, Error> {
 }
 
 /// The verdict by a quote on a whole list, with the checkpoint that only a match has.
-fn attestation(result: i32, text: &str, signature_checked: bool) -> Result<Attestation, Error> {
+fn attestation(result: i32, text: &str, signature: SignatureState) -> Result<Attestation, Error> {
     let next = if result == DONE { STATE.into() } else { Vec::new() };
-    let (found, _) =
-        Answer { next, ..answer(result, text) }.attestation(&Checkpoint::default(), 300, false, false, signature_checked)?;
+    let answer = Answer { next, ..answer(result, text) };
+    let (found, _) = answer.attestation(&Checkpoint::default(), 300, false, false, signature)?;
     Ok(found)
 }
 
@@ -472,7 +472,7 @@ const KNOWING: [(&str, Judging); 3] = [
     (ATTESTED, |result, text| {
         let next = if result == DONE { STATE.into() } else { Vec::new() };
         let answer = Answer { next, ..answer(result, text) };
-        let (found, _) = answer.attestation(&Checkpoint::default(), 300, true, false, true)?;
+        let (found, _) = answer.attestation(&Checkpoint::default(), 300, true, false, SignatureState::Checked)?;
         Ok((found.matches, found.known_from, found.unknown))
     }),
 ];
@@ -957,20 +957,32 @@ const ATTESTED: &str = concat!(
 
 #[test]
 fn reports_by_a_quote_are_read() {
-    let found = attestation(DONE, ATTESTED, true).unwrap();
+    let valid = ATTESTED.replace(r#""checked""#, r#""valid""#);
+    let found = attestation(DONE, &valid, SignatureState::Valid).unwrap();
     let quoted = [(Algorithm::Sha1, vec![10]), (Algorithm::Sha256, vec![0, 1, 10])];
     assert_eq!((found.quoted, found.signer, found.firmware), (quoted.into_iter().collect(), vec![0, 11], 7));
     assert_eq!(found.clock, Clock { milliseconds: 5, resets: 1, restarts: 0, safe: true });
     assert_eq!((found.events, found.locality, found.entries, found.boot_aggregate), (1, 0, 3, BootAggregate::Good));
-    assert!(found.matches && found.quote_matches && found.signature_checked && found.extends.is_empty());
-    assert_eq!(found.json, ATTESTED.trim_end());
+    assert!(found.matches && found.quote_matches && found.extends.is_empty());
+    assert_eq!((found.signature, &found.json[..]), (SignatureState::Valid, valid.trim_end()));
     let unsigned = ATTESTED.replace(r#""checked","verdict":"match""#, r#""not checked","verdict":"signature not checked""#);
-    let found = attestation(DIFFERS, &unsigned, false).unwrap();
-    assert_eq!((found.matches, found.quote_matches, found.signature_checked), (false, true, false));
-    for (result, text, is_checked) in
-        [(DONE, &unsigned[..], false), (DIFFERS, &unsigned, true), (DONE, ATTESTED, false), (DIFFERS, ATTESTED, true)]
-    {
-        assert!(is_unexpected(attestation(result, text, is_checked)), "{result} {text}");
+    let found = attestation(DIFFERS, &unsigned, SignatureState::NotChecked).unwrap();
+    assert_eq!((found.matches, found.quote_matches, found.signature), (false, true, SignatureState::NotChecked));
+    let states = [SignatureState::NotChecked, SignatureState::Checked, SignatureState::Valid];
+    for (text, right) in [(&unsigned[..], states[0]), (ATTESTED, states[1]), (&valid, states[2])] {
+        let differing =
+            text.replace(r#""quote":"match""#, r#""quote":"differ""#).replace(r#""verdict":"match""#, r#""verdict":"differ""#);
+        for state in states {
+            let found = attestation(DIFFERS, &differing, state).ok().map(|found| (found.matches, found.signature));
+            assert_eq!(found, (state == right).then_some((false, right)));
+            for result in [DONE, DIFFERS] {
+                if state == right && (result == DONE) == (right != SignatureState::NotChecked) {
+                    assert_eq!(attestation(result, text, state).unwrap().signature, right);
+                } else {
+                    assert!(is_unexpected(attestation(result, text, state)), "{result} {text}");
+                }
+            }
+        }
     }
 }
 
@@ -988,7 +1000,7 @@ fn numbers_up_to_their_ends_are_read() {
     let counts = format!(r#""firmware":{most},"events":{most},"locality":255"#);
     let text = ATTESTED.replace("[10]", "[0,23]").replace(r#""milliseconds":5,"resets":1,"restarts":0"#, &clock);
     let text = text.replace(r#""firmware":7,"events":1,"locality":0"#, &counts);
-    let found = attestation(DONE, &text, true).unwrap();
+    let found = attestation(DONE, &text, SignatureState::Checked).unwrap();
     assert_eq!(found.clock, Clock { milliseconds: most, resets: u32::MAX, restarts: u32::MAX, safe: true });
     assert_eq!((found.firmware, found.events, found.locality, found.matches), (most, most, 255, true));
     assert_eq!(found.quoted[&Algorithm::Sha1], [0, 23]);
@@ -1036,6 +1048,9 @@ fn wrong_reports_by_a_quote_are_none() {
         (r#""quote":"match""#, r#""quote":"Match""#),
         (r#""quote":"match","#, ""),
         (r#""signature":"checked""#, r#""signature":"not checked""#),
+        (r#""signature":"checked""#, r#""signature":"valid""#),
+        (r#""signature":"checked""#, r#""signature":"Checked""#),
+        (r#""signature":"checked""#, r#""signature":true"#),
         (r#""signature":"checked","#, ""),
         (r#","verdict":"match""#, ""),
         (r#""verdict":"match""#, r#""verdict":"differ""#),
@@ -1046,7 +1061,7 @@ fn wrong_reports_by_a_quote_are_none() {
     ] {
         let text = ATTESTED.replacen(old, new, 1);
         assert_ne!(text, ATTESTED, "{old}");
-        assert!(is_unexpected(attestation(DONE, &text, true)), "{text}");
+        assert!(is_unexpected(attestation(DONE, &text, SignatureState::Checked)), "{text}");
     }
 }
 
@@ -1062,6 +1077,7 @@ fn refusals_are_what_is_reported() {
         ("refused: checkpoint fault 3", fault(c::IMA_VERIFY_CHECKPOINT, 3, None), Kind::Checkpoint, 3, None),
         ("refused: quote fault 11", fault(c::IMA_VERIFY_QUOTE, 11, None), Kind::Quote, 11, None),
         ("refused: key fault 22", fault(c::IMA_VERIFY_KEY, 22, None), Kind::Key, 22, None),
+        ("refused: signature fault 9", fault(c::IMA_VERIFY_SIGNATURE, 9, None), Kind::Signature, 9, None),
         ("refused: list fault 1", fault(c::IMA_VERIFY_LIST, 1, Some(u64::MAX - 1)), Kind::List, 1, Some(u64::MAX - 1)),
         ("refused: command line", fault(c::IMA_VERIFY_ARGUMENT, 0, None), Kind::Argument, 0, None),
         // (kind, number and place are not those that the line spells, but those that are reported)
@@ -1109,9 +1125,9 @@ fn wrong_refusals_are_no_refusals() {
 
 #[test]
 fn reported_error_is_of_the_result() {
-    for kind in 0..12 {
+    for kind in 0..13 {
         let told = |text: &str| Told { size: text.len(), ..fault(kind, 1, Some(2)) };
-        let is_input = (c::IMA_VERIFY_ARGUMENT..=c::IMA_VERIFY_KNOWN).contains(&kind) && kind != c::IMA_VERIFY_MEMORY;
+        let is_input = (c::IMA_VERIFY_ARGUMENT..=c::IMA_VERIFY_SIGNATURE).contains(&kind) && kind != c::IMA_VERIFY_MEMORY;
         let refusal = answered_with(REFUSED, LIST_FAULT, told(LIST_FAULT)).unwrap_err();
         assert_eq!(matches!(refusal, Error::Refused { number: 1, place: Some(2), .. }), is_input, "{kind}");
         assert_eq!(matches!(refusal, Error::Unexpected { .. }), !is_input, "{kind}");

@@ -1,9 +1,9 @@
 //! What the crate reads of public areas: those of an emulated TPM, with the names and the PEMs that tpm2-tools gave of them, and areas
 //! that are made here.
 
-use super::quoted::sample;
+use super::quoted::{files, quoting_area, sample, Files};
 use crate::Scheme::{Ecdsa, None as NoScheme, Rsapss, Rsassa};
-use crate::{read_endorsement_key, read_key, Algorithm, Error, Key, KeyType, Kind};
+use crate::{attest, read_endorsement_key, read_key, Algorithm, Error, Key, KeyType, Kind, Quote, Signing};
 
 type Read = fn(&[u8]) -> Result<Key, Error>;
 
@@ -124,16 +124,29 @@ fn other_areas_of_rsa_are_refused() {
     }
 }
 
-#[cfg(feature = "quotes")]
+/// The quote of the sample, by another key.
+fn quote_by<'a>(files: &'a Files, key: &'a [u8]) -> Quote<'a> {
+    Quote { signing: Signing::ByKey { key, signature: &files.signature }, ..files.quote() }
+}
+
+/// The area and its PEM; of another key neither, and of one on P-521 no signature is verified.
 #[test]
-fn key_of_a_public_area_verifies_a_quote() {
-    let (stored, message, signature) = (sample("quoted/AK.pem"), sample("quoted/quote.msg"), sample("quoted/quote.sig"));
-    let modulus = openssl::pkey::PKey::public_key_from_pem(&stored).unwrap().rsa().unwrap().n().to_vec();
-    let key = read_key(&rsa_area(&modulus, 0x0b, 0, &[0, 0x14, 0, 0x0b])).unwrap();
-    assert_eq!(key.pem.as_bytes(), stored);
-    assert_eq!(crate::verify_quote(key.pem.as_bytes(), &signature, &message), Ok(true));
-    for name in ["ak-rsassa", "ak-rsapss", "ak-p256", "ak-p384", "ak-p521"] {
-        let pem = read_key(&area(name)).unwrap().pem;
-        assert_eq!(crate::verify_quote(pem.as_bytes(), &signature, &message), Err(Error::Signature));
+fn keys_that_are_read_verify_quotes() {
+    let (area, files) = (quoting_area(), files());
+    let key = read_key(&area).unwrap();
+    assert_eq!(key.pem.as_bytes(), sample("quoted/AK.pem"));
+    for key in [&area, key.pem.as_bytes()] {
+        assert!(attest(&files.log, &files.list, &quote_by(&files, key)).unwrap().matches);
+    }
+    // (a signature of RSA has no known scheme in the form of a TPM)
+    for (name, of_area, of_pem) in
+        [("ak-rsassa", 7, 7), ("ak-rsapss", 7, 7), ("ak-p256", 2, 2), ("ak-p384", 2, 2), ("ak-p521", 8, 9)]
+    {
+        let (area, pem) = (self::area(name), pem(name));
+        files.check_refused(&quote_by(&files, &area), Kind::Signature, of_area);
+        files.check_refused(&quote_by(&files, pem.as_bytes()), Kind::Signature, of_pem);
+    }
+    for (name, number) in [("ak-sha1", 20), ("ek-rsa", 17), ("ek-p256", 17), ("storage", 17), ("unrestricted", 15)] {
+        files.check_refused(&quote_by(&files, &self::area(name)), Kind::Key, number);
     }
 }

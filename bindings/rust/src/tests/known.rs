@@ -10,9 +10,10 @@ const VIOLATIONS: [u64; 3] = [93, 94, 97];
 type Judged = (bool, Option<u64>, Vec<u64>, String);
 
 /// The verdicts of each function that takes known files.
-fn all_judged(Files { log, list, message, nonce }: &Files, known: &[&[u8]]) -> Vec<Result<Judged, Error>> {
+fn all_judged(files: &Files, known: &[&[u8]]) -> Vec<Result<Judged, Error>> {
+    let Files { log, list, .. } = files;
     let (expected, required) = (sample("real-boot/expected.txt"), Required::known(PCRS, known));
-    let quote = Quote { message, nonce, require: PCRS, takes_sha1: false, signature_checked: true, known: Some(known) };
+    let quote = Quote { known: Some(known), ..files.quote() };
     let mut by_quotes = Session::by_quotes(log).prefix();
     let verdicts = vec![
         verify(log, list, &expected, required).map(|found| (found.matches, found.known_from, found.unknown, found.json)),

@@ -1,6 +1,6 @@
 //! What the crate answers about a quote of the sample's registers 0 to 10 in the SHA-256 bank.
 
-use crate::{attest, Algorithm, BootAggregate, Clock, Error, Kind, Quote, Session, Stray};
+use crate::{attest, Algorithm, BootAggregate, Clock, Error, Kind, Quote, Session, SignatureState, Signing, Stray};
 
 const LAST_ENTRY_SIZE: usize = 95;
 
@@ -8,12 +8,14 @@ pub(crate) fn sample(name: &str) -> Vec<u8> {
     std::fs::read(format!("{}/../../samples/{name}", env!("CARGO_MANIFEST_DIR"))).unwrap()
 }
 
-/// The files of the sample: the log, the list, the message and the nonce.
+/// The files of the sample: the log, the list, and the quote with its key and signature.
 pub(crate) struct Files {
     pub(crate) log: Vec<u8>,
     pub(crate) list: Vec<u8>,
     pub(crate) message: Vec<u8>,
     pub(crate) nonce: Vec<u8>,
+    pub(crate) key: Vec<u8>,
+    pub(crate) signature: Vec<u8>,
 }
 
 pub(crate) fn files() -> Files {
@@ -23,19 +25,63 @@ pub(crate) fn files() -> Files {
         log: sample("real-boot/firmware.log"),
         list: sample("real-boot/ima.list"),
         message: sample("quoted/quote.msg"),
-        nonce: (0..digits.len()).step_by(2).map(|at| u8::from_str_radix(&digits[at..at + 2], 16).unwrap()).collect(),
+        nonce: spelled(digits),
+        key: sample("quoted/AK.pem"),
+        signature: sample("quoted/quote.sig"),
     }
+}
+
+/// The bytes that hexadecimal digits spell.
+pub(crate) fn spelled(digits: &str) -> Vec<u8> {
+    (0..digits.len()).step_by(2).map(|at| u8::from_str_radix(&digits[at..at + 2], 16).unwrap()).collect()
+}
+
+/// The public area of the key that signed the quote, by RSASSA with SHA-256 (TPM 2.0 Library, part 2, TPM2B_PUBLIC): its modulus is at the
+/// end of the area, and before the exponent in the key.
+pub(crate) fn quoting_area() -> Vec<u8> {
+    let pem = String::from_utf8(sample("quoted/AK.pem")).unwrap();
+    let digits: String = pem.lines().filter(|line| !line.starts_with('-')).collect();
+    let bits = digits.bytes().take_while(|digit| *digit != b'=').flat_map(|digit| {
+        let value = match digit {
+            b'A'..=b'Z' => digit - b'A',
+            b'a'..=b'z' => digit - b'a' + 26,
+            b'0'..=b'9' => digit - b'0' + 52,
+            b'+' => 62,
+            _ => 63,
+        };
+        (0..6).rev().map(move |bit| value >> bit & 1)
+    });
+    let bits: Vec<u8> = bits.collect();
+    let info: Vec<u8> = bits.chunks_exact(8).map(|bits| bits.iter().fold(0, |byte, bit| byte << 1 | bit)).collect();
+    let modulus = &info[info.len() - 5 - 256..info.len() - 5];
+    [&spelled("01180001000b00050072000000100014000b0800000000000100")[..], modulus].concat()
 }
 
 impl Files {
     pub(crate) fn quote(&self) -> Quote<'_> {
-        let Self { message, nonce, .. } = self;
-        Quote { message, nonce, require: "sha256:0-10", takes_sha1: false, signature_checked: true, known: None }
+        let Self { message, nonce, key, signature, .. } = self;
+        let signing = Signing::ByKey { key, signature };
+        Quote { signing, message, nonce, require: "sha256:0-10", takes_sha1: false, known: None }
+    }
+
+    /// The quote where the caller says that he verified its signature.
+    fn checked(&self) -> Quote<'_> {
+        Quote { signing: Signing::ByCaller, ..self.quote() }
+    }
+
+    /// The quote where nobody verified its signature.
+    fn unchecked(&self) -> Quote<'_> {
+        Quote { signing: Signing::NotChecked, ..self.quote() }
     }
 
     #[track_caller]
-    fn check_refused(&self, quote: &Quote<'_>, kind: Kind, number: u64) {
-        let line = if number == 0 { "refused: command line".into() } else { format!("refused: quote fault {number}") };
+    pub(crate) fn check_refused(&self, quote: &Quote<'_>, kind: Kind, number: u64) {
+        let name = match kind {
+            Kind::Key => "key",
+            Kind::Signature => "signature",
+            _ => "quote",
+        };
+        let line = if number == 0 { "refused: command line".into() } else { format!("refused: {name} fault {number}") };
         let wanted = Error::Refused { line, kind, number, place: None };
         assert_eq!(attest(&self.log, &self.list, quote).unwrap_err(), wanted, "{quote:?}");
     }
@@ -45,21 +91,59 @@ impl Files {
 fn sample_is_attested() {
     let files = files();
     let found = attest(&files.log, &files.list, &files.quote()).unwrap();
-    assert!(found.matches && found.quote_matches && found.signature_checked && found.extends.is_empty());
+    assert!(found.matches && found.quote_matches && found.signature == SignatureState::Valid && found.extends.is_empty());
     assert_eq!((found.events, found.locality, found.entries), (24, 0, 99));
     assert_eq!((found.boot_aggregate, found.firmware), (BootAggregate::Good, 2312897626142815798));
     assert_eq!(found.clock, Clock { milliseconds: 626, resets: 1, restarts: 0, safe: true });
     assert_eq!(found.signer, files.message[8..42]);
     assert_eq!(found.quoted.into_iter().collect::<Vec<_>>(), [(Algorithm::Sha256, (0..=10).collect())]);
-    assert!(found.json.ends_with(r#""quote":"match","signature":"checked","verdict":"match"}"#));
+    assert!(found.json.ends_with(r#""quote":"match","signature":"valid","verdict":"match"}"#));
+}
+
+#[test]
+fn signature_may_be_verified_by_the_caller() {
+    let files = files();
+    let (found, mut wanted) =
+        (attest(&files.log, &files.list, &files.checked()).unwrap(), attest(&files.log, &files.list, &files.quote()).unwrap());
+    wanted.signature = SignatureState::Checked;
+    wanted.json = wanted.json.replace(r#""signature":"valid""#, r#""signature":"checked""#);
+    assert_eq!(found, wanted);
+}
+
+/// Key and signature are looked at before the quote, the log, the list and known files.
+#[test]
+fn other_signatures_and_keys_are_refused() {
+    let files = files();
+    let (tpmt, mut changed) = ([&sample("quoted/quote.tpmt")[..], b"x"].concat(), files.signature.clone());
+    changed[0] ^= 1;
+    let (key, signature) = (&files.key[..], &files.signature[..]);
+    for (key, signature, kind, number) in [
+        (key, &changed[..], Kind::Signature, 7),
+        (key, &[0; 256], Kind::Signature, 7),
+        (key, &[], Kind::Signature, 1),
+        (key, &tpmt, Kind::Signature, 4),
+        (&key[1..], signature, Kind::Key, 1),
+        (&[], signature, Kind::Key, 1),
+        (&[], &[], Kind::Key, 1),
+        (&key[..key.len() - 1], signature, Kind::Signature, 9),
+    ] {
+        let quote = Quote { signing: Signing::ByKey { key, signature }, ..files.quote() };
+        files.check_refused(&quote, kind, number);
+        files.check_refused(&Quote { message: b"", ..quote }, kind, number);
+        files.check_refused(&Quote { known: Some(&[b"x"]), ..quote }, kind, number);
+        let wanted = attest(&files.log, &files.list, &quote).unwrap_err();
+        assert_eq!(attest(b"", b"", &quote).unwrap_err(), wanted);
+        let mut session = Session::by_quotes(&files.log);
+        assert_eq!(session.attest(&files.list, &quote).unwrap_err(), wanted);
+        assert_eq!((session.state(), session.offset()), (None, 0));
+    }
 }
 
 #[test]
 fn nothing_is_attested_without_a_signature() {
     let files = files();
-    let quote = Quote { signature_checked: false, ..files.quote() };
-    let found = attest(&files.log, &files.list, &quote).unwrap();
-    assert_eq!((found.matches, found.quote_matches, found.signature_checked), (false, true, false));
+    let found = attest(&files.log, &files.list, &files.unchecked()).unwrap();
+    assert_eq!((found.matches, found.quote_matches, found.signature), (false, true, SignatureState::NotChecked));
     assert!(found.json.ends_with(r#""signature":"not checked","verdict":"signature not checked"}"#));
 }
 
@@ -71,7 +155,7 @@ fn other_logs_and_lists_differ() {
     let (longer, later) = ([&files.list[..], last].concat(), [&files.log[..], &event].concat());
     for (log, list) in [(&files.log, prefix), (&files.log, &longer[..]), (&files.log, &[]), (&later, &files.list)] {
         let found = attest(log, list, &files.quote()).unwrap();
-        assert_eq!((found.matches, found.quote_matches, found.signature_checked), (false, false, true));
+        assert_eq!((found.matches, found.quote_matches, found.signature), (false, false, SignatureState::Valid));
     }
     let straying = [prefix, &[11], &last[1..], last].concat();
     let found = attest(&files.log, &straying, &files.quote()).unwrap();
@@ -83,15 +167,17 @@ fn other_logs_and_lists_differ() {
 fn other_quotes_are_refused() {
     let files = files();
     for size in 0..files.message.len() {
-        files.check_refused(&Quote { message: &files.message[..size], ..files.quote() }, Kind::Quote, 1);
+        files.check_refused(&Quote { message: &files.message[..size], ..files.checked() }, Kind::Quote, 1);
     }
     let mut another = files.nonce.clone();
     another[0] ^= 1;
-    for nonce in [&files.nonce[..16], &another, &[0; 20]] {
-        files.check_refused(&Quote { nonce, ..files.quote() }, Kind::Quote, 11);
-    }
-    for require in ["sha256:0-11", "sha1:0-10", "sha256:0-10,sha512:10"] {
-        files.check_refused(&Quote { require, takes_sha1: true, ..files.quote() }, Kind::Quote, 12);
+    for quote in [files.quote(), files.checked()] {
+        for nonce in [&files.nonce[..16], &another, &[0; 20]] {
+            files.check_refused(&Quote { nonce, ..quote }, Kind::Quote, 11);
+        }
+        for require in ["sha256:0-11", "sha1:0-10", "sha256:0-10,sha512:10"] {
+            files.check_refused(&Quote { require, takes_sha1: true, ..quote }, Kind::Quote, 12);
+        }
     }
 }
 
@@ -130,11 +216,12 @@ fn check_no_state(log: &[u8], state: &[u8], quote: &Quote<'_>, number: u64) {
 #[test]
 fn list_that_grows_is_attested() {
     let files = files();
-    let (whole, state) = (attest(&files.log, &files.list, &files.quote()).unwrap(), quoted_state(&files));
-    let end = files.list.len() as u64;
-    let mut session = Session::by_quotes(&files.log).resume(&state).unwrap();
-    assert_eq!(session.offset(), end);
-    assert_eq!(session.attest(b"", &files.quote()).unwrap(), whole);
+    let (state, end) = (quoted_state(&files), files.list.len() as u64);
+    for quote in [files.quote(), files.checked()] {
+        let mut session = Session::by_quotes(&files.log).resume(&state).unwrap();
+        assert_eq!(session.offset(), end);
+        assert_eq!(session.attest(b"", &quote).unwrap(), attest(&files.log, &files.list, &quote).unwrap());
+    }
     let last = &files.list[files.list.len() - LAST_ENTRY_SIZE..];
     let mut forged = last.to_vec();
     forged[4] ^= 1;
@@ -159,8 +246,8 @@ fn list_that_grows_is_attested() {
 fn no_match_leaves_the_session_as_it_was() {
     let files = files();
     let state = quoted_state(&files);
-    let unsigned = Quote { signature_checked: false, ..files.quote() };
-    for (more, quote) in [(&[][..], &unsigned), (&files.list[files.list.len() - LAST_ENTRY_SIZE..], &files.quote())] {
+    let last = &files.list[files.list.len() - LAST_ENTRY_SIZE..];
+    for (more, quote) in [(&[][..], &files.unchecked()), (last, &files.checked()), (last, &files.quote())] {
         let mut session = Session::by_quotes(&files.log).resume(&state).unwrap();
         assert!(!session.attest(more, quote).unwrap().matches);
         assert_eq!(session.state(), Some(&state[..]));
@@ -171,11 +258,10 @@ fn no_match_leaves_the_session_as_it_was() {
 fn confirmed_part_is_given_without_a_signature() {
     let files = files();
     let (state, longer) = (quoted_state(&files), longer(&files));
-    let unsigned = Quote { signature_checked: false, ..files.quote() };
     let session = || Session::by_quotes(&files.log).prefix();
     for (mut session, before) in [(session(), None), (session().resume(&state).unwrap(), Some(&state[..]))] {
-        let found = session.attest(&longer[session.offset() as usize..], &unsigned).unwrap();
-        assert_eq!((found.matches, found.quote_matches, found.signature_checked), (false, true, false));
+        let found = session.attest(&longer[session.offset() as usize..], &files.unchecked()).unwrap();
+        assert_eq!((found.matches, found.quote_matches, found.signature), (false, true, SignatureState::NotChecked));
         assert_eq!((found.confirmed, found.entries, found.unconfirmed), (Some(99), 100, None));
         assert!(found.json.ends_with(r#""verdict":"signature not checked"}"#));
         assert_eq!(session.state(), before);
@@ -225,7 +311,7 @@ fn state_of_another_boot_is_refused() {
     for place in [at + 3, at + 7] {
         let mut message = files.message.clone();
         message[place] ^= 1;
-        check_no_state(&files.log, &state, &Quote { message: &message, ..files.quote() }, 4);
+        check_no_state(&files.log, &state, &Quote { message: &message, ..files.checked() }, 4);
     }
     let event = [&[9, 0, 0, 0, 13, 0, 0, 0, 1, 0, 0, 0, 0x0b][..], &[0; 37]].concat();
     check_no_state(&[&files.log[..], &event].concat(), &state, &files.quote(), 3);

@@ -8,8 +8,8 @@
 /// it.
 pub const IMA_VERIFY_VERSION: u32 = 1;
 
-/// The text is complete. A verdict is `match`, and a quote's signature was checked; for places, every value was reached and none
-/// is missing. For entries or events, these are the last.
+/// The text is complete. A verdict is `match`, and a quote's signature is valid, or was checked by the caller; for places, every
+/// value was reached and none is missing. For entries or events, these are the last.
 pub const IMA_VERIFY_DONE: i32 = 0;
 /// The text is complete. A verdict is `differ`, or a quote's signature was not checked; for places, a value was not reached or one
 /// is missing.
@@ -47,6 +47,8 @@ pub const IMA_VERIFY_QUOTE: u32 = 8;
 pub const IMA_VERIFY_KEY: u32 = 9;
 /// The known files; the place is a line's.
 pub const IMA_VERIFY_KNOWN: u32 = 10;
+/// The signature of a quote, or that the key is none by which signatures are verified.
+pub const IMA_VERIFY_SIGNATURE: u32 = 11;
 
 /// The place of an error that names none.
 pub const IMA_VERIFY_NO_PLACE: u64 = u64::MAX;
@@ -147,8 +149,8 @@ extern "C" {
         told: *mut ima_verify_told,
     ) -> i32;
 
-    /// The verdict on a log and a list that grows by the message of a quote, and the checkpoint to continue from. It verifies no
-    /// signature: `is_signed` says that the caller has.
+    /// The verdict on a log and a list that grows by a quote with its signature, and the checkpoint to continue from. Without bytes in `key`
+    /// and `signature` none is verified: `is_signed` says that the caller has.
     pub fn ima_verify_raw_attest(
         log: *const u8,
         log_size: usize,
@@ -158,6 +160,10 @@ extern "C" {
         more_size: usize,
         message: *const u8,
         message_size: usize,
+        key: *const u8,
+        key_size: usize,
+        signature: *const u8,
+        signature_size: usize,
         nonce: *const u8,
         nonce_size: usize,
         require: *const u8,

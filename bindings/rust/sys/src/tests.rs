@@ -98,6 +98,7 @@ fn numbers_are_those_of_the_header() {
         ("QUOTE", IMA_VERIFY_QUOTE),
         ("KEY", IMA_VERIFY_KEY),
         ("KNOWN", IMA_VERIFY_KNOWN),
+        ("SIGNATURE", IMA_VERIFY_SIGNATURE),
     ];
     let kinds = kinds.map(|(name, number)| (name, number as i32));
     for (name, number) in results.into_iter().chain(kinds) {
@@ -105,7 +106,7 @@ fn numbers_are_those_of_the_header() {
         assert!(header.lines().any(|found| found.trim_end_matches(',') == line), "{line}");
     }
     // (none is left out: an enumeration ends after its last number)
-    for last in ["IMA_VERIFY_MISUSED = 6\n};", "IMA_VERIFY_KNOWN = 10\n};", "IMA_VERIFY_NO_PLACE UINT64_MAX\n"] {
+    for last in ["IMA_VERIFY_MISUSED = 6\n};", "IMA_VERIFY_SIGNATURE = 11\n};", "IMA_VERIFY_NO_PLACE UINT64_MAX\n"] {
         assert!(header.contains(last), "{last}");
     }
     assert_eq!(IMA_VERIFY_NO_PLACE, u64::MAX);

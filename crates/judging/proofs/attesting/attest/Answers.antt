@@ -56,12 +56,6 @@ pub returns-clause-fault : goal.returns-clause-fault
 returns-clause-fault g c =
     let none = none_when _ (rw c.fault.ensures at (sym c.is_some.ensures ∙ c.if-is_some.false)) in
     let vouched = rw (c.in_ok-message.ensures.inputs, c.bytes-bytes.ensures) at c.in_ok-signature.ensures.vouched in
-    let asked_for = record {
-      message_is = c.in_ok-message.ensures.all;
-      vouched = vouched;
-      quote_is = rw c.bytes-bytes.ensures at c.in_ok-quote.ensures.found;
-      not_refused = c.in_ok-quote.ensures.asked;
-    } in
     of_fault c.answer_by_quote.result _ _
     (λ fault why. inr (inr (
       c.in_ok-required.required,
@@ -69,7 +63,17 @@ returns-clause-fault g c =
       inr (
         held_bytes c.in_ok-message.message,
         c.in_ok-message.ensures.all,
-        inr (inr (c.in_ok-signature.signature, quote_of c.in_ok-quote.quote, asked_for, why)),
+        inr (inr (
+          c.in_ok-signature.signature,
+          quote_of c.in_ok-quote.quote,
+          record {
+            message_is = c.in_ok-message.ensures.all;
+            vouched = vouched;
+            quote_is = rw c.bytes-bytes.ensures at c.in_ok-quote.ensures.found;
+            not_refused = c.in_ok-quote.ensures.asked;
+          },
+          why,
+        )),
       ),
     )))
     (rw (c.in_ok-signature.ensures.inputs, c.in_ok-message.ensures.inputs) at c.answer_by_quote.ensures.fault)
