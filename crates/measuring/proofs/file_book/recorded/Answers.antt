@@ -1,6 +1,7 @@
-use Rattle.std.proofs.Common.{rules, inl, inr, List, ℕ, arith}
+use Rattle.std.proofs.Common.{rules, inl, inr, List, ℕ, arith, map}
 use Rattle.std.specs.Borrow.{Bor}
 use Rattle.std.proofs.lemmas.List.{length-map}
+use Rattle.measure_book.specs.Names.{book_outcome_of}
 use Rattle.measuring.proofs.MeasuringLaws.{file_fault}
 use Rattle.measuring.proofs.file_book.recorded.Goals as goal
 
@@ -17,6 +18,15 @@ fault_of-requires-clause-number g c =
       (c.record_jobs-recorded.ensures.job c.in-Err-Job.job c.in-Err-Job.fault (search rules)).0.within,
       length-map c.args.jobs.now.names.now (λ (name : Bor (List ℕ)). name.now),
     )
+
+pub returns-in-None-clause-measured : goal.returns-in-None-clause-measured
+returns-in-None-clause-measured g c = record {
+  outcomes = map book_outcome_of c.in-Ok.batch.outcomes.items;
+  by = c.in-Ok.batch.by.items;
+  book_is = c.in-Ok.ensures.is_book;
+  batch = c.in-Ok.ensures.batch;
+  refusal_is = rw c.deref.ensures.value at c.in-None.ensures.none;
+}
 
 pub returns : goal.returns
 returns g c = record {
