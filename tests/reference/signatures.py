@@ -89,7 +89,7 @@ def is_signed_by_ecc(key, message, scheme, hash, *numbers):
     x, y, r, s = (int.from_bytes(number, "big") for number in (key.x, key.y, *numbers))
 
     def verify():
-        curve, its = getattr(ec, f"SECP{key.bits}R1")(), getattr(hashes, hash.name.upper())()
+        curve, its = {256: ec.SECP256R1, 384: ec.SECP384R1}[key.bits](), getattr(hashes, hash.name.upper())()
         ec.EllipticCurvePublicNumbers(x, y, curve).public_key().verify(utils.encode_dss_signature(r, s), message, ec.ECDSA(its))
 
     return is_verified(verify)
