@@ -80,9 +80,12 @@ def ask_of_damaged(room):
     }
     chance = random.Random(1)
     room.put(log=damaged.LOG, list=damaged.LIST, first=damaged.FIRST_ENTRY, tenth=damaged.TENTH)
-    for kind, (data, *_) in damaged.KINDS.items():
+    for kind, (data, _, inputs_with, _) in damaged.KINDS.items():
         for places_in, changed in damaged.DAMAGES.values():
             for place in chance.sample(places_in(data), DAMAGES_OF_A_KIND):
+                if damaged.is_signed(kind):
+                    ask_by_key(room, *inputs_with(changed(data, place)))
+                    continue
                 room.put(input=changed(data, place))
                 for words in commands[kind]:
                     room.ask(*words)
@@ -90,6 +93,12 @@ def ask_of_damaged(room):
         log, listed, message = boots.random_boot(chance)
         room.put(log=log, list=listed, quote=message)
         room.ask("attest", *growing.QUOTED, *chance.choice(([], ["--prefix"])), "log", "list", "quote")
+
+
+def ask_by_key(room, log, listed, message, key, signature, nonce, require):
+    """A log and a list, judged by a message with a key and a signature."""
+    room.put(log=log, list=listed, quote=message, key=key, signature=signature)
+    room.ask("attest", "--key", "key", "--signature", "signature", "--nonce", nonce.hex(), "--require", require.decode(), "log", "list", "quote")
 
 
 def ask_of_growing(room):
