@@ -1,6 +1,9 @@
-use Rattle.std.proofs.Common.{rules, inl, inr, List, ℕ, arith}
+use Rattle.std.proofs.Common.{rules, inl, inr, length, map, subst, List, ℕ, arith}
 use Rattle.std.specs.Borrow.{Bor}
 use Rattle.std.proofs.lemmas.List.{length-map}
+use Rattle.measure_book.specs.Names.{book_outcome_of}
+use Rattle.measure_book.specs.declared.op.Outcome.{Outcome}
+use Rattle.measuring.specs.Measuring.{AreDone}
 use Rattle.measuring.proofs.MeasuringLaws.{file_fault}
 use Rattle.measuring.proofs.file_book.recorded.Goals as goal
 
@@ -28,4 +31,14 @@ returns g c = record {
     says = search rules;
     after_files = search rules;
   }));
+}
+
+pub returns-in-None-clause-measured : goal.returns-in-None-clause-measured
+returns-in-None-clause-measured g c = record {
+  outcomes = _;
+  by = _;
+  book_is = c.in-Ok.ensures.is_book;
+  batch = c.in-Ok.ensures.batch;
+  refusal_is = subst (λ (outcomes : List Outcome). AreDone (map book_outcome_of outcomes) (length (map book_outcome_of outcomes)))
+      c.deref.ensures.value c.in-None.ensures.none;
 }
