@@ -33,6 +33,7 @@ SCRIPTS = {
     "tests/attest/test PROGRAM": ("openssl", "swtpm", "tpm2_quote", "localedef"),
     "tests/fleet/test FOLDER": ("fsspec",),
     "tests/faults/signatures.py": ("cryptography",),
+    "tests/faults/key_texts.py": ("cryptography",),
     "tests/pages/recipes.py PROGRAM": ("jq",),
     "tests/cases/run PROGRAM attest/signatures-by-rsa": ("cryptography",),
 }

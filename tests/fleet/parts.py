@@ -95,7 +95,7 @@ ANSWERS_WANTED = [
     "troubled None None the worker's verdict is a match with unknown entries",
     "troubled None None the worker's verdict is not that of its report",
     "match None", *["troubled the worker's report is not by a quote"] * 2, "troubled the worker's verdict is a match by a quote that differs",
-    *["troubled the worker's verdict is not that of its report"] * 2,
+    *["troubled the worker's verdict is not that of its report"] * 3,
 ]
 
 # Stops runs of three machines, of which two are in flight: the first is answered at that moment, the second not, or a moment later. Prints

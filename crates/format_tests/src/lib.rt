@@ -17,3 +17,5 @@ mod made;
 mod pieces;
 #[cfg(test)]
 mod sending;
+#[cfg(test)]
+mod signed;

@@ -6,7 +6,7 @@
 //! | `rsapss HASH MODULUS MESSAGE SIGNATURE` | `valid` or `invalid` |
 //! | `ecdsa CURVE HASH X Y MESSAGE R S` | `valid` or `invalid` |
 //! | `tpmt SIGNATURE` | the scheme, the hash and the numbers, or `fault` and the number of the first fault |
-//! | `signed KEY MESSAGE SIGNATURE` | `valid`, or `key fault` or `signature fault` and its number; KEY is a public area or PEM |
+//! | `signed KEY MESSAGE SIGNATURE` | `valid`, or `key fault` or `signature fault` and a number; KEY is a public area or PEM |
 //!
 //! HASH is `sha256`, `sha384` or `sha512`, CURVE is `p256` or `p384`. All else is bytes in hexadecimal, or `-` for none. Any other line is answered by
 //! `not a question`. A line is forgotten before the next one is read.

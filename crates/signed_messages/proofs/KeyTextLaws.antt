@@ -20,7 +20,8 @@ use Rattle.signed_messages.specs.KeyTexts.{IsAreaFault, IsCheckFault, IsFaultOf,
 abbrev pub IsNoKey : List ℕ → CheckFault → Type 0
 IsNoKey pem fault = (fault ≡ faults.Memory) ⊎ ((fault ≡ faults.Signature OtherPem) × ((key : MessageKey) → IsKeyPem pem key → ⊥))
 
-pub only_memory : (pem message signature : List ℕ) (fault : CheckFault) → IsNoKey pem fault → IsSignedByPem pem message signature → fault ≡ faults.Memory
+pub only_memory : (pem message signature : List ℕ) (fault : CheckFault) → IsNoKey pem fault → IsSignedByPem pem message signature
+    → fault ≡ faults.Memory
 only_memory pem message signature fault (inl memory) signed = memory
 only_memory pem message signature fault (inr other) signed = absurd (other.1 signed.0 signed.1)
 
@@ -71,7 +72,8 @@ only_pem text message signature pem signed =
       | inr is ↦ (signed.0, is, signed.2)
     ]
 
-pub only_area : (text message signature : List ℕ) → is_pem text ≡ false → IsSignedByText text message signature → IsSignedByArea text message signature
+pub only_area : (text message signature : List ℕ) → is_pem text ≡ false → IsSignedByText text message signature
+    → IsSignedByArea text message signature
 only_area text message signature other signed =
     elim signed.1 [
       | inl is ↦ (signed.0, is, signed.2)

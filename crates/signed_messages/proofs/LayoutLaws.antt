@@ -69,7 +69,8 @@ rsa_algorithm = algorithm_of (RsaNumbers 65537 [])
 -- That of a key whose modulus has so many bytes. The modulus comes behind 33 bytes, before its exponent.
 abbrev pub rsa_info : ℕ → List ℕ → List ℕ
 rsa_info size modulus =
-    framed 0x30 (size + 34) (rsa_algorithm ++ framed 0x03 (size + 15) (0 ∷ framed 0x30 (size + 10) (framed 0x02 (size + 1) (0 ∷ modulus) ++ exponent)))
+    framed 0x30 (size + 34) (rsa_algorithm ++ framed 0x03 (size + 15) (0 ∷ framed 0x30 (size + 10)
+    (framed 0x02 (size + 1) (0 ∷ modulus) ++ exponent)))
 
 rsa_laid : (e : ℕ) (m : List ℕ) → 128 ≤ slice_index m 0 → 256 ≤ length m → length m ≤ 512 → key_info (RsaNumbers e m) ≡ rsa_info (length m) m
 rsa_laid e m first low high =
@@ -79,7 +80,8 @@ rsa_laid e m first low high =
     rw (le-ltb (slice_index m 0) 0x80 first) (long_der 0x02 (0 ∷ m) (n + 1) (omega arith) (omega (arith, low)) (omega (arith, high))) in
     let body = framed 0x02 (n + 1) (0 ∷ m) ++ exponent in
     let bytes : key_bytes (RsaNumbers e m) ≡ framed 0x30 (n + 10) body =
-    ap (λ (xs : List ℕ). sequence (xs ++ exponent)) number ∙ long_der 0x30 body (n + 10) (omega (arith, sum)) (omega (arith, low)) (omega (arith, high)) in
+    ap (λ (xs : List ℕ). sequence (xs ++ exponent)) number
+    ∙ long_der 0x30 body (n + 10) (omega (arith, sum)) (omega (arith, low)) (omega (arith, high)) in
     let inner = framed 0x30 (n + 10) body in
     let bits : bit_string (key_bytes (RsaNumbers e m)) ≡ framed 0x03 (n + 15) (0 ∷ inner) =
     ap bit_string bytes ∙ long_der 0x03 (0 ∷ inner) (n + 15) (omega (arith, sum)) (omega (arith, low)) (omega (arith, high)) in
@@ -170,6 +172,11 @@ is_laid_out (EccNumbers P384 x y) key known =
     let y_size = eqb-true (length y) 48 both.1 in
     (x_size, y_size, p384_laid x y x_size y_size)
 is_laid_out (EccNumbers P521 x y) key known = absurd cc
+
+-- What is the SubjectPublicKeyInfo of such a key.
+pub laid_out : (numbers : KeyNumbers) (key : MessageKey) (info : List ℕ) → key_alone numbers ≡ Some key → info ≡ key_info numbers
+    → IsLaidOut numbers info
+laid_out numbers key info known e = subst (λ (xs : List ℕ). IsLaidOut numbers xs) (sym e) (is_laid_out numbers key known)
 
 -- ---- by the number of bytes
 
@@ -263,7 +270,8 @@ framed_bytes : (tag size : ℕ) (content : List ℕ) → tag < 256 → IsBytes c
 framed_bytes tag size content lt fits =
     let low = IsBytes-cons (byte_at 0 size) content (low_byte 0 size) fits in
     let both = IsBytes-cons (byte_at 1 size) (byte_at 0 size ∷ content) (low_byte 1 size) low in
-    IsBytes-cons tag (0x82 ∷ byte_at 1 size ∷ byte_at 0 size ∷ content) lt (IsBytes-cons 0x82 (byte_at 1 size ∷ byte_at 0 size ∷ content) (lit< tt) both)
+    IsBytes-cons tag (0x82 ∷ byte_at 1 size ∷ byte_at 0 size ∷ content) lt
+    (IsBytes-cons 0x82 (byte_at 1 size ∷ byte_at 0 size ∷ content) (lit< tt) both)
 
 rsa_bytes : (size : ℕ) (m : List ℕ) → IsBytes m → IsBytes (rsa_info size m)
 rsa_bytes size m fits =

@@ -6,7 +6,13 @@ use Rattle.signed_messages.proofs.LineLaws.{first_chunk, is_empty}
 use Rattle.signed_messages.proofs.pem.joined.Goals as goal
 
 pub loop-line-init : goal.loop-line-init
-loop-line-init c = (search rules, search rules, search rules, λ text e. (text, (let rest : chunks_rest c.into_iter-line-iterator.result ≡ c.args.lines.now = search rules in rest ∙ e), ap (λ (xs : List ℕ). xs ++ text) c.new-text.ensures.items))
+loop-line-init c =
+    let rest : chunks_rest c.into_iter-line-iterator.result ≡ c.args.lines.now = search rules in (
+      search rules,
+      search rules,
+      search rules,
+      λ text e. (text, rest ∙ e, ap (λ (xs : List ℕ). xs ++ text) c.new-text.ensures.items),
+    )
 
 pub loop-line-preserved : goal.loop-line-preserved
 loop-line-preserved c =
