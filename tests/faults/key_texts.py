@@ -101,8 +101,7 @@ def stated(text):
     if curve:
         keys = [reference.EccKey(curve[0], info[curve[1] : curve[2]], info[curve[2] :])]
     for key in keys:
-        area = reference.Area(None, b"", 0, "", None, key)
-        if area.pem().encode() == text and (curve or key.modulus.bit_length() == key.bits):
+        if reference.pem_of(key).encode() == text and (curve or key.modulus.bit_length() == key.bits):
             return info
     return None
 
@@ -165,7 +164,7 @@ class KeyTexts(harness.TestCase):
             written = subprocess.run(["openssl", "pkey", "-pubout"], input=private, stdout=subprocess.PIPE, check=True, timeout=60).stdout
             self.check(f"{key.public.key_size} bits: openssl and cryptography write the same", written, key.pem)
             area = reference.read_key(key.area(key.schemes[0], "sha256"))
-            self.check(f"{key.public.key_size} bits: the reference too", area.pem().encode(), key.pem)
+            self.check(f"{key.public.key_size} bits: the reference too", reference.pem_of(area.key).encode(), key.pem)
 
     def other_texts(self):
         """Texts that are no PEM of a key that is taken, with their key."""
