@@ -121,17 +121,18 @@ LOG, LIST, REPLAY, EXPECTED, KNOWN, QUOTE, SIGNATURE, KEY, CHECKPOINT, BOOK = ma
 # The numbers of the signature faults that are of the key, and what to do about each; about a key that is no public area, which the first ten of its
 # faults are of; and where nobody looked at a signature.
 OF_KEYS = (8, 9)
-NO_SIGNATURE = "SIG must be what tpm2_quote -s wrote with QUOTE: plain, or TPMT_SIGNATURE"
-OTHER_SIGNATURE = "SIG is not by the scheme and the hash that KEY states: it is by another key, or was changed"
+NO_SIGNATURE = "SIG must be what tpm2_quote -s wrote with QUOTE, plain or not, and KEY of its kind and size"
+OTHER_SIGNATURE = "SIG is not by a scheme and hash that KEY takes: it is by another key, or was changed"
 SIGNATURE_HINTS = {
     **dict.fromkeys((1, 2, 3, 4), NO_SIGNATURE),
     **dict.fromkeys((5, 6), OTHER_SIGNATURE),
     7: "SIG is by another key or of another quote, or one of QUOTE, SIG and KEY was changed",
-    8: "signatures by such keys are not verified here: verify SIG yourself, then say --signature-checked in place of --key and --signature",
-    9: "give NAME.pub of ima-enroll, or make KEY anew by ima-agent key --print pem",
+    8: "signatures by such keys are not verified here: verify SIG yourself, then call ima-agent with --signature-checked in place of both",
+    9: "give the key's public area: NAME.pub of ima-enroll",
 }
 LAST_OF_AREAS = 10
-NO_AREA = "KEY is no public area: give NAME.pub of ima-enroll, or PEM as ima-agent key --print pem prints it"
+NO_AREA = "KEY is not a public area of a kind that is taken: give NAME.pub of ima-enroll, or PEM as ima-agent key --print pem prints it"
+NO_ATTESTATION_KEY = "KEY is not a key that attests: give NAME.pub of ima-enroll"
 UNSIGNED = "nobody looked at the signature of QUOTE: give --key and --signature to have it verified"
 
 # What clap says of wrong arguments, or the program in its form where clap takes them.
@@ -413,11 +414,13 @@ def hints_due(words, folder, given):
 
 
 def signing_due(words, line):
-    """The line that says what to do about a refused signature, or a quote's key that is no public area, or no bytes."""
+    """The line that says what to do about a refused signature, or a quote's key, or no bytes."""
     if found := re.fullmatch(rb"refused: signature fault (\d+)", line):
         return f"{SIGNATURE_HINTS[int(found[1])]}\n".encode()
     found = re.fullmatch(rb"refused: key fault (\d+)", line)
-    return f"{NO_AREA}\n".encode() if found and words[0] != "key" and int(found[1]) <= LAST_OF_AREAS else b""
+    if not found or words[0] == "key":
+        return b""
+    return f"{NO_AREA if int(found[1]) <= LAST_OF_AREAS else NO_ATTESTATION_KEY}\n".encode()
 
 
 def mistake_due(words, line, folder, given):

@@ -11,22 +11,25 @@ abbrev pub unsigned_words : List ℕ
 unsigned_words = codes "nobody looked at the signature of QUOTE: give --key and --signature to have it verified"
 
 abbrev pub refusal_words : SignatureRefusal → List ℕ
-refusal_words (Bytes fault) = codes "SIG must be what tpm2_quote -s wrote with QUOTE: plain, or TPMT_SIGNATURE"
-refusal_words OtherScheme = codes "SIG is not by the scheme and the hash that KEY states: it is by another key, or was changed"
-refusal_words OtherHash = codes "SIG is not by the scheme and the hash that KEY states: it is by another key, or was changed"
+refusal_words (Bytes fault) = codes "SIG must be what tpm2_quote -s wrote with QUOTE, plain or not, and KEY of its kind and size"
+refusal_words OtherScheme = codes "SIG is not by a scheme and hash that KEY takes: it is by another key, or was changed"
+refusal_words OtherHash = codes "SIG is not by a scheme and hash that KEY takes: it is by another key, or was changed"
 refusal_words NotSigned = codes "SIG is by another key or of another quote, or one of QUOTE, SIG and KEY was changed"
 refusal_words OtherKey =
-    codes "signatures by such keys are not verified here: verify SIG yourself, then say --signature-checked in place of --key and --signature"
-refusal_words OtherPem = codes "give NAME.pub of ima-enroll, or make KEY anew by ima-agent key --print pem"
+    codes "signatures by such keys are not verified here: verify SIG yourself, then call ima-agent with --signature-checked in place of both"
+refusal_words OtherPem = codes "give the key's public area: NAME.pub of ima-enroll"
 
 -- The bytes are no public area: the faults before 11 are of these, and the others of what an area says.
 abbrev pub is_no_area : KeyFault → Bool
 is_no_area fault = nat_lt (key_fault_number fault) 11
 
 abbrev pub no_area_words : List ℕ
-no_area_words = codes "KEY is no public area: give NAME.pub of ima-enroll, or PEM as ima-agent key --print pem prints it"
+no_area_words = codes "KEY is not a public area of a kind that is taken: give NAME.pub of ima-enroll, or PEM as ima-agent key --print pem prints it"
 
--- What is said of a key that is refused: only if it is that of a quote, and no public area.
+abbrev pub key_words : KeyFault → List ℕ
+key_words fault = if is_no_area fault then no_area_words else codes "KEY is not a key that attests: give NAME.pub of ima-enroll"
+
+-- What is said of a key that is refused: only if it is that of a quote.
 abbrev pub key_line : KeyFault → Option Quoting → List ℕ
 key_line fault None = []
-key_line fault (Some quoting) = if is_no_area fault then escape no_area_words ++ 10 ∷ [] else []
+key_line fault (Some quoting) = escape (key_words fault) ++ 10 ∷ []

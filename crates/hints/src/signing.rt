@@ -3,7 +3,7 @@
 ghost use Rattle.std.specs.Prelude.{◌≡◌, ◌++◌, ◌∷◌, [], true, option_map, string_bytes, IfOk};
 ghost use Rattle.std.specs.List.{list_all};
 ghost use Rattle.hints.specs.Escaping.{escape, is_shown};
-ghost use Rattle.hints.specs.Signing.{is_no_area, key_line, no_area_words, refusal_words, unsigned_words};
+ghost use Rattle.hints.specs.Signing.{is_no_area, key_line, key_words, refusal_words, unsigned_words};
 
 use crate::escapes::shown_line;
 use agent_plans::Quoting;
@@ -18,7 +18,9 @@ const UNSIGNED: &str =
     "nobody looked at the signature of QUOTE: give --key and --signature to have it verified";
 
 const NO_AREA: &str =
-    "KEY is no public area: give NAME.pub of ima-enroll, or PEM as ima-agent key --print pem prints it";
+    "KEY is not a public area of a kind that is taken: give NAME.pub of ima-enroll, or PEM as ima-agent key --print pem prints it";
+
+const NO_ATTESTATION_KEY: &str = "KEY is not a key that attests: give NAME.pub of ima-enroll";
 
 /// What to do where nothing was said of the signature.
 pub(crate) fn unsigned_hint(alloc: Global) -> Result<String, AllocError>
@@ -42,19 +44,18 @@ fn refusal_words(refusal: SignatureRefusal) -> &'static str
 {
     match refusal {
         SignatureRefusal::Bytes(_) =>
-            "SIG must be what tpm2_quote -s wrote with QUOTE: plain, or TPMT_SIGNATURE",
+            "SIG must be what tpm2_quote -s wrote with QUOTE, plain or not, and KEY of its kind and size",
         SignatureRefusal::OtherScheme | SignatureRefusal::OtherHash =>
-            "SIG is not by the scheme and the hash that KEY states: it is by another key, or was changed",
+            "SIG is not by a scheme and hash that KEY takes: it is by another key, or was changed",
         SignatureRefusal::NotSigned =>
             "SIG is by another key or of another quote, or one of QUOTE, SIG and KEY was changed",
         SignatureRefusal::OtherKey =>
-            "signatures by such keys are not verified here: verify SIG yourself, then say --signature-checked in place of --key and --signature",
-        SignatureRefusal::OtherPem =>
-            "give NAME.pub of ima-enroll, or make KEY anew by ima-agent key --print pem",
+            "signatures by such keys are not verified here: verify SIG yourself, then call ima-agent with --signature-checked in place of both",
+        SignatureRefusal::OtherPem => "give the key's public area: NAME.pub of ima-enroll",
     }
 }
 
-/// What to do about a key that is refused, if it is that of a quote, and no public area: else no text.
+/// What to do about a key that is refused, if it is that of a quote: else no text.
 pub(crate) fn key_hint(
     alloc: Global,
     fault: KeyFault,
@@ -63,10 +64,21 @@ pub(crate) fn key_hint(
     ensures line { IfOk result (λ text. string_bytes text ≡ key_line fault (option_map (λ quoting. quoting.now) quoting.entry)) }
     ensures shown { IfOk result (λ text. list_all is_shown (string_bytes text) ≡ true) }
 {
-    if quoting.is_some() && is_no_area(fault) {
-        return shown_line(alloc, NO_AREA);
+    match quoting {
+        None => Ok(String::new(alloc)),
+        Some(_) => shown_line(alloc, key_words(fault)),
     }
-    Ok(String::new(alloc))
+}
+
+// The words of that.
+fn key_words(fault: KeyFault) -> &'static str
+    ensures { result.now ≡ key_words fault }
+{
+    if is_no_area(fault) {
+        NO_AREA
+    } else {
+        NO_ATTESTATION_KEY
+    }
 }
 
 // Whether the bytes are no public area.

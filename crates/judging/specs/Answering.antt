@@ -629,8 +629,8 @@ IsNotJudgedBy inputs asked quote signature fault =
     × IsNotFound inputs (VerdictOf asked.log asked.scope asked.resume) asked.list
     (quoted_evidence log quote signature values counted (checkpoint_of state) files) fault)
 
--- Why the inputs have no key, or no signature of the message by it: the key is not read; it is, and the signature is not; or both are, and the
--- message is not signed so, or memory ran out.
+-- Why the inputs have no key, or no signature of the message by it: the key is not read, or the signature is not; or both are, and the message is
+-- not signed so, or memory ran out.
 abbrev pub IsNotSigned : Inputs → Where → Where → List ℕ → RunFault → Type 0
 IsNotSigned inputs key signature message fault =
     IsInputFault inputs key fault

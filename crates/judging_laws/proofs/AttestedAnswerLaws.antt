@@ -36,7 +36,7 @@ use Rattle.judging.specs.declared.request.Answered.{Answered}
 use Rattle.judging.specs.Answering.{Evidence, IsAnswerOn, IsAttestation, IsJudged, IsResumedState, IsNext, IsPrefixOf, IsTaken, IsVerdictOn, IsVouched, OfList, OfMore, TellsUnknown, checkpoint_of, entries_taken, is_good as is_good_answer, most_more, quoted_evidence, seeks_prefix, terms_with, told_by}
 use Rattle.judging.specs.Inputs.{OfInput, Where}
 use Rattle.judging.specs.Requests.{AttestRequested, ByCaller, ByKey, NotChecked, Nothing, Signing, VerdictOf}
-use Rattle.judging_laws.specs.AttestedAnswers.{IsSignedAs, is_on_prefix, TellsAttested, TellsPrefixAttested, TellsSomeAttested}
+use Rattle.judging_laws.specs.AttestedAnswers.{IsVouchedFor, is_on_prefix, TellsAttested, TellsPrefixAttested, TellsSomeAttested}
 
 -- ---- Booleans
 
@@ -74,7 +74,7 @@ success_told told quote next signature success signed_is quoted_is =
 
 -- What is known of the signature tells that the message is signed, unless nothing is.
 signed_as : (inputs : Inputs) (signing : Signing) (message : List ℕ) (state : SignatureState) → IsVouched inputs signing message state
-    → is_signed state ≡ true → IsSignedAs inputs signing message
+    → is_signed state ≡ true → IsVouchedFor inputs signing message
 signed_as inputs NotChecked message state vouched signed = absurd (true≢false (sym signed ∙ ap is_signed vouched))
 signed_as inputs ByCaller message state vouched signed = tt
 signed_as inputs (ByKey key signature) message state vouched signed = vouched.1

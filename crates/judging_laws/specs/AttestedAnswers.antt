@@ -23,17 +23,17 @@ pub record IsReportOf (answer : Answer) (attestation : Attestation) : Type 0 whe
   pub entries : report.report.entries ≡ attestation.entries
 
 -- The message is signed: the caller says that he has verified that; or inputs have a key, and a signature of these bytes by it.
-abbrev pub IsSignedAs : Inputs → Signing → List ℕ → Type 0
-IsSignedAs inputs NotChecked message = ⊥
-IsSignedAs inputs ByCaller message = Unit {0}
-IsSignedAs inputs (ByKey key signature) message = IsSignedByInputs inputs key signature message
+abbrev pub IsVouchedFor : Inputs → Signing → List ℕ → Type 0
+IsVouchedFor inputs NotChecked message = ⊥
+IsVouchedFor inputs ByCaller message = Unit {0}
+IsVouchedFor inputs (ByKey key signature) message = IsSignedByInputs inputs key signature message
 
 -- The message is signed. The log of the input, this list and the message of the input are attested, by the terms that are
 -- asked for and the quote that the answer is by; and the answer is the report of that.
 pub record TellsAttested (inputs : Inputs) (asked : AttestRequested) (given : Answered) (is : IsAttestation inputs asked given) (list : List ℕ) : Type 0 where
   pub message : List ℕ
   pub attestation : Attestation
-  pub signed : IsSignedAs inputs asked.signing message
+  pub signed : IsVouchedFor inputs asked.signing message
   pub log_is : Holds inputs asked.log is.log
   pub message_is : Holds inputs asked.message message
   pub attested : IsAttested is.log list message (terms_with asked is.ranges) attestation

@@ -25,9 +25,9 @@ pub enum SignatureRefusal {
     /// 8: signatures by this key are not verified here: it is no RSA key of 2,048 to 4,096 bits and no key on P-256 or P-384.
     #[error("the key is no RSA key of 2,048 to 4,096 bits and no key on P-256 or P-384")]
     OtherKey,
-    /// 9: the key's text begins as PEM does, and is not what `ima-agent key --print pem` writes of an RSA key of 2,048 to 4,096 bits or of a key on P-256
-    /// or P-384.
-    #[error("the PEM is not what ima-agent key --print pem writes of such a key")]
+    /// 9: the key's text begins as PEM does, and is not what `ima-agent key --print pem` writes of an RSA key of 2,048 to 4,096 bits, or of a key on
+    /// P-256 or P-384.
+    #[error("the PEM is of a kind of key that is not taken, or not as ima-agent key --print pem writes it")]
     OtherPem,
 }
 
