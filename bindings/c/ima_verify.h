@@ -24,8 +24,9 @@
  * entries must also be of known files.
  *
  * Pointers. One that is NULL has a size of 0; else the function returns IMA_VERIFY_MISUSED. Nothing may change an
- * input during a call. Inputs may overlap each other, and calls may share them; outputs may overlap nothing else
- * that a call is given.
+ * input during a call, as another process may change a mapped file: the bytes whose signature is verified would not be
+ * those that are judged. Inputs may overlap each other, and calls may share them; outputs may overlap nothing else that
+ * a call is given.
  *
  * Memory. What a call allocates by malloc and realloc it gives back by free before it returns; if you replace
  * them, replace all three. A call keeps no event of a log and no entry of a list but in the text that it gives. It
@@ -442,7 +443,7 @@ ima_verify_more(const struct ima_verify_evidence *evidence, struct ima_verify_by
  * taken. A key that is not restricted, or that was imported into the TPM, also signs messages that no TPM made. Its
  * public area is refused, but a PEM does not tell.
  *
- * The first fault is reported, in this order: `require` and the nonce, the key (`refused: key fault 1` to `22`,
+ * The first fault is reported, in this order: `require` and the nonce, the key (`refused: key fault 1` to `20`,
  * `refused: signature fault 8` or `9`), the signature (`refused: signature fault 1` to `7`), the message (`refused:
  * quote fault 1` to `12`), the text of the checkpoint (`refused: checkpoint fault 1` or `2`), whether it is of the
  * quote's boot (`refused: checkpoint fault 4`), the known files, the log, whether the log is that of the checkpoint

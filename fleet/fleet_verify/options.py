@@ -20,7 +20,7 @@ MACHINES is the table of machines: on each line a name and a folder, or a name a
 the table of verdicts, a file of SQLite, which is made if it is not there. The workers are N processes of this computer, or those of a
 scheduler of Dask. They read the files themselves, and need the Python package `ima_verify` and the library below it.
 
-Each machine is judged by a quote of its TPM, on a nonce of `fleet-verify nonces`, with the key that FOLDER has as NAME.pem; with
+Each machine is judged by a quote of its TPM, on a nonce of `fleet-verify nonces`, with the key that FOLDER has as NAME.pub; with
 --unquoted by expected registers. `page` writes a page to look at.
 
 SELECTION is which registers must be quoted or expected, register 10 among them, as sha256:0-10 or sha256:all; or `none`, with --unquoted.
@@ -111,7 +111,7 @@ def add_inputs(parser: argparse.ArgumentParser) -> None:
         help="what must be quoted or expected of each machine, register 10 among it, as sha256:0-10 or sha256:0-14+sha1:10; or, with "
         f"--unquoted, {NONE}",
     )
-    parser.add_argument("--keys", metavar="FOLDER", action=Once, help="the folder with NAME.pem, the public key of each machine's TPM")
+    parser.add_argument("--keys", metavar="FOLDER", action=Once, help="the folder with NAME.pub, the public key of each machine's TPM, or its PEM")
     parser.add_argument(
         "--unquoted", action="store_true",
         help="take no quotes, but expected.txt of each machine's folder: a match then says only that log and list make these registers",

@@ -22,8 +22,9 @@ CREATE TABLE nonces (
 # How many of its nonces a machine is asked with: those that are unused first, of which few are young enough.
 MOST_NONCES = 8
 MOST_KEY_BYTES = 16 * 1024
-# Where a machine's key may be: its public area, or else its PEM, which does not say what the key may sign.
-KEY_FILES = ("NAME.pub", "NAME.pem", "NAME/NAME.pub", "NAME/NAME.pem")
+# Where a machine's key may be: its public area, or else its PEM, which does not say what the key may sign. A PEM that was left counts for nothing
+# beside an area.
+KEY_FILES = ("NAME.pub", "NAME/NAME.pub", "NAME.pem", "NAME/NAME.pem")
 
 # Why an answer by a quote is not recorded as it came.
 TOO_OLD = "stale: the nonce of its quote is older than --max-age, or of a time to come"
@@ -36,7 +37,7 @@ _OF_VERDICT = (
 
 def key_of(folder: str, name: str) -> Tuple[Optional[str], Optional[str]]:
     """The key of the machine of this name, by Latin-1, if the folder of keys has it, or why it is not taken: the first that is there of KEY_FILES,
-    the last two as `ima-enroll` keeps them. No name leads out of the folder."""
+    those in a folder as `ima-enroll` keeps them. No name leads out of the folder."""
     if "/" in name or name in (".", ".."):
         return None, None
     for shown in KEY_FILES:

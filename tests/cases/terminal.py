@@ -635,8 +635,15 @@ def signed_commands():
         words = ["attest", "--key=AK.pem", "--signature=quote.sig", *asked, *quoted]
         piped = [each.replace(name, "pipe") for each in words]
         yield f"a pipe in place of {name}", piped, 3, b"failed: read pipe\n", ["cannot read pipe: it is no regular file"]
-    words = [*boot, "--key=AK.pem", "--signature=quote.sig", "pipe"]
-    yield "a pipe as the log of a boot", words, 3, b"failed: read pipe\n", ["cannot read pipe: it is no regular file"]
+    signed = [*asked, "--quote=quote.msg", "--key=AK.pem", "--signature=quote.sig"]
+    for title, words in (
+        ("as the log of a boot", ["boot", *signed, "--list=ima.list", "pipe"]),
+        ("as the list of a boot", ["boot", *signed, "--list=pipe", "firmware.log"]),
+        ("as the log of an earlier boot", ["boot", *signed, "--list=ima.list", "--before=pipe", "firmware.log"]),
+        ("as the log of events", ["events", "--explain", *signed, "--list=ima.list", "pipe"]),
+        ("as the list of events", ["events", "--explain", *signed, "--list=pipe", "firmware.log"]),
+    ):
+        yield f"a pipe {title}", words, 3, b"failed: read pipe\n", ["cannot read pipe: it is no regular file"]
 
 
 def piped_commands():

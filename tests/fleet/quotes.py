@@ -418,18 +418,22 @@ def test_keys(tools):
         (folder / name / f"{name}.pem").write_text(name)
     (folder / "i").mkdir()
     (folder / "i/i.pem").symlink_to("../a.pem")
-    for name in ("k.pub", "k.pem", "l/l.pub", "l/l.pem", "m.pem", "m/m.pub", "n.pem"):
+    for name in ("k.pub", "k.pem", "l/l.pub", "l/l.pem", "m.pem", "m/m.pub", "n.pem", "o.pem", "o/o.pem"):
         (folder / name).parent.mkdir(exist_ok=True)
         (folder / name).write_text(f"{name[-3:]} of {name[0]}")
     os.mkfifo(folder / "n.pub")
+    (folder / "p").mkdir()
+    os.mkfifo(folder / "p/p.pub")
+    (folder / "p.pem").write_text("p")
     wanted = {
         "a": ("a", None), "b": ("b in a folder", None), "c": (None, "no key: NAME.pem cannot be read: OSError: it is no regular file"),
         "d": (None, "no key: NAME.pem cannot be read: OSError: [Errno 40] Too many levels of symbolic links"),
         "e": (None, "no key: NAME.pem has more than 16384 bytes"), "h": (None, "no key: NAME.pem cannot be read: OSError: it is no regular file"),
         "h.pem": ("h.pem", None), "i": ("a", None), "j": (16 * 1024 * "j", None), **dict.fromkeys(("f", "../out", "..", ".", "", "a.pem", "h/h", "i/i", "x" * 251), (None, None)),
         "x" * 255: (None, "no key: NAME.pub cannot be read: OSError: [Errno 36] File name too long"),
-        "k": ("pub of k", None), "l": ("pub of l", None), "m": ("pem of m", None),
+        "k": ("pub of k", None), "l": ("pub of l", None), "m": ("pub of m", None), "o": ("pem of o", None),
         "n": (None, "no key: NAME.pub cannot be read: OSError: it is no regular file"),
+        "p": (None, "no key: NAME/NAME.pub cannot be read: OSError: it is no regular file"),
     }
     tools.check("keys that are found: none in place of one that cannot be read", {name: key_of(str(folder), name) for name in wanted}, wanted)
     asked = Asked(REQUIRE, False, True, 60)

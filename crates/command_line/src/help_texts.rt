@@ -91,7 +91,7 @@ Exit status:
   1  the verdict is `differ`, or a value is not located
   2  the arguments or an input are refused
   3  an input cannot be read, an output cannot be written, or memory ran out
-  4  a quote is refused, or its signature was not checked
+  4  a quote, its key or signature is refused, or nobody verified the signature
 
 `man ima-agent` has the lines of reports, and what the numbers of errors mean."
 );
@@ -130,11 +130,11 @@ pub(crate) fn help_end_of<'a>(command: &str) -> &'a str {
         ),
         "attest" => help_end!(
             "\
-ima-agent attest --key ak.pub --signature quote.sig --nonce \"$nonce\" \\
-      --require sha256:0-10 firmware.log ima.list quote.msg";
+ima-agent attest --key ../keys/machine/machine.pub --signature quote.sig \\
+      --nonce \"$nonce\" --require sha256:0-10 firmware.log ima.list quote.msg";
             0 "the verdict is `match`: the quote and the boot aggregate match"
             1 "the verdict is `differ`: one does not, log and list share a PCR, or --known fails"
-            4 "QUOTE or SIG is refused, or --key and --signature are missing";
+            4 "QUOTE, KEY or SIG is refused, or --key and --signature are missing";
             "key, signature, quote, log, list, replay, expected, checkpoint, known"
         ),
         "replay" => help_end!(
@@ -153,14 +153,14 @@ ima-agent attest --key ak.pub --signature quote.sig --nonce \"$nonce\" \\
             "ima-agent boot --expected expected.txt firmware.log";
             0 "all is printed; with --quote the verdict of `attest` is `match`"
             1 "with --quote: the verdict is `differ`, and nothing is confirmed"
-            4 "QUOTE or SIG is refused, or --key and --signature are missing";
+            4 "QUOTE, KEY or SIG is refused, or --key and --signature are missing";
             "log, expected, key, signature, quote, list, replay"
         ),
         "events" => help_end!(
             "ima-agent events --explain --expected expected.txt firmware.log";
             0 "all is printed; with --quote the verdict of `attest` is `match`"
             1 "with --quote: the verdict is `differ`, and nothing is confirmed"
-            4 "QUOTE or SIG is refused, or --key and --signature are missing";
+            4 "QUOTE, KEY or SIG is refused, or --key and --signature are missing";
             "log, expected, key, signature, quote, list, replay"
         ),
         _ => help_end_of_other(command),
