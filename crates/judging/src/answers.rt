@@ -57,6 +57,7 @@ pub fn answer_request<F: AgentFiles>(
 }
 
 // What comes of what is compared.
+#[inline(never)]
 fn compare<F: AgentFiles>(alloc: Global, files: &mut F, request: Comparison<'_>) -> Answering
     ensures answer { IfOk result (IsComparison (F.inputs files.old) (compared_of request.entry)) }
     ensures fault { IfErr result (IsNoComparison (F.inputs files.old) (compared_of request.entry)) }
@@ -274,6 +275,7 @@ impl Evidence<'_> {
     }
 
     // The verdict on the list of this source alone.
+    #[inline(never)]
     fn list_verdict_from<R: Source>(
         &self,
         alloc: Global,

@@ -84,6 +84,7 @@ fn asked_quote<'a>(message: &'a [u8], policy: &Policy<'_>) -> Result<Quote<'a>, 
 }
 
 // What comes of a log and a list by this quote.
+#[inline(never)]
 fn answer_by_quote<F: AgentFiles>(
     alloc: Global,
     files: &mut F,
@@ -119,6 +120,7 @@ fn answer_by_quote<F: AgentFiles>(
 }
 
 // What came of the values of expected registers, and those that count beside this quote.
+#[inline(never)]
 fn counted_in<F: AgentFiles>(
     alloc: Global,
     files: &mut F,
@@ -141,6 +143,7 @@ fn counted_in<F: AgentFiles>(
 }
 
 // The state to go on from, if there is one, which must be of the boot of this quote.
+#[inline(never)]
 fn state_by<F: AgentFiles>(
     alloc: Global,
     files: &mut F,

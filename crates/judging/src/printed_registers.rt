@@ -12,6 +12,7 @@ use std::alloc::Global;
 
 /// The registers that the text in this input states, of those that another text selects, or all of them without one. The selection is read
 /// before the input is loaded.
+#[inline(never)]
 pub(crate) fn printed_registers<F: AgentFiles>(
     alloc: Global,
     files: &mut F,

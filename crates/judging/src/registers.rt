@@ -14,6 +14,7 @@ use byte_streams::{Failed, SliceSource, Source};
 use std::alloc::Global;
 
 /// The registers after the log in this input, which is loaded.
+#[inline(never)]
 pub(crate) fn after_log<F: AgentFiles>(alloc: Global, files: &mut F, log: Input<'_>) -> Answering
     ensures answer { IfOk result (IsAnswer (F.inputs files.old) (LogRegistersOf (location_of log.entry))) }
     ensures fault { IfErr result (IsRefusal (F.inputs files.old) (LogRegistersOf (location_of log.entry))) }
@@ -29,6 +30,7 @@ pub(crate) fn after_log<F: AgentFiles>(alloc: Global, files: &mut F, log: Input<
 }
 
 /// The registers after the list in this input, which is replayed as it is read, without loading it.
+#[inline(never)]
 pub(crate) fn after_list<F: AgentFiles>(alloc: Global, files: &mut F, list: Input<'_>) -> Answering
     ensures answer { IfOk result (IsAnswer (F.inputs files.old) (ListRegistersOf (location_of list.entry))) }
     ensures fault { IfErr result (IsRefusal (F.inputs files.old) (ListRegistersOf (location_of list.entry))) }

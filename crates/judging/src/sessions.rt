@@ -38,6 +38,7 @@ pub(crate) fn checkpoint_in(alloc: Global, text: &[u8]) -> Result<SavedState, Ru
 
 impl Evidence<'_> {
     /// The verdict on the whole list of this source, or on its confirmed prefix.
+    #[inline(never)]
     pub(crate) fn verdict_from<R: Source>(
         &self,
         alloc: Global,
@@ -66,6 +67,7 @@ impl Evidence<'_> {
     }
 
     // The report on what was judged, after which this is known. It fails only if memory runs out.
+    #[inline(never)]
     fn answer_on(
         &self,
         alloc: Global,
@@ -86,6 +88,7 @@ impl Evidence<'_> {
     }
 
     // Has the session take the list, or its confirmed prefix if that is sought, and reports on it. The watch looks at its entries.
+    #[inline(never)]
     fn judge_from<'k, R: Source>(
         &self,
         alloc: Global,
@@ -151,6 +154,7 @@ impl Evidence<'_> {
 }
 
 // A session of this log that goes on from this checkpoint, if there is one.
+#[inline(never)]
 fn session_of(log: &[u8], checkpoint: Option<Checkpoint>) -> Result<Session<'_>, RunFault>
     ensures started { IfOk result (IsStarted log.now checkpoint) }
     ensures fault { IfErr result (IsLogRefused log.now checkpoint) }
@@ -169,6 +173,7 @@ fn session_of(log: &[u8], checkpoint: Option<Checkpoint>) -> Result<Session<'_>,
 }
 
 // Where to go on. Fails for want of memory if no whole input fits after what the session has taken: its checkpoint would not be read back.
+#[inline(never)]
 fn next_of(session: &Session<'_>) -> Result<Checkpoint, RunFault>
     ensures next { IfOk result (λ next. (next ≡ session.now.checkpoint) × CanBeReadBack session.now.checkpoint) }
     ensures fault { IfErr result (λ fault. fault ≡ runs.Memory) }
