@@ -50,8 +50,8 @@ class Entries(Listed):
     NAMES = (b"/a\nb", b"/a\n0 b'/sbin/init'", b'/"\\\x1b[2J\x7f', b"/\xc3\xa9\xe2\x80\xa8\xf0\x9f\x98\x80", b"/\xff", b"/\xed\xa0\x80", b"/\xc3",
              b"", b"/}\n{", b" ", b"/" + 5000 * b"\1", b"path_hex", b"/\\u0000")
 
-    def check_entry(self, found, payload, **members):
-        digest = hashlib.sha1(payload).digest()
+    def check_entry(self, found, covered, **members):
+        digest = hashlib.sha1(covered).digest()
         self.check(found, **{"register": 10, "template_digest": digest, "violation": False, "genuine": True, **members})
 
     def test_entries_of_the_sample_are_the_kernels_text(self):
