@@ -36,7 +36,7 @@ call loads it, or raises `LoadError`."""
 
 from collections.abc import Iterable
 from enum import Enum
-from typing import NamedTuple, TypeAlias, overload
+from typing import TypeAlias, overload
 
 from . import _answers, _library
 from ._errors import (
@@ -80,10 +80,6 @@ Known: TypeAlias = Iterable[Text]
 _OF_LOG, _OF_LIST = False, True
 _ATTESTATION, _ENDORSEMENT = False, True
 _NONCE_BYTES = 16
-_BY_KEY_OR_CALLER = (
-    "attest takes a key and a signature, or None for both and signature_checked, which is True or "
-    "False"
-)
 
 
 def version() -> int:
@@ -215,11 +211,11 @@ def attest(
     >>> ima_verify.attest(None, quote, None, log, measurements, **given).matches
     False
     """
-    quoted = _Quoted(
-        key, quote, signature, _nonce_of(nonce, nonce_hex), require, allow_sha1, signature_checked
+    session = Session.by_quotes(log, known=known)
+    return session._attest(
+        _signing_of(key, signature, signature_checked), quote, measurements,
+        _nonce_of(nonce, nonce_hex), require, allow_sha1,
     )
-    found, _ = _attested(log, b"", measurements, quoted, _joined(known, require), False)
-    return found
 
 
 class Session:
@@ -259,8 +255,7 @@ class Session:
             raise TypeError(f"prefix is True or False, and not {prefix!r}")
         self._log, self._expected = _copy_of(log), _copy_of(_bytes_of(expected))
         self._require, self._required = require, _required(require)
-        text = _joined(known, require)
-        self._known = None if text is None else _copy_of(text)
+        self._known = _joined(known, require)
         self._prefix = prefix
         self._state = None if state is None else _copy_of(state)
 
@@ -277,8 +272,7 @@ class Session:
         """
         session = cls(log, b"", require=NOTHING, prefix=prefix, state=state)
         session._require, session._required = "", b""
-        text = _joined(known, session._require)
-        session._known = None if text is None else _copy_of(text)
+        session._known = _joined(known, "")
         return session
 
     def more(self, data: Buffer) -> Verdict:
@@ -346,13 +340,27 @@ class Session:
         >>> later.attest(*quoted, measurements[later.offset:], **given).matches
         True
         """
-        quoted = _Quoted(
-            key, quote, signature, _nonce_of(nonce, nonce_hex), require, allow_sha1,
-            signature_checked,
+        return self._attest(
+            _signing_of(key, signature, signature_checked), quote, data,
+            _nonce_of(nonce, nonce_hex), require, allow_sha1,
         )
-        found, state = _attested(
-            self._log, _start_of(self._state), data, quoted, self._known, self._prefix
+
+    def _attest(
+        self, signing: tuple[Buffer, Buffer, bool], quote: Buffer, data: Buffer, nonce: Buffer,
+        require: str, allow_sha1: bool,
+    ) -> Attestation:
+        if not isinstance(allow_sha1, bool):
+            raise TypeError(f"allow_sha1 is True or False, and not {allow_sha1!r}")
+        if not isinstance(require, str):
+            raise TypeError(f"require is a text, and not {require!r}")
+        (key, signature, is_checked), known = signing, self._known
+        inputs = (
+            self._log, _start_of(self._state), data, quote, key, signature, nonce,
+            _required(require), known or b"",
         )
+        flags = known is not None, allow_sha1, is_checked, self._prefix
+        status, text, state = _library.call_more("attest", inputs, flags, require)
+        found = _answers.read_verdict(Attestation, status, text)
         self._state = state or self._state
         return found
 
@@ -508,45 +516,19 @@ def show(measurements: Buffer) -> bytes:
     return b"".join(iter(_library.Pieces("entries", measurements, TEXT).next, b""))
 
 
-class _Quoted(NamedTuple):
-    """A quote, and what is asked of it."""
-
-    key: Text | None
-    message: Buffer
-    signature: Buffer | None
-    nonce: Buffer
-    require: str
-    allow_sha1: bool
-    signature_checked: bool | None
-
-
-def _attested(
-    log: Buffer, state: bytes, data: Buffer, quoted: _Quoted, known: Buffer | None, prefix: bool
-) -> tuple[Attestation, bytes]:
-    """The verdict by a quote on the list of a state followed by these bytes, and after a match the
-    next state."""
-    by_key = _signing_of(quoted)
-    require, allow_sha1, checks_known = quoted.require, quoted.allow_sha1, known is not None
-    if not isinstance(allow_sha1, bool):
-        raise TypeError(f"allow_sha1 is True or False, and not {allow_sha1!r}")
-    if not isinstance(require, str):
-        raise TypeError(f"require is a text, and not {require!r}")
-    inputs = (
-        log, state, data, quoted.message, *by_key, quoted.nonce, _required(require), known or b""
-    )
-    flags = checks_known, allow_sha1, quoted.signature_checked is True, prefix
-    status, text, next_state = _library.call_more("attest", inputs, flags, require)
-    return _answers.read_verdict(Attestation, status, text), next_state
-
-
-def _signing_of(quoted: _Quoted) -> tuple[Buffer, Buffer]:
-    """The key and the signature for the library, to which no bytes are none."""
-    key, signature, checked = quoted.key, quoted.signature, quoted.signature_checked
+def _signing_of(
+    key: Text | None, signature: Buffer | None, checked: bool | None
+) -> tuple[Buffer, Buffer, bool]:
+    """The key and the signature for the library, to which no bytes are none, and whether the
+    caller verified the signature."""
     if key is None and signature is None and isinstance(checked, bool):
-        return b"", b""
+        return b"", b"", checked
     if key is None or signature is None or checked is not None:
-        raise TypeError(_BY_KEY_OR_CALLER)
-    return _some_bytes(_bytes_of(key)), _some_bytes(signature)
+        raise TypeError(
+            "attest takes a key and a signature, or None for both and signature_checked, which is "
+            "True or False"
+        )
+    return _some_bytes(_bytes_of(key)), _some_bytes(signature), False
 
 
 def _some_bytes(data: Buffer) -> Buffer:
@@ -593,22 +575,19 @@ def _required(require: Required) -> bytes:
     return require.encode("utf-8", "surrogatepass")
 
 
-def _joined(known: Known | None, require: Required) -> Buffer | None:
+def _joined(known: Known | None, require: Required) -> bytes | None:
     """The texts of known files as one, in which each ends its last line, or None if they are not
     given."""
     if known is None:
         return None
     if isinstance(known, (str, bytes, bytearray, memoryview)):
         raise TypeError("known is an iterable of texts, such as [text], and not one text")
-    texts = [_bytes_of(text) for text in known]
+    texts = [_copy_of(_bytes_of(text)) for text in known]
     if require is NOTHING:
         raise Misuse("known files need required PCRs: no entry is confirmed without PCR 10")
-    return texts[0] if len(texts) == 1 else b"".join(map(_lines_of, texts))
-
-
-def _lines_of(text: Buffer) -> bytes:
-    data = _copy_of(text)
-    return data if not data or data.endswith(b"\n") else data + b"\n"
+    if len(texts) == 1:
+        return texts[0]
+    return b"".join(text if text[-1:] in (b"", b"\n") else text + b"\n" for text in texts)
 
 
 def _start_of(state: bytes | None) -> bytes:

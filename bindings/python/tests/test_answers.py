@@ -11,7 +11,7 @@ import subprocess
 import sys
 import unittest
 
-from samples import ASCII, CHANGED, EXPECTED, LIST, LOG, NONCE, REGISTERS, ROOT, SIZES
+from samples import CHANGED, EXPECTED, LIST, LOG, NONCE, REGISTERS, ROOT, SIZES
 
 import fake
 import ima_verify
