@@ -3,7 +3,7 @@
 Hexadecimal members are bytes. A word of the library, such as a state, is a string: a later library
 may have others. What a line lacks is None, or an empty tuple."""
 
-from dataclasses import dataclass
+from dataclasses import dataclass, field
 from typing import Any
 
 
@@ -148,7 +148,7 @@ class Verdict(_Judged):
     """
 
     matches: bool
-    json: str
+    json: str = field(repr=False)
     events: int
     locality: int
     entries: int
@@ -168,7 +168,7 @@ class ListVerdict(_Judged):
     `json` is the line of `ima-agent replay --json`."""
 
     matches: bool
-    json: str
+    json: str = field(repr=False)
     entries: int
     registers: tuple[Row, ...]
     extends: tuple[Stray, ...] = ()
@@ -194,7 +194,7 @@ class Attestation(_Judged):
     """
 
     matches: bool
-    json: str
+    json: str = field(repr=False)
     quoted: tuple[QuotedBank, ...]
     signer: bytes
     clock: Clock
@@ -224,7 +224,7 @@ class Places:
         json: The line of `ima-agent locate --json`.
     """
 
-    json: str
+    json: str = field(repr=False)
     registers: tuple[PlaceRow, ...]
     located: bool
 
@@ -246,7 +246,7 @@ class Key:
         pem: The public key as `openssl pkey -pubin` writes it, which `attest` takes.
     """
 
-    json: str
+    json: str = field(repr=False)
     name: bytes
     type: str
     bits: int
@@ -273,7 +273,7 @@ class Entry:
         fields: What the payload says, if the fields of another template fit (docs/formats.md).
     """
 
-    json: str
+    json: str = field(repr=False)
     entry: int
     register: int
     template: str | None = None
@@ -311,7 +311,7 @@ class Event:
         content: What the data says: one member, by its form (docs/event-data.md).
     """
 
-    json: str
+    json: str = field(repr=False)
     event: int
     register: int
     type: str | None = None
@@ -349,6 +349,6 @@ class Specification:
 class Header:
     """The header of a log."""
 
-    json: str
+    json: str = field(repr=False)
     algorithms: tuple[LogAlgorithm, ...]
     specification: Specification

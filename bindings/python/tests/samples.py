@@ -2,6 +2,7 @@
 
 import hashlib
 import sys
+import threading
 from pathlib import Path
 
 ROOT = Path(__file__).resolve().parents[3]
@@ -77,6 +78,15 @@ def state_after(count, log=LOG, entries=ENTRIES, boot=None):
     """The state after so many entries, which a quote of a boot may confirm, by the reference."""
     start = before_a_list(read_log(log).registers())
     return start.following(entries[:count])._replace(boot=boot).text()
+
+
+def at_once(count, run):
+    """Runs in so many threads."""
+    threads = [threading.Thread(target=run) for _ in range(count)]
+    for thread in threads:
+        thread.start()
+    for thread in threads:
+        thread.join()
 
 
 def number(value):

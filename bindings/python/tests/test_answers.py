@@ -1,6 +1,4 @@
-"""How the package reads what a library answers: real lines, those of a later library, and damage.
-
-From bindings/python: IMA_VERIFY_LIBRARY=/path/to/libima_verify.so python3 -m unittest discover tests"""
+"""How the package reads what a library answers: real lines, those of a later library, and damage."""
 
 import ctypes
 import dataclasses
@@ -336,7 +334,8 @@ class Inputs(unittest.TestCase):
             for wrong in (text[:-1], b""):
                 with fake.answering(name, status, wrong):
                     self.assertRaises(ima_verify.LibraryError, called)
-        for called, name, form in ((ima_verify.show, "entries", (False,)), (ima_verify.entries, "entries", (True,)), (ima_verify.events, "events", ())):
+        for called, name, form in ((ima_verify.show, "entries", (False,)), (ima_verify.entries, "entries", (True,)),
+                                   (ima_verify.events, "events", ())):
             with fake.answering(name, REFUSED, b"", fake.fault_of(Kind.LIST, 1, 0)) as calls:
                 self.assertRaises(ima_verify.Refused, lambda: list(called(b"a")))
             self.assertEqual((calls[0].inputs, calls[0].options[2:]), ([b"a"], form))
@@ -467,7 +466,3 @@ class Failures(unittest.TestCase):
         for name, error in errors.items():
             self.assertTrue(issubclass(error, (ima_verify.Error, bases[name])))
         self.assertFalse(issubclass(ima_verify.Refused, ValueError))
-
-
-if __name__ == "__main__":
-    unittest.main()

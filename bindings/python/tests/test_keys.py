@@ -1,6 +1,4 @@
-"""Keys of a TPM by their public areas: those of an emulated TPM, with the names and the PEMs that tpm2-tools gave of them; and made areas.
-
-From bindings/python: IMA_VERIFY_LIBRARY=/path/to/libima_verify.so python3 -m unittest discover tests"""
+"""Keys of a TPM by their public areas: those of an emulated TPM, with the names and the PEMs that tpm2-tools gave of them; and made areas."""
 
 import hashlib
 import pickle
@@ -118,7 +116,3 @@ class Keys(unittest.TestCase):
         for read, _, _ in READS:
             for wrong in (None, 1, "", area_of("ak-p256").hex(), list(area_of("ak-p256")), KEYS / "ak-p256.pub"):
                 self.assertRaises(TypeError, read, wrong)
-
-
-if __name__ == "__main__":
-    unittest.main()

@@ -1,15 +1,12 @@
-"""Entries and events, with values by hand and by the reference.
-
-From bindings/python: IMA_VERIFY_LIBRARY=/path/to/libima_verify.so python3 -m unittest discover tests"""
+"""Entries and events, with values by hand and by the reference."""
 
 import dataclasses
 import hashlib
-import threading
 import tracemalloc
 import unittest
 from itertools import zip_longest
 
-from samples import ASCII, BOOT, CHANGED, ENDS, LIST, LOG, VIOLATIONS, number, with_length
+from samples import ASCII, BOOT, CHANGED, ENDS, LIST, LOG, VIOLATIONS, at_once, number, with_length
 
 import ima_verify
 from ima_verify import _library
@@ -71,7 +68,8 @@ class Entries(Listed):
             entry(b"ima-ng", payloads[0], 0) + entry(b"ima-sig", payloads[1], 23) + entry(b"ima-sig", payloads[2])
             + entry(b"ima", sha1 + with_length(b"/w"), 10, hashlib.sha1(of_ima).digest()))
         self.check_entry(first, payloads[0], entry=0, register=0, template="ima-ng", algorithm="sha512", digest=sha512, path="/x")
-        self.check_entry(second, payloads[1], entry=1, register=23, template="ima-sig", algorithm="sha1", digest=sha1, path="/y", signature=b"\3\0\xff")
+        self.check_entry(second, payloads[1], entry=1, register=23, template="ima-sig", algorithm="sha1", digest=sha1, path="/y",
+                         signature=b"\3\0\xff")
         self.check_entry(third, payloads[2], entry=2, template="ima-sig", algorithm="sha1", digest=sha1, path="/z", signature=b"")
         self.check_entry(last, of_ima, entry=3, template="ima", algorithm="sha1", digest=sha1, path="/w")
 
@@ -126,7 +124,8 @@ class Entries(Listed):
     def test_damaged_list_gives_what_comes_before_the_damage(self):
         for data, count, line in (
             (LIST[:-1], 98, "refused: list fault 1 at entry 98"), (LIST + b"x", 99, "refused: list fault 1 at entry 99"),
-            (b"x", 0, "refused: list fault 1 at entry 0"), (LIST[:ENDS[98]] + number(24) + LIST[ENDS[98] + 4:], 98, "refused: list fault 2 at entry 98"),
+            (b"x", 0, "refused: list fault 1 at entry 0"),
+            (LIST[:ENDS[98]] + number(24) + LIST[ENDS[98] + 4:], 98, "refused: list fault 2 at entry 98"),
             (LIST + entry(b"ima", bytes(20) + with_length(256 * b"x")), 99, "refused: list fault 3 at entry 99"),
         ):
             self.check_refused(ima_verify.entries(data), line, list(ima_verify.entries(LIST))[:count])
@@ -206,11 +205,7 @@ class Streams(Listed):
         for pair in zip_longest(ima_verify.entries(listed), ima_verify.entries(listed)):
             self.assertEqual(*pair)
         wanted, right = list(ima_verify.entries(listed)), []
-        threads = [threading.Thread(target=lambda: right.append(list(ima_verify.entries(listed)) == wanted)) for _ in range(4)]
-        for thread in threads:
-            thread.start()
-        for thread in threads:
-            thread.join()
+        at_once(4, lambda: right.append(list(ima_verify.entries(listed)) == wanted))
         self.assertEqual(right, 4 * [True])
 
 
@@ -258,9 +253,5 @@ class LogEvents(Listed):
         for log, line, count in ((LOG[:-1], "refused: log fault 1 at event 24", 23), (LOG + b"x", "refused: log fault 1 at event 25", 24),
                                  (LOG + number(24) + LOG[69:117], "refused: log fault 9 at event 25", 24)):
             self.check_refused(ima_verify.events(log), line, whole[:count])
-        for log, line in ((b"", "refused: log fault 1 at event 0"), (LOG[:31], "refused: log fault 1 at event 0"), (bytes(32), "refused: log fault 2")):
-            self.assertRaisesRegex(ima_verify.Refused, f"^{line}:", ima_verify.events, log)
-
-
-if __name__ == "__main__":
-    unittest.main()
+        for log, line in ((b"", "log fault 1 at event 0"), (LOG[:31], "log fault 1 at event 0"), (bytes(32), "log fault 2")):
+            self.assertRaisesRegex(ima_verify.Refused, f"^refused: {line}:", ima_verify.events, log)

@@ -1,6 +1,4 @@
-"""The examples of the docstrings, how the library is found, and the wheel, where a Python of the machine has hatchling.
-
-From bindings/python: IMA_VERIFY_LIBRARY=/path/to/libima_verify.so python3 -m unittest discover tests"""
+"""The examples of the docstrings, how the library is found, and the wheel, where a Python of the machine has hatchling."""
 
 import doctest
 import inspect
@@ -223,7 +221,8 @@ class Wheel(Temporary):
         program = ("import ima_verify, sys; from ima_verify import _library; print(_library.loaded()._name)\n"
                    "print(ima_verify.show(open(sys.argv[1], 'rb').read()) == open(sys.argv[2], 'rb').read())\n"
                    "print(ima_verify.Refused(ima_verify.Kind.LOG, 2))")
-        ended = run(program, SAMPLE / "ima.list", SAMPLE / "ima.ascii", folder=self.folder, PYTHONPATH=str(self.folder / "installed"), IMA_VERIFY_LIBRARY="")
+        settings = {"PYTHONPATH": str(self.folder / "installed"), "IMA_VERIFY_LIBRARY": ""}
+        ended = run(program, SAMPLE / "ima.list", SAMPLE / "ima.ascii", folder=self.folder, **settings)
         library, said = self.folder / "installed/ima_verify/libima_verify.so", "refused: log fault 2: the first event is not the Specification ID"
         self.assertEqual(ended.stdout.split("\n")[:2], [str(library), "True"])
         self.assertIn(said, ended.stdout)
@@ -233,7 +232,3 @@ class Wheel(Temporary):
             ended = self.make(file)
             self.assertEqual((ended.returncode, list(self.folder.glob("**/*.whl"))), (1, []))
             self.assertIn(message, ended.stdout)
-
-
-if __name__ == "__main__":
-    unittest.main()

@@ -1,6 +1,4 @@
-"""What the package answers about the sample, about changes of it, and about inputs that tools/bench/inputs.py makes.
-
-From bindings/python: IMA_VERIFY_LIBRARY=/path/to/libima_verify.so python3 -m unittest discover tests"""
+"""What the package answers about the sample, about changes of it, and about inputs that tools/bench/inputs.py makes."""
 
 import array
 import copy
@@ -15,8 +13,8 @@ import threading
 import unittest
 
 from samples import (AFTER_LONGER, ASCII, BOOT, BY_KEY, CHANGED, ENDS, ENTRIES, EXPECTED, KEY, LINES, LIST, LOG, LONGER, MESSAGE, NONCE, PRINTED,
-                     QUOTED, REGISTERS, REQUIRED, ROOT, SIGNATURE, SIZES, SUMS, TEN, TENTH, TPMT_SIGNATURE, VIOLATIONS, WRONG_REQUIREMENTS, sample,
-                     turned)
+                     QUOTED, REGISTERS, REQUIRED, ROOT, SIGNATURE, SIZES, SUMS, TEN, TENTH, TPMT_SIGNATURE, VIOLATIONS, WRONG_REQUIREMENTS, at_once,
+                     sample, turned)
 
 import ima_verify
 import inputs
@@ -58,13 +56,13 @@ class Sample(Refusing):
 
     def test_verdict_on_the_sample_is_a_match(self):
         wanted = pcrs_in(EXPECTED)
+        registers = tuple(row(pcr.register, "match", None, pcr.value) for pcr in wanted)
         rows = ",".join(f'{{"bank":"sha256","register":{pcr.register},"expected":"{pcr.value.hex()}","state":"match"}}' for pcr in wanted)
         line = f'{{"events":24,"locality":0,"entries":99,"boot_aggregate":"good","registers":[{rows}],"verdict":"match"}}'
         for require in (NOTHING, "sha256:0-10", "sha256:0-23", "sha256:10,sha256:0-7", "sha256:10"):
             verdict = ima_verify.verify(LOG, LIST, EXPECTED, require=require)
             self.assertEqual(verdict, ima_verify.Verdict(
-                events=24, locality=0, entries=99, boot_aggregate="good", registers=tuple(row(pcr.register, "match", None, pcr.value) for pcr in wanted),
-                verdict="match", matches=True, json=line))
+                events=24, locality=0, entries=99, boot_aggregate="good", registers=registers, verdict="match", matches=True, json=line))
             self.assertTrue(verdict)
         self.assertEqual(repr(verdict), "<Verdict: match, 99 entries>")
 
@@ -236,7 +234,8 @@ class Required(Refusing):
             ):
                 for function in FUNCTIONS:
                     self.check_refused(lambda: function(*given, require=require), f"refused: {line}")
-        for called, line in ((lambda: ima_verify.show(LIST[:-1]), "list fault 1 at entry 98"), (lambda: ima_verify.registers(b""), "log fault 1 at event 0"),
+        for called, line in ((lambda: ima_verify.show(LIST[:-1]), "list fault 1 at entry 98"),
+                             (lambda: ima_verify.registers(b""), "log fault 1 at event 0"),
                              (lambda: ima_verify.list_registers(CHANGED), "replay fault 1 at entry 5")):
             self.check_refused(called, f"refused: {line}")
         with self.assertRaises(ima_verify.Refused) as caught:
@@ -427,8 +426,8 @@ class ExpectedPcrs(Refusing):
             self.assertEqual(ima_verify.expected(*given), wanted)
 
     def test_what_no_pcr_follows_from_is_refused(self):
-        for text, registers, number in ((sample("quoted/tpm2_quote.txt"), None, 4), (self.QUOTED[:self.QUOTED.index(b"sig:")], None, 5), (b"", None, 6),
-                                        (self.QUOTED, "11", 6)):
+        for text, registers, number in ((sample("quoted/tpm2_quote.txt"), None, 4), (self.QUOTED[:self.QUOTED.index(b"sig:")], None, 5),
+                                        (b"", None, 6), (self.QUOTED, "11", 6)):
             self.check_refused(lambda: ima_verify.expected(text, registers), f"refused: expected fault {number}")
         for text in (EXPECTED, PRINTED + b"x", PRINTED + PRINTED):
             self.assertRaises(ima_verify.Refused, ima_verify.expected, text)
@@ -516,11 +515,7 @@ class Threads(unittest.TestCase):
             start.wait()
             right.extend([ask(each) for each in given] == wanted for _ in range(20))
 
-        threads = [threading.Thread(target=run) for _ in range(8)]
-        for thread in threads:
-            thread.start()
-        for thread in threads:
-            thread.join()
+        at_once(8, run)
         self.assertEqual((right, wanted[2]), (160 * [True], "refused: replay fault 1 at entry 5"))
 
     def test_another_thread_runs_during_a_call(self):
@@ -546,7 +541,3 @@ class Threads(unittest.TestCase):
         self.addCleanup(sys.setswitchinterval, sys.getswitchinterval())
         sys.setswitchinterval(1000)
         self.assertTrue(any(runs_meanwhile() for _ in range(20)))
-
-
-if __name__ == "__main__":
-    unittest.main()

@@ -1,17 +1,14 @@
-"""Sessions on the sample's list as it grows.
-
-From bindings/python: IMA_VERIFY_LIBRARY=/path/to/libima_verify.so python3 -m unittest discover tests"""
+"""Sessions on the sample's list as it grows."""
 
 import copy
 import hashlib
 import pickle
-import threading
 import unittest
 import unittest.mock
 
 from samples import (BEFORE, BOOT, BY_CALLER, BY_KEY, CHECKED, ENDS, ENTRIES, EXPECTED, KEY, LINES, LIST, LOG, LONGER, MESSAGE, NONCE, OTHER_LOG,
-                     QUOTED, REQUIRED, ROOT, SIGNATURE, SIZES, SUMS, TEN, UNCHECKED, VIOLATIONS, WRONG_REQUIREMENTS, changed, register_after,
-                     state_after, tenth_after, turned)
+                     QUOTED, REQUIRED, ROOT, SIGNATURE, SIZES, SUMS, TEN, UNCHECKED, VIOLATIONS, WRONG_REQUIREMENTS, at_once, changed,
+                     register_after, state_after, tenth_after, turned)
 
 import fake
 import ima_verify
@@ -163,11 +160,7 @@ class Parts(Growing):
                     state = session.state
                 right.append(verdicts == wanted)
 
-        threads = [threading.Thread(target=run) for _ in range(8)]
-        for thread in threads:
-            thread.start()
-        for thread in threads:
-            thread.join()
+        at_once(8, run)
         self.assertEqual(right, 40 * [True])
 
     def test_functions_of_the_page_judge_a_list_as_it_grows(self):
@@ -350,8 +343,8 @@ class States(Growing):
     def test_counts_that_cannot_be_are_refused(self):
         state, size = state_after(50), b"bytes %d" % ENDS[50]
         for old, new, offset in ((size, b"bytes 49", 49), (size, b"bytes 9223372036854775808", 2**63), (size, b"bytes 0" + size[6:], ENDS[50]),
-                                 (b"entries 50", b"entries 18446744073709551616", ENDS[50]), (size, b"bytes " + 5000 * b"9", 0), (size, b"bytes -1", 0),
-                                 (size, b"bytes ", 0), (size, "bytes \u0661".encode(), 0)):
+                                 (b"entries 50", b"entries 18446744073709551616", ENDS[50]), (size, b"bytes " + 5000 * b"9", 0),
+                                 (size, b"bytes -1", 0), (size, b"bytes ", 0), (size, "bytes \u0661".encode(), 0)):
             self.assertIn(old, state)
             self.check_no_state(sealed(state.replace(old, new, 1)), 1)
             self.assertEqual(Session(LOG, EXPECTED, require=NOTHING, state=state.replace(old, new, 1)).offset, offset)
@@ -485,7 +478,8 @@ class Answers(unittest.TestCase):
             for status, text, state, *more in (
                 (DONE, self.REPORT, b""), (DIFFERS, self.DIFFERING, self.STATE), (DONE, self.DIFFERING, self.STATE), (DIFFERS, self.REPORT, b""),
                 (DONE, b"", self.STATE), (DONE, self.REPORT[:-1], self.STATE), (DONE, b"{}\n", self.STATE), (5, self.REPORT, b""),
-                (TOO_SHORT, self.REPORT, b"", fake.NO_FAULT, 1 << 63), (REFUSED, self.REPORT, b""), (DONE, self.REPORT, self.STATE, fake.fault_of(Kind.LOG, 2)),
+                (TOO_SHORT, self.REPORT, b"", fake.NO_FAULT, 1 << 63), (REFUSED, self.REPORT, b""),
+                (DONE, self.REPORT, self.STATE, fake.fault_of(Kind.LOG, 2)),
             ):
                 for name in ("more", "attest"):
                     answer = text.replace(self.REPORT, self.ATTESTED) if name == "attest" else text
@@ -515,7 +509,3 @@ class Answers(unittest.TestCase):
         self.assertEqual((len(capacities), state), (1, b""))
         self.assertGreater(len(report), 10_000)
         self.assertLess(len(state_after(99, four)), _library.CHECKPOINT_CAPACITY)
-
-
-if __name__ == "__main__":
-    unittest.main()

@@ -1,6 +1,4 @@
-"""Whose signature a quote has: the sample's, and those of tests/bindings/signatures.txt, from which other languages read them too.
-
-From bindings/python: IMA_VERIFY_LIBRARY=/path/to/libima_verify.so python3 -m unittest discover tests"""
+"""Whose signature a quote has: the sample's, and those of tests/bindings/signatures.txt, from which other languages read them too."""
 
 import base64
 import unittest
@@ -195,7 +193,3 @@ class Signatures(Library):
                              pem[:40] + b"*" + pem[41:], pem.replace(b"\n", b""), BEGIN + base64.b64encode(der) + b"\n" + END,
                              BEGIN + b"Proc-Type: 4,ENCRYPTED\n\n" + pem[len(BEGIN):])
         self.check_no_area(b"", b"\n", der, SIGNATURE, b"x" + pem, b"key:\n" + pem, END, END + BEGIN, "\udc80", "ключ")
-
-
-if __name__ == "__main__":
-    unittest.main()
