@@ -107,6 +107,12 @@ class Answers(unittest.TestCase):
             self.assertEqual(read(answer), json.loads(answer["line"])["entries"])
         self.assertGreater(len(TABLE), 100)
 
+    def test_numbers_up_to_their_ends_are_read(self):
+        answer = of_kind("attest")[0]
+        line = re.sub('"(firmware|entries|milliseconds)":[0-9]+', rf'"\1":{2**64 - 1}', answer["line"])
+        found = read(answer, line)
+        self.assertEqual((found.firmware, found.entries, found.clock.milliseconds), 3 * (2**64 - 1,))
+
     def test_each_error_has_its_line_and_its_sentence(self):
         for answer in of_kind("error"):
             fault = json.loads(answer["line"])["fault"]

@@ -1,6 +1,7 @@
 """Sessions on the sample's list as it grows."""
 
 import copy
+import functools
 import hashlib
 import pickle
 import unittest
@@ -496,6 +497,14 @@ class Answers(unittest.TestCase):
                 session = Session(b"", b"", require=NOTHING)
                 self.assertTrue(session.more(b"x"))
             self.assertEqual((session.state, session.offset), (state, offset))
+
+    def test_second_call_has_room_for_the_report_and_gives_the_state(self):
+        inputs_of_more = LOG, b"", LIST, EXPECTED, b"sha256:0-10", b""
+        for capacity in (1, len(self.REPORT) - 1):
+            short = unittest.mock.patch.object(_library, "call", functools.partial(_library.call, capacity=capacity))
+            with short, fake.counted("more") as capacities:
+                answer = _library.call_more("more", inputs_of_more, (False, False), None)
+            self.assertEqual((answer, capacities), ((DONE, self.REPORT, state_after(99)), [capacity, len(self.REPORT)]))
 
     def test_state_that_has_no_room_is_an_error(self):
         inputs_of_more, state = (LOG, b"", LIST, EXPECTED, b"sha256:10", b""), state_after(99)
