@@ -1,6 +1,7 @@
 """Packs the library into the wheel, and names in the wheel's tag the machines on which it runs.
 
-The library is the file that the environment variable IMA_VERIFY_LIBRARY names by a path, else `libima_verify.so` in the package's folder."""
+The library is the file that the environment variable IMA_VERIFY_LIBRARY names by a path, otherwise
+`libima_verify.so` in the package's folder."""
 
 import os
 import re
@@ -13,7 +14,7 @@ LIBRARY = "libima_verify.so"
 VARIABLE = "IMA_VERIFY_LIBRARY"
 # A shared object of ELF for x86-64, in little endian: the first 6 bytes, and those from 16 to 20.
 ELF_64_LITTLE, SHARED_X86_64 = b"\x7fELF\x02\x01", b"\x03\x00\x3e\x00"
-# What a library asks of glibc stands among its strings: versions, as 2.2.5.
+# What a library asks of glibc is among its strings: versions, such as 2.2.5.
 GLIBC = re.compile(rb"\0GLIBC_([^\0]+)(?=\0)")
 VERSION = re.compile(rb"(\d+)\.(\d+)(?:\.\d+)?")
 FIRST_MANYLINUX = (2, 5)
@@ -28,14 +29,16 @@ def library_in(folder):
     try:
         data = file.read_bytes()
     except OSError as error:
-        raise SystemExit(f"{PACKAGE}: no library to pack: {error}. Name {LIBRARY} in {VARIABLE}, or copy it to {PACKAGE}/.") from error
+        hint = f"Name {LIBRARY} in {VARIABLE}, or copy it to {PACKAGE}/."
+        raise SystemExit(f"{PACKAGE}: no library to pack: {error}. {hint}") from error
     if not data.startswith(ELF_64_LITTLE) or data[16:20] != SHARED_X86_64:
         raise SystemExit(f"{PACKAGE}: {file} is no shared library for x86-64 Linux.")
     return file, data
 
 
 def platform_of(library):
-    """The platform of a wheel with this library: machines whose glibc has what it asks for (PEP 600), if that is told by versions."""
+    """The platform of a wheel with this library: machines whose glibc has what it asks for (PEP
+    600), if it asks by versions."""
     asked = [VERSION.fullmatch(word) for word in GLIBC.findall(library)]
     if not asked or None in asked:
         return "linux_x86_64"

@@ -106,12 +106,12 @@ def require_fitness(require: str, is_poll: bool, known: Optional[bytes] = None, 
     import ima_verify
     from ima_verify import Kind
 
-    if not hasattr(Kind, "SIGNATURE"):
+    if not hasattr(ima_verify, "Pcr"):
         raise ImportError("the package ima_verify is of an earlier version")
     if is_quoted:
         require_quotes(require)
     try:
-        ima_verify.report(b"", b"", b"", require=required(require), **known_texts(known))
+        ima_verify.verify(b"", b"", b"", require=required(require), **known_texts(known))
     except ima_verify.Misuse:
         raise ValueError(f"--require {require!r} is no selection with register 10, as sha256:0-10 or sha256:0-7,10, nor {NONE}") from None
     except ima_verify.Refused as fault:
@@ -127,7 +127,7 @@ def require_quotes(require: str) -> None:
     import ima_verify
 
     try:
-        ima_verify.attest(b"", bytes(32), b"", b"", b"", b"", require=require)
+        ima_verify.attest(b"", b"", b"", b"", b"", nonce=bytes(32), require=require)
     except ima_verify.Misuse:
         raise ValueError(
             f"--require {require!r} is no selection with each register from 0 to 10 in a bank other than sha1, as sha256:0-10: a quote has to "
@@ -145,10 +145,7 @@ def list_start(checkpoint: Optional[bytes]) -> int:
         return 0
     import ima_verify
 
-    try:
-        return int(ima_verify.Session(b"", b"", require=ima_verify.NOTHING, state=checkpoint).offset)
-    except ima_verify.Refused:
-        return 0
+    return int(ima_verify.Session(b"", b"", require=ima_verify.NOTHING, state=checkpoint).offset)
 
 
 def verdict_fields(verdict: Any) -> Fields:
@@ -157,7 +154,7 @@ def verdict_fields(verdict: Any) -> Fields:
         "events": verdict.events,
         "locality": verdict.locality,
         "entries": verdict.entries,
-        "boot_aggregate": verdict.boot_aggregate.value,
+        "boot_aggregate": verdict.boot_aggregate,
         "report": verdict.json,
     }
 
@@ -170,9 +167,13 @@ def reached(session: Any, verdict: Any) -> Fields:
     return {"checkpoint": session.state.decode()}
 
 
+def has_compared(verdict: Any) -> bool:
+    """Whether the machine expects a register: those that are required, and missing, have no value."""
+    return any(row.state != "missing" for row in verdict.registers)
+
+
 def judge_registers(inputs: Inputs, checkpoint: Optional[bytes], asked: Asked, known: Optional[bytes]) -> Fields:
-    """The verdict by the registers that the machine expects. (Without a checkpoint the rows stay in the report: to read them takes longer than to
-    hash the inputs.)"""
+    """The verdict by the registers that the machine expects."""
     import ima_verify
 
     log, measurements, expected = inputs
@@ -180,11 +181,11 @@ def judge_registers(inputs: Inputs, checkpoint: Optional[bytes], asked: Asked, k
     given = {"require": required(asked.require), **known_texts(known)}
     if not asked.is_poll:
         assert measurements is not None
-        verdict: Any = ima_verify.report(log, measurements, expected, **given)
-        return verdict_fields(verdict) if verdict.compared else {"verdict": "refused", "cause": NOTHING_EXPECTED}
+        verdict: Any = ima_verify.verify(log, measurements, expected, **given)
+        return verdict_fields(verdict) if has_compared(verdict) else {"verdict": "refused", "cause": NOTHING_EXPECTED}
     session = ima_verify.Session(log, expected, state=checkpoint, **given)
     verdict = session.more(measurements or b"")
-    if not verdict.compared:
+    if not has_compared(verdict):
         return {"verdict": "refused", "cause": NOTHING_EXPECTED}
     return {**verdict_fields(verdict), **reached(session, verdict)}
 
@@ -216,7 +217,7 @@ def require_signed(key: bytes, message: bytes, signature: bytes, require: str) -
     import ima_verify
 
     try:
-        ima_verify.attest(key, bytes(32), message, signature, b"", b"", require=require)
+        ima_verify.attest(key, message, signature, b"", b"", nonce=bytes(32), require=require)
     except ima_verify.Refused as fault:
         if fault.kind in (ima_verify.Kind.KEY, ima_verify.Kind.SIGNATURE):
             raise
@@ -237,14 +238,14 @@ def judge_attested(inputs: Inputs, checkpoint: Optional[bytes], key: bytes, nonc
 
     log, measurements, message, signature = inputs
     assert log is not None and message is not None and signature is not None
-    quoted = key, bytes.fromhex(nonce), message, signature
+    quoted, require = (key, message, signature), asked.require
     if asked.is_poll:
         session = ima_verify.Session.by_quotes(log, state=checkpoint, **known_texts(known))
-        found = session.attest(*quoted, measurements or b"", require=asked.require)
+        found = session.attest(*quoted, measurements or b"", nonce_hex=nonce, require=require)
         fields = reached(session, found)
     else:
         assert measurements is not None
-        found, fields = ima_verify.attest(*quoted, log, measurements, require=asked.require, **known_texts(known)), {}
+        found, fields = ima_verify.attest(*quoted, log, measurements, nonce_hex=nonce, require=require, **known_texts(known)), {}
     return {**verdict_fields(found), **fields, "resets": found.clock.resets, "restarts": found.clock.restarts}
 
 
@@ -253,7 +254,7 @@ def has_nonce(message: bytes, nonce: str, require: str) -> bool:
     import ima_verify
 
     try:
-        ima_verify.attest(None, bytes.fromhex(nonce), message, None, b"", b"", require=require, signature_checked=False)
+        ima_verify.attest(None, message, None, b"", b"", nonce_hex=nonce, require=require, signature_checked=False)
     except ima_verify.Refused as fault:
         return fault.kind is not ima_verify.Kind.QUOTE
     return False

@@ -37,7 +37,7 @@ require, *words = sys.argv[1:]
 for key, folder, nonce in zip(words[::3], words[1::3], words[2::3]):
     names = "quote.msg", "quote.sig", "firmware.log", "ima.list"
     files = (Path(folder, name).read_bytes() for name in names)
-    found = ima_verify.attest(Path(key).read_bytes(), bytes.fromhex(nonce), *files, require=require)
+    found = ima_verify.attest(Path(key).read_bytes(), *files, nonce_hex=nonce, require=require)
     print(found.json)
 """
 COLUMNS = (

@@ -1,4 +1,4 @@
-"""Preloaded by the workers of tests/fleet/test: notes each call of `ima_verify.report` or `attest` on a log, and each of a session's `more`, in the
+"""Preloaded by the workers of tests/fleet/test: notes each call of `ima_verify.verify` or `attest` on a log, and each of a session's `more`, in the
 file NOTED_CALLS, a line each.
 
 A machine is known by its number, that of the empty lines at the end of its expected registers. The machines DEADLY kill their
@@ -19,22 +19,22 @@ from fsspec.spec import AbstractFileSystem
 
 SECONDS = 0.01
 if not hasattr(ima_verify, "unnoted"):  # (Dask may load this twice)
-    ima_verify.unnoted, ima_verify.Unnoted, ima_verify.unnoted_attest = ima_verify.report, ima_verify.Session, ima_verify.attest
+    ima_verify.unnoted, ima_verify.Unnoted, ima_verify.unnoted_attest = ima_verify.verify, ima_verify.Session, ima_verify.attest
 
 
 def noted(log, measurements, expected, **given):
     """Notes the call, unless it only asks what may be required, and does it."""
     if log:
         note(number_of(expected))
-    report = ima_verify.unnoted(log, measurements, expected, **given)
-    return dataclasses.replace(report, matches=True) if number_of(expected) == os.environ.get("LYING") else report
+    verdict = ima_verify.unnoted(log, measurements, expected, **given)
+    return dataclasses.replace(verdict, matches=True) if number_of(expected) == os.environ.get("LYING") else verdict
 
 
-def noted_attest(log, measurements, message, **given):
+def noted_attest(key, message, signature, log, measurements, **given):
     """Notes the call, of a machine without a number, unless it only asks what may be required, and does it."""
     if log:
         note("0")
-    return ima_verify.unnoted_attest(log, measurements, message, **given)
+    return ima_verify.unnoted_attest(key, message, signature, log, measurements, **given)
 
 
 class Noted(ima_verify.Unnoted):
@@ -82,5 +82,5 @@ class Stuck(AbstractFileSystem):
         threading.Event().wait()
 
 
-ima_verify.report, ima_verify.Session, ima_verify.attest = noted, Noted, noted_attest
+ima_verify.verify, ima_verify.Session, ima_verify.attest = noted, Noted, noted_attest
 fsspec.register_implementation("stuck", Stuck, clobber=True)

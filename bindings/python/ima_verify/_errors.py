@@ -1,7 +1,8 @@
 """What the package raises."""
 
 import enum
-from typing import Optional
+import functools
+from pathlib import Path
 
 _PLACES = {"log": "event", "list": "entry", "replay": "entry", "expected": "line", "known": "line"}
 
@@ -11,30 +12,30 @@ class Kind(str, enum.Enum):
 
     LOG = "log"
     LIST = "list"
-    REPLAY = "replay"  # the template digest of an entry of the list does not match
-    EXPECTED = "expected"  # the expected registers, or what tpm2-tools printed
-    CHECKPOINT = "checkpoint"  # a session's state: it is damaged (1), of another version (2), or of another boot by the log (3) or by a quote (4)
-    QUOTE = "quote"  # the message of a quote: it is none (1 to 10), has another nonce (11), or lacks a required register (12)
-    KEY = "key"  # the public area of a key: it is none (1 to 10), or the key lacks what its purpose needs (11 to 22)
-    KNOWN = "known"  # the known files: a line has a digest by SHA-1 (1), or is no digest and name (2)
-    SIGNATURE = "signature"  # that of a quote: it is none (1 to 4), or not by the key (5 to 7); or the key is not taken (8), or its PEM (9)
+    REPLAY = "replay"  # (an entry's template digest does not match)
+    EXPECTED = "expected"  # (the expected PCRs, or what tpm2-tools printed)
+    CHECKPOINT = "checkpoint"  # (a session's state)
+    QUOTE = "quote"
+    KEY = "key"
+    KNOWN = "known"
+    SIGNATURE = "signature"  # (also a key by which signatures are not verified here)
 
 
 class Error(Exception):
-    """The base of all errors of this package. (An argument of another type is a TypeError, as everywhere.)"""
+    """The base of all errors of this package."""
 
 
 class Refused(Error):
     """An input is refused.
 
     Attributes:
-        kind: Which input, and for an entry of the list, whether its form or its digest is wrong.
-        number: The error's number among those of its kind; docs/errors.txt says what each means.
-        place: The number of the event (LOG; the header is 0), the entry (LIST, REPLAY; from 0) or the line (EXPECTED, KNOWN; from 1), or None.
-            Of several texts of known files lines count on from one to the next.
+        kind: Which input. A kind that only a later library has is its name, a string.
+        number: The error's number among those of its kind, by docs/errors.txt.
+        place: The number of the event (LOG; the header is 0), the entry (LIST, REPLAY; from 0) or
+            the line (EXPECTED, KNOWN; from 1, through all texts of known files), or None.
     """
 
-    def __init__(self, kind: Kind, number: int, place: Optional[int] = None):
+    def __init__(self, kind: Kind | str, number: int, place: int | None = None):
         super().__init__(kind, number, place)
         self.kind = kind
         self.number = number
@@ -43,10 +44,17 @@ class Refused(Error):
     @property
     def message(self) -> str:
         """The line that `ima-agent` prints, such as `refused: replay fault 1 at entry 5`."""
-        return f"refused: {spelled(self.kind, self.number, self.place)}"
+        word = self._word
+        place = "" if self.place is None else f" at {_PLACES.get(word, 'place')} {self.place}"
+        return f"refused: {word} fault {self.number}{place}"
+
+    @property
+    def _word(self) -> str:
+        return self.kind.value if isinstance(self.kind, Kind) else self.kind
 
     def __str__(self) -> str:
-        return self.message
+        sentence = _sentences().get((self._word, self.number))
+        return self.message if sentence is None else f"{self.message}: {sentence}"
 
 
 class OutOfMemory(Error, MemoryError):
@@ -66,9 +74,13 @@ class VersionError(LoadError):
 
 
 class LibraryError(Error, RuntimeError):
-    """The library's answer is not one that its header describes, so nothing is known of the inputs."""
+    """The library's answer is not as its header says, so nothing is known of the inputs."""
 
 
-def spelled(kind: Kind, number: int, place: Optional[int]) -> str:
-    """A fault as the program spells it, such as `list fault 1 at entry 98`."""
-    return f"{kind.value} fault {number}" + ("" if place is None else f" at {_PLACES[kind.value]} {place}")
+@functools.lru_cache(maxsize=None)
+def _sentences() -> dict[tuple[str, int], str]:
+    """The sentences of docs/errors.txt, by kind and number. (tests/bindings/answers.py writes
+    the file.)"""
+    lines = Path(__file__).with_name("sentences.txt").read_text(encoding="utf-8").splitlines()
+    words = (line.split(" ", 2) for line in lines)
+    return {(kind, int(number)): sentence for kind, number, sentence in words}

@@ -2,15 +2,17 @@
 
 import ctypes
 import functools
+import json
 import os
 import sys
+from collections.abc import Sequence
 from ctypes import POINTER, byref, c_bool, c_char, c_int32, c_size_t, c_uint32, c_uint64, c_void_p
 from pathlib import Path
-from typing import Any, NoReturn, Optional, Sequence, Tuple, Union
+from typing import Any, NoReturn, TypeAlias
 
 from ._errors import Kind, LibraryError, LoadError, Misuse, OutOfMemory, Refused, VersionError
 
-BytesLike = Union[bytes, bytearray, memoryview]
+Buffer: TypeAlias = bytes | bytearray | memoryview
 
 VERSION = 1
 FILE_NAME = "libima_verify.so"
@@ -20,40 +22,43 @@ VARIABLE = "IMA_VERIFY_LIBRARY"
 DONE, DIFFERS, REFUSED, OUT_OF_MEMORY, TOO_SHORT, MORE = range(6)
 TEXT, JSON = False, True
 
-# The kinds of faults, by their numbers; `NO_PLACE` is the place of a fault that has none.
+# The kinds of errors, by their numbers; `NO_PLACE` is the place of an error that has none.
 NO_FAULT, ARGUMENT, MEMORY = 0, 1, 7
 KINDS = {
-    2: Kind.LOG, 3: Kind.LIST, 4: Kind.REPLAY, 5: Kind.EXPECTED, 6: Kind.CHECKPOINT, 8: Kind.QUOTE, 9: Kind.KEY, 10: Kind.KNOWN,
-    11: Kind.SIGNATURE,
+    2: Kind.LOG, 3: Kind.LIST, 4: Kind.REPLAY, 5: Kind.EXPECTED, 6: Kind.CHECKPOINT,
+    8: Kind.QUOTE, 9: Kind.KEY, 10: Kind.KNOWN, 11: Kind.SIGNATURE,
 }
-WITHOUT_PLACES = Kind.CHECKPOINT, Kind.QUOTE, Kind.KEY, Kind.SIGNATURE
 NO_PLACE = c_uint64(-1).value
 
-# A report on all 96 registers of 4 banks has less, even if all values differ.
-ROOM = 32 * 1024
+# A report on all 96 PCRs of 4 banks has less, even if all values differ.
+REPORT_CAPACITY = 32 * 1024
 # Of entries and events so much text comes at once, or one line that is longer.
-PIECE = 64 * 1024
+PIECE_CAPACITY = 64 * 1024
 # A checkpoint is shorter.
-CHECKPOINT_ROOM = 20_000
+CHECKPOINT_CAPACITY = 20_000
 
 
-class Told(ctypes.Structure):
-    """`struct ima_verify_told`: the size of the text, and the fault. A function that sets nothing leaves a size that cannot be."""
+class ErrorInfo(ctypes.Structure):
+    """`struct ima_verify_told`: the size of the text, and the error. A function that sets nothing
+    leaves a size that cannot be."""
 
-    _fields_ = [("size", c_size_t), ("fault_kind", c_uint32), ("fault_number", c_uint32), ("fault_place", c_uint64)]
+    _fields_ = [("size", c_size_t), ("fault_kind", c_uint32), ("fault_number", c_uint32),
+                ("fault_place", c_uint64)]
 
     def __init__(self) -> None:
         super().__init__(c_size_t(-1).value, NO_FAULT, 0, NO_PLACE)
 
 
-# For each raw function: how many inputs it takes, and the types of the arguments between these and the output.
+# For each raw function: how many inputs it takes, and the types of the arguments between these
+# and the output.
 _SIZE = POINTER(c_size_t)
-FUNCTIONS = {
+_NEXT = c_void_p, c_size_t, _SIZE
+FUNCTIONS: dict[str, tuple[int, tuple[Any, ...]]] = {
     "verdict": (5, (c_bool, c_bool)),
     "locate": (4, (c_bool,)),
     "replay": (4, (c_bool, c_bool)),
-    "more": (6, (c_bool, c_bool, c_bool, c_void_p, c_size_t, _SIZE)),
-    "attest": (9, (c_bool, c_bool, c_bool, c_bool, c_bool, c_void_p, c_size_t, _SIZE)),
+    "more": (6, (c_bool, c_bool, c_bool, *_NEXT)),
+    "attest": (9, (c_bool, c_bool, c_bool, c_bool, c_bool, *_NEXT)),
     "expected": (2, (c_bool,)),
     "registers": (1, (c_bool, c_bool)),
     "key": (1, (c_bool, c_bool)),
@@ -65,15 +70,12 @@ FUNCTIONS = {
 def types_of(name: str) -> Sequence[Any]:
     """The types of a raw function's arguments."""
     inputs, between = FUNCTIONS[name]
-    return [*inputs * (c_void_p, c_size_t), *between, c_void_p, c_size_t, POINTER(Told)]
+    return [*inputs * (c_void_p, c_size_t), *between, c_void_p, c_size_t, POINTER(ErrorInfo)]
 
 
 def _file() -> str:
-    """The library's file: the one that the environment names by a path, else the one beside this module, else the system's.
-
-    Raises:
-        LoadError: The environment has a name alone, which might be looked for in any folder.
-    """
+    """The library's file: the one that the environment names by a path, otherwise the one beside
+    this module, otherwise the system's. (A name alone might be looked for in any folder.)"""
     named = os.environ.get(VARIABLE)
     if named and os.sep not in named:
         raise LoadError(f"{VARIABLE} is not a path, which has a {os.sep}: {named}")
@@ -84,24 +86,24 @@ def _file() -> str:
 
 
 def load() -> ctypes.CDLL:
-    """The library, with the types of its functions.
-
-    Raises:
-        LoadError: It is not there, or is another file.
-        VersionError: It is of an earlier version.
-    """
+    """The library, with the types of its functions, or a LoadError."""
     file = _file()
     try:
         library = ctypes.CDLL(file)
-        library.ima_verify_version.argtypes, library.ima_verify_version.restype = [], c_uint32
+        library.ima_verify_version.argtypes = []
+        library.ima_verify_version.restype = c_uint32
         found = library.ima_verify_version()
         if found < VERSION:
-            raise VersionError(f"{file} has version {found} of the interface, and {VERSION} or later is needed")
+            raise VersionError(
+                f"{file} has version {found} of the interface, and {VERSION} or later is needed"
+            )
         for name in FUNCTIONS:
             function = getattr(library, f"ima_verify_raw_{name}")
             function.argtypes, function.restype = types_of(name), c_int32
     except (OSError, AttributeError) as error:
-        raise LoadError(f"{file} is not there, or not the library (name it in {VARIABLE}): {error}") from error
+        raise LoadError(
+            f"{file} is not there, or not the library (name it in {VARIABLE}): {error}"
+        ) from error
     return library
 
 
@@ -112,97 +114,115 @@ def loaded() -> ctypes.CDLL:
 
 
 def call(
-    name: str, inputs: Sequence[BytesLike], options: Sequence[Any], room: int = ROOM, argument: Optional[object] = None
-) -> Tuple[int, bytes]:
-    """The result and the text of a raw function for these inputs, and these arguments between them and the output.
+    name: str, inputs: Sequence[Buffer], options: Sequence[Any], capacity: int = REPORT_CAPACITY,
+    argument: object = None,
+) -> tuple[int, bytes]:
+    """The status and the text of a raw function for these inputs, and these arguments between
+    them and the output.
 
-    A text that is longer than `room` bytes gets as much room as it needs. `argument` is what the caller gave as `require` or `registers`,
-    where that was a text.
-
-    Raises:
-        Refused: An input is refused.
-        Misuse: `argument` is not of its form.
-        OutOfMemory: The library got no memory.
-        LibraryError: The answer is not one that the header describes.
+    A text that is longer than `capacity` gets as much as it needs. `argument` is what the caller
+    gave as `require` or `registers`, where that was a text: the library refuses it as an argument.
     """
-    result, told, out = answered(getattr(loaded(), f"ima_verify_raw_{name}"), inputs, options, room)
-    if told.size > len(out):
-        raise LibraryError(f"libima_verify returned {result} and size {told.size} for {len(out)} bytes")
-    _raise_fault(result, told, argument)
+    status, info, out = _answered(getattr(loaded(), f"ima_verify_raw_{name}"), inputs, options,
+                                  capacity)
+    if info.size > len(out):
+        raise LibraryError(
+            f"libima_verify returned {status} and size {info.size} for {len(out)} bytes"
+        )
     with memoryview(out) as whole:
-        return result, bytes(whole[:told.size])
+        text = bytes(whole[:info.size])
+    _raise_error(status, info, text, argument)
+    return status, text
 
 
-def answered(function: Any, inputs: Sequence[BytesLike], options: Sequence[Any], room: int) -> Tuple[int, Told, bytearray]:
-    """What a raw function returns, and what it wrote. (This raises no error of the library: a traceback would keep the inputs' memory.)"""
+def _answered(
+    function: Any, inputs: Sequence[Buffer], options: Sequence[Any], capacity: int
+) -> tuple[int, ErrorInfo, bytearray]:
+    """What a raw function returns, and what it wrote. (This raises no error of the library: a
+    traceback would keep the inputs' memory.)"""
     words = [*(word for data in inputs for word in _pointer_and_size(data)), *options]
-    told, out = Told(), bytearray(room)
-    result = function(*words, byref(c_char.from_buffer(out)), len(out), byref(told))
-    while result == TOO_SHORT and len(out) < told.size <= sys.maxsize:
-        out = bytearray(told.size)
-        result = function(*words, byref(c_char.from_buffer(out)), len(out), byref(told))
-    return result, told, out
+    info, out = ErrorInfo(), bytearray(capacity)
+    status = function(*words, byref(c_char.from_buffer(out)), len(out), byref(info))
+    while status == TOO_SHORT and len(out) < info.size <= sys.maxsize:
+        out = bytearray(info.size)
+        status = function(*words, byref(c_char.from_buffer(out)), len(out), byref(info))
+    return status, info, out
 
 
-def call_more(name: str, inputs: Sequence[BytesLike], flags: Sequence[bool], argument: Optional[object]) -> Tuple[int, bytes, bytes]:
-    """What `call` gives of the raw function `more` or `attest`, and the checkpoint, which has no bytes unless the verdict is a match."""
-    state, size = bytearray(CHECKPOINT_ROOM), c_size_t(-1)
+def call_more(
+    name: str, inputs: Sequence[Buffer], flags: Sequence[bool], argument: object
+) -> tuple[int, bytes, bytes]:
+    """What `call` gives of the raw function `more` or `attest`, and the next checkpoint, which
+    only a match has."""
+    state, size = bytearray(CHECKPOINT_CAPACITY), c_size_t(-1)
     options = *flags, JSON, byref(c_char.from_buffer(state)), len(state), byref(size)
-    result, text = call(name, inputs, options, argument=argument)
-    if size.value > len(state):
-        raise LibraryError(f"libima_verify returned {result} and a checkpoint of size {size.value} for {len(state)} bytes")
-    return result, text, bytes(state[:size.value])
+    status, text = call(name, inputs, options, argument=argument)
+    if size.value > len(state) or (size.value > 0) != (status == DONE):
+        raise LibraryError(
+            f"libima_verify returned {status} and a checkpoint of size {size.value}"
+        )
+    return status, text, bytes(state[:size.value])
 
 
-def _raise_fault(result: int, told: Told, argument: Optional[object]) -> None:
-    """Raises what `told` says, if the result is that of a failure."""
-    kind, number, place = told.fault_kind, told.fault_number, told.fault_place
-    if result == REFUSED and kind == ARGUMENT and isinstance(argument, str):
+def _raise_error(status: int, info: ErrorInfo, text: bytes, argument: object) -> None:
+    """Raises what the library says, if the status is that of a failure."""
+    kind, number, place = info.fault_kind, info.fault_number, info.fault_place
+    if status == REFUSED and kind == ARGUMENT and isinstance(argument, str):
         raise Misuse(f"not of its form: {argument!r}")
-    if result == REFUSED and kind in KINDS and number and (place == NO_PLACE or KINDS[kind] not in WITHOUT_PLACES):
-        raise Refused(KINDS[kind], number, None if place == NO_PLACE else place)
-    if result == OUT_OF_MEMORY and kind == MEMORY:
+    if status == REFUSED and kind not in (NO_FAULT, ARGUMENT, MEMORY):
+        word = KINDS.get(kind) or _kind_in(text) or str(kind)
+        raise Refused(word, number, None if place == NO_PLACE else place)
+    if status == OUT_OF_MEMORY and kind == MEMORY:
         raise OutOfMemory("libima_verify got no memory")
-    if result not in (DONE, DIFFERS, MORE) or kind != NO_FAULT:
-        raise LibraryError(f"libima_verify returned {result} and fault {number} of kind {kind} at {place}")
+    if status not in (DONE, DIFFERS, MORE) or kind != NO_FAULT:
+        raise LibraryError(
+            f"libima_verify returned {status} and fault {number} of kind {kind} at {place}"
+        )
 
 
-def unexpected(result: int, text: bytes) -> NoReturn:
-    """Raises the LibraryError for a text that the header does not describe."""
-    raise LibraryError(f"libima_verify returned {result} and {len(text)} bytes that begin {text[:200]!r}")
+def _kind_in(text: bytes) -> str | None:
+    """The kind of an error in the library's line, of a kind that this package does not know."""
+    try:
+        kind = json.loads(text)["fault"]["kind"]
+    except (ValueError, KeyError, TypeError, RecursionError):
+        return None
+    return kind if isinstance(kind, str) else None
+
+
+def unexpected(status: int, text: bytes) -> NoReturn:
+    """Raises the LibraryError for a text that is not as the header says."""
+    raise LibraryError(
+        f"libima_verify returned {status} and {len(text)} bytes that begin {text[:200]!r}"
+    )
 
 
 class Pieces:
-    """The lines that `entries` or `events` of the library give for an input, in pieces. Until the end the input's memory stays where it is."""
+    """The lines that `entries` or `events` of the library give for an input, in pieces. Until the
+    end the input's memory stays where it is."""
 
-    def __init__(self, name: str, data: BytesLike, *options: bool):
+    def __init__(self, name: str, data: Buffer, *options: bool):
         self._name, self._data, self._options = name, _pinned(data), options
-        # (as JSON the position after the line of how many entries there are is one further than the list)
-        self._last = memoryview(self._data).nbytes + ((name, *options) == ("entries", JSON))
+        # (a list without entries has no text, but a line of JSON)
+        self._may_be_empty = options == (TEXT,) and not memoryview(data).nbytes
         self._position = 0, 0
         self.is_over = False
 
     def next(self) -> bytes:
-        """The next whole lines, or no bytes at the end. After an error other than `Refused` they can be asked for again.
-
-        Raises:
-            Refused: The input is damaged; what comes before has been given. It is raised once, and then it is the end.
-            OutOfMemory, LibraryError: As `call` says.
-        """
+        """The next whole lines, or no bytes at the end. After an error other than `Refused`, which
+        is raised once and ends the lines, they can be asked for again."""
         if self.is_over:
             return b""
         offset, number = (c_size_t(value) for value in self._position)
+        options = byref(offset), byref(number), *self._options
         try:
-            result, text = call(self._name, (self._data,), (byref(offset), byref(number), *self._options), PIECE)
+            status, text = call(self._name, (self._data,), options, PIECE_CAPACITY)
         except Refused:
             self._end()
             raise
-        # (each piece has lines and goes on, the last one to the end; so only what ends where it begins has no lines)
-        is_last, is_right = result == DONE, text.endswith(b"\n") and offset.value > self._position[0]
-        if not (is_right or self._last == len(text) == 0) or result == DIFFERS or is_last != (offset.value == self._last):
-            unexpected(result, text)
+        if status == DIFFERS or not (text.endswith(b"\n") or self._may_be_empty):
+            unexpected(status, text)
         self._position = offset.value, number.value
-        if is_last:
+        if status == DONE:
             self._end()
         return text
 
@@ -210,11 +230,12 @@ class Pieces:
         self.is_over, self._data = True, b""
 
 
-def _pinned(data: BytesLike) -> Union[bytes, memoryview]:
-    """These bytes in one piece, to which ctypes gives a pointer, and which stay where they are while this is kept.
+def _pinned(data: Buffer) -> bytes | memoryview:
+    """These bytes in one piece, to which ctypes gives a pointer, and which stay where they are
+    while this is kept.
 
-    They are copied only if they are not in one piece, or if ctypes gives no pointer to them: then they are neither writable nor
-    all of a `bytes`."""
+    They are copied only if they are not in one piece, or if ctypes gives no pointer to them: then
+    they are neither writable nor all of a `bytes`."""
     view = memoryview(data)
     if view.c_contiguous and view.nbytes:
         if not view.readonly:
@@ -224,7 +245,7 @@ def _pinned(data: BytesLike) -> Union[bytes, memoryview]:
     return view.tobytes()
 
 
-def _pointer_and_size(data: BytesLike) -> Tuple[Any, int]:
+def _pointer_and_size(data: Buffer) -> tuple[Any, int]:
     """A pointer to these bytes, which is never null, and their number."""
     pinned = _pinned(data)
     if isinstance(pinned, bytes):

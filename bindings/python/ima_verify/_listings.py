@@ -1,10 +1,13 @@
-"""Goes through the entries of a list, or the events of a log, a piece of the library's text at a time."""
+"""Goes through the entries of a list, or the events of a log, a piece of the library's text at a
+time."""
 
-from typing import Callable, Iterator, TypeVar
+from collections.abc import Iterator
+from typing import TypeVar
 
-from . import _answers
-from ._library import JSON, BytesLike, Pieces
-from ._results import Entry, Event
+from ._answers import read_count, read_line
+from ._errors import LibraryError
+from ._library import JSON, Buffer, Pieces
+from ._results import Entry, Event, Header
 
 _Item = TypeVar("_Item")
 
@@ -12,45 +15,45 @@ _Item = TypeVar("_Item")
 class Listing(Iterator[_Item]):
     """What an input has, one item after another.
 
-    A damaged input gives the items before the error, and then raises `Refused`, once. A loop that stops before the end does not come to it.
+    A damaged input gives the items before the damage, and then raises `Refused`, once. A loop that
+    stops early does not come to it.
 
-    Iterating raises OutOfMemory if the library gets no memory, and LibraryError if it answers what its header does not describe; then the next
-    step asks again."""
+    Iterating raises OutOfMemory if the library gets no memory, and LibraryError if its answer is
+    not as its header says; then the next step asks again."""
 
-    def __init__(self, pieces: Pieces, read: Callable[[bytes, int], _Item], first: int):
-        self._pieces, self._read, self._number = pieces, read, first
-        self._lines, self._start = b"", 0
+    def __init__(self, pieces: Pieces, kind: type[_Item]):
+        self._pieces, self._kind = pieces, kind
+        self._lines: list[bytes] = []  # (those that were not given yet, the last one first)
+        self._count = 0
 
     def __next__(self) -> _Item:
-        line = self._line()
-        if not line or self._is_end(line):
+        if self._is_at_end():
             raise StopIteration
-        item = self._read(line, self._number)  # (if this fails, so it does the next time)
-        self._start, self._number = self._start + len(line), self._number + 1
+        item = read_line(self._kind, self._lines[-1])  # (if this fails, so it does the next time)
+        del self._lines[-1]
+        self._count += 1
         return item
 
-    def _line(self) -> bytes:
-        """The line that comes next, or no bytes at the end."""
-        if self._start == len(self._lines):
-            self._lines, self._start = self._pieces.next(), 0
-        return self._lines[self._start:self._lines.find(b"\n", self._start) + 1]
-
-    def _is_end(self, line: bytes) -> bool:
-        """Whether a line has no item and is the last."""
-        return False
+    def _is_at_end(self) -> bool:
+        """Whether there is no other item. Otherwise there is its line."""
+        if not self._lines:
+            self._lines = self._pieces.next().splitlines(keepends=True)[::-1]
+        return not self._lines
 
 
 class Entries(Listing[Entry]):
     """The entries of a measurement list."""
 
-    def __init__(self, measurements: BytesLike):
-        super().__init__(Pieces("entries", measurements, JSON), _answers.read_entry, 0)
+    def __init__(self, measurements: Buffer):
+        super().__init__(Pieces("entries", measurements, JSON), Entry)
 
-    def _is_end(self, line: bytes) -> bool:
-        if not self._pieces.is_over or self._start + len(line) < len(self._lines):
-            return False
-        _answers.read_entry_count(line, self._number)  # (the last line is this one, or the list was cut)
-        self._start += len(line)
+    def _is_at_end(self) -> bool:
+        """The last line says how many entries there are: without it the answer was cut."""
+        if super()._is_at_end() or len(self._lines) > 1 or not self._pieces.is_over:
+            return not self._lines
+        count = read_count(self._lines[0])
+        if count != self._count:
+            raise LibraryError(f"libima_verify gave {self._count} entries of {count}")
         return True
 
 
@@ -58,11 +61,10 @@ class Events(Listing[Event]):
     """The events of a firmware event log.
 
     Attributes:
-        algorithms: The algorithms that the log's header declares.
+        header: What the log's header states.
     """
 
-    def __init__(self, log: BytesLike):
-        super().__init__(Pieces("events", log), _answers.read_event, 1)
-        line = self._line()  # (no log has none)
-        self.algorithms = _answers.read_algorithms(line)
-        self._start = len(line)
+    def __init__(self, log: Buffer):
+        super().__init__(Pieces("events", log), Event)
+        self._is_at_end()  # (this has the first lines)
+        self.header = read_line(Header, self._lines.pop())

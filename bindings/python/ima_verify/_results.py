@@ -1,224 +1,107 @@
-"""What the library answers, as Python has it."""
+"""What the library answers: the members of its lines of JSON (docs/schema.json), by their names.
 
-import enum
-from dataclasses import dataclass
-from typing import Any, Dict, Optional, Tuple, Union
+Hexadecimal members are bytes. A word of the library, such as a state, is a string: a later library
+may have others. What a line lacks is None, or an empty tuple."""
 
-from ._errors import Kind, spelled
-
-
-class Algorithm(enum.Enum):
-    """The algorithm of a bank of registers."""
-
-    SHA1 = "sha1"
-    SHA256 = "sha256"
-    SHA384 = "sha384"
-    SHA512 = "sha512"
-
-    @property
-    def digest_size(self) -> int:
-        """The size of a register's value, in bytes."""
-        return _DIGEST_SIZES[self]
+from dataclasses import dataclass, field
+from typing import Any
 
 
-_DIGEST_SIZES = {Algorithm.SHA1: 20, Algorithm.SHA256: 32, Algorithm.SHA384: 48, Algorithm.SHA512: 64}
+@dataclass(frozen=True, slots=True, kw_only=True)
+class Pcr:
+    """A PCR, by its bank ("sha1", "sha256", "sha384" or "sha512") and its number from 0 to 23."""
 
-
-class BootAggregate(enum.Enum):
-    """How the list's first entry compares with the registers after the log."""
-
-    GOOD = "good"  # it is the boot aggregate of these registers
-    WRONG = "wrong"  # it is a boot aggregate, of other values
-    NOBANK = "nobank"  # it is one of a bank that the log lacks
-    MISSING = "missing"  # the list is empty, or its first entry is something else
-
-
-class State(enum.Enum):
-    """How a register compares with its expected value."""
-
-    MATCH = "match"
-    DIFFER = "differ"
-    ABSENT = "absent"  # the log has no such bank
-    MISSING = "missing"  # it is required, and not among the expected registers
-
-
-class Place(enum.Enum):
-    """The kind of the earliest point at which a register has its expected value."""
-
-    RESET = "reset"  # before the events
-    EVENT = "event"  # after an event of the log; events count from 1
-    ENTRY = "entry"  # after an entry of the list; entries count from 0
-    NOWHERE = "nowhere"
-    ABSENT = "absent"  # the log has no such bank
-    MISSING = "missing"  # it is required, and not among the expected registers
-
-
-@dataclass(frozen=True)
-class Register:
-    """A register, by its bank's algorithm and its number from 0 to 23, and its value in bytes."""
-
-    algorithm: Algorithm
+    bank: str
     register: int
     value: bytes
 
 
-@dataclass(frozen=True)
+@dataclass(frozen=True, slots=True, kw_only=True)
 class Row:
-    """An expected register, compared, or a required one that is missing.
+    """An expected PCR, compared, or a required one that is missing.
 
     Attributes:
-        value: What the register has instead of the expected value, if the state is DIFFER, otherwise None.
-        expected: The expected value, or None if the state is MISSING.
+        expected: The expected value, or None if the state is "missing".
+        state: "match"; "differ"; "absent": the log has no such bank; or "missing": the PCR is
+            required, and not expected.
+        value: The value that log and list make, if the state is "differ".
     """
 
-    algorithm: Algorithm
+    bank: str
     register: int
-    state: State
-    value: Optional[bytes] = None
-    expected: Optional[bytes] = None
+    expected: bytes | None = None
+    state: str
+    value: bytes | None = None
 
 
-@dataclass(frozen=True)
+@dataclass(frozen=True, slots=True, kw_only=True)
+class PlaceRow:
+    """Where an expected PCR first has its value.
+
+    Attributes:
+        expected: The expected value, or None if the place is "missing".
+        place: "reset": before the events; "event"; "entry"; "nowhere"; "absent": the log has no
+            such bank; or "missing": the PCR is required, and not expected.
+        number: The number of the event, from 1, or of the entry, from 0.
+    """
+
+    bank: str
+    register: int
+    expected: bytes | None = None
+    place: str
+    number: int | None = None
+
+
+@dataclass(frozen=True, slots=True, kw_only=True)
 class Stray:
-    """An event of the log that extends register 10, or an entry of the list that extends another.
+    """An event of the log that extends PCR 10, or an entry of the list that extends another.
 
     Attributes:
-        register: The number of the register that it extends.
-        event: The number of the event, or None if it is an entry; events count from 1.
-        entry: The number of the entry, or None if it is an event; entries count from 0.
+        event: The event's number, from 1, or None for an entry.
+        entry: The entry's number, from 0, or None for an event.
+        register: The PCR that it extends.
     """
 
+    event: int | None = None
+    entry: int | None = None
     register: int
-    event: Optional[int] = None
-    entry: Optional[int] = None
 
 
-class _Judged:
-    """What each verdict has."""
-
-    rows: Tuple[Row, ...]
-    matches: bool
-
-    @property
-    def compared(self) -> int:
-        """How many expected registers were compared."""
-        return sum(row.state is not State.MISSING for row in self.rows)
-
-    def __bool__(self) -> bool:
-        return self.matches
-
-
-@dataclass(frozen=True)
-class Unconfirmed:
-    """An error in a list after its confirmed part, for which the list is not refused.
+@dataclass(frozen=True, slots=True, kw_only=True)
+class Fault:
+    """An error in a list after its confirmed entries, for which the list is not refused.
 
     Attributes:
-        kind: LIST or REPLAY.
-        number: The error's number among those of its kind, as of `Refused`.
-        entry: The number of the entry; entries count from 0.
+        kind, number: As of `Refused`.
+        event, entry: Where it is.
+        message: The line that `ima-agent` prints.
     """
 
-    kind: Kind
-    number: int
-    entry: int
-
-    @property
-    def message(self) -> str:
-        """The line that `ima-agent` prints, such as `unconfirmed: replay fault 1 at entry 98`."""
-        return f"unconfirmed: {spelled(self.kind, self.number, self.entry)}"
+    kind: str
+    number: int | None = None
+    event: int | None = None
+    entry: int | None = None
+    message: str
 
 
-@dataclass(frozen=True)
-class Verdict(_Judged):
-    """The verdict on a log, a list and expected registers. As a condition, it is true exactly if it is a match.
+@dataclass(frozen=True, slots=True, kw_only=True)
+class QuotedBank:
+    """A bank of a quote, and its PCRs that are selected."""
 
-    Attributes:
-        events: How many events the log has.
-        locality: The locality from which the TPM was started.
-        entries: How many entries the list has.
-        boot_aggregate: How the list's first entry compares with the log.
-        rows: The expected registers, compared, and then the required ones that are missing.
-        matches: Whether the boot aggregate is good, a register is expected, each has its value, no required one is missing, and `extends` and
-            `unknown` are empty. It covers no register without a row.
-        json: The report as `ima-agent verify --json` prints it, without the line feed.
-        confirmed: How many of all entries the verdict covers, if a `Session` with `prefix` gave it and their registers match, otherwise None.
-        unconfirmed: The first error in the entries after these, if there is one, otherwise None.
-        extends: The first event that extends register 10, and the first entry that extends another, if registers are required.
-        known_from: From which entry on files had to be known, if known files were given, otherwise None. It is 0, or after a session's `state`
-            the number of entries that this covers.
-        unknown: The numbers of the entries, from that one on, that are of no known file.
-    """
-
-    events: int
-    locality: int
-    entries: int
-    boot_aggregate: BootAggregate
-    rows: Tuple[Row, ...]
-    matches: bool
-    json: str
-    confirmed: Optional[int] = None
-    unconfirmed: Optional[Unconfirmed] = None
-    extends: Tuple[Stray, ...] = ()
-    known_from: Optional[int] = None
-    unknown: Tuple[int, ...] = ()
+    bank: str
+    registers: tuple[int, ...]
 
 
-@dataclass(frozen=True)
-class Report:
-    """A `Verdict` whose rows are in `json` alone. As a condition, it is true exactly if it is a match.
-
-    Attributes:
-        compared: How many expected registers were compared. Without any it is no match.
-    """
-
-    events: int
-    locality: int
-    entries: int
-    boot_aggregate: BootAggregate
-    compared: int
-    matches: bool
-    json: str
-    extends: Tuple[Stray, ...] = ()
-    known_from: Optional[int] = None
-    unknown: Tuple[int, ...] = ()
-
-    def __bool__(self) -> bool:
-        return self.matches
-
-
-@dataclass(frozen=True)
-class ListVerdict(_Judged):
-    """The verdict on a list without a log, and expected registers. As a condition, it is true exactly if it is a match.
-
-    Attributes:
-        entries: How many entries the list has.
-        rows: The expected registers, compared, and then the required ones that are missing.
-        matches: Whether the list has an entry, a register is expected, each has its value, no required one is missing, and `extends` and
-            `unknown` are empty.
-        json: The report as `ima-agent replay --json` prints it, without the line feed.
-        extends: The first entry that extends another register than 10, if registers are required.
-        known_from, unknown: As of a `Verdict`.
-    """
-
-    entries: int
-    rows: Tuple[Row, ...]
-    matches: bool
-    json: str
-    extends: Tuple[Stray, ...] = ()
-    known_from: Optional[int] = None
-    unknown: Tuple[int, ...] = ()
-
-
-@dataclass(frozen=True)
+@dataclass(frozen=True, slots=True, kw_only=True)
 class Clock:
-    """The clock of a TPM and its counts when it made a quote.
+    """The clock of a TPM when it made a quote.
 
-    If the key is neither in the endorsement nor in the platform hierarchy, the TPM adds a constant to `resets`, to `restarts` and to the version
-    of its firmware. Then only differences between two quotes by one key mean something.
+    For a key outside the endorsement and platform hierarchies the TPM adds a constant to `resets`
+    and `restarts`, and to the version of its firmware: only differences mean something.
 
     Attributes:
         milliseconds: How long the TPM has had power since it was last cleared.
-        resets: How often it was reset since it was last cleared; each boot is one reset.
+        resets: How often it was reset since then: each boot is one reset.
         restarts: How often it was restarted or resumed since its last reset.
         safe: Whether its clock never had a later value.
     """
@@ -229,217 +112,243 @@ class Clock:
     safe: bool
 
 
-class SignatureState(enum.Enum):
-    """What is known of a quote's signature."""
+class _Judged:
+    """What a verdict has. As a condition, it is true exactly if it is a match."""
 
-    NOT_CHECKED = "not checked"  # nobody verified it
-    CHECKED = "checked"  # the caller says that he verified it
-    VALID = "valid"  # it is by the key that was given
+    __slots__ = ()
+    matches: bool
+    entries: int
+
+    def __bool__(self) -> bool:
+        return self.matches
+
+    def __repr__(self) -> str:
+        word = "match" if self.matches else "no match"
+        return f"<{type(self).__name__}: {word}, {self.entries} entries>"
 
 
-@dataclass(frozen=True)
-class Attestation:
-    """The verdict on a log and a list by a quote. As a condition, it is true exactly if it is a match.
+@dataclass(frozen=True, slots=True, kw_only=True, repr=False)
+class Verdict(_Judged):
+    """The verdict on a log, a list and expected PCRs.
 
     Attributes:
-        quoted: The numbers of the registers that the quote selects, ascending, for each bank of which it selects any.
+        matches: Whether the library says that it is a match, on at least one PCR.
+        json: The line of `ima-agent verify --json`.
+        events, entries: How many the log and the list have.
+        locality: The locality from which the TPM was started.
+        confirmed: How many first entries the verdict covers, from a session with `prefix`.
+        unconfirmed: The first error after these.
+        boot_aggregate: What the first entry says of the log's PCRs: "good"; "wrong"; "nobank": it
+            is by a bank that the log lacks; or "missing".
+        registers: The expected PCRs, compared, and then the required ones that are missing.
+        extends: The first event of PCR 10, and the first entry of another, if PCRs are required.
+        known_from: The first entry that was looked up among known files, if some were given.
+        unknown: The entries from there on that are of no known file.
+        verdict: The word of the line.
+    """
+
+    matches: bool
+    json: str = field(repr=False)
+    events: int
+    locality: int
+    entries: int
+    confirmed: int | None = None
+    unconfirmed: Fault | None = None
+    boot_aggregate: str
+    registers: tuple[Row, ...]
+    extends: tuple[Stray, ...] = ()
+    known_from: int | None = None
+    unknown: tuple[int, ...] = ()
+    verdict: str
+
+
+@dataclass(frozen=True, slots=True, kw_only=True, repr=False)
+class ListVerdict(_Judged):
+    """The verdict on a list without a log, and expected PCRs. The attributes are as of `Verdict`;
+    `json` is the line of `ima-agent replay --json`."""
+
+    matches: bool
+    json: str = field(repr=False)
+    entries: int
+    registers: tuple[Row, ...]
+    extends: tuple[Stray, ...] = ()
+    known_from: int | None = None
+    unknown: tuple[int, ...] = ()
+    verdict: str
+
+
+@dataclass(frozen=True, slots=True, kw_only=True, repr=False)
+class Attestation(_Judged):
+    """The verdict on a log and a list by a quote. It covers the PCRs in `quoted`, and no others.
+
+    Attributes:
+        quoted: The PCRs that the quote selects.
         signer: The qualified name of the key that signed, as the quote states it.
         clock: The TPM's clock when it made the quote.
         firmware: The version of the TPM's firmware.
-        events: How many events the log has.
-        locality: The locality from which the TPM was started.
-        entries: How many entries the list has.
-        boot_aggregate: How the list's first entry compares with the log.
-        quote_matches: Whether the quote is of the values to which log and list replay.
-        signature: VALID, if it is by the key that was given; otherwise what the caller said.
-        matches: Whether `quote_matches`, the boot aggregate is good, `extends` and `unknown` are empty, and the signature is VALID or CHECKED. It
-            covers the registers in `quoted`, and no others.
-        json: The report as JSON, without the line feed.
-        extends: The first event that extends register 10, and the first entry that extends another.
-        confirmed, unconfirmed: As of a `Verdict`: only from a `Session` with a prefix.
-        known_from, unknown: As of a `Verdict`.
+        expected, registers: Of expected PCRs beside the quote, which no call here gives.
+        quote: "match" if log and list make the quoted values, otherwise "differ".
+        signature: "valid": it is by the key; "checked" or "not checked": what the caller said.
+        verdict: The word of the line; "signature not checked" if nobody verified the signature.
+        matches, json, ...: As of `Verdict`; `json` is the line of `ima-agent attest --json`.
     """
 
-    quoted: Dict[Algorithm, Tuple[int, ...]]
+    matches: bool
+    json: str = field(repr=False)
+    quoted: tuple[QuotedBank, ...]
     signer: bytes
     clock: Clock
     firmware: int
     events: int
     locality: int
     entries: int
-    boot_aggregate: BootAggregate
-    quote_matches: bool
-    signature: SignatureState
-    matches: bool
-    json: str
-    extends: Tuple[Stray, ...] = ()
-    confirmed: Optional[int] = None
-    unconfirmed: Optional[Unconfirmed] = None
-    known_from: Optional[int] = None
-    unknown: Tuple[int, ...] = ()
-
-    def __bool__(self) -> bool:
-        return self.matches
+    confirmed: int | None = None
+    unconfirmed: Fault | None = None
+    boot_aggregate: str
+    expected: str | None = None
+    registers: tuple[Row, ...] = ()
+    extends: tuple[Stray, ...] = ()
+    known_from: int | None = None
+    unknown: tuple[int, ...] = ()
+    quote: str
+    signature: str
+    verdict: str
 
 
-class KeyType(enum.Enum):
-    """The type of a key of a TPM."""
-
-    RSA = "rsa"
-    ECC = "ecc"  # of an elliptic curve
-
-
-class Scheme(enum.Enum):
-    """By which scheme a key of a TPM signs or decrypts."""
-
-    NONE = "none"  # whichever is asked for
-    RSASSA = "rsassa"
-    RSAPSS = "rsapss"
-    ECDSA = "ecdsa"
-    RSAES = "rsaes"
-    OAEP = "oaep"
-    ECDH = "ecdh"
-
-
-@dataclass(frozen=True)
-class Key:
-    """What the public area of a key states. Whose TPM the key is in, it does not say.
-
-    Attributes:
-        name: The name by which TPMs know the key: the number of a hash, in two bytes, and that hash of the area. (The `signer` of a quote is the
-            key's qualified name, which is another.)
-        type: Whether it is of RSA or of an elliptic curve.
-        bits: The size of the modulus, or 256, 384 or 521 for the curves P-256, P-384 and P-521.
-        scheme: The scheme that is fixed in it.
-        hash: The hash of the scheme, or None if it has none.
-        pem: The public key as `openssl pkey -pubin` writes it, which `attest` takes.
-    """
-
-    name: bytes
-    type: KeyType
-    bits: int
-    scheme: Scheme
-    hash: Optional[Algorithm]
-    pem: str
-
-
-@dataclass(frozen=True)
-class PlaceRow:
-    """Where an expected register first has its value, or that a required one is missing.
-
-    Attributes:
-        number: The number of the event or the entry, if the place is EVENT or ENTRY, otherwise None.
-        expected: The expected value, or None if the place is MISSING.
-    """
-
-    algorithm: Algorithm
-    register: int
-    place: Place
-    number: Optional[int] = None
-    expected: Optional[bytes] = None
-
-
-@dataclass(frozen=True)
+@dataclass(frozen=True, slots=True, kw_only=True)
 class Places:
-    """Where each expected register first has its value. As a condition, it is true exactly if all are located.
+    """Where each expected PCR first has its value. As a condition, it is true if `located` is.
 
     Attributes:
-        rows: The expected registers, and then the required ones that are missing.
-        located: Whether a register is expected, each value was reached, and no required register is missing.
-        json: What `ima-agent locate --json` prints, without the line feed.
+        located: Whether a PCR is expected, and each has a place.
+        json: The line of `ima-agent locate --json`.
     """
 
-    rows: Tuple[PlaceRow, ...]
+    json: str = field(repr=False)
+    registers: tuple[PlaceRow, ...]
     located: bool
-    json: str
 
     def __bool__(self) -> bool:
         return self.located
 
 
-@dataclass(frozen=True)
-class Entry:
-    """An entry of a measurement list. What an entry does not have is None.
+@dataclass(frozen=True, slots=True, kw_only=True)
+class Key:
+    """What the public area of a key states. It does not say whose TPM the key is in.
 
     Attributes:
-        number: Its number; entries count from 0.
-        register: The number of the register that it extends.
-        template: The name of its template, as bytes only if it is not UTF-8.
-        template_digest: The SHA-1 that the entry states, all zero for a violation.
-        violation: Whether it says that a file was open for writing while it was measured. No register confirms what it says.
-        genuine: Whether the template digest is that of what it covers, or the entry is a violation.
-        algorithm, digest, path: Those of the file, if the payload has the fields of its template.
-        signature: The file's signature, which may be empty, of `ima-sig` with these fields.
-        payload: The whole payload, if it does not have these fields.
-        fields: What the fields of another of the kernel's templates say, if the payload is these (docs/formats.md names them).
+        name: The name by which TPMs know the key: the number of a hash, in two bytes, and that
+            hash of the area. (The `signer` of a quote is the qualified name, which is another.)
+        type: "rsa" or "ecc".
+        bits: The size of the modulus, or 256, 384 or 521 for a curve.
+        scheme: "none", "rsassa", "rsapss", "ecdsa", "rsaes", "oaep" or "ecdh".
+        hash: The scheme's hash, or None if it has none.
+        pem: The public key as `openssl pkey -pubin` writes it, which `attest` takes.
     """
 
-    number: int
+    json: str = field(repr=False)
+    name: bytes
+    type: str
+    bits: int
+    scheme: str
+    hash: str | None = None
+    pem: str
+
+
+@dataclass(frozen=True, slots=True, kw_only=True)
+class Entry:
+    """An entry of a measurement list.
+
+    Attributes:
+        entry: Its number, from 0.
+        register: The PCR that it extends.
+        template, template_hex: The template's name; its bytes if they are not UTF-8.
+        template_digest: The SHA-1 that the list states, all zero for a violation.
+        violation: Whether a file was open for writing while it was measured. No PCR confirms what
+            a violation says.
+        genuine: Whether the template digest is valid, or the entry is a violation.
+        algorithm, digest, path, path_hex, signature: Those of the file, if the payload has the
+            fields of ima, ima-ng or ima-sig. A path that is not UTF-8 is in `path_hex`.
+        payload: The whole payload otherwise.
+        fields: What the payload says, if the fields of another template fit (docs/formats.md).
+    """
+
+    json: str = field(repr=False)
+    entry: int
     register: int
-    template: Union[str, bytes]
+    template: str | None = None
+    template_hex: bytes | None = None
     template_digest: bytes
     violation: bool
     genuine: bool
-    algorithm: Optional[Algorithm] = None
-    digest: Optional[bytes] = None
-    path: Optional[bytes] = None
-    signature: Optional[bytes] = None
-    payload: Optional[bytes] = None
-    fields: Optional[Dict[str, Any]] = None
+    algorithm: str | None = None
+    digest: bytes | None = None
+    path: str | None = None
+    path_hex: bytes | None = None
+    signature: bytes | None = None
+    payload: bytes | None = None
+    fields: dict[str, Any] | None = None
+
+    @property
+    def path_bytes(self) -> bytes | None:
+        """The path as it is in the list, whether it is UTF-8 or not."""
+        return self.path_hex if self.path is None else self.path.encode()
 
 
-class Part(enum.Enum):
-    """The part of an event's data whose hash is the event's digest.
-
-    If a register has the value that the log gives it, this part was hashed at the event's place in the register.
-    """
-
-    DATA = "data"
-    """All of it."""
-    VALUE = "value"
-    """The value of a variable, in register 1. Its name and its vendor are only what the log claims."""
-    COMMAND = "command"
-    """The text of a command of GRUB, in register 8. Its kind is only what the log claims."""
-
-
-@dataclass(frozen=True)
+@dataclass(frozen=True, slots=True, kw_only=True)
 class Event:
     """An event of a firmware event log.
 
     Attributes:
-        number: Its number; events count from 1.
-        register: The number of the register that it names, which need not be one of a TPM. An event of the type `EV_NO_ACTION` extends
-            none, whatever digests it states, so no register confirms it.
+        event: Its number, from 1.
+        register: The PCR that it names. An `EV_NO_ACTION` extends none, so no PCR confirms it.
         type: The name of its type, or None if the type has none.
-        type_number: The number of its type.
-        digests: Its digest for each bank of the log.
-        data: Its data.
-        measured: The part of its data whose hash is its digest, for each bank of which there is one. What is not measured is only what the
-            log claims, and so is the type.
-        content: What its data says, by its type: one member, named by the form ("text", "variable", "image", ..; docs/event-data.md
-            has them), which is "unknown" if the data has no form that the library knows.
+        digests: Its digest in each bank.
+        measured: Which part of `data` was measured, in each bank in which one was: "data": all
+            of it; "value": that of a variable; or "command": the text of a command of GRUB. The
+            rest, and the type, are only what the log claims.
+        confirmed: Which part of the data is confirmed. (No call here asks for it.)
+        content: What the data says: one member, by its form (docs/event-data.md).
     """
 
-    number: int
+    json: str = field(repr=False)
+    event: int
     register: int
-    type: Optional[str]
+    type: str | None = None
     type_number: int
-    digests: Dict[Algorithm, bytes]
+    digests: dict[str, bytes]
     data: bytes
-    measured: Dict[Algorithm, Part]
-    content: Dict[str, Any]
+    measured: dict[str, str]
+    confirmed: str | None = None
+    content: dict[str, Any]
 
 
-@dataclass(frozen=True)
+@dataclass(frozen=True, slots=True, kw_only=True)
 class LogAlgorithm:
-    """An algorithm that a log's header declares.
+    """An algorithm that a log's header declares: its name, if the library knows it, its number
+    as the TCG assigns it, and the size of its digests in bytes."""
 
-    Attributes:
-        name: Its name, or None if the library does not know it.
-        id: Its number, as the TCG assigns it.
-        size: The size of its digests, in bytes.
-    """
-
-    name: Optional[str]
+    name: str | None = None
     id: int
     size: int
+
+
+@dataclass(frozen=True, slots=True, kw_only=True)
+class Specification:
+    """The platform class and the version of the specification that a log's header states."""
+
+    platform_class: int
+    major: int
+    minor: int
+    errata: int
+    uintn_size: int
+    vendor: bytes
+
+
+@dataclass(frozen=True, slots=True, kw_only=True)
+class Header:
+    """The header of a log."""
+
+    json: str = field(repr=False)
+    algorithms: tuple[LogAlgorithm, ...]
+    specification: Specification

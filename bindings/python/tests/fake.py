@@ -1,4 +1,4 @@
-"""A library that answers what a test says, in place of the one for C. Its functions are called through ctypes as those are."""
+"""A library that answers what a test says, in place of the one for C, called through ctypes."""
 
 import contextlib
 import ctypes
@@ -17,62 +17,67 @@ class Call:
 
     def __init__(self, name, words):
         count = 2 * _library.FUNCTIONS[name][0]
-        self.inputs = [ctypes.string_at(pointer, size) for pointer, size in zip(words[:count:2], words[1:count:2])]
+        pairs = zip(words[:count:2], words[1:count:2])
+        self.inputs = [ctypes.string_at(pointer, size) for pointer, size in pairs]
         self.options = words[count:-3]
-        self._out, self.room, self._told = words[-3:]
-        self.position = (self.options[0][0], self.options[1][0]) if name in ("entries", "events") else None
+        self._out, self.capacity, self._info = words[-3:]
 
-    def give(self, result, text=b"", fault=NO_FAULT, size=None):
-        """Answers so, where the size of the text may be another, or None for its own."""
-        ctypes.memmove(self._out, text, min(len(text), self.room))
-        told = self._told.contents
-        told.size = len(text) if size is None else size
-        told.fault_kind, told.fault_number, told.fault_place = fault
-        return result
+    def give(self, status, text=b"", fault=NO_FAULT, size=None):
+        """Answers so; the size of the text may be another."""
+        ctypes.memmove(self._out, text, min(len(text), self.capacity))
+        info = self._info.contents
+        info.size = len(text) if size is None else size
+        info.fault_kind, info.fault_number, info.fault_place = fault
+        return status
 
     def give_state(self, state, size=None):
         """Answers with this checkpoint."""
-        out, room, size_of_state = self.options[-3:]
-        ctypes.memmove(out, state, min(len(state), room))
+        out, capacity, size_of_state = self.options[-3:]
+        ctypes.memmove(out, state, min(len(state), capacity))
         size_of_state[0] = len(state) if size is None else size
-
-    def move_to(self, offset, number):
-        """Sets the position of entries or events."""
-        self.options[0][0], self.options[1][0] = offset, number
 
 
 @contextlib.contextmanager
 def library(**answers):
-    """A library with these functions, which are given a `Call` and give its result; without them there are no others. Gives the calls."""
+    """A library with these functions alone, which are given a `Call` and give its status. Gives
+    the calls."""
     calls, functions = [], {}
     for name, answer in answers.items():
         def function(*words, name=name, answer=answer):
             calls.append(Call(name, words))
             return answer(calls[-1])
 
-        functions[f"ima_verify_raw_{name}"] = ctypes.CFUNCTYPE(ctypes.c_int32, *_library.types_of(name))(function)
-    with unittest.mock.patch.object(_library, "loaded", lambda: types.SimpleNamespace(**functions)):
+        made = ctypes.CFUNCTYPE(ctypes.c_int32, *_library.types_of(name))(function)
+        functions[f"ima_verify_raw_{name}"] = made
+    loaded = types.SimpleNamespace(**functions)
+    with unittest.mock.patch.object(_library, "loaded", lambda: loaded):
         yield calls
 
 
-def answering(name, result, text=b"", fault=NO_FAULT, size=None):
+def answering(name, status, text=b"", fault=NO_FAULT, size=None, state=b""):
     """A library whose function of this name always answers so."""
-    return library(**{name: lambda call: call.give(result, text, fault, size)})
+    def answer(call):
+        if name in ("more", "attest"):
+            call.give_state(state)
+        return call.give(status, text, fault, size)
+
+    return library(**{name: answer})
 
 
 def fault_of(kind, number, place=_library.NO_PLACE):
-    """What `told` says of a fault of an input."""
+    """The error of an input."""
     return NUMBERS[kind], number, place
 
 
 @contextlib.contextmanager
 def counted(name):
-    """How much room each call of a function of the library has, which answers as always."""
-    library, rooms = _library.loaded(), []
+    """The capacities of the calls of a function of the library, which answers as always."""
+    loaded, capacities = _library.loaded(), []
 
     def function(*words):
-        rooms.append(words[-2])
-        return getattr(library, f"ima_verify_raw_{name}")(*words)
+        capacities.append(words[-2])
+        return getattr(loaded, f"ima_verify_raw_{name}")(*words)
 
-    with unittest.mock.patch.object(_library, "loaded", lambda: types.SimpleNamespace(**{f"ima_verify_raw_{name}": function})):
-        yield rooms
+    functions = types.SimpleNamespace(**{f"ima_verify_raw_{name}": function})
+    with unittest.mock.patch.object(_library, "loaded", lambda: functions):
+        yield capacities
