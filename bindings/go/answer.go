@@ -113,31 +113,33 @@ func (a answer) line() string {
 	return string(bytes.TrimSuffix(a.text, []byte("\n")))
 }
 
-// result is what is made of a line of JSON. It keeps the line, and the status of a verdict. It says whether the line claims that all
-// is well; of a line that claims nothing that is true.
-type result[T any] interface {
-	*T
-	accept(isDone bool, line string) bool
+// report is a result that claims something, which has to be what the library's status says.
+type report interface {
+	settle(isDone bool) (claim bool)
 }
 
-// resultOf reads a result from an answer of one line, whose claim has to be its status.
-func resultOf[T any, R result[T]](a answer) (T, error) {
+// resultOf reads a result from an answer of one line.
+func resultOf[T any](a answer) (T, error) {
 	var read, none T
-	isDone := a.status == done
-	if !isDone && a.status != differs || !decode(a.text, &read) || R(&read).accept(isDone, a.line()) != isDone {
+	isDone, claim := a.status == done, true
+	isRead := (isDone || a.status == differs) && decode(a.text, &read)
+	if report, isReport := any(&read).(report); isReport {
+		claim = report.settle(isDone)
+	}
+	if !isRead || claim != isDone {
 		return none, a.unexpected()
 	}
 	return read, nil
 }
 
 // resultFor reads a result from the answer to a call.
-func resultFor[T any, R result[T]](call func(out []byte) (int32, errorInfo)) (T, error) {
+func resultFor[T any](call func(out []byte) (int32, errorInfo)) (T, error) {
 	given, err := ask(make([]byte, firstCapacity), call)
 	if err != nil {
 		var none T
 		return none, err
 	}
-	return resultOf[T, R](given)
+	return resultOf[T](given)
 }
 
 // matches is the library's status, but false if nothing was compared. (A later library returns IMA_VERIFY_DIFFERS then: this check can go.)
@@ -145,34 +147,23 @@ func matches(isDone bool, compared int) bool {
 	return isDone && compared > 0
 }
 
-func (v *Verdict) accept(isDone bool, line string) bool {
-	v.Matches, v.JSON = matches(isDone, len(v.Registers)), line
+func (v *Verdict) settle(isDone bool) bool {
+	v.Matches = matches(isDone, len(v.Registers))
 	return v.Conclusion == ConclusionMatch
 }
 
-func (v *ListVerdict) accept(isDone bool, line string) bool {
-	v.Matches, v.JSON = matches(isDone, len(v.Registers)), line
+func (v *ListVerdict) settle(isDone bool) bool {
+	v.Matches = matches(isDone, len(v.Registers))
 	return v.Conclusion == ConclusionMatch
 }
 
-func (a *Attestation) accept(isDone bool, line string) bool {
-	a.Matches, a.JSON = matches(isDone, len(a.Quoted)), line
+func (a *Attestation) settle(isDone bool) bool {
+	a.Matches = matches(isDone, len(a.Quoted))
 	return a.Conclusion == ConclusionMatch
 }
 
-func (p *Places) accept(_ bool, line string) bool {
-	p.JSON = line
+func (p *Places) settle(bool) bool {
 	return p.Located
-}
-
-func (p *PCRs) accept(_ bool, line string) bool {
-	p.JSON = line
-	return true
-}
-
-func (k *Key) accept(_ bool, line string) bool {
-	k.JSON = line
-	return true
 }
 
 // isLine is whether the text is one line, and not an empty one.
@@ -181,11 +172,18 @@ func isLine(text []byte) bool {
 	return end > 0 && end == len(text)-1
 }
 
-// decode reads a line that is one object of JSON, and says whether it could. Members without `omitempty` have to be there.
+// decode reads a line that is one object of JSON, and says whether it could. Members without `omitempty` have to be there. A field JSON
+// gets the line.
 func decode(line []byte, to any) bool {
 	var object any
-	return isLine(line) && json.Unmarshal(line, &object) == nil && json.Unmarshal(line, to) == nil &&
-		isComplete(reflect.TypeOf(to).Elem(), object)
+	if !isLine(line) || json.Unmarshal(line, &object) != nil || json.Unmarshal(line, to) != nil {
+		return false
+	}
+	result := reflect.ValueOf(to).Elem()
+	if raw := result.FieldByName("JSON"); raw.IsValid() {
+		raw.SetString(string(line[:len(line)-1]))
+	}
+	return isComplete(result.Type(), object)
 }
 
 // isComplete is whether a value has each member that its type requires, and no null where the type has a member.

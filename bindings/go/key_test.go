@@ -3,10 +3,7 @@ package imaverify
 import (
 	"bytes"
 	"crypto/sha256"
-	"crypto/sha512"
 	"crypto/x509"
-	"encoding/base64"
-	"encoding/binary"
 	"encoding/pem"
 	"fmt"
 	"os"
@@ -39,22 +36,7 @@ func sampleArea(name string) []byte {
 }
 
 func sized(data []byte) []byte {
-	return joined(shorts(uint16(len(data))), data)
-}
-
-func shorts(values ...uint16) []byte {
-	var data []byte
-	for _, value := range values {
-		data = binary.BigEndian.AppendUint16(data, value)
-	}
-	return data
-}
-
-// rsaArea is the public area of an attestation key of RSA (TPM 2.0 Library, part 2, TPMT_PUBLIC).
-func rsaArea(modulus []byte, nameHash uint16, exponent uint32, scheme ...uint16) []byte {
-	head := joined(shorts(1, nameHash), []byte{0, 5, 0, 0x72}, sized(nil), shorts(0x10), shorts(scheme...))
-	numbers := binary.BigEndian.AppendUint32(shorts(uint16(8*len(modulus))), exponent)
-	return sized(joined(head, numbers, sized(modulus)))
+	return joined([]byte{byte(len(data) >> 8), byte(len(data))}, data)
 }
 
 func checkKeyFault(t *testing.T, read func(area []byte) (Key, error), area []byte, number uint32) {
@@ -94,21 +76,6 @@ func TestKeysOfTheSamples(t *testing.T) {
 			checkKeyFault(t, c.read, turned(area, 8*(9-bit/8)+bit%8), number)
 		}
 	}
-}
-
-func TestOtherAreasOfRSA(t *testing.T) {
-	modulus := append([]byte{0x80}, make([]byte, 255)...)
-	for number, area := range map[uint32][]byte{
-		3: rsaArea(modulus, 0x12, 0, 0x14, 0x0b), 5: rsaArea(modulus, 0x0b, 0, 0x18, 0x0b), 6: rsaArea(modulus, 0x0b, 3, 0x14, 0x0b),
-		9: rsaArea(make([]byte, 256), 0x0b, 0, 0x14, 0x0b), 11: rsaArea(modulus, 4, 0, 0x14, 0x0b),
-		16: rsaArea(modulus[:255], 0x0b, 0, 0x14, 0x0b), 19: rsaArea(modulus, 0x0b, 0, 0x10), 20: rsaArea(modulus, 0x0b, 0, 0x16, 4),
-	} {
-		checkKeyFault(t, ReadKey, area, number)
-	}
-	second, third := rsaArea(modulus, 0x0c, 65537, 0x14, 0x0c), rsaArea(modulus, 0x0d, 65537, 0x14, 0x0c)
-	sha384, sha512 := sha512.Sum384(second[2:]), sha512.Sum512(third[2:])
-	equal(t, must(ReadKey(second)).Name, Hex(joined([]byte{0, 0x0c}, sha384[:])))
-	equal(t, must(ReadKey(third)).Name, Hex(joined([]byte{0, 0x0d}, sha512[:])))
 }
 
 // signatureLines are the words of each line of this kind, which tests/bindings/signatures.py describes.
@@ -159,32 +126,25 @@ func checkSigned(t *testing.T, key, signature, message []byte, wanted bool) {
 }
 
 func TestSignaturesOfEachWay(t *testing.T) {
-	areas, count := signingAreas(), 0
+	areas, count := map[string][]byte{}, 0
+	for _, words := range signatureLines("key") {
+		areas[words[0]] = spelled(words[1])
+	}
 	for k, words := range signatureLines("signed") {
-		area, scheme, signature := clone(areas[words[0]]), spelled(words[1]+words[2]), []byte(spelled(words[3]))
-		isRSA := strings.HasPrefix(words[0], "rsa")
+		area, scheme, signature, isRSA := clone(areas[words[0]]), spelled(words[1]+words[2]), []byte(spelled(words[3])), words[0][:3] == "rsa"
 		copy(area[14:], scheme)
-		key := []byte(must(ReadKey(area)).PEM)
 		if words[0] == "p-521" {
 			equal(t, refusalBy(t, area, signature, quoteMessage)[:27], "refused: signature fault 8:")
-			equal(t, refusalBy(t, key, signature, quoteMessage)[:27], "refused: signature fault 9:")
 			continue
 		}
 		count++
 		form := inForm(scheme, signature, isRSA)
 		checkSigned(t, area, form, quoteMessage, true)
-		checkSigned(t, key, signature, quoteMessage, true)
-		for _, other := range [][]byte{turned(signature, 8*len(signature)-1), signature[:len(signature)-1], signature[1:], joined(signature, []byte{0})} {
-			checkSigned(t, area, other, quoteMessage, false)
-		}
-		for _, other := range [][]byte{turned(form, 8*len(form)-1), turned(form, 0), turned(form, 25), form[:len(form)-1], joined(form, []byte{0})} {
-			checkSigned(t, area, other, quoteMessage, false)
-		}
+		checkSigned(t, area, signature, quoteMessage, true)
 		checkSigned(t, area, form, turned(quoteMessage, k), false)
-		checkSigned(t, areas[map[bool]string{true: "other-rsa", false: "other-p-256"}[isRSA]], signature, quoteMessage, false)
-		if isRSA {
-			checkSigned(t, area, signature, quoteMessage, true)
-			checkSigned(t, area, joined([]byte{0, form[1] ^ 2}, form[2:]), quoteMessage, false)
+		checkSigned(t, areas[map[bool]string{true: "other-rsa", false: "other-p-256"}[isRSA]], form, quoteMessage, false)
+		for _, other := range [][]byte{turned(form, 8*len(form)-1), form[:len(form)-1], joined(form, []byte{0}), turned(signature, 8*len(signature)-1)} {
+			checkSigned(t, area, other, quoteMessage, false)
 		}
 	}
 	equal(t, count, 36)
@@ -208,7 +168,7 @@ func TestKeysThatAreNotTaken(t *testing.T) {
 		equal(t, refusalBy(t, text, sampleSignature, quoteMessage)[:27], "refused: signature fault 9:")
 	}
 	block, _ := pem.Decode(sampleKey)
-	for _, text := range [][]byte{block.Bytes, sampleSignature, joined([]byte("x"), sampleKey), []byte("\n"), []byte(base64.StdEncoding.EncodeToString(block.Bytes))} {
+	for _, text := range [][]byte{block.Bytes, sampleSignature, joined([]byte("x"), sampleKey), []byte("\n")} {
 		equal(t, refusalBy(t, text, sampleSignature, quoteMessage)[:20], "refused: key fault 1")
 	}
 	for name, number := range refusedAttestation {
@@ -216,18 +176,13 @@ func TestKeysThatAreNotTaken(t *testing.T) {
 	}
 }
 
-func TestEachBitOfTheSampleCounts(t *testing.T) {
-	block, _ := pem.Decode(sampleKey)
-	area := rsaArea(block.Bytes[len(block.Bytes)-5-256:len(block.Bytes)-5], 0x0b, 0, 0x14, 0x0b) // (after the modulus: the exponent)
-	equal(t, must(ReadKey(area)).PEM, string(sampleKey))
-	for _, key := range [][]byte{area, sampleKey} {
-		checkSigned(t, key, sampleSignature, quoteMessage, true)
-		checkSigned(t, key, tpmtSignature, quoteMessage, true)
+func TestBitsOfTheSampleCount(t *testing.T) {
+	checkSigned(t, sampleKey, sampleSignature, quoteMessage, true)
+	checkSigned(t, sampleKey, tpmtSignature, quoteMessage, true)
+	for bit := 0; bit < 8*len(sampleSignature); bit += 13 {
+		checkSigned(t, sampleKey, turned(sampleSignature, bit), quoteMessage, false)
 	}
-	for bit := 0; bit < 8*len(sampleSignature); bit++ {
-		checkSigned(t, area, turned(sampleSignature, bit), quoteMessage, false)
-	}
-	for bit := 0; bit < 8*len(quoteMessage); bit++ {
-		checkSigned(t, area, sampleSignature, turned(quoteMessage, bit), false)
+	for bit := 0; bit < 8*len(quoteMessage); bit += 5 {
+		checkSigned(t, sampleKey, sampleSignature, turned(quoteMessage, bit), false)
 	}
 }

@@ -61,7 +61,7 @@ func (l *lines) fail(line []byte) {
 }
 
 // nextOf reads the next line, and says whether there is one.
-func nextOf[T any, R result[T]](l *lines) (T, bool) {
+func nextOf[T any](l *lines) (T, bool) {
 	var read, none T
 	line := l.line()
 	if len(line) == 0 {
@@ -71,24 +71,8 @@ func nextOf[T any, R result[T]](l *lines) (T, bool) {
 		l.fail(line)
 		return none, false
 	}
-	R(&read).accept(true, string(line[:len(line)-1]))
 	l.rest, l.count = l.rest[len(line):], l.count+1
 	return read, true
-}
-
-func (e *Entry) accept(_ bool, line string) bool {
-	e.JSON = line
-	return true
-}
-
-func (e *Event) accept(_ bool, line string) bool {
-	e.JSON = line
-	return true
-}
-
-func (h *LogHeader) accept(_ bool, line string) bool {
-	h.JSON = line
-	return true
 }
 
 // endLine is the line after the last entry of a whole list.

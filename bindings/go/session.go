@@ -140,13 +140,13 @@ func attestFrom(log, data []byte, quote Quote, from settings) (Attestation, []by
 }
 
 // nextResult reads a verdict from the answer to a call, and the next state, which only a match has.
-func nextResult[T any, R result[T]](call func(next, out []byte) (int32, uint64, errorInfo)) (T, []byte, error) {
+func nextResult[T any](call func(next, out []byte) (int32, uint64, errorInfo)) (T, []byte, error) {
 	var none T
 	given, err := askForBoth(make([]byte, checkpointCapacity), make([]byte, firstCapacity), call)
 	if err != nil {
 		return none, nil, err
 	}
-	read, err := resultOf[T, R](given)
+	read, err := resultOf[T](given)
 	if err == nil && (given.status == done) != (len(given.next) > 0) {
 		return none, nil, given.unexpected()
 	}
