@@ -129,27 +129,21 @@ func TestVerdictOnTheSampleIsAMatch(t *testing.T) {
 }
 
 func TestListThatGrewDiffersInRegister10AndIsLocatedBeforeItsEnd(t *testing.T) {
-	for _, require := range []string{NothingRequired, "sha256:10"} {
-		verdict := verify(bootLog, longer, bootTPM, require)
-		equal(t, each(verdict.Matches, verdict.Entries, verdict.BootAggregate), each(false, uint64(100), BootAggregateGood))
-		equal(t, fmt.Sprintf("%s %x", verdict.Registers[10].State, verdict.Registers[10].Value), "differ "+afterLonger)
-		places := must(Locate(bootLog, longer, bootTPM, require))
-		equal(t, places.Located, true)
-		equal(t, places.Registers[10], PlaceRow{"sha256", 10, expectedOf(10), PlaceEntry, 98})
-		isExtended := map[int]bool{10: true}
-		for _, register := range must(Registers(bootLog)).Registers {
-			isExtended[register.Register] = true
-			equal(t, places.Registers[register.Register].Place, PlaceEvent)
-		}
-		for k := 0; k < 24; k++ {
-			if k != 10 {
-				equal(t, verdict.Registers[k], matching(k))
-			}
-			if !isExtended[k] {
-				equal(t, places.Registers[k], PlaceRow{"sha256", k, expectedOf(k), PlaceReset, 0})
-			}
-		}
+	verdict, places := verify(bootLog, longer, bootTPM, "sha256:10"), must(Locate(bootLog, longer, bootTPM, "sha256:10"))
+	equal(t, each(verdict.Matches, verdict.Entries, verdict.BootAggregate, places.Located), each(false, uint64(100), BootAggregateGood, true))
+	place := map[int]Place{10: PlaceEntry}
+	for _, register := range must(Registers(bootLog)).Registers {
+		place[register.Register] = PlaceEvent
 	}
+	for k := 0; k < 24; k++ {
+		row, found := matching(k), places.Registers[k]
+		if k == 10 {
+			row.State, row.Value = StateDiffer, spelled(afterLonger)
+		}
+		equal(t, each(verdict.Registers[k], found.Expected), each(row, expectedOf(k)))
+		equal(t, found.Place == place[k] || found.Place == PlaceReset && place[k] == "", true)
+	}
+	equal(t, places.Registers[10], PlaceRow{"sha256", 10, expectedOf(10), PlaceEntry, 98})
 }
 
 func TestExpectedRegistersMayBeAbsentOrReachedNowhere(t *testing.T) {
@@ -166,9 +160,7 @@ func TestRequiredRegisterThatIsNotExpectedIsMissing(t *testing.T) {
 	equal(t, verify(bootLog, bootList, text, "sha256:0-22").Matches, true)
 	verdict, places := verify(bootLog, bootList, text, "sha256:0-23,sha1:10"), must(Locate(bootLog, bootList, text, "sha256:0-23,sha1:10"))
 	equal(t, each(verdict.Matches, verdict.Conclusion, places.Located), each(false, ConclusionDiffer, false))
-	equal(t, verdict.Registers[:23], verify(bootLog, bootList, text, NothingRequired).Registers)
 	equal(t, verdict.Registers[23:], []Row{{"sha1", 10, nil, StateMissing, nil}, {"sha256", 23, nil, StateMissing, nil}})
-	equal(t, places.Registers[:23], must(Locate(bootLog, bootList, text, NothingRequired)).Registers)
 	equal(t, places.Registers[23:], []PlaceRow{{"sha1", 10, nil, PlaceMissing, 0}, {"sha256", 23, nil, PlaceMissing, 0}})
 }
 
@@ -189,26 +181,29 @@ func TestListAlone(t *testing.T) {
 	line := fmt.Sprintf(`{"entries":99,"registers":[{"bank":"sha256","register":10,"expected":"%x","state":"match"}],"verdict":"match"}`, expectedOf(10))
 	for _, require := range []string{"sha256:10", NothingRequired} {
 		equal(t, must(Replay(bootList, tenth, require)), ListVerdict{99, []Row{matching(10)}, nil, nil, nil, ConclusionMatch, true, line})
-		verdict := must(Replay(longer, tenth, require))
-		equal(t, each(verdict.Matches, fmt.Sprintf("%x", verdict.Registers[0].Value)), each(false, afterLonger))
 	}
-	verdict := must(Replay(bootList, tenth, "sha1:10,sha256:10"))
-	equal(t, each(verdict.Matches, verdict.Registers), each(false, []Row{matching(10), {"sha1", 10, nil, StateMissing, nil}}))
-	verdict = must(Replay(nil, []byte("sha256 10 "+strings.Repeat("0", 64)), "sha256:10"))
-	equal(t, each(verdict.Matches, verdict.Entries, verdict.Registers), each(false, uint64(0), []Row{{"sha256", 10, make(Hex, 32), StateMatch, nil}}))
-	verdict = must(Replay(bootList, bootTPM, "sha256:0-23"))
-	equal(t, each(verdict.Matches, verdict.Registers[0]), each(false, Row{"sha256", 0, expectedOf(0), StateDiffer, make(Hex, 32)}))
+	list := clone(bootList)
+	list[ends[98]] = 11
+	for _, c := range []struct {
+		list, expected []byte
+		require        string
+		row            Row
+		strays         []Stray
+	}{
+		{longer, tenth, "sha256:10", Row{"sha256", 10, expectedOf(10), StateDiffer, spelled(afterLonger)}, nil},
+		{bootList, tenth, "sha1:10,sha256:10", matching(10), nil},
+		{nil, []byte("sha256 10 " + strings.Repeat("0", 64)), "sha256:10", Row{"sha256", 10, make(Hex, 32), StateMatch, nil}, nil},
+		{bootList, bootTPM, "sha256:0-23", Row{"sha256", 0, expectedOf(0), StateDiffer, make(Hex, 32)}, nil},
+		{list, tenthOf(tenthAfter(98)), "sha256:10", Row{"sha256", 10, tenths[98], StateMatch, nil}, []Stray{{Entry: 98, Register: 11}}},
+	} {
+		verdict := must(Replay(c.list, c.expected, c.require))
+		equal(t, each(verdict.Matches, verdict.Registers[0], verdict.Extends), each(false, c.row, c.strays))
+	}
 	registers := must(ListRegisters(bootList)).Registers
 	for k, bank := range []Algorithm{"sha1", "sha256", "sha384", "sha512"} {
 		equal(t, each(registers[k].Bank, registers[k].Register, len(registers)), each(bank, 10, 4))
 	}
 	equal(t, registers[1].Value, expectedOf(10))
-	list := clone(bootList)
-	list[ends[98]] = 11
-	for require, wanted := range map[string][]Stray{NothingRequired: nil, "sha256:10": {{Entry: 98, Register: 11}}} {
-		verdict := must(Replay(list, tenthOf(tenthAfter(98)), require))
-		equal(t, each(verdict.Matches, verdict.Extends), each(wanted == nil, wanted))
-	}
 }
 
 // checkApart has registers that are as expected after log and list. With a requirement this is a match unless these extend another's register.
@@ -227,48 +222,18 @@ func eventOf10(kind int, digest []byte) []byte {
 const eventTag, noAction = 6, 3
 
 func TestMatchNeedsALogAndAListThatAreApart(t *testing.T) {
-	for _, cut := range []int{1, 50, 99} {
-		checkApart(t, bootLog, bootList[:ends[cut]], tenthAfter(cut))
-		equal(t, verify(bootLog, bootList[ends[cut]:], bootTPM, "sha256:0-10").Extends, []Stray(nil))
-	}
-	for _, register := range []int{0, 9, 11, 17, 23} {
-		for _, place := range []int{0, 1, 50, 93, 98} { // (93 is a violation)
-			list := clone(bootList)
-			list[ends[place]] = byte(register)
-			checkApart(t, bootLog, list, expectedAfter(nil, list), Stray{Entry: uint64(place), Register: register})
-		}
+	for place, register := range map[int]byte{0: 0, 1: 9, 50: 11, 93: 17, 98: 23} { // (93 is a violation)
+		list := clone(bootList)
+		list[ends[place]] = register
+		checkApart(t, bootLog, list, expectedAfter(nil, list), Stray{Entry: uint64(place), Register: int(register)})
 	}
 	digest, event := bytes.Repeat([]byte{1}, 32), Stray{Event: 25, Register: 10}
 	checkApart(t, joined(bootLog, eventOf10(eventTag, digest)), bootList, expectedAfter(digest, bootList), event)
 	checkApart(t, joined(bootLog, eventOf10(noAction, digest)), bootList, bootTPM)
 	hidden, list := extensions[5], joined(bootList[:ends[5]], bootList[ends[6]:]) // (entry 5 is moved into the log)
-	checkApart(t, joined(bootLog, eventOf10(eventTag, hidden)), list, expectedAfter(hidden, list), event)
 	starts, _ := listed(list)
 	list[starts[60]] = 11
 	checkApart(t, joined(bootLog, eventOf10(eventTag, hidden)), list, expectedAfter(hidden, list), event, Stray{Entry: 60, Register: 11})
-}
-
-func TestRegistersOfAllBanks(t *testing.T) {
-	// (a header of one algorithm, and an event of register 10; by the specification of logs)
-	all, text := []Register(nil), "\r\n"
-	for bank, algorithm := range map[Algorithm][2]byte{"sha512": {13, 64}, "sha1": {4, 20}, "sha384": {12, 48}, "sha256": {11, 32}} {
-		id, size := []byte{algorithm[0], 0}, algorithm[1]
-		spec := joined([]byte("Spec ID Event03\x00"), number(0), []byte{0, 2, 0, 2}, number(1), id, []byte{size, 0, 0})
-		header := joined(number(0), number(3), zeros, withLength(spec))
-		event := joined(number(10), number(13), number(1), id, make([]byte, size), number(0))
-		equal(t, verify(header, bootList, nil, string(bank)+":10").Extends, []Stray(nil))
-		equal(t, verify(joined(header, event), bootList, nil, string(bank)+":10").Extends, []Stray{{Event: 1, Register: 10}})
-		for k := 0; k < 24; k++ {
-			all = append(all, Register{bank, k, make(Hex, size)})
-			text += fmt.Sprintf("%s %d %x\r\n", bank, k, make([]byte, size))
-		}
-	}
-	verdict, places := verify(bootLog, bootList, []byte(text), NothingRequired), must(Locate(bootLog, bootList, []byte(text), NothingRequired))
-	equal(t, each(len(verdict.Registers), len(places.Registers)), each(96, 96))
-	for k, wanted := range all {
-		row, place := verdict.Registers[k], places.Registers[k]
-		equal(t, []Register{{row.Bank, row.Register, row.Expected}, {place.Bank, place.Register, place.Expected}}, []Register{wanted, wanted})
-	}
 }
 
 func TestExpectedRegistersAreThoseThatWerePrinted(t *testing.T) {
@@ -310,30 +275,25 @@ func TestWrongInputsAreRefused(t *testing.T) {
 		{bootLog[:31], bootList, bootTPM, refusal(KindLog, 1, 0)}, {bootLog[:len(bootLog)-1], bootList, bootTPM, refusal(KindLog, 1, 24)},
 		{make([]byte, 32), bootList, bootTPM, refusal(KindLog, 2)}, {nil, nil, nil, refusal(KindLog, 1, 0)}, {[]byte{}, []byte{}, []byte{}, refusal(KindLog, 1, 0)},
 		{bootLog, bootList, wrong, refusal(KindExpected, 1, 25)}, {bootLog, bootList, twice, refusal(KindExpected, 2, 25)},
-		{bootLog, bootList, append(bytes.Repeat([]byte("\n"), 1<<20), 'x'), refusal(KindExpected, 1, 1<<20+1)},
+		{bootLog, bootList, append(bytes.Repeat([]byte("\n"), 1<<24), 'x'), refusal(KindExpected, 1, 1<<24+1)},
 	} {
-		for _, require := range []string{NothingRequired, "sha256:10"} {
-			verdict, err := Verify(c.log, c.list, c.expected, require)
-			checkRefused(t, verdict, err, c.wanted)
-			places, err := Locate(c.log, c.list, c.expected, require)
-			checkRefused(t, places, err, c.wanted)
-			if c.wanted.Kind != KindLog {
-				alone, err := Replay(c.list, c.expected, require)
-				checkRefused(t, alone, err, c.wanted)
-			}
-		}
+		verdict, err := Verify(c.log, c.list, c.expected, "sha256:10")
+		checkRefused(t, verdict, err, c.wanted)
+		places, err := Locate(c.log, c.list, c.expected, NothingRequired)
+		checkRefused(t, places, err, c.wanted)
 		if c.wanted.Kind == KindLog {
 			registers, err := Registers(c.log)
 			checkRefused(t, registers, err, c.wanted)
+		} else {
+			alone, err := Replay(c.list, c.expected, "sha256:10")
+			checkRefused(t, alone, err, c.wanted)
 		}
 	}
 	registers, err := ListRegisters(changed)
 	checkRefused(t, registers, err, refusal(KindReplay, 1, 5))
 	text, err := Show(cutList)
 	checkRefused(t, text, err, refusal(KindList, 1, 98))
-	lines, err := ExpectedFrom(bootTPM, "")
-	checkRefused(t, lines, err, refusal(KindExpected, 1, 1))
-	lines, err = ExpectedFrom(nil, "")
+	lines, err := ExpectedFrom(nil, "")
 	checkRefused(t, lines, err, refusal(KindExpected, 6))
 	_, err = ask(make([]byte, 5), func(out []byte) (int32, errorInfo) { return callRegisters(nil, false, out) }) // (the line has no room at first)
 	checkRefused(t, 0, err, refusal(KindLog, 1, 0))
@@ -349,13 +309,11 @@ func TestVersionIsThatOfTheHeader(t *testing.T) {
 
 func TestCallsAtOnceGiveWhatTheyGiveAlone(t *testing.T) {
 	calls := []func() any{
-		func() any { return must(Verify(bootLog, longer, bootTPM, NothingRequired)) },
 		func() any { return must(Locate(bootLog, longer, bootTPM, NothingRequired)) },
 		func() any { return must(Show(bootList)) },
 		func() any { _, err := Verify(bootLog, changed, bootTPM, NothingRequired); return err.Error() },
 		func() any {
-			s := NewSession(bootLog, bootTPM, "sha256:0-10", Resume(stateAfter(50)))
-			return each(must(s.More(bootList[s.Offset():])), s.State())
+			return must(NewSession(bootLog, bootTPM, "sha256:0-10", from(50)...).More(bootList[ends[50]:]))
 		},
 	}
 	var wanted []any

@@ -6,6 +6,7 @@ import (
 	"crypto/sha256"
 	"encoding/binary"
 	"fmt"
+	"reflect"
 	"strings"
 	"testing"
 )
@@ -42,38 +43,31 @@ func entryWith(template string, payload, templateDigest []byte) []byte {
 	return joined(number(10), templateDigest, withLength([]byte(template)), payload)
 }
 
-// drained are all entries of a scanner, and its error, which it keeps.
-func drained(s *EntryScanner) ([]Entry, error) {
-	var entries []Entry
-	for s.Next() {
-		if s.Err() != nil {
-			panic("an entry with an error")
+// drained are all items of a scanner, and its error, which it keeps.
+func drainedOf[T any](next func() bool, item func() T, failure func() error) ([]T, error) {
+	var items []T
+	for next() {
+		if failure() != nil {
+			panic("an item with an error")
 		}
-		entries = append(entries, s.Entry())
+		items = append(items, item())
 	}
-	err := s.Err()
-	if s.Next() || s.Err() != err || s.Entry().TemplateDigest != nil {
+	err := failure()
+	if next() || failure() != err || !reflect.ValueOf(item()).IsZero() {
 		panic("an end that does not last")
 	}
-	return entries, err
+	return items, err
+}
+
+func drained(s *EntryScanner) ([]Entry, error) {
+	return drainedOf(s.Next, s.Entry, s.Err)
 }
 
 func drainedEvents(s *EventScanner, err error) ([]Event, error) {
 	if err != nil {
 		return nil, err
 	}
-	var events []Event
-	for s.Next() {
-		if s.Err() != nil {
-			panic("an event with an error")
-		}
-		events = append(events, s.Event())
-	}
-	err = s.Err()
-	if s.Next() || s.Err() != err || s.Event().Data != nil {
-		panic("an end that does not last")
-	}
-	return events, err
+	return drainedOf(s.Next, s.Event, s.Err)
 }
 
 // entriesIn are the entries of a list, without their lines.
@@ -108,20 +102,24 @@ func TestTemplatesThatAreKnownHaveFiles(t *testing.T) {
 	first, second := ng("sha512", digest, "/x"), joined(ng("sha1", ones, "/y"), withLength([]byte{3, 0, 0xff}))
 	third := joined(ng("sha1", ones, "/z"), withLength(nil))
 	covered := digestOf(joined(ones, []byte("/w"), make([]byte, 254)))
-	list := joined(entryOf("ima-ng", first), entryOf("ima-sig", second), entryOf("ima-sig", third),
-		entryWith("ima", joined(ones, withLength([]byte("/w"))), covered),
-		entryWith("ima-ng", ng("sha256", known[:], "/v"), zeros), entryWith("ima-new", []byte{1}, zeros), entryWith("ima-ng", ng("sha1", ones, "/u"), ones))
-	equal(t, entriesIn(list), []Entry{
-		{Number: 0, Register: 10, Template: "ima-ng", TemplateDigest: digestOf(first), Genuine: true, Algorithm: "sha512", Digest: digest, Path: "/x"},
-		{Number: 1, Register: 10, Template: "ima-sig", TemplateDigest: digestOf(second), Genuine: true, Algorithm: "sha1", Digest: ones, Path: "/y",
-			Signature: Hex{3, 0, 0xff}},
-		{Number: 2, Register: 10, Template: "ima-sig", TemplateDigest: digestOf(third), Genuine: true, Algorithm: "sha1", Digest: ones, Path: "/z",
-			Signature: Hex{}},
-		{Number: 3, Register: 10, Template: "ima", TemplateDigest: covered, Genuine: true, Algorithm: "sha1", Digest: ones, Path: "/w"},
-		{Number: 4, Register: 10, Template: "ima-ng", TemplateDigest: zeros, Violation: true, Genuine: true, Algorithm: "sha256", Digest: known[:], Path: "/v"},
-		{Number: 5, Register: 10, Template: "ima-new", TemplateDigest: zeros, Violation: true, Genuine: true, Payload: Hex{1}},
-		{Number: 6, Register: 10, Template: "ima-ng", TemplateDigest: ones, Algorithm: "sha1", Digest: ones, Path: "/u"},
-	})
+	entry := func(template string, digest Hex, algorithm Algorithm, of Hex, path string, signature Hex) Entry {
+		return Entry{Register: 10, Template: template, TemplateDigest: digest, Genuine: true, Algorithm: algorithm, Digest: of, Path: path, Signature: signature}
+	}
+	violation, damaged := entry("ima-ng", zeros, "sha256", known[:], "/v", nil), entry("ima-ng", ones, "sha1", ones, "/u", nil)
+	violation.Violation, damaged.Genuine = true, false
+	for _, c := range []struct {
+		spelled []byte
+		wanted  Entry
+	}{
+		{entryOf("ima-ng", first), entry("ima-ng", digestOf(first), "sha512", digest, "/x", nil)},
+		{entryOf("ima-sig", second), entry("ima-sig", digestOf(second), "sha1", ones, "/y", Hex{3, 0, 0xff})},
+		{entryOf("ima-sig", third), entry("ima-sig", digestOf(third), "sha1", ones, "/z", Hex{})},
+		{entryWith("ima", joined(ones, withLength([]byte("/w"))), covered), entry("ima", covered, "sha1", ones, "/w", nil)},
+		{entryWith("ima-ng", ng("sha256", known[:], "/v"), zeros), violation}, {entryWith("ima-ng", ng("sha1", ones, "/u"), ones), damaged},
+		{entryWith("x", []byte{1}, zeros), Entry{Register: 10, Template: "x", TemplateDigest: zeros, Violation: true, Genuine: true, Payload: Hex{1}}},
+	} {
+		equal(t, entriesIn(c.spelled), []Entry{c.wanted})
+	}
 }
 
 // The name is no part of what the template digest covers: an entry may be renamed, and stays genuine.
@@ -248,18 +246,4 @@ func TestTextOfEntriesIsTheSameByPiecesOfAnySize(t *testing.T) {
 		calls, text := shown(bootList, false, capacity)
 		equal(t, each(text, lines, calls > 1), each(string(ascii), whole, capacity < len(ascii)))
 	}
-}
-
-func TestEventsWithoutNamesOrDigests(t *testing.T) {
-	table := joined([]byte("Spec ID Event03\x00"), number(0), []byte{0, 2, 0, 2}, number(2), []byte{18, 0, 1, 0, 4, 0, 20, 0, 0})
-	header := joined(number(0), number(3), zeros, withLength(table))
-	log := joined(header, number(0x01020304), number(3), number(0), number(0),
-		number(0), number(255), number(2), []byte{18, 0, 0xab, 4, 0}, ones, withLength([]byte("\"\n")))
-	events := must(Events(log))
-	equal(t, events.Header().Algorithms, []LogAlgorithm{{"", 18, 1}, {"sha1", 4, 20}})
-	equal(t, events.Header().Specification, Specification{0, 2, 0, 0, 2, Hex{}})
-	found, none := must(drainedEvents(events, nil)), map[Algorithm]Part{}
-	found[0].JSON, found[1].JSON = "", ""
-	equal(t, found, []Event{{1, 0x01020304, "EV_NO_ACTION", 3, map[Algorithm]Hex{}, Hex{}, none, "", Content{Unknown: true}, ""},
-		{2, 0, "", 255, map[Algorithm]Hex{"sha1": ones}, Hex("\"\n"), none, "", Content{Unknown: true}, ""}})
 }
