@@ -73,14 +73,12 @@ func TestQuoteOfTheSampleMatches(t *testing.T) {
 
 // Of a key and a signature both are given, or neither; and with them the caller says nothing of the signature.
 func TestArgumentsThatDoNotSuitAQuoteAreRefused(t *testing.T) {
-	for _, c := range []struct {
-		key, signature []byte
-		isChecked      bool
-	}{{sampleKey, nil, false}, {nil, sampleSignature, false}, {[]byte{}, nil, false}, {nil, []byte{}, false}, {sampleKey, nil, true},
-		{nil, sampleSignature, true}, {sampleKey, sampleSignature, true}, {[]byte{}, []byte{}, true}} {
-		quote := checkedQuote(c.isChecked)
-		quote.Key, quote.Signature = c.key, c.signature
-		checkQuoteRefused(t, argument, quote)
+	for _, signing := range []Quote{{Key: sampleKey}, {Signature: sampleSignature}, {Key: []byte{}}, {Signature: []byte{}}, {Key: sampleKey, SignatureChecked: true},
+		{Signature: sampleSignature, SignatureChecked: true}, {Key: sampleKey, Signature: sampleSignature, SignatureChecked: true},
+		{Key: []byte{}, Signature: []byte{}, SignatureChecked: true}} {
+		checkQuoteRefused(t, argument, changedQuote(func(q *Quote) {
+			q.Key, q.Signature, q.SignatureChecked = signing.Key, signing.Signature, signing.SignatureChecked
+		}))
 	}
 	for _, require := range []string{"", NothingRequired, "sha256:0-9", "sha256:10", "sha1:0-10", "sha256:0-9,sha1:10", "sha256:0-24"} {
 		checkQuoteRefused(t, argument, changedQuote(func(q *Quote) { q.Require = require }))
@@ -101,17 +99,11 @@ func TestOtherQuotesAreRefused(t *testing.T) {
 		quote.Message = quoteMessage[:size]
 		checkQuoteRefused(t, refusal(KindQuote, 1), quote)
 	}
-	for _, quote := range []Quote{quoteOfSample(), checkedQuote(true)} {
-		for _, nonce := range [][]byte{quoteNonce[:16], make([]byte, 20), turned(quoteNonce, 0), sample("quoted/nonce")} {
-			other := quote
-			other.Nonce = nonce
-			checkQuoteRefused(t, refusal(KindQuote, 11), other)
-		}
-		quote.AllowSHA1 = true
-		for _, require := range []string{"sha256:0-11", "sha1:0-10", "sha256:0-10,sha512:10"} {
-			quote.Require = require
-			checkQuoteRefused(t, refusal(KindQuote, 12), quote)
-		}
+	for _, nonce := range [][]byte{quoteNonce[:16], make([]byte, 20), turned(quoteNonce, 0), sample("quoted/nonce")} {
+		checkQuoteRefused(t, refusal(KindQuote, 11), changedQuote(func(q *Quote) { q.Nonce = nonce }))
+	}
+	for _, require := range []string{"sha256:0-11", "sha1:0-10", "sha256:0-10,sha512:10"} {
+		checkQuoteRefused(t, refusal(KindQuote, 12), changedQuote(func(q *Quote) { q.Require, q.AllowSHA1 = require, true }))
 	}
 }
 
@@ -208,18 +200,12 @@ func TestSessionsTakeRegistersAndQuotes(t *testing.T) {
 	checkRefused(t, found, err, refusal(KindCheckpoint, 4))
 	verdict, err := NewQuoteSession(bootLog).More(bootList)
 	checkRefused(t, verdict, err, argument)
-	at := bytes.Index(quoteMessage, quoteNonce) + len(quoteNonce) + 8 // (the counts of resets and restarts)
 	for _, c := range []struct {
-		log, state, message []byte
-		number              uint32
-	}{{bootLog, quotedStateAfter(99, 2, 0), quoteMessage, 4}, {bootLog, quotedStateAfter(99, 1, 1), quoteMessage, 4},
-		{bootLog, quotedStateAfter(99, 1, 0), turned(quoteMessage, 8*(at+3)), 4}, {bootLog, quotedStateAfter(99, 1, 0), turned(quoteMessage, 8*(at+7)), 4},
-		{joined(bootLog, eventOf10(noAction, make([]byte, 32)), number(9), number(13), number(1), []byte{0x0b}, make([]byte, 37)),
-			quotedStateAfter(99, 1, 0), quoteMessage, 3},
-		{bootLog, quotedStateAfter(99, 1, 0)[1:], quoteMessage, 1}} {
-		quote := checkedQuote(true)
-		quote.Message = c.message
-		found, err := NewQuoteSession(c.log, Resume(c.state)).Attest(nil, quote)
+		resets, restarts uint32
+		log              []byte
+		number           uint32
+	}{{2, 0, bootLog, 4}, {1, 1, bootLog, 4}, {1, 0, joined(bootLog, eventOf10(eventTag, make([]byte, 32))), 3}} {
+		found, err := NewQuoteSession(c.log, Resume(quotedStateAfter(99, c.resets, c.restarts))).Attest(nil, quoteOfSample())
 		checkRefused(t, found, err, refusal(KindCheckpoint, c.number))
 	}
 }
@@ -232,27 +218,21 @@ type judged struct {
 }
 
 // allJudged are the verdicts of each function that takes known files.
-func allJudged(list []byte, option Option) ([]judged, []error) {
-	var verdicts []judged
-	var errs []error
-	add := func(err error, matches bool, knownFrom *uint64, unknown []uint64) {
-		verdicts, errs = append(verdicts, judged{matches, knownFrom, unknown}), append(errs, err)
-	}
-	v, err := Verify(bootLog, list, bootTPM, "sha256:0-10", option)
-	add(err, v.Matches, v.KnownFrom, v.Unknown)
-	l, err := Replay(list, bootTPM, "sha256:0-10", option)
-	add(err, l.Matches, l.KnownFrom, l.Unknown)
-	a, err := Attest(bootLog, list, quoteOfSample(), option)
-	add(err, a.Matches, a.KnownFrom, a.Unknown)
+func allJudged(list []byte, option Option) (verdicts []judged, errs []error) {
 	s := NewSession(bootLog, bootTPM, "sha256:0-10", option, Prefix())
-	v, err = s.More(list)
-	add(err, v.Matches, v.KnownFrom, v.Unknown)
-	a, err = s.Attest(list, quoteOfSample())
-	add(err, a.Matches, a.KnownFrom, a.Unknown)
-	if s.State() != nil {
-		panic("a state without a match")
+	for _, judge := range []func() (Verdict, error){
+		func() (Verdict, error) { return Verify(bootLog, list, bootTPM, "sha256:0-10", option) },
+		func() (Verdict, error) { return s.More(list) },
+	} {
+		v, err := judge()
+		verdicts, errs = append(verdicts, judged{v.Matches, v.KnownFrom, v.Unknown}), append(errs, err)
 	}
-	return verdicts, errs
+	l, err := Replay(list, bootTPM, "sha256:0-10", option)
+	verdicts, errs = append(verdicts, judged{l.Matches, l.KnownFrom, l.Unknown}), append(errs, err)
+	a, err := Attest(bootLog, list, quoteOfSample(), option)
+	verdicts, errs = append(verdicts, judged{a.Matches, a.KnownFrom, a.Unknown}), append(errs, err)
+	a, err = s.Attest(list, quoteOfSample())
+	return append(verdicts, judged{a.Matches, a.KnownFrom, a.Unknown}), append(errs, err)
 }
 
 func TestEntriesOfNoKnownFileAreGiven(t *testing.T) {
@@ -302,11 +282,9 @@ func TestWrongKnownFilesAreRefused(t *testing.T) {
 	}{{Known([]byte("x")), refusal(KindKnown, 2, 1)}, {Known([]byte("\n")), refusal(KindKnown, 2, 1)}, {Known(weak), refusal(KindKnown, 1, 1)},
 		{Known(knownSums[:len(knownSums)-1], []byte("x\n")), refusal(KindKnown, 2, 94)}, {Known(knownSums, nil, knownSums, weak), refusal(KindKnown, 1, 187)},
 	} {
-		for _, list := range [][]byte{bootList, bootList[:5]} { // (they are read before the list)
-			verdicts, errs := allJudged(list, c.option)
-			for k, err := range errs {
-				checkRefused(t, verdicts[k], err, c.wanted)
-			}
+		verdicts, errs := allJudged(bootList[:5], c.option) // (they are read before the list)
+		for k, err := range errs {
+			checkRefused(t, verdicts[k], err, c.wanted)
 		}
 	}
 	verdict, err := Verify(bootLog, bootList, bootTPM, NothingRequired, Known(knownSums)) // (they need a requirement)
@@ -315,12 +293,11 @@ func TestWrongKnownFilesAreRefused(t *testing.T) {
 	checkRefused(t, alone, err, argument)
 	verdict, err = NewSession(bootLog, bootTPM, NothingRequired, Known(knownSums)).More(bootList)
 	checkRefused(t, verdict, err, argument)
-	for _, options := range [][]Option{{Prefix()}, {Resume(stateAfter(1))}, {Known(), Prefix()}, {Resume(nil)}} { // (of sessions)
+	for _, options := range [][]Option{{Known(), Prefix()}, {Resume(stateAfter(1))}, {Resume(nil)}} { // (of sessions)
 		verdict, err := Verify(bootLog, bootList, bootTPM, "sha256:10", options...)
-		equal(t, each(verdict, err != nil), each(Verdict{}, true))
-		list, err := Replay(bootList, bootTPM, "sha256:10", options...)
-		equal(t, each(list, err != nil), each(ListVerdict{}, true))
-		found, err := Attest(bootLog, bootList, quoteOfSample(), options...)
-		equal(t, each(found, err != nil), each(Attestation{}, true))
+		list, listErr := Replay(bootList, bootTPM, "sha256:10", options...)
+		found, quoteErr := Attest(bootLog, bootList, quoteOfSample(), options...)
+		equal(t, each(verdict, list, found), each(Verdict{}, ListVerdict{}, Attestation{}))
+		equal(t, err != nil && listErr != nil && quoteErr != nil, true)
 	}
 }

@@ -1,7 +1,6 @@
 package imaverify_test
 
 import (
-	"bytes"
 	"errors"
 	"fmt"
 	"log"
@@ -50,10 +49,11 @@ func ExampleAttest() {
 	fmt.Println(verdict.Matches, verdict.Signature, verdict.Entries, verdict.Quoted)
 	quote.Message = append([]byte("x"), quote.Message...)
 	_, err = imaverify.Attest(firmware, list, quote)
-	fmt.Println(err)
+	var refused *imaverify.RefusedError
+	fmt.Println(errors.As(err, &refused) && refused.Kind == imaverify.KindSignature, err)
 	// Output:
 	// true valid 99 [{sha256 [0 1 2 3 4 5 6 7 8 9 10]}]
-	// refused: signature fault 7: the message is not signed by this key
+	// true refused: signature fault 7: the message is not signed by this key
 }
 
 func ExampleReadKey() {
@@ -64,32 +64,6 @@ func ExampleReadKey() {
 	// (after a credential that was made to this name was activated, the key is the machine's)
 	fmt.Printf("%s %d %s %s %x.. %t\n", key.Type, key.Bits, key.Scheme, key.Hash, key.Name[:4], key.PEM == string(read("keys/ak-p256.pem")))
 	// Output: ecc 256 ecdsa sha256 000b1243.. true
-}
-
-func ExampleLocate() {
-	places, err := imaverify.Locate(firmware, list, expected, "sha256:0-10")
-	if err != nil {
-		log.Fatal(err)
-	}
-	for _, row := range places.Registers[9:11] {
-		fmt.Println(row.Bank, row.Register, row.Place, row.Number)
-	}
-	// Output:
-	// sha256 9 event 22
-	// sha256 10 entry 98
-}
-
-func ExampleRefusedError() {
-	changed := bytes.Replace(list, []byte("/bin/helper"), []byte("/bin/helpex"), 1)
-	_, err := imaverify.Verify(firmware, changed, expected, "sha256:0-10")
-	var refused *imaverify.RefusedError
-	if errors.As(err, &refused) {
-		fmt.Println(refused.Kind, refused.Number, refused.Place)
-	}
-	fmt.Println(err)
-	// Output:
-	// replay 1 5
-	// refused: replay fault 1 at entry 5: its template digest is not the SHA-1 of what it covers, and it is no violation
 }
 
 func ExampleEntries() {

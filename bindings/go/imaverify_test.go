@@ -166,14 +166,12 @@ func TestRequiredRegisterThatIsNotExpectedIsMissing(t *testing.T) {
 
 func TestNothingExpectedNeverMatches(t *testing.T) {
 	for _, empty := range [][]byte{nil, {}, []byte("\n")} {
-		verdict, places := verify(bootLog, bootList, empty, "sha256:10"), must(Locate(bootLog, bootList, empty, "sha256:10"))
-		equal(t, each(verdict.Matches, verdict.Registers), each(false, []Row{{"sha256", 10, nil, StateMissing, nil}}))
-		equal(t, each(places.Located, places.Registers), each(false, []PlaceRow{{"sha256", 10, nil, PlaceMissing, 0}}))
-		verdict, places = verify(bootLog, bootList, empty, NothingRequired), must(Locate(bootLog, bootList, empty, NothingRequired))
-		equal(t, each(verdict.Matches, verdict.Registers, verdict.Entries), each(false, []Row{}, uint64(99)))
-		equal(t, places, Places{[]PlaceRow{}, false, `{"registers":[],"located":false}`})
-		alone := must(Replay(bootList, empty, NothingRequired))
-		equal(t, each(alone.Matches, alone.Registers, alone.Entries), each(false, []Row{}, uint64(99)))
+		for require, rows := range map[string][]Row{NothingRequired: {}, "sha256:10": {{"sha256", 10, nil, StateMissing, nil}}} {
+			verdict, places := verify(bootLog, bootList, empty, require), must(Locate(bootLog, bootList, empty, require))
+			alone := must(Replay(bootList, empty, require))
+			equal(t, each(verdict.Matches, verdict.Registers, alone.Matches, alone.Registers), each(false, rows, false, rows))
+			equal(t, each(places.Located, len(places.Registers)), each(false, len(rows)))
+		}
 	}
 }
 
@@ -254,11 +252,9 @@ func TestWrongSelectionsAreRefused(t *testing.T) {
 		checkRefused(t, places, err, argument)
 		alone, err := Replay(nil, nil, require)
 		checkRefused(t, alone, err, argument)
-		for _, s := range []*Session{NewSession(nil, []byte("x"), require), NewSession(bootLog, bootTPM, require), {log: bootLog, expected: bootTPM}} {
-			verdict, err := s.More(bootList)
-			checkRefused(t, verdict, err, argument)
-		}
+		checkSessionRefuses(t, NewSession(nil, []byte("x"), require), bootList, argument)
 	}
+	checkSessionRefuses(t, &Session{log: bootLog, expected: bootTPM}, bootList, argument) // (nothing says what it requires)
 	for _, registers := range []string{"24", "10-0", "0-", "-", " ", "sha256:24", "0,", "sha256"} {
 		lines, err := ExpectedFrom(sample("real-boot/tpm2_pcrread.txt"), registers)
 		checkRefused(t, lines, err, argument)

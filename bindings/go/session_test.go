@@ -165,8 +165,7 @@ func TestRefusalsLeaveTheSessionAsItWas(t *testing.T) {
 		checkSessionRefuses(t, s, append(forged(98)[ends[cut]:], 'x'), refusal(KindList, 1, 99))
 		equal(t, must(s.More(bootList[ends[cut]:])).Matches, true)
 	}
-	checkSessionRefuses(t, NewSession(bootLog[:len(bootLog)-1], bootTPM, NothingRequired), bootList, refusal(KindLog, 1, 24))
-	checkSessionRefuses(t, NewSession(bootLog, joined(bootTPM, []byte("x")), NothingRequired), bootList, refusal(KindExpected, 1, 25))
+	checkSessionRefuses(t, NewSession(bootLog[:31], bootTPM, NothingRequired), bootList, refusal(KindLog, 1, 0))
 }
 
 func TestInputsOfASessionAreCopied(t *testing.T) {
@@ -198,23 +197,14 @@ func TestRequirementsOfASession(t *testing.T) {
 func TestListsAndLogsThatAreNotApartGiveNoState(t *testing.T) {
 	list := clone(bootList)
 	list[ends[40]] = 11
-	expected, states := expectedAfter(nil, list[:ends[60]]), [][]Option{nil}
-	for _, cut := range []int{41, 60} { // (entries before the state count)
-		s := NewSession(bootLog, expectedAfter(nil, list[:ends[cut]]), NothingRequired)
-		must(s.More(list[:ends[cut]]))
-		states = append(states, []Option{Resume(s.State())})
-	}
-	for confirmed, data := range map[uint64][]byte{0: list[:ends[60]], 60: joined(list, []byte("x"))} {
-		for _, options := range states {
-			if confirmed > 0 {
-				options = append([]Option{Prefix()}, options...)
-			}
-			s := NewSession(bootLog, expected, "sha256:0-10", options...)
-			before, offset := s.State(), s.Offset()
-			verdict := must(s.More(data[offset:]))
-			equal(t, each(verdict.Matches, verdict.Extends, verdict.Confirmed), each(false, []Stray{{Entry: 40, Register: 11}}, confirmed))
-			equal(t, each(s.State(), s.Offset()), each(before, offset))
-		}
+	before := NewSession(bootLog, expectedAfter(nil, list[:ends[41]]), NothingRequired)
+	equal(t, must(before.More(list[:ends[41]])).Matches, true)
+	for _, options := range [][]Option{nil, {Prefix()}, {Prefix(), Resume(before.State())}} { // (entries before the state count)
+		s := NewSession(bootLog, expectedAfter(nil, list), "sha256:0-10", options...)
+		state, offset := s.State(), s.Offset()
+		verdict := must(s.More(list[offset:]))
+		equal(t, each(verdict.Matches, verdict.Extends, verdict.Confirmed > 0), each(false, []Stray{{Entry: 40, Register: 11}}, options != nil))
+		equal(t, each(s.State(), s.Offset()), each(state, offset))
 	}
 	checkPrefix(t, must(NewSession(bootLog, tenthAfter(40), "sha256:0-10", Prefix()).More(list)), 99, 40, "")
 	digest := bytes.Repeat([]byte{1}, 32)
@@ -267,15 +257,12 @@ func TestDamageAfterThePrefixIsReported(t *testing.T) {
 			s := NewSession(bootLog, tenthAfter(97), "sha256:10", from(cut, Prefix())...)
 			verdict := must(s.More(c.list[ends[cut]:]))
 			checkPrefix(t, verdict, c.entries, 97, strings.Replace(c.wanted.Line, "refused", "unconfirmed", 1))
-			found := *verdict.Unconfirmed
-			equal(t, each(found.Kind, found.Number, *found.Entry, found.Event), each(c.wanted.Kind, c.wanted.Number, c.wanted.Place, (*uint64)(nil)))
+			equal(t, *verdict.Unconfirmed, Fault{c.wanted.Kind, c.wanted.Number, nil, &c.wanted.Place, verdict.Unconfirmed.Message})
 			equal(t, s.State(), stateAfter(97))
 		}
 		checkSessionRefuses(t, NewSession(bootLog, tenthAfter(97), NothingRequired), c.list, c.wanted)
 	}
-	for _, place := range []int{0, 5, 96} {
-		checkSessionRefuses(t, NewSession(bootLog, tenthAfter(97), NothingRequired, Prefix()), forged(place), refusal(KindReplay, 1, uint64(place)))
-	}
+	checkSessionRefuses(t, NewSession(bootLog, tenthAfter(97), NothingRequired, Prefix()), forged(96), refusal(KindReplay, 1, 96))
 }
 
 func TestStateThatIsNotWholeIsRefused(t *testing.T) {
@@ -308,8 +295,7 @@ func TestStatesOfAnotherBootOrList(t *testing.T) {
 	foreign := NewSession(bootLog, expectedAfter(nil, list), NothingRequired)
 	equal(t, must(foreign.More(list)).Matches, true)
 	for _, cut := range []int{50, 51, 59, 60} {
-		for _, options := range [][]Option{{Resume(foreign.State())}, {Prefix(), Resume(foreign.State())}} {
-			equal(t, must(NewSession(bootLog, bootTPM, NothingRequired, options...).More(bootList[ends[cut]:])).Matches, false)
-		}
+		s := NewSession(bootLog, bootTPM, NothingRequired, Prefix(), Resume(foreign.State()))
+		equal(t, must(s.More(bootList[ends[cut]:])).Matches, false)
 	}
 }
