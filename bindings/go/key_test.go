@@ -90,24 +90,6 @@ func signatureLines(kind string) [][]string {
 	return lines
 }
 
-func signingAreas() map[string][]byte {
-	areas := map[string][]byte{}
-	for _, words := range signatureLines("key") {
-		areas[words[0]] = spelled(words[1])
-	}
-	return areas
-}
-
-// inForm is a TPMT_SIGNATURE (TPM 2.0 Library, part 2, section 11.3), by a scheme and a hash, of a plain signature.
-func inForm(scheme, signature []byte, isRSA bool) []byte {
-	if isRSA {
-		return joined(scheme, sized(signature))
-	}
-	first := signature[4 : 4+signature[3]] // (of DER)
-	second := signature[6+signature[3]:]
-	return joined(scheme, sized(bytes.TrimPrefix(first, []byte{0})), sized(bytes.TrimPrefix(second, []byte{0})))
-}
-
 // refusalBy is why a message with a signature by a key is refused. One that is signed by it is refused only for what comes after: the
 // quote, or the log, which is empty.
 func refusalBy(t *testing.T, key, signature, message []byte) string {
@@ -130,29 +112,26 @@ func TestSignaturesOfEachWay(t *testing.T) {
 	for _, words := range signatureLines("key") {
 		areas[words[0]] = spelled(words[1])
 	}
-	for k, words := range signatureLines("signed") {
-		area, scheme, signature, isRSA := clone(areas[words[0]]), spelled(words[1]+words[2]), []byte(spelled(words[3])), words[0][:3] == "rsa"
-		copy(area[14:], scheme)
+	for k, words := range append(signatureLines("signed"), signatureLines("message")...) {
+		area, scheme, signature, message := clone(areas[words[0]]), spelled(words[1]+words[2]), []byte(spelled(words[3])), quoteMessage
+		if copy(area[14:], scheme); len(words) > 4 {
+			message = spelled(words[4])
+		}
 		if words[0] == "p-521" {
-			equal(t, refusalBy(t, area, signature, quoteMessage)[:27], "refused: signature fault 8:")
+			equal(t, refusalBy(t, area, signature, message)[:27], "refused: signature fault 8:")
 			continue
 		}
 		count++
-		form := inForm(scheme, signature, isRSA)
-		checkSigned(t, area, form, quoteMessage, true)
-		checkSigned(t, area, signature, quoteMessage, true)
-		checkSigned(t, area, form, turned(quoteMessage, k), false)
-		checkSigned(t, areas[map[bool]string{true: "other-rsa", false: "other-p-256"}[isRSA]], form, quoteMessage, false)
-		for _, other := range [][]byte{turned(form, 8*len(form)-1), form[:len(form)-1], joined(form, []byte{0}), turned(signature, 8*len(signature)-1)} {
-			checkSigned(t, area, other, quoteMessage, false)
+		checkSigned(t, area, signature, message, true)
+		checkSigned(t, area, turned(signature, 8*len(signature)-1), message, false)
+		checkSigned(t, area, signature, turned(quoteMessage, k), false)
+		checkSigned(t, areas["other-p-256"], signature, message, false)
+		if words[0][:3] == "rsa" { // (also as a TPM gives it: TPM 2.0 Library, part 2, TPMT_SIGNATURE)
+			checkSigned(t, area, joined(scheme, sized(signature)), message, true)
+			checkSigned(t, areas["other-rsa"], signature, message, false)
 		}
 	}
-	equal(t, count, 36)
-	for _, words := range signatureLines("message") {
-		area := clone(areas[words[0]])
-		copy(area[14:], spelled(words[1]+words[2]))
-		checkSigned(t, area, spelled(words[3]), spelled(words[4]), true)
-	}
+	equal(t, count, 38)
 	for bit := 0; bit < 8*len(sampleSignature); bit += 29 {
 		checkSigned(t, sampleKey, turned(sampleSignature, bit), quoteMessage, false)
 		checkSigned(t, sampleKey, sampleSignature, turned(quoteMessage, bit/2), false)
