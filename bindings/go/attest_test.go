@@ -45,8 +45,7 @@ func changedQuote(change func(q *Quote)) Quote {
 
 func checkQuoteRefused(t *testing.T, wanted RefusedError, quote Quote) {
 	t.Helper()
-	found, err := Attest(bootLog, bootList, quote)
-	checkRefused(t, found, err, wanted)
+	checkRefused(t, wanted)(Attest(bootLog, bootList, quote))
 }
 
 func TestQuoteOfTheSampleMatches(t *testing.T) {
@@ -119,8 +118,7 @@ func TestOtherSignaturesAndKeysAreRefused(t *testing.T) {
 		quote := changedQuote(func(q *Quote) { q.Key, q.Signature = c.key, c.signature })
 		checkQuoteRefused(t, c.wanted, quote)
 		s := NewQuoteSession(nil, Known([]byte("x")))
-		found, err := s.Attest(nil, quote)
-		checkRefused(t, found, err, c.wanted)
+		checkRefused(t, c.wanted)(s.Attest(nil, quote))
 		equal(t, s.State(), []byte(nil))
 		quote.Message = nil
 		checkQuoteRefused(t, c.wanted, quote)
@@ -184,8 +182,7 @@ func TestNoMatchLeavesASessionByQuotesAsItWas(t *testing.T) {
 	for end, quote := range map[int]Quote{99: checkedQuote(false), 98: checkedQuote(true), 97: quoteOfSample()} {
 		equal(t, each(must(s.Attest(bootList[ends[50]:ends[end]], quote)).Matches, s.State()), each(false, state))
 	}
-	found, err := s.Attest(bootList[ends[50]:], changedQuote(func(q *Quote) { q.Signature = turned(sampleSignature, 0) }))
-	checkRefused(t, found, err, turnedSignature)
+	checkRefused(t, turnedSignature)(s.Attest(bootList[ends[50]:], changedQuote(func(q *Quote) { q.Signature = turned(sampleSignature, 0) })))
 	equal(t, s.State(), state)
 	equal(t, must(s.Attest(bootList[ends[50]:], quoteOfSample())).Matches, true)
 }
@@ -196,17 +193,14 @@ func TestSessionsTakeRegistersAndQuotes(t *testing.T) {
 	equal(t, each(s.State(), s.Offset()), each(quotedStateAfter(99, 1, 0), uint64(len(bootList))))
 	equal(t, must(s.More(nil)).Matches, true)
 	equal(t, s.State(), stateAfter(99)) // (registers say nothing of the boot)
-	found, err := s.Attest(nil, quoteOfSample())
-	checkRefused(t, found, err, refusal(KindCheckpoint, 4))
-	verdict, err := NewQuoteSession(bootLog).More(bootList)
-	checkRefused(t, verdict, err, argument)
+	checkRefused(t, refusal(KindCheckpoint, 4))(s.Attest(nil, quoteOfSample()))
+	checkRefused(t, argument)(NewQuoteSession(bootLog).More(bootList))
 	for _, c := range []struct {
 		resets, restarts uint32
 		log              []byte
 		number           uint32
 	}{{2, 0, bootLog, 4}, {1, 1, bootLog, 4}, {1, 0, joined(bootLog, eventOf10(eventTag, make([]byte, 32))), 3}} {
-		found, err := NewQuoteSession(c.log, Resume(quotedStateAfter(99, c.resets, c.restarts))).Attest(nil, quoteOfSample())
-		checkRefused(t, found, err, refusal(KindCheckpoint, c.number))
+		checkRefused(t, refusal(KindCheckpoint, c.number))(NewQuoteSession(c.log, Resume(quotedStateAfter(99, c.resets, c.restarts))).Attest(nil, quoteOfSample()))
 	}
 }
 
@@ -284,15 +278,12 @@ func TestWrongKnownFilesAreRefused(t *testing.T) {
 	} {
 		verdicts, errs := allJudged(bootList[:5], c.option) // (they are read before the list)
 		for k, err := range errs {
-			checkRefused(t, verdicts[k], err, c.wanted)
+			checkRefused(t, c.wanted)(verdicts[k], err)
 		}
 	}
-	verdict, err := Verify(bootLog, bootList, bootTPM, NothingRequired, Known(knownSums)) // (they need a requirement)
-	checkRefused(t, verdict, err, argument)
-	alone, err := Replay(bootList, bootTPM, NothingRequired, Known())
-	checkRefused(t, alone, err, argument)
-	verdict, err = NewSession(bootLog, bootTPM, NothingRequired, Known(knownSums)).More(bootList)
-	checkRefused(t, verdict, err, argument)
+	checkRefused(t, argument)(Verify(bootLog, bootList, bootTPM, NothingRequired, Known(knownSums))) // (they need a requirement)
+	checkRefused(t, argument)(Replay(bootList, bootTPM, NothingRequired, Known()))
+	checkRefused(t, argument)(NewSession(bootLog, bootTPM, NothingRequired, Known(knownSums)).More(bootList))
 	for _, options := range [][]Option{{Known(), Prefix()}, {Resume(stateAfter(1))}, {Resume(nil)}} { // (of sessions)
 		verdict, err := Verify(bootLog, bootList, bootTPM, "sha256:10", options...)
 		list, listErr := Replay(bootList, bootTPM, "sha256:10", options...)

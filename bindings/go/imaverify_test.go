@@ -101,15 +101,19 @@ func refusal(kind Kind, number uint32, place ...uint64) RefusedError {
 
 var argument = RefusedError{Line: "refused: command line", Kind: KindArgument}
 
-func checkRefused(t *testing.T, result any, err error, wanted RefusedError) {
+// checkRefused checks what a call gives: this error, and no result.
+func checkRefused(t *testing.T, wanted RefusedError) func(result any, err error) {
 	t.Helper()
-	var found *RefusedError
-	if !errors.As(err, &found) {
-		t.Fatalf("found %v, wanted %v", err, wanted.Line)
+	return func(result any, err error) {
+		t.Helper()
+		var found *RefusedError
+		if !errors.As(err, &found) {
+			t.Fatalf("found %v, wanted %v", err, wanted.Line)
+		}
+		equal(t, *found, wanted)
+		equal(t, strings.HasPrefix(err.Error(), wanted.Line+": "), true)
+		equal(t, reflect.ValueOf(result).IsZero(), true)
 	}
-	equal(t, *found, wanted)
-	equal(t, strings.HasPrefix(err.Error(), wanted.Line+": "), true)
-	equal(t, reflect.ValueOf(result).IsZero(), true)
 }
 
 func TestVerdictOnTheSampleIsAMatch(t *testing.T) {
@@ -192,7 +196,7 @@ func TestListAlone(t *testing.T) {
 		{bootList, tenth, "sha1:10,sha256:10", matching(10), nil},
 		{nil, []byte("sha256 10 " + strings.Repeat("0", 64)), "sha256:10", Row{"sha256", 10, make(Hex, 32), StateMatch, nil}, nil},
 		{bootList, bootTPM, "sha256:0-23", Row{"sha256", 0, expectedOf(0), StateDiffer, make(Hex, 32)}, nil},
-		{list, tenthOf(tenthAfter(98)), "sha256:10", Row{"sha256", 10, tenths[98], StateMatch, nil}, []Stray{{Entry: 98, Register: 11}}},
+		{list, tenthOf(tenthAfter(98)), "sha256:10", Row{"sha256", 10, registersIn(tenthAfter(98))[10].Value, StateMatch, nil}, []Stray{{Entry: 98, Register: 11}}},
 	} {
 		verdict := must(Replay(c.list, c.expected, c.require))
 		equal(t, each(verdict.Matches, verdict.Registers[0], verdict.Extends), each(false, c.row, c.strays))
@@ -246,18 +250,14 @@ func TestExpectedRegistersAreThoseThatWerePrinted(t *testing.T) {
 func TestWrongSelectionsAreRefused(t *testing.T) {
 	for _, require := range []string{"", "sha256", "sha256:10,sha256:24", "sha256:10-0,sha256:10", "sha256:0-10,", "sha256: 10", "None", "none ",
 		"none,sha256:10", "0-10", "\xff", "sha256:0-9", "sha1:11-23,sha256:0"} {
-		verdict, err := Verify(nil, nil, nil, require)
-		checkRefused(t, verdict, err, argument)
-		places, err := Locate(nil, nil, nil, require)
-		checkRefused(t, places, err, argument)
-		alone, err := Replay(nil, nil, require)
-		checkRefused(t, alone, err, argument)
+		checkRefused(t, argument)(Verify(nil, nil, nil, require))
+		checkRefused(t, argument)(Locate(nil, nil, nil, require))
+		checkRefused(t, argument)(Replay(nil, nil, require))
 		checkSessionRefuses(t, NewSession(nil, []byte("x"), require), bootList, argument)
 	}
 	checkSessionRefuses(t, &Session{log: bootLog, expected: bootTPM}, bootList, argument) // (nothing says what it requires)
 	for _, registers := range []string{"24", "10-0", "0-", "-", " ", "sha256:24", "0,", "sha256"} {
-		lines, err := ExpectedFrom(sample("real-boot/tpm2_pcrread.txt"), registers)
-		checkRefused(t, lines, err, argument)
+		checkRefused(t, argument)(ExpectedFrom(sample("real-boot/tpm2_pcrread.txt"), registers))
 	}
 }
 
@@ -273,26 +273,19 @@ func TestWrongInputsAreRefused(t *testing.T) {
 		{bootLog, bootList, wrong, refusal(KindExpected, 1, 25)}, {bootLog, bootList, twice, refusal(KindExpected, 2, 25)},
 		{bootLog, bootList, append(bytes.Repeat([]byte("\n"), 1<<24), 'x'), refusal(KindExpected, 1, 1<<24+1)},
 	} {
-		verdict, err := Verify(c.log, c.list, c.expected, "sha256:10")
-		checkRefused(t, verdict, err, c.wanted)
-		places, err := Locate(c.log, c.list, c.expected, NothingRequired)
-		checkRefused(t, places, err, c.wanted)
+		checkRefused(t, c.wanted)(Verify(c.log, c.list, c.expected, "sha256:10"))
+		checkRefused(t, c.wanted)(Locate(c.log, c.list, c.expected, NothingRequired))
 		if c.wanted.Kind == KindLog {
-			registers, err := Registers(c.log)
-			checkRefused(t, registers, err, c.wanted)
+			checkRefused(t, c.wanted)(Registers(c.log))
 		} else {
-			alone, err := Replay(c.list, c.expected, "sha256:10")
-			checkRefused(t, alone, err, c.wanted)
+			checkRefused(t, c.wanted)(Replay(c.list, c.expected, "sha256:10"))
 		}
 	}
-	registers, err := ListRegisters(changed)
-	checkRefused(t, registers, err, refusal(KindReplay, 1, 5))
-	text, err := Show(cutList)
-	checkRefused(t, text, err, refusal(KindList, 1, 98))
-	lines, err := ExpectedFrom(nil, "")
-	checkRefused(t, lines, err, refusal(KindExpected, 6))
-	_, err = ask(make([]byte, 5), func(out []byte) (int32, errorInfo) { return callRegisters(nil, false, out) }) // (the line has no room at first)
-	checkRefused(t, 0, err, refusal(KindLog, 1, 0))
+	checkRefused(t, refusal(KindReplay, 1, 5))(ListRegisters(changed))
+	checkRefused(t, refusal(KindList, 1, 98))(Show(cutList))
+	checkRefused(t, refusal(KindExpected, 6))(ExpectedFrom(nil, ""))
+	_, err := ask(make([]byte, 5), func(out []byte) (int32, errorInfo) { return callRegisters(nil, false, out) }) // (the line has no room at first)
+	checkRefused(t, refusal(KindLog, 1, 0))(0, err)
 	verdict := verify(bootLog, nil, bootTPM, NothingRequired)
 	equal(t, each(verdict.Matches, verdict.Entries, verdict.BootAggregate), each(false, uint64(0), BootAggregateMissing))
 }

@@ -41,8 +41,7 @@ func sized(data []byte) []byte {
 
 func checkKeyFault(t *testing.T, read func(area []byte) (Key, error), area []byte, number uint32) {
 	t.Helper()
-	found, err := read(area)
-	checkRefused(t, found, err, refusal(KindKey, number))
+	checkRefused(t, refusal(KindKey, number))(read(area))
 }
 
 func TestKeysOfTheSamples(t *testing.T) {

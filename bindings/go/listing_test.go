@@ -159,7 +159,7 @@ func TestDamagedInputsGiveWhatComesBeforeTheError(t *testing.T) {
 		{joined(bootList[:last], number(24), bootList[last+4:]), 98, refusal(KindList, 2, 98)},
 	} {
 		found, err := drained(Entries(c.list))
-		checkRefused(t, 0, err, c.wanted)
+		checkRefused(t, c.wanted)(0, err)
 		equal(t, append([]Entry{}, found...), must(drained(Entries(bootList)))[:c.count])
 	}
 	for _, c := range []struct {
@@ -171,7 +171,7 @@ func TestDamagedInputsGiveWhatComesBeforeTheError(t *testing.T) {
 		{joined(bootLog, number(24), bootLog[69:117]), 24, refusal(KindLog, 9, 25)}, {nil, 0, refusal(KindLog, 1, 0)}, {bootLog[:31], 0, refusal(KindLog, 1, 0)},
 	} {
 		found, err := drainedEvents(Events(c.log))
-		checkRefused(t, 0, err, c.wanted)
+		checkRefused(t, c.wanted)(0, err)
 		equal(t, append([]Event{}, found...), must(drainedEvents(Events(bootLog)))[:c.count])
 	}
 }

@@ -9,12 +9,8 @@ import (
 	"testing"
 )
 
-// Where each entry of the sample's list starts, and where the last ends; what each extends the SHA-256 bank with; and register 10
-// after as many entries.
-var (
-	ends, extensions = listed(bootList)
-	tenths           = extendedBy(extensions)
-)
+// Where each entry of the sample's list starts, and where the last ends; and what each extends the SHA-256 bank with.
+var ends, extensions = listed(bootList)
 
 var cuts = []int{0, 1, 2, 50, 97, 98, 99}
 
@@ -39,14 +35,6 @@ func extended(value, extension []byte) []byte {
 	return next[:]
 }
 
-func extendedBy(extensions [][]byte) [][]byte {
-	values := [][]byte{make([]byte, 32)}
-	for k, extension := range extensions {
-		values = append(values, extended(values[k], extension))
-	}
-	return values
-}
-
 // expectedAfter is the sample's registers after its log, with an event that extends register 10, if there is one, and this list.
 func expectedAfter(event, list []byte) []byte {
 	registers := registersIn(bootTPM)
@@ -68,9 +56,7 @@ func expectedAfter(event, list []byte) []byte {
 
 // tenthAfter is the expected registers of the sample, with register 10 as it is after so many entries.
 func tenthAfter(count int) []byte {
-	lines := bytes.SplitAfter(bootTPM, []byte("\n"))
-	lines[10] = []byte(fmt.Sprintf("sha256 10 %x\n", tenths[count]))
-	return bytes.Join(lines, nil)
+	return expectedAfter(nil, bootList[:ends[count]])
 }
 
 // forged is the list with one bit of the template digest of an entry turned, so that it is not genuine.
@@ -109,8 +95,7 @@ func from(count int, options ...Option) []Option {
 func checkSessionRefuses(t *testing.T, s *Session, data []byte, wanted RefusedError) {
 	t.Helper()
 	state, offset := s.State(), s.Offset()
-	verdict, err := s.More(data)
-	checkRefused(t, verdict, err, wanted)
+	checkRefused(t, wanted)(s.More(data))
 	equal(t, each(s.State(), s.Offset()), each(state, offset))
 }
 
