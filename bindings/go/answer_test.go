@@ -212,6 +212,7 @@ func membersOf(line string) map[string]any {
 	return members
 }
 
+// checkUnexpected checks that the error is that of an answer which the header does not describe.
 func checkUnexpected(t *testing.T, err error, about any) {
 	t.Helper()
 	var found *UnexpectedError
