@@ -288,6 +288,17 @@ func TestMembersThatAreRequiredAreThere(t *testing.T) {
 const matchLine = `{"events":1,"locality":0,"entries":3,"boot_aggregate":"good","registers":[{"bank":"sha256","register":10,"expected":"00","state":"match"}],` +
 	`"verdict":"match"}`
 
+func TestNumbersUpToTheirEndsAreRead(t *testing.T) {
+	line := strings.NewReplacer(`"events":1`, `"events":18446744073709551615`, `"locality":0`, `"locality":255`).Replace(matchLine) + "\n"
+	v := must(resultOf[Verdict](of(done, line)))
+	equal(t, each(v.Events, v.Locality, v.Matches), each(uint64(math.MaxUint64), uint8(255), true))
+	for _, wrong := range []string{`"events":18446744073709551616`, `"events":-1`, `"events":1.5`, `"events":"1"`, `"events":true`, `"locality":256`} {
+		name, _, _ := strings.Cut(wrong, ":")
+		_, err := resultOf[Verdict](of(done, strings.Replace(matchLine, name, wrong+`,"x"`, 1)+"\n"))
+		checkUnexpected(t, err, wrong)
+	}
+}
+
 // A later library may have members, words, reasons to differ and kinds of errors that the package does not know.
 func TestAnswersOfLaterLibrariesAreRead(t *testing.T) {
 	for _, real := range realAnswers() {
