@@ -2,134 +2,110 @@ package imaverify
 
 import (
 	"bytes"
+	"encoding"
+	"encoding/json"
 	"fmt"
-	"math"
+	"reflect"
 	"strings"
 )
 
 const (
-	// The first buffer for a text. (Four banks have 96 PCRs, and no row has more than 256 bytes; a checkpoint has less than
-	// 20000.)
-	room = 64 * 1024
-	// The longest buffer that is tried.
-	mostRoom = 1 << 40
+	firstCapacity   = 64 * 1024 // the first buffer for a text: four banks have 96 PCRs, and no row has more than 256 bytes
+	largestCapacity = 1 << 40
 )
 
-// answer is what the library gives to a call: a result, a text, what it reports of an error, and a next checkpoint. The
-// methods read the text, and give an *UnexpectedError unless it is as docs/json.md says.
+// answer is what the library gives to a call: its status, a text, what it reports of an error, and a next checkpoint.
 type answer struct {
-	result     int32
-	told       told
+	status     int32
+	info       errorInfo
 	next, text []byte
 }
 
 // ask calls the library with a buffer for a text, and with a longer one while that is too short.
-func ask(out []byte, call func(out []byte) (int32, told)) (answer, error) {
-	return askForBoth(nil, out, func(_, out []byte) (int32, uint64, told) {
-		result, given := call(out)
-		return result, 0, given
+func ask(out []byte, call func(out []byte) (int32, errorInfo)) (answer, error) {
+	return askForBoth(nil, out, func(_, out []byte) (int32, uint64, errorInfo) {
+		status, info := call(out)
+		return status, 0, info
 	})
 }
 
 // askForBoth calls the library with buffers for a next checkpoint, whose size the call gives, and for a text.
-func askForBoth(next, out []byte, call func(next, out []byte) (int32, uint64, told)) (answer, error) {
+func askForBoth(next, out []byte, call func(next, out []byte) (int32, uint64, errorInfo)) (answer, error) {
 	if found := libraryVersion(); found < headerVersion {
 		err := fmt.Errorf("libima_verify has version %d of the interface, and %d or later is needed", found, headerVersion)
 		return answer{}, err
 	}
 	for {
-		result, nextSize, given := call(next, out)
-		if result == tooShort {
+		status, nextSize, info := call(next, out)
+		if status == tooShort {
 			longerNext, isNextLonger := lengthened(next, nextSize)
-			longerOut, isOutLonger := lengthened(out, given.size)
+			longerOut, isOutLonger := lengthened(out, info.size)
 			if isNextLonger || isOutLonger {
 				next, out = longerNext, longerOut
 				continue
 			}
 		}
-		if given.size > uint64(len(out)) || nextSize > uint64(len(next)) {
-			return answer{}, &UnexpectedError{Result: result, Size: given.size}
+		if info.size > uint64(len(out)) || nextSize > uint64(len(next)) {
+			return answer{}, &UnexpectedError{Status: status, Size: info.size}
 		}
-		return answer{result, given, next[:nextSize], out[:given.size]}.accepted()
+		given := answer{status, info, next[:nextSize], out[:info.size]}
+		return given, given.failure()
 	}
 }
 
 // lengthened is a buffer for a text of this size, and whether it is a new one.
 func lengthened(buffer []byte, size uint64) ([]byte, bool) {
-	if size <= uint64(len(buffer)) || size > mostRoom {
+	if size <= uint64(len(buffer)) || size > largestCapacity {
 		return buffer, false
 	}
 	return make([]byte, size), true
 }
 
-// askFor reads a result from the answer to a call.
-func askFor[T any](read func(a answer) (T, error), call func(out []byte) (int32, told)) (T, error) {
-	given, err := ask(make([]byte, room), call)
-	if err != nil {
-		var none T
-		return none, err
-	}
-	return read(given)
-}
-
-// accepted gives the answer, or the error that it reports.
-func (a answer) accepted() (answer, error) {
-	switch a.result {
+// failure is the error that an answer reports, or nil.
+func (a answer) failure() error {
+	switch a.status {
 	case done, differs, moreLines:
-		if a.told.kind == noKind {
-			return a, nil
-		}
+		return nil
 	case refused:
-		kind, isKind := kinds[a.told.kind]
-		if line, isLine := faultLine(a.text); isKind && isLine {
-			return answer{}, refusal(line, kind, a.told)
-		}
+		return a.refusal()
 	case outOfMemory:
-		if a.told.kind == memoryKind {
-			return answer{}, ErrOutOfMemory
-		}
+		return ErrOutOfMemory
+	default:
+		return a.unexpected()
 	}
-	return answer{}, a.unexpected()
 }
 
-func refusal(line string, kind Kind, given told) *RefusedError {
-	err := &RefusedError{Line: line, Kind: kind, Number: uint64(given.number), HasPlace: given.place != noPlace}
+// errorLine is a line of JSON that reports an error.
+type errorLine struct {
+	Fault Fault `json:"fault"`
+}
+
+// refusal is the error of a refused input, whose text is a line, or JSON that has it.
+func (a answer) refusal() error {
+	fault := Fault{Message: a.line()}
+	if bytes.HasPrefix(a.text, []byte("{")) {
+		var found errorLine
+		if !decode(a.text, &found) {
+			return a.unexpected()
+		}
+		fault = found.Fault
+	}
+	if !isLine(a.text) || !strings.HasPrefix(fault.Message, "refused: ") {
+		return a.unexpected()
+	}
+	kind, isKind := kinds[a.info.kind]
+	if !isKind {
+		kind = fault.Kind // (of a later library)
+	}
+	err := &RefusedError{Line: fault.Message, Kind: kind, Number: a.info.number, HasPlace: a.info.place != noPlace}
 	if err.HasPlace {
-		err.Place = given.place
+		err.Place = a.info.place
 	}
 	return err
 }
 
-// faultLine is the line that a refusal's text is, or that its JSON has, and whether there is one.
-func faultLine(text []byte) (string, bool) {
-	line := string(bytes.TrimSuffix(text, []byte("\n")))
-	isLine := len(line) == len(text)-1 && !strings.Contains(line, "\n")
-	if isLine && strings.HasPrefix(line, "{") {
-		var r reader
-		line = member[string](&r, member[object](&r, r.object(text), "fault"), "message")
-		isLine = !r.wrong
-	}
-	return line, isLine && strings.HasPrefix(line, "refused: ")
-}
-
 func (a answer) unexpected() error {
-	return &UnexpectedError{a.result, uint64(len(a.text)), a.text}
-}
-
-// read reads a value from an answer of one line, which has no error.
-func read[T any](a answer, from func(r *reader, o object) T) (T, error) {
-	return readLine(a.result, a.text, from)
-}
-
-func readLine[T any](result int32, line []byte, from func(r *reader, o object) T) (T, error) {
-	var r reader
-	o := r.object(line)
-	value := from(&r, o)
-	if r.wrong || has(o, "fault") {
-		var none T
-		return none, &UnexpectedError{result, uint64(len(line)), line}
-	}
-	return value, nil
+	return &UnexpectedError{a.status, uint64(len(a.text)), a.text}
 }
 
 // line is the text of an answer of one line.
@@ -137,181 +113,120 @@ func (a answer) line() string {
 	return string(bytes.TrimSuffix(a.text, []byte("\n")))
 }
 
-// verdict reads the verdict on a whole list, by known files, or by none. One on no PCRs is no match, though the report says that it is.
-func (a answer) verdict(byKnown bool) (Verdict, error) {
-	return read(a, func(r *reader, o object) Verdict {
-		v := a.verdictIn(r, o, checkpoint{}, byKnown, true)
-		r.require(v.Confirmed == 0)
-		return v
-	})
+// report is a result that claims something, which has to be what the library's status says.
+type report interface {
+	settle(isDone bool) (claim bool)
 }
 
-// knownFrom is the first entry after a checkpoint, from which on entries are looked up among known files, or 0 without these.
-func knownFrom(from checkpoint, byKnown bool) uint64 {
-	if byKnown {
-		return from.entries
+// resultOf reads a result from an answer of one line.
+func resultOf[T any](a answer) (T, error) {
+	var read, none T
+	isDone, claim := a.status == done, true
+	isRead := (isDone || a.status == differs) && decode(a.text, &read)
+	if report, isReport := any(&read).(report); isReport {
+		claim = report.settle(isDone)
 	}
-	return 0
-}
-
-// verdictIn reads a report, in which entries after a checkpoint are looked up among known files, or none are. One on no PCRs may say that
-// it is a match, or may not.
-func (a answer) verdictIn(r *reader, o object, from checkpoint, byKnown, mayMatchNothing bool) Verdict {
-	v := Verdict{Events: r.number(o, "events", math.MaxUint64), Locality: uint8(r.number(o, "locality", math.MaxUint8)),
-		Entries: r.number(o, "entries", math.MaxUint64), Rows: r.rows(o), JSON: a.line(),
-		JudgesKnown: byKnown, KnownFrom: knownFrom(from, byKnown)}
-	v.BootAggregate = oneOf(r, o, "boot_aggregate", BootAggregateGood, BootAggregateWrong, BootAggregateNoBank, BootAggregateMissing)
-	v.Confirmed, v.Unconfirmed = r.confirmed(o, v.Entries)
-	v.Extends = r.strays(o, v.Events, covered(v.Confirmed, v.Entries))
-	v.Unknown = r.unknown(o, byKnown, v.KnownFrom, covered(v.Confirmed, v.Entries))
-	isGood := v.BootAggregate == BootAggregateGood && (len(v.Rows) > 0 || mayMatchNothing) && v.Extends == nil && v.Unknown == nil
-	v.Matches = r.matches(a.result, o, v.Rows, isGood) && len(v.Rows) > 0
-	return v
-}
-
-// covered is how many entries a verdict is on: the confirmed ones, if there are any, or all.
-func covered(confirmed, entries uint64) uint64 {
-	if confirmed != 0 {
-		return confirmed
+	if !isRead || claim != isDone {
+		return none, a.unexpected()
 	}
-	return entries
+	return read, nil
 }
 
-// hasAllValues is whether the verdict is a match, apart from Extends and Unknown.
-func (v Verdict) hasAllValues() bool {
-	return v.BootAggregate == BootAggregateGood && len(v.Rows) > 0 && allMatch(v.Rows)
-}
-
-// more reads the verdict on a list that has so many bytes after a checkpoint, and the next checkpoint. Only a match has one:
-// of the confirmed part, if the call asks for it, or of the whole list. After any other verdict it is the one before.
-func (a answer) more(from checkpoint, size uint64, byKnown, prefix bool) (Verdict, checkpoint, error) {
-	reached := from
-	v, err := read(a, func(r *reader, o object) Verdict {
-		v := a.verdictIn(r, o, from, byKnown, false)
-		r.require((v.Confirmed != 0) == (prefix && v.hasAllValues()))
-		reached = a.reached(r, from, size, covered(v.Confirmed, v.Entries), v.Confirmed != 0, v.Matches)
-		return v
-	})
-	return v, reached, err
-}
-
-// reached is the next checkpoint after a verdict on so many entries of a list that has so many bytes after a checkpoint.
-func (a answer) reached(r *reader, from checkpoint, size, covered uint64, isConfirmed, matches bool) checkpoint {
-	r.require(from.entries <= covered)
-	if !matches {
-		r.require(len(a.next) == 0)
-		return from
+// resultFor reads a result from the answer to a call.
+func resultFor[T any](call func(out []byte) (int32, errorInfo)) (T, error) {
+	given, err := ask(make([]byte, firstCapacity), call)
+	if err != nil {
+		var none T
+		return none, err
 	}
-	reached, isState := checkpointIn(a.next)
-	least, end := from.bytes+size, from.bytes+size
-	if isConfirmed {
-		least = from.bytes
+	return resultOf[T](given)
+}
+
+// matches is the library's status, but false if nothing was compared. (A later library returns IMA_VERIFY_DIFFERS then: this check can go.)
+func matches(isDone bool, compared int) bool {
+	return isDone && compared > 0
+}
+
+func (v *Verdict) settle(isDone bool) bool {
+	v.Matches = matches(isDone, len(v.Registers))
+	return v.Conclusion == ConclusionMatch
+}
+
+func (v *ListVerdict) settle(isDone bool) bool {
+	v.Matches = matches(isDone, len(v.Registers))
+	return v.Conclusion == ConclusionMatch
+}
+
+func (a *Attestation) settle(isDone bool) bool {
+	a.Matches = matches(isDone, len(a.Quoted))
+	return a.Conclusion == ConclusionMatch
+}
+
+func (p *Places) settle(bool) bool {
+	return p.Located
+}
+
+// isLine is whether the text is one line, and not an empty one.
+func isLine(text []byte) bool {
+	end := bytes.IndexByte(text, '\n')
+	return end > 0 && end == len(text)-1
+}
+
+// decode reads a line that is one object of JSON, and says whether it could. Members without `omitempty` have to be there. A field JSON
+// gets the line.
+func decode(line []byte, to any) bool {
+	var object any
+	if !isLine(line) || json.Unmarshal(line, &object) != nil || json.Unmarshal(line, to) != nil {
+		return false
 	}
-	r.require(isState && reached.entries == covered && least <= reached.bytes && reached.bytes <= end)
-	return reached
+	result := reflect.ValueOf(to).Elem()
+	if raw := result.FieldByName("JSON"); raw.IsValid() {
+		raw.SetString(string(line[:len(line)-1]))
+	}
+	return isComplete(result.Type(), object)
 }
 
-// listVerdict reads the verdict on a list alone, by known files, or by none. One on no PCRs is no match.
-func (a answer) listVerdict(byKnown bool) (ListVerdict, error) {
-	return read(a, func(r *reader, o object) ListVerdict {
-		v := ListVerdict{Entries: r.number(o, "entries", math.MaxUint64), Rows: r.rows(o), JSON: a.line(), JudgesKnown: byKnown}
-		v.Extends, v.Unknown = r.strays(o, 0, v.Entries), r.unknown(o, byKnown, 0, v.Entries)
-		isGood := v.Entries > 0 && len(v.Rows) > 0 && v.Extends == nil && v.Unknown == nil
-		v.Matches = r.matches(a.result, o, v.Rows, isGood)
-		return v
-	})
-}
-
-// attestation reads the verdict by a quote on a list that has so many bytes after a checkpoint, where this has to be known of the quote's
-// signature; and the next checkpoint, as more does.
-func (a answer) attestation(from checkpoint, size uint64, byKnown, prefix bool, signature SignatureState) (Attestation, checkpoint, error) {
-	reached := from
-	v, err := read(a, func(r *reader, o object) Attestation {
-		v := Attestation{Quoted: r.quoted(o), Signer: r.bytes(o, "signer"), Clock: r.clock(member[object](r, o, "clock")),
-			Firmware: r.number(o, "firmware", math.MaxUint64), Events: r.number(o, "events", math.MaxUint64),
-			Locality: uint8(r.number(o, "locality", math.MaxUint8)), Entries: r.number(o, "entries", math.MaxUint64),
-			Signature: signature, JSON: a.line(), JudgesKnown: byKnown, KnownFrom: knownFrom(from, byKnown)}
-		v.Confirmed, v.Unconfirmed = r.confirmed(o, v.Entries)
-		v.BootAggregate = oneOf(r, o, "boot_aggregate", BootAggregateGood, BootAggregateWrong, BootAggregateNoBank, BootAggregateMissing)
-		v.Extends = r.strays(o, v.Events, covered(v.Confirmed, v.Entries))
-		v.Unknown = r.unknown(o, byKnown, v.KnownFrom, covered(v.Confirmed, v.Entries))
-		v.QuoteMatches = oneOf(r, o, "quote", "match", "differ") == "match"
-		isConfirmed := v.QuoteMatches && v.BootAggregate == BootAggregateGood
-		r.require((v.Confirmed != 0) == (prefix && isConfirmed))
-		isAttested := isConfirmed && v.Extends == nil && v.Unknown == nil
-		v.Matches = isAttested && signature != SignatureNotChecked
-		r.require(oneOf(r, o, "signature", SignatureNotChecked, SignatureChecked, SignatureValid) == signature)
-		r.require(member[string](r, o, "verdict") == conclusion(isAttested, signature) && a.result == resultOf(v.Matches))
-		reached = a.reached(r, from, size, covered(v.Confirmed, v.Entries), v.Confirmed != 0, v.Matches)
-		return v
-	})
-	return v, reached, err
-}
-
-// conclusion is the verdict of a report by a quote.
-func conclusion(isAttested bool, signature SignatureState) string {
+// isComplete is whether a value has each member that its type requires, and no null where the type has a member.
+func isComplete(t reflect.Type, value any) bool {
+	_, isText := reflect.New(t).Interface().(encoding.TextUnmarshaler)
 	switch {
-	case signature == SignatureNotChecked:
-		return "signature not checked"
-	case isAttested:
-		return "match"
+	case value == nil || isText:
+		return value != nil
+	case t.Kind() == reflect.Pointer:
+		return isComplete(t.Elem(), value)
+	case t.Kind() == reflect.Struct:
+		members, isObject := value.(map[string]any)
+		return isObject && hasMembers(t, members)
+	case t.Kind() == reflect.Slice:
+		items, isArray := value.([]any)
+		for _, item := range items {
+			isArray = isArray && isComplete(t.Elem(), item)
+		}
+		return isArray
+	case t.Kind() == reflect.Map:
+		members, isObject := value.(map[string]any)
+		for _, member := range members {
+			isObject = isObject && isComplete(t.Elem(), member)
+		}
+		return isObject
 	default:
-		return "differ"
+		return true // (json has compared the types of what has no members)
 	}
 }
 
-func (a answer) places() (Places, error) {
-	return read(a, func(r *reader, o object) Places {
-		rows := member[[]object](r, o, "registers")
-		p := Places{Located: len(rows) > 0, JSON: a.line()}
-		for _, o := range rows {
-			row := r.placeRow(o)
-			p.Rows, p.Located = append(p.Rows, row), p.Located && row.Place.isReached()
+func hasMembers(t reflect.Type, members map[string]any) bool {
+	for k := 0; k < t.NumField(); k++ {
+		name, isOptional := memberOf(t.Field(k))
+		value, isThere := members[name]
+		if name != "-" && (isThere || !isOptional) && !isComplete(t.Field(k).Type, value) {
+			return false
 		}
-		r.require(member[bool](r, o, "located") == p.Located && a.result == resultOf(p.Located))
-		return p
-	})
-}
-
-// resultOf is the result of a report or of places.
-func resultOf(all bool) int32 {
-	if all {
-		return done
 	}
-	return differs
+	return true
 }
 
-func (a answer) registers() ([]Register, error) {
-	return read(a, func(r *reader, o object) []Register {
-		r.require(a.result == done)
-		var registers []Register
-		for _, row := range member[[]object](r, o, "registers") {
-			algorithm := r.algorithm(row, "bank")
-			registers = append(registers, Register{algorithm, r.register(row), r.digest(row, "value", algorithm)})
-		}
-		return registers
-	})
-}
-
-// key reads the key that an answer states, for its purpose.
-func (a answer) key(isEndorsement bool) (Key, error) {
-	return read(a, func(r *reader, o object) Key {
-		k := r.key(o)
-		r.require(a.result == done && (isEndorsement || k.isSigning()))
-		return k
-	})
-}
-
-// isSigning is whether the key has a scheme that signs, by another hash than SHA-1.
-func (k Key) isSigning() bool {
-	signs := k.Scheme == SchemeRSASSA || k.Scheme == SchemeRSAPSS || k.Scheme == SchemeECDSA
-	return signs && k.Hash != AlgorithmSHA1
-}
-
-// lines gives the lines of expected PCRs, with no more memory than they need.
-func (a answer) lines() ([]byte, error) {
-	if a.result != done || !bytes.HasSuffix(a.text, []byte("\n")) {
-		return nil, a.unexpected()
-	}
-	return clone(a.text), nil
+// memberOf is the name of a field's member in JSON, or "-", and whether it may be absent.
+func memberOf(field reflect.StructField) (string, bool) {
+	name, options, _ := strings.Cut(field.Tag.Get("json"), ",")
+	return name, options == "omitempty"
 }

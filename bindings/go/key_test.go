@@ -2,14 +2,9 @@ package imaverify
 
 import (
 	"bytes"
-	"crypto"
-	"crypto/rsa"
 	"crypto/sha256"
-	"crypto/sha512"
 	"crypto/x509"
-	"encoding/binary"
 	"encoding/pem"
-	"errors"
 	"fmt"
 	"os"
 	"path/filepath"
@@ -17,7 +12,8 @@ import (
 	"testing"
 )
 
-// What tpm2_createak and tpm2_createek were asked for: the type, the size, the scheme and its hash.
+// What tpm2_createak and tpm2_createek were asked for: the type, the size, the scheme and its hash; and the errors of the samples' other
+// uses, by the table of docs/errors.txt.
 var (
 	attestationKeys = map[string]Key{
 		"ak-rsassa": {Type: KeyTypeRSA, Bits: 2048, Scheme: SchemeRSASSA, Hash: AlgorithmSHA256},
@@ -26,245 +22,137 @@ var (
 		"ak-p384":   {Type: KeyTypeECC, Bits: 384, Scheme: SchemeECDSA, Hash: AlgorithmSHA384},
 		"ak-p521":   {Type: KeyTypeECC, Bits: 521, Scheme: SchemeECDSA, Hash: AlgorithmSHA512},
 	}
-	endorsementKeys = map[string]Key{
-		"ek-rsa":  {Type: KeyTypeRSA, Bits: 2048, Scheme: SchemeNone},
-		"ek-p256": {Type: KeyTypeECC, Bits: 256, Scheme: SchemeNone},
-	}
-	// The errors of the samples' other uses, by the table of docs/errors.txt.
-	refusedAttestation = map[string]uint64{"ak-sha1": 20, "ek-rsa": 17, "ek-p256": 17, "storage": 17, "unrestricted": 15}
-	refusedEndorsement = map[string]uint64{"ak-rsassa": 21, "ak-p384": 21, "ak-sha1": 21, "unrestricted": 15}
+	endorsementKeys    = map[string]Key{"ek-rsa": {Type: KeyTypeRSA, Bits: 2048, Scheme: SchemeNone}, "ek-p256": {Type: KeyTypeECC, Bits: 256, Scheme: SchemeNone}}
+	refusedAttestation = map[string]uint32{"ak-sha1": 20, "ek-rsa": 17, "ek-p256": 17, "storage": 17, "unrestricted": 15}
+	refusedEndorsement = map[string]uint32{"ak-rsassa": 21, "ak-p384": 21, "ak-sha1": 21, "unrestricted": 15}
+	// The errors of a key that lacks an attribute, or has one, by its bit: fixedTPM, fixedParent, sensitiveDataOrigin, restricted, decrypt
+	// and sign (TPM 2.0 Library, part 2, TPMA_OBJECT).
+	withoutAttribute            = map[int]uint32{1: 12, 4: 13, 5: 14, 16: 15, 17: 18, 18: 17}
+	endorsementWithoutAttribute = map[int]uint32{1: 12, 4: 13, 5: 14, 16: 15, 17: 22, 18: 21}
 )
-
-// Bits of a key's attributes (TPM 2.0 Library, part 2, TPMA_OBJECT), and the place of the attributes in an area, after its size, the
-// type and the hash of the name.
-const (
-	restricted, decrypt, sign = 16, 17, 18
-	attributesPlace           = 6
-)
-
-// The errors of a key that lacks an attribute, or has one, by its bit: fixedTPM, fixedParent and sensitiveDataOrigin first.
-var (
-	withoutAttribute            = map[int]uint64{1: 12, 4: 13, 5: 14, restricted: 15, sign: 17, decrypt: 18}
-	endorsementWithoutAttribute = map[int]uint64{1: 12, 4: 13, 5: 14, restricted: 15, sign: 21, decrypt: 22}
-)
-
-func keySample(name string) []byte {
-	data, err := os.ReadFile(filepath.Join("..", "..", "samples", "keys", name))
-	succeed(err)
-	return data
-}
 
 func sampleArea(name string) []byte {
-	return keySample(name + ".pub")
-}
-
-// sampleName is the name that tpm2_readpublic gave for an area.
-func sampleName(name string) []byte {
-	for _, line := range strings.Split(string(keySample("names")), "\n") {
-		if digits, file, _ := strings.Cut(line, " "); file == name+".pub" {
-			return spelled(digits)
-		}
-	}
-	panic(name)
-}
-
-func shorts(values ...uint16) []byte {
-	var data []byte
-	for _, value := range values {
-		data = binary.BigEndian.AppendUint16(data, value)
-	}
-	return data
+	return sample("keys/" + name + ".pub")
 }
 
 func sized(data []byte) []byte {
-	return joined(shorts(uint16(len(data))), data)
+	return joined([]byte{byte(len(data) >> 8), byte(len(data))}, data)
 }
 
-// rsaArea is the public area of an attestation key of RSA (TPM 2.0 Library, part 2, TPMT_PUBLIC).
-func rsaArea(modulus []byte, nameHash uint16, exponent uint32, scheme ...uint16) []byte {
-	head := joined(shorts(1, nameHash), []byte{0, 5, 0, 0x72}, sized(nil), shorts(0x10), shorts(scheme...))
-	numbers := binary.BigEndian.AppendUint32(shorts(uint16(8*len(modulus))), exponent)
-	return sized(joined(head, numbers, sized(modulus)))
-}
-
-func withAttribute(area []byte, bit int) []byte {
-	changed := clone(area)
-	changed[attributesPlace+3-bit/8] ^= 1 << (bit % 8)
-	return changed
-}
-
-func checkKeyFault(t *testing.T, read func(area []byte) (Key, error), area []byte, number uint64) {
+func checkKeyFault(t *testing.T, read func(area []byte) (Key, error), area []byte, number uint32) {
 	t.Helper()
-	found, err := read(area)
-	checkRefused(t, err, RefusedError{Line: fmt.Sprintf("refused: key fault %d", number), Kind: KindKey, Number: number})
-	equal(t, found, Key{})
+	checkRefused(t, refusal(KindKey, number))(read(area))
 }
 
 func TestKeysOfTheSamples(t *testing.T) {
-	for _, test := range []struct {
-		read func(area []byte) (Key, error)
-		keys map[string]Key
-	}{{ReadKey, attestationKeys}, {ReadEndorsementKey, endorsementKeys}} {
-		for name, wanted := range test.keys {
-			wanted.Name, wanted.PEM = sampleName(name), keySample(name+".pem")
-			found, err := test.read(sampleArea(name))
-			equal(t, []interface{}{found, err}, []interface{}{wanted, nil})
-			digest := sha256.Sum256(sampleArea(name)[2:])
-			equal(t, found.Name[2:], digest[:])
-			block, rest := pem.Decode(found.PEM)
-			_, err = x509.ParsePKIXPublicKey(block.Bytes)
-			equal(t, []interface{}{len(rest), err}, []interface{}{0, nil})
+	for _, c := range []struct {
+		read       func(area []byte) (Key, error)
+		keys       map[string]Key
+		refused    map[string]uint32
+		attributes map[int]uint32
+		whole      string
+	}{{ReadKey, attestationKeys, refusedAttestation, withoutAttribute, "ak-rsassa"},
+		{ReadEndorsementKey, endorsementKeys, refusedEndorsement, endorsementWithoutAttribute, "ek-rsa"}} {
+		for name, wanted := range c.keys {
+			found := must(c.read(sampleArea(name)))
+			line, digest := found.JSON, sha256.Sum256(sampleArea(name)[2:])
+			wanted.Name, wanted.PEM, wanted.JSON = joined([]byte{0, 11}, digest[:]), string(sample("keys/"+name+".pem")), line
+			equal(t, found, wanted)
+			equal(t, strings.Contains(string(sample("keys/names")), fmt.Sprintf("%x %s.pub\n", found.Name, name)), true) // (by tpm2_readpublic)
+			block, _ := pem.Decode([]byte(found.PEM))
+			must(x509.ParsePKIXPublicKey(block.Bytes))
+		}
+		for name, number := range c.refused {
+			checkKeyFault(t, c.read, sampleArea(name), number)
+		}
+		area := sampleArea(c.whole)
+		for size := range area {
+			checkKeyFault(t, c.read, area[:size], 1)
+		}
+		checkKeyFault(t, c.read, joined(area, []byte{0}), 10)
+		checkKeyFault(t, c.read, sized(joined(area[2:], []byte{0})), 10)
+		for bit, number := range c.attributes { // (in four bytes after the size, the type and the hash of the name)
+			checkKeyFault(t, c.read, turned(area, 8*(9-bit/8)+bit%8), number)
 		}
 	}
 }
 
-func TestKeysForAnotherPurposeAreRefused(t *testing.T) {
+// signatureLines are the words of each line of this kind, which tests/bindings/signatures.py describes.
+func signatureLines(kind string) [][]string {
+	var lines [][]string
+	file := filepath.Join("..", "..", "tests", "bindings", "signatures.txt")
+	for _, line := range strings.Split(string(must(os.ReadFile(file))), "\n") {
+		if words := strings.Split(line, " "); words[0] == kind {
+			lines = append(lines, words[1:])
+		}
+	}
+	return lines
+}
+
+// refusalBy is why a message with a signature by a key is refused. One that is signed by it is refused only for what comes after: the
+// quote, or the log, which is empty.
+func refusalBy(t *testing.T, key, signature, message []byte) string {
+	t.Helper()
+	found, err := Attest(nil, nil, changedQuote(func(q *Quote) { q.Key, q.Signature, q.Message = key, signature, message }))
+	equal(t, found, Attestation{})
+	return err.Error()
+}
+
+func checkSigned(t *testing.T, key, signature, message []byte, wanted bool) {
+	t.Helper()
+	after := map[bool]string{true: "refused: log fault 1 at event 0", false: "refused: quote fault "}[bytes.Equal(message, quoteMessage)]
+	if line := refusalBy(t, key, signature, message); strings.HasPrefix(line, after) != wanted || !wanted && !strings.HasPrefix(line, "refused: signature fault ") {
+		t.Errorf("%s for the signature %x", line, signature)
+	}
+}
+
+func TestSignaturesOfEachWay(t *testing.T) {
+	areas, count := map[string][]byte{}, 0
+	for _, words := range signatureLines("key") {
+		areas[words[0]] = spelled(words[1])
+	}
+	for k, words := range append(signatureLines("signed"), signatureLines("message")...) {
+		area, scheme, signature, message := clone(areas[words[0]]), spelled(words[1]+words[2]), []byte(spelled(words[3])), quoteMessage
+		if copy(area[14:], scheme); len(words) > 4 {
+			message = spelled(words[4])
+		}
+		if words[0] == "p-521" {
+			equal(t, refusalBy(t, area, signature, message)[:27], "refused: signature fault 8:")
+			continue
+		}
+		count++
+		checkSigned(t, area, signature, message, true)
+		checkSigned(t, area, turned(signature, 8*len(signature)-1), message, false)
+		checkSigned(t, area, signature, turned(quoteMessage, k), false)
+		checkSigned(t, areas["other-p-256"], signature, message, false)
+		if words[0][:3] == "rsa" { // (also as a TPM gives it: TPM 2.0 Library, part 2, TPMT_SIGNATURE)
+			checkSigned(t, area, joined(scheme, sized(signature)), message, true)
+			checkSigned(t, areas["other-rsa"], signature, message, false)
+		}
+	}
+	equal(t, count, 38)
+	for bit := 0; bit < 8*len(sampleSignature); bit += 29 {
+		checkSigned(t, sampleKey, turned(sampleSignature, bit), quoteMessage, false)
+		checkSigned(t, sampleKey, sampleSignature, turned(quoteMessage, bit/2), false)
+	}
+	for _, words := range signatureLines("other") {
+		checkSigned(t, []byte(must(ReadKey(areas[words[0]])).PEM), spelled(words[1]), quoteMessage, false)
+	}
+}
+
+func TestKeysThatAreNotTaken(t *testing.T) {
+	texts := [][]byte{bytes.TrimSpace(sampleKey), bytes.ReplaceAll(sampleKey, []byte("\n"), []byte("\r\n")), joined(sampleKey, sampleKey),
+		joined(sampleKey, []byte{0}), bytes.ReplaceAll(sampleKey, []byte("PUBLIC"), []byte("PRIVATE")), sampleKey[:40]}
+	for _, words := range signatureLines("untaken") {
+		texts = append(texts, pem.EncodeToMemory(&pem.Block{Type: "PUBLIC KEY", Bytes: spelled(words[1])}))
+	}
+	for _, text := range texts {
+		equal(t, refusalBy(t, text, sampleSignature, quoteMessage)[:27], "refused: signature fault 9:")
+	}
+	for _, text := range [][]byte{sampleSignature, joined([]byte("x"), sampleKey), []byte("\n")} {
+		equal(t, refusalBy(t, text, sampleSignature, quoteMessage)[:20], "refused: key fault 1")
+	}
 	for name, number := range refusedAttestation {
-		checkKeyFault(t, ReadKey, sampleArea(name), number)
+		equal(t, refusalBy(t, sampleArea(name), sampleSignature, quoteMessage)[:21], fmt.Sprintf("refused: key fault %d", number))
 	}
-	for name, number := range refusedEndorsement {
-		checkKeyFault(t, ReadEndorsementKey, sampleArea(name), number)
-	}
-}
-
-func TestAreaThatIsCutOrLongerIsRefused(t *testing.T) {
-	for _, name := range []string{"ak-rsassa", "ak-p256", "ek-rsa"} {
-		area := sampleArea(name)
-		for _, read := range []func(area []byte) (Key, error){ReadKey, ReadEndorsementKey} {
-			checkKeyFault(t, read, nil, 1)
-			for size := range area {
-				checkKeyFault(t, read, area[:size], 1)
-			}
-			checkKeyFault(t, read, joined(area, []byte{0}), 10)
-			checkKeyFault(t, read, sized(joined(area[2:], []byte{0})), 10)
-		}
-	}
-}
-
-func TestEachAttributeCounts(t *testing.T) {
-	for bit, number := range withoutAttribute {
-		checkKeyFault(t, ReadKey, withAttribute(sampleArea("ak-rsassa"), bit), number)
-	}
-	for bit, number := range endorsementWithoutAttribute {
-		checkKeyFault(t, ReadEndorsementKey, withAttribute(sampleArea("ek-rsa"), bit), number)
-	}
-}
-
-func TestOtherAreasOfRSAAreRefused(t *testing.T) {
-	modulus := append([]byte{0x80}, make([]byte, 255)...)
-	for number, area := range map[uint64][]byte{
-		3: rsaArea(modulus, 0x12, 0, 0x14, 0x0b), 5: rsaArea(modulus, 0x0b, 0, 0x18, 0x0b), 6: rsaArea(modulus, 0x0b, 3, 0x14, 0x0b),
-		9: rsaArea(make([]byte, 256), 0x0b, 0, 0x14, 0x0b), 11: rsaArea(modulus, 4, 0, 0x14, 0x0b),
-		16: rsaArea(modulus[:255], 0x0b, 0, 0x14, 0x0b), 19: rsaArea(modulus, 0x0b, 0, 0x10), 20: rsaArea(modulus, 0x0b, 0, 0x16, 4),
-	} {
-		checkKeyFault(t, ReadKey, area, number)
-	}
-}
-
-func TestHashesOfNames(t *testing.T) {
-	modulus := append([]byte{0x80}, make([]byte, 255)...)
-	for number, hash := range map[uint16]func(data []byte) []byte{
-		0x0b: func(data []byte) []byte { digest := sha256.Sum256(data); return digest[:] },
-		0x0c: func(data []byte) []byte { digest := sha512.Sum384(data); return digest[:] },
-		0x0d: func(data []byte) []byte { digest := sha512.Sum512(data); return digest[:] },
-	} {
-		area := rsaArea(modulus, number, 65537, 0x14, 0x0c)
-		found, err := ReadKey(area)
-		equal(t, []interface{}{found.Name, err}, []interface{}{joined(shorts(number), hash(area[2:])), nil})
-	}
-}
-
-// quotingArea is the public area of the key that signed the sample's quote, by RSASSA with SHA-256.
-func quotingArea() []byte {
-	block, _ := pem.Decode(sampleKey)
-	public, err := x509.ParsePKIXPublicKey(block.Bytes)
-	succeed(err)
-	return rsaArea(public.(*rsa.PublicKey).N.Bytes(), 0x0b, 0, rsassa, hashNumbers[crypto.SHA256])
-}
-
-// TestKeysThatAreReadVerifyQuotes has the area and its PEM; of another key neither, and of one on P-521 no signature is verified.
-func TestKeysThatAreReadVerifyQuotes(t *testing.T) {
-	area := quotingArea()
-	key, err := ReadKey(area)
-	succeed(err)
-	equal(t, bytes.Equal(key.PEM, sampleKey), true)
-	checkSigned(t, key.PEM, sampleSignature, quoteMessage)
-	checkSigned(t, area, sampleSignature, quoteMessage)
-	for name := range attestationKeys {
-		key, err := ReadKey(sampleArea(name))
-		succeed(err)
-		ofArea, ofPEM := uint64(otherKey), uint64(otherPEM)
-		if name == "ak-rsassa" || name == "ak-rsapss" {
-			ofArea, ofPEM = notSigned, notSigned
-		} else if name != "ak-p521" {
-			ofArea, ofPEM = unknownScheme, unknownScheme // (as the form of a TPM)
-		}
-		checkNotSigned(t, sampleArea(name), sampleSignature, quoteMessage, ofArea)
-		checkNotSigned(t, key.PEM, sampleSignature, quoteMessage, ofPEM)
-	}
-	for name, number := range refusedAttestation {
-		checkKeyRefused(t, sampleArea(name), KindKey, number)
-	}
-}
-
-var (
-	keyName    = "000b" + strings.Repeat("a", 64)
-	keyPEM     = `-----BEGIN PUBLIC KEY-----\n` + strings.Repeat("A", 64) + `\nAAA=\n-----END PUBLIC KEY-----\n`
-	rsaLine    = `{"name":"` + keyName + `","type":"rsa","bits":2048,"scheme":"rsassa","hash":"sha256","pem":"` + keyPEM + `"}` + "\n"
-	curveLine  = strings.Replace(rsaLine, `"rsa","bits":2048,"scheme":"rsassa"`, `"ecc","bits":521,"scheme":"ecdsa"`, 1)
-	signing    = `"scheme":"rsassa","hash":"sha256"`
-	decrypting = strings.Replace(rsaLine, signing, `"scheme":"none"`, 1)
-)
-
-func readAttestationLine(status int32, text string) error {
-	_, err := of(status, text).key(false)
-	return err
-}
-
-func readEndorsementLine(status int32, text string) error {
-	_, err := of(status, text).key(true)
-	return err
-}
-
-func TestRightAnswersAreKeys(t *testing.T) {
-	key, err := of(done, rsaLine).key(false)
-	equal(t, []interface{}{key.Name, key.Type, key.Bits, key.Scheme, key.Hash, err},
-		[]interface{}{spelled(keyName), KeyTypeRSA, 2048, SchemeRSASSA, AlgorithmSHA256, nil})
-	equal(t, string(key.PEM), strings.ReplaceAll(keyPEM, `\n`, "\n"))
-	for _, text := range []string{rsaLine, curveLine, strings.Replace(rsaLine, "{", `{"more":1,`, 1),
-		strings.Replace(rsaLine, keyName, "000c"+strings.Repeat("a", 96), 1), strings.Replace(rsaLine, keyName, "000d"+strings.Repeat("a", 128), 1)} {
-		equal(t, []error{readAttestationLine(done, text), readEndorsementLine(done, text)}, []error{nil, nil})
-	}
-	key, err = of(done, decrypting).key(true)
-	equal(t, []interface{}{key.Scheme, key.Hash, err}, []interface{}{SchemeNone, Algorithm(""), nil})
-	equal(t, readEndorsementLine(done, strings.Replace(rsaLine, "sha256", "sha1", 1)), nil)
-}
-
-func TestWrongAnswersAreNoKeys(t *testing.T) {
-	for _, read := range []func(status int32, text string) error{readAttestationLine, readEndorsementLine} {
-		checkChanges(t, read, done, rsaLine, [][2]string{
-			{"}\n", "}"}, {`"name"`, `"names"`}, {"000b", "0004"}, {"000b", "0b"}, {"000b", "000c"}, {"aa", "AA"}, {"aa", ""}, {keyName, ""},
-			{keyName, "000b"}, {`"rsa"`, `"ecc"`}, {`"rsa"`, `"dsa"`}, {`"rsa"`, "1"}, {"2048", "2047"}, {"2048", "2040"}, {"2048", "-2048"},
-			{"2048", `"2048"`}, {"2048", "2048.5"}, {"2048", "65536"}, {"2048", "521"}, {`"rsassa"`, `"ecdsa"`}, {`"rsassa"`, `"none"`},
-			{`"rsassa"`, `"x"`}, {`"rsassa"`, "null"}, {`"sha256"`, `"md5"`}, {`"sha256"`, "null"}, {`"hash":"sha256",`, ""}, {keyPEM, ""},
-			{"PUBLIC", "PRIVATE"}, {`-----\n"`, `-----"`}, {"AAA=", "AA.="}, {`\nAAA=`, "AAA="}, {`"pem"`, `"key"`}, {rsaLine, ""},
-			{rsaLine, "name 000b\n"}, {"{", `{"fault":null,`}, {"{", `{"fault":{"kind":"key","number":1,"message":"refused: key fault 1"},`},
-		})
-		checkChanges(t, read, done, curveLine, [][2]string{{"521", "520"}, {"521", "2048"}, {`"ecc"`, `"rsa"`}, {`"ecdsa"`, `"rsassa"`}})
-		for _, status := range []int32{differs, moreLines} {
-			checkUnexpected(t, read(status, rsaLine), rsaLine)
-		}
-	}
-}
-
-func TestKeyThatDoesNotSignWellIsNoAttestationKey(t *testing.T) {
-	checkChanges(t, readAttestationLine, done, rsaLine, [][2]string{{"sha256", "sha1"}, {`"rsassa"`, `"oaep"`}, {signing, `"scheme":"none"`},
-		{signing, `"scheme":"rsaes"`}})
-	checkChanges(t, readAttestationLine, done, curveLine, [][2]string{{"ecdsa", "ecdh"}})
-}
-
-func TestNoKeyComesWithAnError(t *testing.T) {
-	key, err := of(done, strings.Replace(rsaLine, "2048", "2047", 1)).key(false)
-	var unexpected *UnexpectedError
-	equal(t, []interface{}{key, errors.As(err, &unexpected)}, []interface{}{Key{}, true})
 }

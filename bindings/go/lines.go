@@ -4,23 +4,23 @@ import "bytes"
 
 // lines goes through the lines of entries or of events, which the library gives by pieces.
 type lines struct {
-	call    func(out []byte) (int32, told) // for the next piece
-	isEmpty bool                           // whether there are no lines, since the list has no bytes
+	call    func(out []byte) (int32, errorInfo) // for the next piece
+	isEmpty bool                                // whether there are no lines, since the list has no bytes
 	buffer  []byte
 	rest    []byte // the lines of the piece that are not read yet
-	result  int32  // the result of the last call
-	number  uint64 // the number of the next item
+	status  int32  // of the last call
+	count   uint64 // how many items were read
 	err     error
 }
 
-func linesOf(isEmpty bool, call func(out []byte) (int32, told)) *lines {
-	return &lines{call: call, isEmpty: isEmpty, buffer: make([]byte, room), result: moreLines}
+func linesOf(isEmpty bool, call func(out []byte) (int32, errorInfo)) *lines {
+	return &lines{call: call, isEmpty: isEmpty, buffer: make([]byte, firstCapacity), status: moreLines}
 }
 
 // piece gives the lines that the next call gives, which are none only for an empty list. After the last ones, and after an
 // error, it gives nil.
 func (l *lines) piece() []byte {
-	if l.err != nil || l.result == done {
+	if l.err != nil || l.status == done {
 		return nil
 	}
 	given, err := ask(l.buffer, l.call)
@@ -31,15 +31,15 @@ func (l *lines) piece() []byte {
 		l.err = err
 		return nil
 	}
-	l.result, l.buffer = given.result, given.text[:cap(given.text)]
+	l.status, l.buffer = given.status, given.text[:cap(given.text)]
 	return given.text
 }
 
 func (l *lines) isPiece(given answer) bool {
 	if l.isEmpty {
-		return given.result == done && len(given.text) == 0
+		return given.status == done && len(given.text) == 0
 	}
-	return (given.result == done || given.result == moreLines) && bytes.HasSuffix(given.text, []byte("\n"))
+	return (given.status == done || given.status == moreLines) && bytes.HasSuffix(given.text, []byte("\n"))
 }
 
 // line gives the next line, which is empty after the last one, and after an error.
@@ -52,23 +52,32 @@ func (l *lines) line() []byte {
 
 // isLast says whether no line comes after this one, which is the next.
 func (l *lines) isLast(line []byte) bool {
-	return l.result == done && len(line) > 0 && len(line) == len(l.rest)
+	return l.status == done && len(line) > 0 && len(line) == len(l.rest)
+}
+
+// fail ends the lines with an error of this line.
+func (l *lines) fail(line []byte) {
+	l.rest, l.err = nil, answer{status: l.status, text: line}.unexpected()
 }
 
 // nextOf reads the next line, and says whether there is one.
-func nextOf[T any](l *lines, read func(r *reader, o object, number uint64) T) (T, bool) {
-	var none T
+func nextOf[T any](l *lines) (T, bool) {
+	var read, none T
 	line := l.line()
 	if len(line) == 0 {
 		return none, false
 	}
-	item, err := readLine(l.result, line, func(r *reader, o object) T { return read(r, o, l.number) })
-	if err != nil {
-		l.rest, l.err = nil, err
+	if !decode(line, &read) {
+		l.fail(line)
 		return none, false
 	}
-	l.rest, l.number = l.rest[len(line):], l.number+1
-	return item, true
+	l.rest, l.count = l.rest[len(line):], l.count+1
+	return read, true
+}
+
+// endLine is the line after the last entry of a whole list.
+type endLine struct {
+	Entries uint64 `json:"entries"`
 }
 
 // EntryScanner goes through the entries of a measurement list, as bufio.Scanner goes through lines.
@@ -79,16 +88,19 @@ type EntryScanner struct {
 
 // Next reads the next entry, which Entry then gives. It is false after the last entry, and at an error, which Err then gives.
 func (s *EntryScanner) Next() bool {
-	if line := s.lines.line(); s.lines.isLast(line) {
-		s.entry = Entry{}
-		// (the last line says how many entries there are, or the list was cut)
-		_, s.lines.err = readLine(s.lines.result, line, func(r *reader, o object) uint64 { return r.entryCount(o, s.lines.number) })
-		s.lines.rest = nil
-		return false
+	line := s.lines.line()
+	if !s.lines.isLast(line) {
+		var isNext bool
+		s.entry, isNext = nextOf[Entry](s.lines)
+		return isNext
 	}
-	var isNext bool
-	s.entry, isNext = nextOf(s.lines, (*reader).entry)
-	return isNext
+	// (the last line says how many entries there are, or the list was cut)
+	var end endLine
+	if !decode(line, &end) || end.Entries != s.lines.count {
+		s.lines.fail(line)
+	}
+	s.entry, s.lines.rest = Entry{}, nil
+	return false
 }
 
 // Entry gives the entry that Next read, or the zero value if it read none.
@@ -104,20 +116,20 @@ func (s *EntryScanner) Err() error {
 
 // EventScanner goes through the events of a firmware event log, as bufio.Scanner goes through lines.
 type EventScanner struct {
-	lines      *lines
-	algorithms []LogAlgorithm
-	event      Event
+	lines  *lines
+	header LogHeader
+	event  Event
 }
 
-// Algorithms gives the algorithms that the log's header declares.
-func (s *EventScanner) Algorithms() []LogAlgorithm {
-	return s.algorithms
+// Header gives the log's header, with the algorithms that it declares.
+func (s *EventScanner) Header() LogHeader {
+	return s.header
 }
 
 // Next reads the next event, which Event then gives. It is false after the last event, and at an error, which Err then gives.
 func (s *EventScanner) Next() bool {
 	var isNext bool
-	s.event, isNext = nextOf(s.lines, (*reader).event)
+	s.event, isNext = nextOf[Event](s.lines)
 	return isNext
 }
 
@@ -138,7 +150,7 @@ func (s *EventScanner) Err() error {
 // For a damaged list Next gives the entries before the error. A loop that ends early does not come to the error.
 func Entries(list []byte) *EntryScanner {
 	at := new(position)
-	return &EntryScanner{lines: linesOf(false, func(out []byte) (int32, told) { return callEntries(list, at, true, out) })}
+	return &EntryScanner{lines: linesOf(false, func(out []byte) (int32, errorInfo) { return callEntries(list, at, true, out) })}
 }
 
 // Events goes through the events of a firmware event log after its header. The log must not change before the last call of
@@ -147,23 +159,23 @@ func Entries(list []byte) *EntryScanner {
 // For a log that is damaged later Next gives the events before the error. A loop that ends early does not come to the error.
 func Events(log []byte) (*EventScanner, error) {
 	at := new(position)
-	return eventsOf(linesOf(false, func(out []byte) (int32, told) { return callEvents(log, at, out) }))
+	return eventsOf(linesOf(false, func(out []byte) (int32, errorInfo) { return callEvents(log, at, out) }))
 }
 
-// eventsOf reads the first line, which has the algorithms.
+// eventsOf reads the first line, which is the header.
 func eventsOf(l *lines) (*EventScanner, error) {
-	algorithms, isNext := nextOf(l, (*reader).algorithms)
+	header, isNext := nextOf[LogHeader](l)
 	if !isNext {
 		return nil, l.err
 	}
-	return &EventScanner{lines: l, algorithms: algorithms}, nil
+	return &EventScanner{lines: l, header: header}, nil
 }
 
 // Show gives the entries of a measurement list as text, each in the kernel's form. Paths are as they are: they may have line
 // feeds and control bytes. Entries gives each entry by itself.
 func Show(list []byte) ([]byte, error) {
 	at := new(position)
-	return allOf(linesOf(len(list) == 0, func(out []byte) (int32, told) { return callEntries(list, at, false, out) }))
+	return allOf(linesOf(len(list) == 0, func(out []byte) (int32, errorInfo) { return callEntries(list, at, false, out) }))
 }
 
 func allOf(l *lines) ([]byte, error) {

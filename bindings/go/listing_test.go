@@ -3,27 +3,24 @@ package imaverify
 import (
 	"bytes"
 	"crypto/sha1"
-	"crypto/sha256"
 	"encoding/binary"
-	"encoding/json"
 	"fmt"
+	"reflect"
 	"strings"
 	"testing"
 )
 
+var ones, zeros = Hex(bytes.Repeat([]byte{1}, 20)), make(Hex, 20)
+
 func number(value int) []byte {
 	return binary.LittleEndian.AppendUint32(nil, uint32(value))
-}
-
-func joined(parts ...[]byte) []byte {
-	return bytes.Join(parts, nil)
 }
 
 func withLength(data []byte) []byte {
 	return joined(number(len(data)), data)
 }
 
-// The payload of ima-ng.
+// ng is the payload of ima-ng.
 func ng(algorithm string, digest []byte, path string) []byte {
 	return joined(withLength(joined([]byte(algorithm+":\x00"), digest)), withLength([]byte(path+"\x00")))
 }
@@ -33,7 +30,7 @@ func digestOf(payload []byte) []byte {
 	return digest[:]
 }
 
-// An entry of register 10, with the template digest of its payload, or with another.
+// entryOf is an entry of register 10, with the template digest of its payload, or with another.
 func entryOf(template string, payload []byte) []byte {
 	return entryWith(template, payload, digestOf(payload))
 }
@@ -45,208 +42,186 @@ func entryWith(template string, payload, templateDigest []byte) []byte {
 	return joined(number(10), templateDigest, withLength([]byte(template)), payload)
 }
 
-var ones, zeros = bytes.Repeat([]byte{1}, 20), make([]byte, 20)
+// drained are all items of a scanner, and its error, which it keeps.
+func drainedOf[T any](next func() bool, item func() T, failure func() error) ([]T, error) {
+	var items []T
+	for next() {
+		if failure() != nil {
+			panic("an item with an error")
+		}
+		items = append(items, item())
+	}
+	err := failure()
+	if next() || failure() != err || !reflect.ValueOf(item()).IsZero() {
+		panic("an end that does not last")
+	}
+	return items, err
+}
 
-func entriesIn(t *testing.T, list []byte) []Entry {
-	t.Helper()
-	found, err := drained(Entries(list))
-	equal(t, err, nil)
+func drained(s *EntryScanner) ([]Entry, error) {
+	return drainedOf(s.Next, s.Entry, s.Err)
+}
+
+func drainedEvents(s *EventScanner, err error) ([]Event, error) {
+	if err != nil {
+		return nil, err
+	}
+	return drainedOf(s.Next, s.Event, s.Err)
+}
+
+// entriesIn are the entries of a list, without their lines.
+func entriesIn(list []byte) []Entry {
+	found := must(drained(Entries(list)))
+	for k := range found {
+		if !strings.HasPrefix(found[k].JSON, fmt.Sprintf(`{"entry":%d,`, k)) || strings.Contains(found[k].JSON, "\n") {
+			panic(found[k].JSON)
+		}
+		found[k].JSON = ""
+	}
 	return found
 }
 
 func TestEntriesOfTheSampleAreTheKernelsText(t *testing.T) {
 	var lines strings.Builder
-	for k, e := range entriesIn(t, bootList) {
-		fmt.Fprintf(&lines, "%2d %x %s %s:%x %s\n", e.Register, e.TemplateDigest, e.Template, e.File.Algorithm, e.File.Digest, e.File.Path)
-		equal(t, []interface{}{e.Number, e.Genuine, e.Violation, e.File.Signature == nil, e.Payload == nil},
-			[]interface{}{uint64(k), true, k == 93 || k == 94 || k == 97, true, true})
+	for k, e := range entriesIn(bootList) {
+		fmt.Fprintf(&lines, "%2d %x %s %s:%x %s\n", e.Register, e.TemplateDigest, e.Template, e.Algorithm, e.Digest, e.FilePath())
+		equal(t, each(e.Number, e.Genuine, e.Violation, e.Signature == nil, e.Payload == nil), each(uint64(k), true, k == 93 || k == 94 || k == 97, true, true))
 	}
 	equal(t, lines.String(), string(ascii))
+	for k, e := range entriesIn(changed) {
+		equal(t, e.Genuine, k != 5)
+	}
+	for _, empty := range [][]byte{nil, {}, bootList[:0]} {
+		equal(t, each(len(entriesIn(empty)), len(must(Show(empty)))), each(0, 0))
+	}
 }
 
 func TestTemplatesThatAreKnownHaveFiles(t *testing.T) {
-	sha512 := bytes.Repeat([]byte{2}, 64)
-	first, second := ng("sha512", sha512, "/x"), joined(ng("sha1", ones, "/y"), withLength([]byte{3, 0, 0xff}))
-	third := joined(ng("sha1", ones, "/z"), withLength(nil))
-	covered := digestOf(joined(ones, []byte("/w"), make([]byte, 254)))
-	list := joined(entryOf("ima-ng", first), entryOf("ima-sig", second), entryOf("ima-sig", third),
-		entryWith("ima", joined(ones, withLength([]byte("/w"))), covered))
-	equal(t, entriesIn(t, list), []Entry{
-		{0, 10, "ima-ng", digestOf(first), false, true, &File{AlgorithmSHA512, sha512, "/x", nil}, nil, nil},
-		{1, 10, "ima-sig", digestOf(second), false, true, &File{AlgorithmSHA1, ones, "/y", []byte{3, 0, 0xff}}, nil, nil},
-		{2, 10, "ima-sig", digestOf(third), false, true, &File{AlgorithmSHA1, ones, "/z", []byte{}}, nil, nil},
-		{3, 10, "ima", covered, false, true, &File{AlgorithmSHA1, ones, "/w", nil}, nil, nil},
-	})
+	payload, covered := joined(ng("sha1", ones, "/y"), withLength(nil)), digestOf(joined(ones, []byte("/w"), make([]byte, 254)))
+	signed := Entry{Register: 10, Template: "ima-sig", TemplateDigest: digestOf(payload), Genuine: true, Algorithm: "sha1", Digest: ones, Path: "/y", Signature: Hex{}}
+	short, violation, damaged := signed, signed, signed
+	short.Template, short.TemplateDigest, short.Path, short.Signature = "ima", covered, "/w", nil
+	violation.Violation, violation.TemplateDigest = true, zeros
+	damaged.Genuine, damaged.TemplateDigest = false, ones
+	equal(t, entriesIn(entryOf("ima-sig", payload)), []Entry{signed})
+	equal(t, entriesIn(entryWith("ima", joined(ones, withLength([]byte("/w"))), covered)), []Entry{short})
+	equal(t, entriesIn(entryWith("ima-sig", payload, zeros)), []Entry{violation})
+	equal(t, entriesIn(entryWith("ima-sig", payload, ones)), []Entry{damaged})
 }
 
 // The name is no part of what the template digest covers: an entry may be renamed, and stays genuine.
 func TestOtherAndRenamedTemplatesHaveTheirPayloadsWhole(t *testing.T) {
+	check := func(template string, payload []byte, fields *Fields) {
+		t.Helper()
+		found := entriesIn(entryOf(template, payload))[0]
+		equal(t, found.TemplateName(), template)
+		found.Template, found.TemplateHex = "", nil
+		equal(t, found, Entry{Register: 10, TemplateDigest: digestOf(payload), Genuine: true, Payload: payload, Fields: fields})
+	}
 	payload := joined(ng("sha1", ones, "/x"), withLength([]byte{3}))
 	for _, template := range []string{"ima-ng", "ima-modsig", "ima-sig\x00", "ima\x00", "", "\xff\n", "\xed\xa0\x80", "ima-sig\n", `"`, "\u00e9"} {
-		equal(t, entriesIn(t, entryOf(template, payload)), []Entry{{0, 10, template, digestOf(payload), false, true, nil, payload, nil}})
+		check(template, payload, nil)
 	}
 	for _, payload := range [][]byte{{}, payload[:10], joined(payload, []byte("x")), ng("md5", make([]byte, 16), "/x"), ng("sha256", ones, "/x"),
 		ng("sha1", ones, "/\x00x")} {
-		equal(t, entriesIn(t, entryOf("ima-ng", payload)), []Entry{{0, 10, "ima-ng", digestOf(payload), false, true, nil, payload, nil}})
+		check("ima-ng", payload, nil)
 	}
-}
-
-func TestFieldsOfOtherTemplatesAreTold(t *testing.T) {
-	payload := joined(withLength(joined([]byte("verity:sha1:\x00"), ones)), withLength([]byte("/x\x00")))
-	told := json.RawMessage(`{"digest_type":"verity","algorithm":"sha1","digest":"` + fmt.Sprintf("%x", ones) + `","path":"/x"}`)
-	equal(t, entriesIn(t, entryOf("ima-ngv2", payload)), []Entry{{0, 10, "ima-ngv2", digestOf(payload), false, true, nil, payload, told}})
+	payload = joined(withLength(joined([]byte("verity:sha1:\x00"), ones)), withLength([]byte("/\xff\x00")))
+	check("ima-ngv2", payload, &Fields{DigestType: DigestTypeVerity, Algorithm: "sha1", Digest: ones, PathHex: Hex("/\xff")})
+	equal(t, entriesIn(entryOf("ima-ngv2", payload))[0].FilePath(), "/\xff")
 	for _, wrong := range [][]byte{payload[1:], joined(payload, []byte{0}), ng("sha1", ones, "/x")} {
-		equal(t, entriesIn(t, entryOf("ima-ngv2", wrong)), []Entry{{0, 10, "ima-ngv2", digestOf(wrong), false, true, nil, wrong, nil}})
-	}
-}
-
-func TestViolationMayHaveADigest(t *testing.T) {
-	known := sha256.Sum256([]byte("abc"))
-	list := joined(entryWith("ima-ng", ng("sha256", known[:], "/x"), zeros), entryWith("ima-new", []byte{1}, zeros))
-	equal(t, entriesIn(t, list), []Entry{
-		{0, 10, "ima-ng", zeros, true, true, &File{AlgorithmSHA256, known[:], "/x", nil}, nil, nil},
-		{1, 10, "ima-new", zeros, true, true, nil, []byte{1}, nil},
-	})
-}
-
-func TestForgedEntriesAreNotGenuine(t *testing.T) {
-	forged := bytes.Repeat([]byte{5}, 20)
-	equal(t, entriesIn(t, entryWith("ima-ng", ng("sha1", ones, "/x"), forged)),
-		[]Entry{{0, 10, "ima-ng", forged, false, false, &File{AlgorithmSHA1, ones, "/x", nil}, nil, nil}})
-	for k, e := range entriesIn(t, changed) {
-		equal(t, e.Genuine, k != 5)
+		check("ima-ngv2", wrong, nil)
 	}
 }
 
 func TestPathsAreTheirBytes(t *testing.T) {
 	names := []string{"/a\nb", "/a\n0 /sbin/init", "/\"\\\x1b[2J\x7f", "/\u00e9\u2028\U0001f600\uFFFD", "/\xff", "/\xed\xa0\x80", "/\xc3", "",
-		"/}\n{", " ", "/" + strings.Repeat("\x01", 5000), "path_hex", `/\u0000\ufffd`}
+		"/}\n{", " ", "/" + strings.Repeat("\x01", 5000), "path_hex", `/\u0000\ufffd`, strings.Repeat("\x02", 2*firstCapacity), "/x"}
 	var list []byte
 	for _, name := range names {
 		list = append(list, entryOf("ima-ng", ng("sha1", zeros, name))...)
 	}
-	found := entriesIn(t, list)
+	found := entriesIn(list)
 	equal(t, len(found), len(names))
 	for k, e := range found {
-		equal(t, e.File.Path, names[k])
+		equal(t, e.FilePath(), names[k])
 	}
 }
 
-func TestDamagedListGivesWhatComesBeforeTheError(t *testing.T) {
+func TestDamagedInputsGiveWhatComesBeforeTheError(t *testing.T) {
 	last := len(bootList) - 95
-	for _, damaged := range []struct {
-		list  []byte
-		count int
-		fault RefusedError
+	for _, c := range []struct {
+		list   []byte
+		count  int
+		wanted RefusedError
 	}{
-		{bootList[:len(bootList)-1], 98, RefusedError{"refused: list fault 1 at entry 98", KindList, 1, 98, true}},
-		{joined(bootList, []byte("x")), 99, RefusedError{"refused: list fault 1 at entry 99", KindList, 1, 99, true}},
-		{[]byte("x"), 0, RefusedError{"refused: list fault 1 at entry 0", KindList, 1, 0, true}},
-		{joined(bootList[:last], number(24), bootList[last+4:]), 98, RefusedError{"refused: list fault 2 at entry 98", KindList, 2, 98, true}},
+		{cutList, 98, refusal(KindList, 1, 98)}, {joined(bootList, []byte("x")), 99, refusal(KindList, 1, 99)}, {[]byte("x"), 0, refusal(KindList, 1, 0)},
+		{joined(bootList[:last], number(24), bootList[last+4:]), 98, refusal(KindList, 2, 98)},
 	} {
-		found, err := drained(Entries(damaged.list))
-		checkRefused(t, err, damaged.fault)
-		equal(t, len(found), damaged.count)
-		if damaged.count > 0 {
-			equal(t, found, entriesIn(t, bootList)[:damaged.count])
-		}
+		found, err := drained(Entries(c.list))
+		checkRefused(t, c.wanted)(0, err)
+		equal(t, append([]Entry{}, found...), must(drained(Entries(bootList)))[:c.count])
 	}
-}
-
-func TestListWithoutEntriesHasNone(t *testing.T) {
-	for _, empty := range [][]byte{nil, {}, bootList[:0]} {
-		equal(t, len(entriesIn(t, empty)), 0)
+	for _, c := range []struct {
+		log    []byte
+		count  int
+		wanted RefusedError
+	}{
+		{bootLog[:len(bootLog)-1], 23, refusal(KindLog, 1, 24)}, {joined(bootLog, []byte("x")), 24, refusal(KindLog, 1, 25)},
+		{joined(bootLog, number(24), bootLog[69:117]), 24, refusal(KindLog, 9, 25)}, {nil, 0, refusal(KindLog, 1, 0)}, {bootLog[:31], 0, refusal(KindLog, 1, 0)},
+	} {
+		found, err := drainedEvents(Events(c.log))
+		checkRefused(t, c.wanted)(0, err)
+		equal(t, append([]Event{}, found...), must(drainedEvents(Events(bootLog)))[:c.count])
 	}
 }
 
 func TestEventsOfTheSample(t *testing.T) {
-	events, err := Events(bootLog)
-	equal(t, err, nil)
-	equal(t, events.Algorithms(), []LogAlgorithm{{"sha256", 11, 32}})
-	found, err := drainedEvents(events, nil)
-	equal(t, err, nil)
+	events := must(Events(bootLog))
+	equal(t, events.Header().Algorithms, []LogAlgorithm{{"sha256", 11, 32}})
+	found := must(drainedEvents(events, nil))
 	equal(t, len(found), 24)
 	// (the first event of the file, after the header of 65 bytes: register 0, type 8, one digest of SHA-256, 2 bytes of data)
 	equal(t, bootLog[65:79], joined(number(0), number(8), number(1), []byte{0x0b, 0}))
-	equal(t, found[0], Event{1, 0, "EV_S_CRTM_VERSION", 8, map[Algorithm][]byte{AlgorithmSHA256: bootLog[79:111]}, bootLog[115:117],
-		map[Algorithm]Part{AlgorithmSHA256: PartData}, json.RawMessage(`{"text":""}`)})
+	text, flag, line := "", uint8(0), found[0].JSON
+	equal(t, found[0], Event{1, 0, "EV_S_CRTM_VERSION", 8, map[Algorithm]Hex{"sha256": bootLog[79:111]}, bootLog[115:117],
+		map[Algorithm]Part{"sha256": PartData}, "", Content{Text: &text}, line})
 	// (the state of Secure Boot: tpm2_eventlog tells the same)
-	equal(t, string(found[3].Content),
-		`{"variable":{"guid":"8be4df61-93ca-11d2-aa0d-00e098032b8c","name":"SecureBoot","value":"00","flag":0}}`)
-	parts := map[Part][]uint64{}
-	for _, event := range found {
-		parts[event.Measured[AlgorithmSHA256]] = append(parts[event.Measured[AlgorithmSHA256]], event.Number)
-	}
-	equal(t, []interface{}{parts[PartValue], parts[""]}, []interface{}{[]uint64{11, 12}, []uint64{2, 3, 10, 21, 22}})
-	fourth := make([]byte, 32)
+	equal(t, *found[3].Content.Variable, Variable{GUID: "8be4df61-93ca-11d2-aa0d-00e098032b8c", Name: "SecureBoot", Value: Hex{0}, Flag: &flag})
+	parts, fourth := map[Part][]uint64{}, make([]byte, 32)
 	for k, event := range found {
 		equal(t, event.Number, uint64(k+1))
+		parts[event.Measured["sha256"]] = append(parts[event.Measured["sha256"]], event.Number)
 		if event.Register == 4 {
-			digest := sha256.Sum256(joined(fourth, event.Digests[AlgorithmSHA256]))
-			fourth = digest[:]
+			fourth = extended(fourth, event.Digests["sha256"])
 		}
 	}
-	equal(t, registersIn(t, bootTPM)[4], Register{AlgorithmSHA256, 4, fourth})
+	equal(t, each(parts[PartValue], parts[""], expectedOf(4)), each([]uint64{11, 12}, []uint64{2, 3, 10, 21, 22}, Hex(fourth)))
 }
 
 // What is read from a piece stays as it is while the next ones are read.
 func TestItemsOfAllPiecesAreThoseOfTheInput(t *testing.T) {
 	const many, header = 40, 65
-	once, err := drainedEvents(Events(bootLog))
-	equal(t, err, nil)
-	events, err := drainedEvents(Events(joined(bootLog, bytes.Repeat(bootLog[header:], many))))
-	equal(t, []interface{}{err, len(events)}, []interface{}{nil, 24 * (1 + many)})
-	for k, event := range events {
-		wanted := once[k%24]
-		wanted.Number = uint64(k + 1)
-		equal(t, event, wanted)
+	once, entries := must(drainedEvents(Events(bootLog))), entriesIn(bootList)
+	for k, event := range must(drainedEvents(Events(joined(bootLog, bytes.Repeat(bootLog[header:], many))))) {
+		event.Number, event.JSON = uint64(k%24+1), once[k%24].JSON
+		equal(t, event, once[k%24])
 	}
-	list := append(clone(bootList), entryOf("ima-ngv2", joined(withLength(joined([]byte("verity:sha1:\x00"), ones)), withLength([]byte("/x\x00"))))...)
-	entries := entriesIn(t, list)
-	equal(t, entries[99].Fields != nil, true)
-	for k, entry := range entriesIn(t, bytes.Repeat(list, many)) {
-		wanted := entries[k%100]
-		wanted.Number = uint64(k)
-		equal(t, entry, wanted)
+	for k, entry := range entriesIn(bytes.Repeat(bootList, many)) {
+		entry.Number = uint64(k % 99)
+		equal(t, entry, entries[k%99])
 	}
+	equal(t, string(must(Show(bytes.Repeat(bootList, many)))) == strings.Repeat(string(ascii), many), true)
 }
 
-func TestEventsWithoutNamesOrDigests(t *testing.T) {
-	table := joined([]byte("Spec ID Event03\x00"), number(0), []byte{0, 2, 0, 2}, number(2), []byte{18, 0, 1, 0, 4, 0, 20, 0, 0})
-	header := joined(number(0), number(3), zeros, withLength(table))
-	sha1s := joined([]byte{4, 0}, ones)
-	log := joined(header, number(0x01020304), number(3), number(0), number(0),
-		number(0), number(255), number(2), []byte{18, 0, 0xab}, sha1s, withLength([]byte("\"\n")))
-	events, err := Events(log)
-	equal(t, err, nil)
-	equal(t, events.Algorithms(), []LogAlgorithm{{"", 18, 1}, {"sha1", 4, 20}})
-	found, err := drainedEvents(events, nil)
-	equal(t, err, nil)
-	unknown := json.RawMessage(`{"unknown":true}`)
-	equal(t, found, []Event{
-		{1, 0x01020304, "EV_NO_ACTION", 3, map[Algorithm][]byte{}, []byte{}, map[Algorithm]Part{}, unknown},
-		{2, 0, "", 255, map[Algorithm][]byte{AlgorithmSHA1: ones}, []byte("\"\n"), map[Algorithm]Part{}, unknown},
-	})
-}
-
-func TestDamagedLogIsRefusedAfterWhatComesBeforeTheError(t *testing.T) {
-	whole, err := drainedEvents(Events(bootLog))
-	equal(t, err, nil)
-	for _, damaged := range []struct {
-		log   []byte
-		count int
-		fault RefusedError
-	}{
-		{bootLog[:len(bootLog)-1], 23, RefusedError{"refused: log fault 1 at event 24", KindLog, 1, 24, true}},
-		{joined(bootLog, []byte("x")), 24, RefusedError{"refused: log fault 1 at event 25", KindLog, 1, 25, true}},
-		{joined(bootLog, number(24), bootLog[69:117]), 24, RefusedError{"refused: log fault 9 at event 25", KindLog, 9, 25, true}},
-	} {
-		found, err := drainedEvents(Events(damaged.log))
-		checkRefused(t, err, damaged.fault)
-		equal(t, found, whole[:damaged.count])
-	}
-	for _, header := range [][]byte{nil, bootLog[:31]} {
-		_, err := Events(header)
-		checkRefused(t, err, RefusedError{"refused: log fault 1 at event 0", KindLog, 1, 0, true})
+func TestTextOfEntriesIsTheSameByPiecesOfAnySize(t *testing.T) {
+	for _, capacity := range []int{1, 2, 100, 1000, len(ascii) - 1, len(ascii)} {
+		calls, at := 0, new(position)
+		l := linesOf(false, func(out []byte) (int32, errorInfo) {
+			calls++
+			return callEntries(bootList, at, false, out)
+		})
+		l.buffer = make([]byte, capacity)
+		equal(t, each(string(must(allOf(l))), calls > 1), each(string(ascii), capacity < len(ascii)))
 	}
 }

@@ -3,7 +3,6 @@ package imaverify
 import (
 	"bytes"
 	"errors"
-	"regexp"
 	"strconv"
 )
 
@@ -12,19 +11,24 @@ import (
 type Session struct {
 	log, expected []byte
 	require       string
-	known         knownFiles
-	prefix        bool
-	reached       checkpoint
+	settings      settings
 }
 
-// knownFiles are the texts of Known, one after another, if they are given.
+// settings are what options ask for, and the state from which the list continues.
+type settings struct {
+	known  knownFiles
+	prefix bool
+	state  []byte
+}
+
+// knownFiles are the texts of Known, one after another, and whether entries are looked up in them.
 type knownFiles struct {
-	areGiven bool
-	text     []byte
+	checked bool
+	text    []byte
 }
 
 // Option is Known, which Verify, Replay, Attest and sessions take, or Prefix or Resume, which only sessions take.
-type Option func(s *Session) error
+type Option func(s *settings)
 
 // Known has each entry be of a known file, but for the boot aggregate, with which a list begins. A file is known if these texts have its
 // digest, a line for each file, as sha256sum, sha384sum and sha512sum print them. The verdict has the other entries in Unknown, and is then
@@ -36,68 +40,58 @@ type Option func(s *Session) error
 // A session does not look up again the entries that its state covers: if other files are known than were then, begin a new session with
 // the whole list.
 func Known(texts ...[]byte) Option {
-	return func(s *Session) error {
-		s.known.areGiven = true
+	return func(s *settings) {
+		s.known.checked = true
 		for _, text := range texts {
 			s.known.text = append(s.known.text, text...)
 			if len(text) > 0 && text[len(text)-1] != '\n' {
 				s.known.text = append(s.known.text, '\n')
 			}
 		}
-		return nil
 	}
-}
-
-// knownIn are the known files of options that have nothing else.
-func knownIn(options []Option) (knownFiles, error) {
-	var s Session
-	for _, option := range options {
-		if err := option(&s); err != nil {
-			return knownFiles{}, err
-		}
-	}
-	if s.prefix || s.reached.text != nil {
-		return knownFiles{}, errors.New("only a session takes Prefix and Resume")
-	}
-	return s.known, nil
 }
 
 // Prefix has the verdict be on the confirmed part of the list, if there is one: the list's first entries, as few as make all
 // PCRs match. What comes after them may be new since the PCRs were read, or damaged. The verdict's Confirmed says how many
 // entries they are, and its Unconfirmed what is wrong after them.
 func Prefix() Option {
-	return func(s *Session) error {
-		s.prefix = true
-		return nil
-	}
+	return func(s *settings) { s.prefix = true }
 }
 
 // Resume has the session continue from the State of an earlier one, with a log of the same boot. The expected PCRs may be
-// others. A state that is not whole, even an empty one or nil, is refused with the kind KindCheckpoint, by NewSession or by
-// More.
+// others. More and Attest refuse a state that is not whole, even an empty one or nil, with KindCheckpoint.
 //
 // A state is trusted: who can write it can choose the verdict. Never take it from the machine that is judged.
 func Resume(state []byte) Option {
-	return func(s *Session) error {
-		reached, isState := checkpointIn(state)
-		if !isState {
-			return refusedState(state)
-		}
-		s.reached = reached
-		return nil
+	return func(s *settings) { s.state = someBytes(clone(state)) }
+}
+
+func settingsOf(options []Option) settings {
+	var s settings
+	for _, option := range options {
+		option(&s)
 	}
+	return s
+}
+
+// knownIn are the known files of options that have nothing else.
+func knownIn(options []Option) (knownFiles, error) {
+	s := settingsOf(options)
+	if s.prefix || s.state != nil {
+		return knownFiles{}, errors.New("only a session takes Prefix and Resume")
+	}
+	return s.known, nil
 }
 
 // NewSession gives a session on a list, of which nothing is known unless it is resumed. The arguments are as in Verify; log and
 // expected are copied. For a requirement that is not of its form, such as an empty one, More gives the error.
-func NewSession(log, expected []byte, require string, options ...Option) (*Session, error) {
-	s := &Session{log: clone(log), expected: clone(expected), require: require}
-	for _, option := range options {
-		if err := option(s); err != nil {
-			return nil, err
-		}
-	}
-	return s, nil
+func NewSession(log, expected []byte, require string, options ...Option) *Session {
+	return &Session{clone(log), clone(expected), require, settingsOf(options)}
+}
+
+// NewQuoteSession gives a session for Attest alone: no PCRs are expected, and More gives an error.
+func NewQuoteSession(log []byte, options ...Option) *Session {
+	return NewSession(log, nil, "", options...)
 }
 
 // More gives the verdict on the list that the state covers, followed by these bytes, which may be none. If it is a match, the
@@ -106,14 +100,18 @@ func NewSession(log, expected []byte, require string, options ...Option) (*Sessi
 // Numbers of entries, even in an error, are those of the whole list. After an error, and after a verdict that is no match, the
 // session is as it was before: give these bytes again.
 func (s *Session) More(data []byte) (Verdict, error) {
-	return s.more(len(data), func(next, out []byte) (int32, uint64, told) {
-		return callMore(s.log, s.reached.text, data, s.expected, []byte(s.require), s.known, s.prefix, next, out)
+	return s.more(func(next, out []byte) (int32, uint64, errorInfo) {
+		return callMore(s.log, s.settings.state, data, s.expected, []byte(s.require), s.settings.known, s.settings.prefix, next, out)
 	})
 }
 
-// NewQuoteSession gives a session for Attest alone: no PCRs are expected, and More gives an error.
-func NewQuoteSession(log []byte, options ...Option) (*Session, error) {
-	return NewSession(log, nil, "", options...)
+// more is More by this call.
+func (s *Session) more(call func(next, out []byte) (int32, uint64, errorInfo)) (Verdict, error) {
+	verdict, next, err := nextResult[Verdict](call)
+	if verdict.Matches {
+		s.settings.state = next
+	}
+	return verdict, err
 }
 
 // Attest gives the verdict by a quote on the list that the state covers, followed by these bytes, which may be none. If it is a
@@ -123,41 +121,56 @@ func NewQuoteSession(log []byte, options ...Option) (*Session, error) {
 // state is that of a session that used Attest last. Another is refused with KindCheckpoint and the number 4. (A suspend counts as a
 // restart: then begin a new session with the whole list.) Other errors are those of the function Attest.
 func (s *Session) Attest(data []byte, quote Quote) (Attestation, error) {
-	found, reached, err := attestFrom(s.log, s.reached, data, quote, s.known, s.prefix)
-	if err == nil {
-		s.reached = reached
+	found, next, err := attestFrom(s.log, data, quote, s.settings)
+	if found.Matches {
+		s.settings.state = next
 	}
 	return found, err
 }
 
-// attestFrom gives the verdict by a quote on the list of a checkpoint followed by these bytes, and the next checkpoint.
-func attestFrom(log []byte, from checkpoint, data []byte, quote Quote, known knownFiles, prefix bool) (Attestation, checkpoint, error) {
-	quote, signature, err := quote.signing()
+// attestFrom gives the verdict by a quote on the list of a state followed by these bytes, and the next state.
+func attestFrom(log, data []byte, quote Quote, from settings) (Attestation, []byte, error) {
+	quote, err := quote.prepared()
 	if err != nil {
-		return Attestation{}, from, err
+		return Attestation{}, nil, err
 	}
-	given, err := askForBoth(make([]byte, room), make([]byte, room), func(next, out []byte) (int32, uint64, told) {
-		return callAttest(log, from.text, data, quote, known, prefix, next, out)
+	return nextResult[Attestation](func(next, out []byte) (int32, uint64, errorInfo) {
+		return callAttest(log, from.state, data, quote, from.known, from.prefix, next, out)
 	})
-	if err != nil {
-		return Attestation{}, from, err
-	}
-	return given.attestation(from, uint64(len(data)), known.areGiven, prefix, signature)
 }
 
-// signing gives the quote as the library takes it, to which no bytes are no key and no signature, and what a report says of the signature.
-func (q Quote) signing() (Quote, SignatureState, error) {
-	switch {
-	case q.Key == nil && q.Signature == nil && q.SignatureChecked:
-		return q, SignatureChecked, nil
-	case q.Key == nil && q.Signature == nil:
-		return q, SignatureNotChecked, nil
-	case q.Key == nil || q.Signature == nil || q.SignatureChecked:
-		return Quote{}, "", &RefusedError{Line: "refused: command line", Kind: KindArgument}
-	default:
-		q.Key, q.Signature = someBytes(q.Key), someBytes(q.Signature)
-		return q, SignatureValid, nil
+// nextResult reads a verdict from the answer to a call, and the next state, which only a match has.
+func nextResult[T any](call func(next, out []byte) (int32, uint64, errorInfo)) (T, []byte, error) {
+	var none T
+	given, err := askForBoth(make([]byte, checkpointCapacity), make([]byte, firstCapacity), call)
+	if err != nil {
+		return none, nil, err
 	}
+	read, err := resultOf[T](given)
+	if err == nil && (given.status == done) != (len(given.next) > 0) {
+		return none, nil, given.unexpected()
+	}
+	return read, clone(given.next), err
+}
+
+// State is what to keep, and to Resume another session from. It is nil before the first match on a list from its start.
+func (s *Session) State() []byte {
+	return clone(s.settings.state)
+}
+
+// Offset is how many bytes of the list the state covers: More takes those that follow.
+func (s *Session) Offset() uint64 {
+	_, after, _ := bytes.Cut(s.settings.state, []byte("\nbytes "))
+	digits, _, _ := bytes.Cut(after, []byte("\n"))
+	offset, err := strconv.ParseUint(string(digits), 10, 64)
+	if err != nil {
+		return 0 // (there is no state, or More refuses it)
+	}
+	return offset
+}
+
+func clone(data []byte) []byte {
+	return append([]byte(nil), data...)
 }
 
 // someBytes are these bytes, or in place of none a zero, which is refused for the same reason: it ends too early.
@@ -166,68 +179,4 @@ func someBytes(data []byte) []byte {
 		return []byte{0}
 	}
 	return data
-}
-
-// more is More for a call with so many bytes.
-func (s *Session) more(size int, call func(next, out []byte) (int32, uint64, told)) (Verdict, error) {
-	given, err := askForBoth(make([]byte, room), make([]byte, room), call)
-	if err != nil {
-		return Verdict{}, err
-	}
-	verdict, reached, err := given.more(s.reached, uint64(size), s.known.areGiven, s.prefix)
-	if err == nil {
-		s.reached = reached
-	}
-	return verdict, err
-}
-
-// State is what to keep, and to Resume another session from. It is nil before the first match on a list from its start.
-func (s *Session) State() []byte {
-	return clone(s.reached.text)
-}
-
-// Offset is how many bytes of the list the state covers: More takes those that follow.
-func (s *Session) Offset() uint64 {
-	return s.reached.bytes
-}
-
-func clone(data []byte) []byte {
-	return append([]byte(nil), data...)
-}
-
-// checkpoint is the text of a checkpoint, and how many entries and bytes of the list it covers. That of no entries has no text.
-type checkpoint struct {
-	text           []byte
-	entries, bytes uint64
-}
-
-const (
-	checkpointName, checkpointVersion = "ima-agent checkpoint ", "3\n"
-	digits                            = `(0|[1-9][0-9]*)`
-)
-
-var checkpointCounts = regexp.MustCompile("^" + checkpointName + checkpointVersion + "entries " + digits + "\nbytes " + digits + "\n")
-
-// checkpointIn is a copy of the checkpoint whose text this is, if it begins as one. (The library judges the rest.)
-func checkpointIn(text []byte) (checkpoint, bool) {
-	match := checkpointCounts.FindSubmatch(text)
-	if match == nil {
-		return checkpoint{}, false
-	}
-	entries, err := strconv.ParseUint(string(match[1]), 10, 63)
-	if err != nil {
-		return checkpoint{}, false
-	}
-	size, err := strconv.ParseUint(string(match[2]), 10, 63)
-	return checkpoint{clone(text), entries, size}, err == nil && entries <= size
-}
-
-// refusedState is the error of a text that does not begin as a checkpoint.
-func refusedState(text []byte) error {
-	const damaged, otherVersion = 1, 2
-	name, version := []byte(checkpointName), []byte(checkpointName+checkpointVersion)
-	if bytes.HasPrefix(text, name) && !bytes.HasPrefix(text, version) {
-		return &RefusedError{Line: "refused: checkpoint fault 2", Kind: KindCheckpoint, Number: otherVersion}
-	}
-	return &RefusedError{Line: "refused: checkpoint fault 1", Kind: KindCheckpoint, Number: damaged}
 }

@@ -33,7 +33,9 @@ PAGE = r"""differ 99
 GO_CALL = """package main
 
 import (
-{imports}
+	"fmt"
+	"log"
+	"os"
 
 	"imaverify"
 )
@@ -55,15 +57,14 @@ GO_QUOTE = """	verdict, err := attested(files[0], string(files[1]), files[2], fi
 	if err != nil {
 		log.Fatal(err)
 	}
-	fmt.Println(map[bool]string{true: "match", false: "differ"}[verdict.Matches], verdict.Entries)"""
+	fmt.Println(verdict.Conclusion, verdict.Entries)"""
 GO_PAGE = """	if err := unknownFiles(files[0], files[1], files[2], files[3]); err != nil {
 		log.Fatal(err)
 	}"""
 
 
-def go_call(call, *names, imports=()):
-    lines = "\n".join(f'\t"{name}"' for name in sorted({"fmt", "log", "os", *imports}))
-    return GO_CALL.format(call=call, imports=lines, names=", ".join(f'"{name}"' for name in names))
+def go_call(call, *names):
+    return GO_CALL.format(call=call, names=", ".join(f'"{name}"' for name in names))
 
 
 def examples_of(language):
@@ -82,7 +83,7 @@ def page_of(language):
 def quote_page_of(language):
     """The first example of a language's page, of a quote, as a program."""
     names = "AK.pub", "nonce", "quote.msg", "quote.sig", *FILES[:2]
-    begun = go_call(GO_QUOTE, *names, imports=("encoding/hex", "strings")) if language == "go" else ""
+    begun = go_call(GO_QUOTE, *names) if language == "go" else ""
     return begun + examples_of(language)[0]
 
 
