@@ -2,6 +2,7 @@ package imaverify
 
 import (
 	"bytes"
+	"crypto"
 	"crypto/rsa"
 	"crypto/sha256"
 	"crypto/sha512"
@@ -173,12 +174,17 @@ func TestHashesOfNames(t *testing.T) {
 	}
 }
 
-// TestKeysThatAreReadVerifyQuotes has the area and its PEM; of another key neither, and of one on P-521 no signature is verified.
-func TestKeysThatAreReadVerifyQuotes(t *testing.T) {
+// quotingArea is the public area of the key that signed the sample's quote, by RSASSA with SHA-256.
+func quotingArea() []byte {
 	block, _ := pem.Decode(sampleKey)
 	public, err := x509.ParsePKIXPublicKey(block.Bytes)
 	succeed(err)
-	area := rsaArea(public.(*rsa.PublicKey).N.Bytes(), 0x0b, 0, 0x14, 0x0b)
+	return rsaArea(public.(*rsa.PublicKey).N.Bytes(), 0x0b, 0, rsassa, hashNumbers[crypto.SHA256])
+}
+
+// TestKeysThatAreReadVerifyQuotes has the area and its PEM; of another key neither, and of one on P-521 no signature is verified.
+func TestKeysThatAreReadVerifyQuotes(t *testing.T) {
+	area := quotingArea()
 	key, err := ReadKey(area)
 	succeed(err)
 	equal(t, bytes.Equal(key.PEM, sampleKey), true)

@@ -317,9 +317,12 @@ func TestSignaturesOfOtherWaysAreNotThoseOfAnArea(t *testing.T) {
 
 func TestChangedSignaturesAreNone(t *testing.T) {
 	for _, each := range allSigned() {
-		key, size, step := pemOf(each.key), len(each.signature), 101
-		if !each.isRSA() {
-			key, step = each.area, 211
+		key, size, step := each.area, len(each.signature), 211
+		if each.isRSA() {
+			step = 101
+			// (each scheme and hash is tried)
+			checkNotSigned(t, pemOf(each.key), turned(each.signature, 8*size-1), quoteMessage)
+			checkNotSigned(t, pemOf(each.key), turned(each.inForm, 8*size-1), quoteMessage)
 		}
 		for bit := 0; bit < 8*size; bit += step {
 			checkNoSignature(t, key, turned(each.signature, bit), quoteMessage)
@@ -340,11 +343,12 @@ func TestChangedSignaturesAreNone(t *testing.T) {
 }
 
 func TestEachBitOfTheSampleCounts(t *testing.T) {
+	area := quotingArea()
 	for bit := 0; bit < 8*len(sampleSignature); bit++ {
-		checkNotSigned(t, sampleKey, turned(sampleSignature, bit), quoteMessage)
+		checkNotSigned(t, area, turned(sampleSignature, bit), quoteMessage)
 	}
 	for bit := 0; bit < 8*len(quoteMessage); bit++ {
-		checkNotSigned(t, sampleKey, sampleSignature, turned(quoteMessage, bit))
+		checkNotSigned(t, area, sampleSignature, turned(quoteMessage, bit))
 	}
 }
 

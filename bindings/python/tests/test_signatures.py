@@ -34,6 +34,8 @@ SAMPLES = "AK.pem", "quote.msg", "quote.sig", "quote.tpmt"
 KEY, MESSAGE, SIGNATURE, TPMT_SIGNATURE = ((ROOT / "samples/quoted" / name).read_bytes() for name in SAMPLES)
 NONCE = bytes.fromhex((ROOT / "samples/quoted/nonce").read_text())
 LOG, LIST = ((ROOT / "samples/real-boot" / name).read_bytes() for name in ("firmware.log", "ima.list"))
+# Its public area, by RSASSA with SHA-256 (TPM 2.0 Library, part 2, TPM2B_PUBLIC): in the key the modulus is before the exponent.
+AREA = bytes.fromhex("01180001000b00050072000000100014000b0800000000000100") + base64.b64decode(b"".join(KEY.splitlines()[1:-1]))[-261:-5]
 BEGIN, END = b"-----BEGIN PUBLIC KEY-----\n", b"-----END PUBLIC KEY-----\n"
 # The errors of a signature (docs/errors.txt), and of a key that is not taken.
 CUT, UNKNOWN_SCHEME, UNKNOWN_HASH, TRAILING, OTHER_SCHEME, OTHER_HASH, NOT_SIGNED, OTHER_KEY, OTHER_PEM = range(1, 10)
@@ -154,7 +156,7 @@ class Library(unittest.TestCase):
 
 class Sample(Library):
     def test_sample_is_signed(self):
-        for key in (KEY, KEY.decode(), bytearray(KEY), memoryview(KEY)):
+        for key in (KEY, KEY.decode(), bytearray(KEY), memoryview(KEY), AREA):
             for signature in (bytearray(SIGNATURE), TPMT_SIGNATURE):
                 self.check_signed(key, signature, MESSAGE)
                 self.refusal(key, signature, memoryview(MESSAGE))
@@ -174,9 +176,9 @@ class Sample(Library):
 
     def test_each_bit_of_the_sample_counts(self):
         for place in range(8 * len(SIGNATURE)):
-            self.check_not_signed(KEY, turned(SIGNATURE, place))
+            self.check_not_signed(AREA, turned(SIGNATURE, place))
         for place in range(8 * len(MESSAGE)):
-            self.check_not_signed(KEY, SIGNATURE, turned(MESSAGE, place))
+            self.check_not_signed(AREA, SIGNATURE, turned(MESSAGE, place))
 
     def test_package_verifies_without_cryptography(self):
         program = (
@@ -271,17 +273,20 @@ class Signatures(Library):
     def test_changed_signatures_are_none(self):
         for key, area, signature, in_form in self.signed():
             is_rsa = isinstance(key, rsa.RSAPrivateKey)
-            public, step = (pem_of(key), 101) if is_rsa else (area, 211)
-            for place in (*range(0, 8 * len(signature), step), 8 * len(signature) - 1):
-                self.check_not_signed(public, turned(signature, place), numbers=(NOT_SIGNED,) if is_rsa else NOT_SIGNED_ANYHOW)
+            step, last = 101 if is_rsa else 211, 8 * len(signature) - 1
+            for place in (*range(0, last, step), last):
+                self.check_not_signed(area, turned(signature, place), numbers=(NOT_SIGNED,) if is_rsa else NOT_SIGNED_ANYHOW)
             for place in (0, 8, 16, 24, 32, 40, *range(48, 8 * len(in_form), 5 * step)):
-                self.check_not_signed(public, turned(in_form, place), numbers=NOT_SIGNED_ANYHOW)
+                self.check_not_signed(area, turned(in_form, place), numbers=NOT_SIGNED_ANYHOW)
+            if is_rsa:  # (each scheme and hash is tried)
+                self.check_not_signed(pem_of(key), turned(signature, last))
+                self.check_not_signed(pem_of(key), turned(in_form, last))
             for size in (0, 1, 6, len(signature) // 2, len(signature) - 1):
-                self.check_not_signed(public, signature[:size], numbers=NOT_SIGNED_ANYHOW)
-                self.check_not_signed(public, in_form[:size], numbers=(CUT,))
-            self.check_not_signed(public, in_form + b"\0", numbers=(TRAILING,))
+                self.check_not_signed(area, signature[:size], numbers=NOT_SIGNED_ANYHOW)
+                self.check_not_signed(area, in_form[:size], numbers=(CUT,))
+            self.check_not_signed(area, in_form + b"\0", numbers=(TRAILING,))
             for other in (signature + b"\0", b"\0" + signature, signature[1:], bytes(len(signature)), b"\xff" * len(signature)):
-                self.check_not_signed(public, other, numbers=NOT_SIGNED_ANYHOW)
+                self.check_not_signed(area, other, numbers=NOT_SIGNED_ANYHOW)
 
     def test_rsa_signatures_have_the_size_of_the_key(self):
         key, algorithm = self.rsa[0], hashes.SHA256()
