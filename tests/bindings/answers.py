@@ -1,0 +1,109 @@
+#!/usr/bin/env python3
+"""Writes answers.jsonl, from which the tests of all packages read the same answers of the library.
+
+tests/bindings/answers.py > tests/bindings/answers.jsonl
+
+The answers are lines of the cases of `--json` (tests/cases/*/*.case): the first lines that have a member, a value of an enumeration, or an absent
+member of docs/schema.json that no line before them has. A line of answers.jsonl is an object with the members
+
+    kind       which definition of docs/schema.json the answer has: `verify`, `attest`, `replay`, `places`, `pcrs`, `key`, `header`, `event`, `entry`,
+               `end`, or `error`
+    status     what the library returns with it: 0 (IMA_VERIFY_DONE) or 1 (IMA_VERIFY_DIFFERS); an `error` has 2 (IMA_VERIFY_REFUSED)
+    matches    for a verdict and for places: whether a package says that all match; false for a verdict on no PCR, whose status may be 0
+    line       the answer, without its line feed
+
+tests/bindings/answers.py sentences
+
+That writes instead the sentences of docs/errors.txt on the errors that a library gives, a line each: kind, number, sentence. Each package has these
+lines in a file: bindings/python/ima_verify/sentences.txt, bindings/go/sentences.txt, bindings/rust/src/sentences.txt.
+"""
+
+import json
+import sys
+from pathlib import Path
+
+TESTS = Path(__file__).resolve().parents[1]
+sys.path[:0] = [str(TESTS), str(TESTS / "cases")]
+import form  # noqa: E402
+from line_kinds import DEFINED, kinds_of, visited  # noqa: E402
+
+VERDICTS = "verify", "attest", "replay", "places"
+LINES = "pcrs", "key", "header", "event", "entry", "end", "error"
+REFUSED_KINDS = "log", "list", "replay", "expected", "checkpoint", "quote", "key", "known", "signature"
+DONE, DIFFERS, REFUSED = 0, 1, 2
+LONGEST = 6000
+
+
+def lines_of_cases():
+    """The lines of JSON that the cases show in full, shorter ones first, with the statuses of the commands."""
+    found = {}
+    for case in map(form.read_case, form.case_files()):
+        for command in case.commands:
+            if "--json" in command.words:
+                found.update((line, command.status) for line in command.wanted if line.startswith("{") and len(line) <= LONGEST)
+    return sorted(found.items(), key=lambda item: (len(item[0]), item[0]))
+
+
+def object_in(line):
+    """The object of a line, or None if the case leaves out a part of it."""
+    try:
+        return json.loads(line)
+    except ValueError:
+        return None
+
+
+def is_of_library(value, kind):
+    """Whether a library gives such a line: its errors are refused inputs."""
+    return kind in (*VERDICTS, *LINES) and (kind != "error" or value["fault"]["kind"] in REFUSED_KINDS)
+
+
+def features_of(value, kind):
+    """What of the schema a value shows: members that it has or lacks, values that the schema names, and whether an array has items."""
+    for name, part, inner in visited(DEFINED[kind], value, kind):
+        if "const" in part or "enum" in part:
+            yield kind, name, str(inner)
+        if isinstance(inner, list):
+            yield kind, name, bool(inner)
+        if isinstance(inner, dict):
+            yield from ((kind, name, member, member in inner) for member in part.get("properties", {}))
+
+
+def answer_of(kind, status, value, line):
+    """The line of the table for an answer."""
+    if kind == "error":
+        return {"kind": kind, "status": REFUSED, "line": line}
+    if kind not in VERDICTS:
+        return {"kind": kind, "status": DONE, "line": line}
+    compared = value["quoted"] if kind == "attest" else value["registers"]
+    result = DIFFERS if status else DONE
+    return {"kind": kind, "status": result, "matches": result == DONE and bool(compared), "line": line}
+
+
+def answers():
+    """The lines of the table, by their kinds."""
+    shown, chosen = set(), []
+    for line, status in lines_of_cases():
+        value = object_in(line)
+        for kind in kinds_of(value):
+            features = {*features_of(value, kind)}
+            if is_of_library(value, kind) and not features <= shown:
+                shown |= features
+                chosen.append(answer_of(kind, status, value, line))
+    order = [*VERDICTS, *LINES]
+    return sorted(chosen, key=lambda answer: order.index(answer["kind"]))
+
+
+def sentences():
+    """A line for each error of an input, with its kind, its number, and what it means."""
+    for kind in REFUSED_KINDS:
+        for number, sentence in form.sentences_of(kind.capitalize()).items():
+            yield f"{kind} {number} {sentence.replace('register R of', 'a register of')}\n"
+
+
+def table():
+    """A line for each answer."""
+    return (json.dumps(answer, separators=(",", ":"), ensure_ascii=False) + "\n" for answer in answers())
+
+
+if __name__ == "__main__":
+    sys.stdout.writelines(sentences() if sys.argv[1:] == ["sentences"] else table())
