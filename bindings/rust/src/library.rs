@@ -1,6 +1,6 @@
 //! Calls the C library, as `bindings/c/ima_verify.h` describes it.
 
-use crate::answers::Answer;
+use crate::answer::Answer;
 use crate::{Error, Quote, Signing};
 use ima_verify_sys as c;
 
@@ -13,8 +13,7 @@ pub(crate) use c::{
 pub(crate) const ROOM: usize = 64 * 1024;
 
 /// What is reported before a call: a size that no text has.
-const NOTHING_TOLD: Told =
-    Told { size: usize::MAX, fault_kind: c::IMA_VERIFY_NO_FAULT, fault_number: 0, fault_place: c::IMA_VERIFY_NO_PLACE };
+const NOTHING_TOLD: Told = Told { size: usize::MAX, fault_kind: c::IMA_VERIFY_NO_FAULT, fault_number: 0, fault_place: c::IMA_VERIFY_NO_PLACE };
 
 pub(crate) fn version() -> u32 {
     // SAFETY: the function takes nothing and only returns a number.
@@ -94,7 +93,7 @@ pub(crate) struct Attested<'a> {
 pub(crate) fn attest(inputs: &Attested, quote: &Quote<'_>, next: &mut [u8], out: &mut [u8]) -> (i32, usize, Told) {
     let &Attested { log, state, data, known, prefix } = inputs;
     let (known, known_given) = (known.unwrap_or_default(), known.is_some());
-    let &Quote { signing, message, nonce, require, takes_sha1, .. } = quote;
+    let &Quote { signing, message, nonce, require, allow_sha1, .. } = quote;
     let (key, signature) = match signing {
         Signing::ByKey { key, signature } => (some_bytes(key), some_bytes(signature)),
         Signing::ByCaller | Signing::NotChecked => (&[][..], &[][..]),
@@ -106,16 +105,16 @@ pub(crate) fn attest(inputs: &Attested, quote: &Quote<'_>, next: &mut [u8], out:
             log.as_ptr(), log.len(), state.as_ptr(), state.len(), data.as_ptr(), data.len(), message.as_ptr(), message.len(),
             key.as_ptr(), key.len(), signature.as_ptr(), signature.len(),
             nonce.as_ptr(), nonce.len(), require.as_ptr(), require.len(), known.as_ptr(), known.len(), known_given,
-            takes_sha1, signing == Signing::ByCaller, prefix, true,
+            allow_sha1, signing == Signing::ByCaller, prefix, true,
             next.as_mut_ptr(), next.len(), &mut next_size, out.as_mut_ptr(), out.len(), &mut told,
         )
     };
     (result, next_size, told)
 }
 
-/// These bytes, or in place of none, which the library takes as no key and no signature, a zero. It is refused for the same reason: it ends
-/// too early.
-fn some_bytes(bytes: &[u8]) -> &[u8] {
+/// These bytes, or in place of none, which the library takes as no key, no signature or no state, a zero. It is refused for the same reason:
+/// it ends too early.
+pub(crate) fn some_bytes(bytes: &[u8]) -> &[u8] {
     if bytes.is_empty() {
         &[0]
     } else {
@@ -161,9 +160,7 @@ pub(crate) fn ask(text: Vec<u8>, mut call: impl FnMut(&mut [u8]) -> (i32, Told))
 
 /// Calls the library with buffers for a next checkpoint, whose size the call gives, and for a text.
 pub(crate) fn ask_for_both(
-    mut next: Vec<u8>,
-    mut text: Vec<u8>,
-    mut call: impl FnMut(&mut [u8], &mut [u8]) -> (i32, usize, Told),
+    mut next: Vec<u8>, mut text: Vec<u8>, mut call: impl FnMut(&mut [u8], &mut [u8]) -> (i32, usize, Told),
 ) -> Result<Answer, Error> {
     if version() < c::IMA_VERIFY_VERSION {
         return Err(Error::Version(version()));

@@ -1,0 +1,329 @@
+//! How answers are read: the real ones of `tests/bindings/answers.jsonl`, those of a later library, and those that are none.
+
+use super::*;
+use crate::answer::{line, object, Answer};
+use crate::library::{ask, ask_for_both, Told, DIFFERS, DONE, MORE, OUT_OF_MEMORY, REFUSED};
+use crate::lines::{Lines, Source};
+use crate::results::{End, Judged, Line, Refusal};
+use ima_verify_sys as c;
+use serde::de::{DeserializeOwned, Error as _, Visitor};
+use serde::{forward_to_deserialize_any, Deserialize, Deserializer};
+use std::collections::{BTreeSet, VecDeque};
+
+/// A line of the table.
+#[derive(Deserialize)]
+struct Real {
+    kind: String,
+    status: i32,
+    #[serde(default)]
+    matches: bool,
+    line: String,
+}
+
+fn table() -> Vec<Real> {
+    text_of("../tests/bindings/answers.jsonl").lines().map(|line| serde_json::from_str(line).unwrap()).collect()
+}
+
+/// A real match, or another line, of this kind.
+fn real(kind: &str, status: i32) -> String {
+    table().into_iter().find(|real| real.kind == kind && real.status == status && real.matches == (status == DONE)).unwrap().line
+}
+
+fn told_of(result: i32, text: &[u8]) -> Told {
+    let fault_kind = match result {
+        REFUSED => c::IMA_VERIFY_LIST,
+        OUT_OF_MEMORY => c::IMA_VERIFY_MEMORY,
+        _ => c::IMA_VERIFY_NO_FAULT,
+    };
+    Told { size: text.len(), fault_kind, fault_number: 1, fault_place: 5 }
+}
+
+/// The answer of a library that gives this result and this line.
+fn answer(result: i32, text: &str) -> Result<Answer, Error> {
+    let text = format!("{text}\n").into_bytes();
+    Answer { result, told: told_of(result, &text), next: Vec::new(), text }.accepted()
+}
+
+fn judged<T: Judged>(result: i32, text: &str) -> Result<T, Error> {
+    answer(result, text)?.judged()
+}
+
+/// Whether an answer of this kind is a match.
+fn matches(kind: &str, result: i32, text: &str) -> Result<bool, Error> {
+    match kind {
+        "verify" => judged::<Verdict>(result, text).map(|found| found.matches),
+        "attest" => judged::<Attestation>(result, text).map(|found| found.matches),
+        "replay" => judged::<ListVerdict>(result, text).map(|found| found.matches),
+        _ => judged::<Places>(result, text).map(|found| found.located),
+    }
+}
+
+const JUDGING: [&str; 4] = ["verify", "attest", "replay", "places"];
+
+/// What a struct is made from: nothing, but the names of its members are its error.
+struct Names;
+
+impl<'de> Deserializer<'de> for Names {
+    type Error = serde_json::Error;
+
+    fn deserialize_any<V: Visitor<'de>>(self, _: V) -> Result<V::Value, Self::Error> {
+        Err(Self::Error::custom("no struct"))
+    }
+
+    fn deserialize_struct<V: Visitor<'de>>(self, _: &str, names: &'static [&'static str], _: V) -> Result<V::Value, Self::Error> {
+        Err(Self::Error::custom(names.join(" ")))
+    }
+
+    forward_to_deserialize_any! {
+        bool i8 i16 i32 i64 u8 u16 u32 u64 f32 f64 char str string bytes byte_buf option unit unit_struct newtype_struct seq tuple
+        tuple_struct map enum identifier ignored_any
+    }
+}
+
+fn names_of<T: DeserializeOwned>() -> BTreeSet<String> {
+    T::deserialize(Names).err().unwrap().to_string().split(' ').map(str::to_owned).collect()
+}
+
+#[test]
+fn members_and_words_are_those_of_the_schema() {
+    let schema: Value = serde_json::from_str(&text_of("../docs/schema.json")).unwrap();
+    for (name, found) in [
+        ("verify", names_of::<Verdict>()),
+        ("attest", names_of::<Attestation>()),
+        ("replay", names_of::<ListVerdict>()),
+        ("places", names_of::<Places>()),
+        ("pcrs", names_of::<Registers>()),
+        ("key", names_of::<Key>()),
+        ("header", names_of::<Header>()),
+        ("event", names_of::<Event>()),
+        ("entry", names_of::<Entry>()),
+        ("end", names_of::<End>()),
+        ("error", names_of::<Refusal>()),
+        ("fault", names_of::<Fault>()),
+        ("report_row", names_of::<Row>()),
+        ("place_row", names_of::<PlaceRow>()),
+        ("pcr", names_of::<Register>()),
+        ("stray", names_of::<Stray>()),
+        ("quoted_bank", names_of::<QuotedBank>()),
+        ("clock", names_of::<Clock>()),
+        ("declared_algorithm", names_of::<DeclaredAlgorithm>()),
+        ("specification", names_of::<Specification>()),
+    ] {
+        let wanted = schema["$defs"][name]["properties"].as_object().unwrap();
+        assert_eq!(found, wanted.keys().cloned().collect(), "{name}");
+    }
+    for (place, words) in [
+        ("/algorithm", Algorithm::WORDS),
+        ("/boot_aggregate", BootAggregate::WORDS),
+        ("/report_row/properties/state", State::WORDS),
+        ("/place_row/properties/place", Place::WORDS),
+        ("/attest/properties/verdict", Outcome::WORDS),
+        ("/attest/properties/quote", QuoteState::WORDS),
+        ("/attest/properties/signature", SignatureState::WORDS),
+        ("/attest/properties/expected", ExpectedState::WORDS),
+        ("/key/properties/type", KeyType::WORDS),
+        ("/key/properties/scheme", Scheme::WORDS),
+        ("/part", Part::WORDS),
+        ("/event/properties/confirmed", ConfirmedPart::WORDS),
+    ] {
+        let part = schema["$defs"].pointer(place).unwrap();
+        let wanted = match (&part["enum"], &part["oneOf"]) {
+            (Value::Array(words), _) => words.iter().map(|word| word.as_str().unwrap()).collect::<BTreeSet<_>>(),
+            (_, one_of) => one_of.as_array().unwrap().iter().map(|one| one["const"].as_str().unwrap()).collect(),
+        };
+        assert_eq!(words.iter().copied().collect::<BTreeSet<_>>(), wanted, "{place}");
+    }
+    let kinds = schema["$defs"].pointer("/fault/properties/kind/enum").unwrap().as_array().unwrap();
+    assert!(Kind::WORDS.iter().all(|word| kinds.contains(&(*word).into()))); // (others are no library's)
+}
+
+#[test]
+fn real_answers_are_read() {
+    let mut kinds = BTreeSet::new();
+    for Real { kind, status, matches: wanted, line: text } in table() {
+        fn read<T: Line>(text: &str) -> bool {
+            line::<T>(format!("{text}\n").as_bytes()).is_some()
+        }
+        let (found, whole) = (|| matches(&kind, status, &text).unwrap(), format!("{text}\n"));
+        let is_read = match kind.as_str() {
+            "pcrs" => read::<Registers>(&text),
+            "key" => read::<Key>(&text),
+            "header" => read::<Header>(&text),
+            "event" => read::<Event>(&text),
+            "entry" => read::<Entry>(&text),
+            "end" => object::<End>(whole.as_bytes()).is_some(),
+            "error" => matches!(answer(REFUSED, &text).unwrap_err(), Error::Refused { line, .. } if text.contains(&line)),
+            _ => found() == wanted,
+        };
+        assert!(is_read, "{text}");
+        if JUDGING.contains(&kind.as_str()) {
+            assert!(matches(&kind, DONE + DIFFERS - status, &text).is_err(), "{text}"); // (the other status)
+            assert!([MORE, 7, -1].iter().all(|result| matches(&kind, *result, &text).is_err()));
+        }
+        kinds.insert(kind);
+    }
+    assert_eq!(kinds.len(), 11);
+}
+
+#[test]
+fn members_and_words_of_a_later_library_are_taken() {
+    for kind in JUDGING {
+        for status in [DONE, DIFFERS] {
+            let text = real(kind, status);
+            for more in [r#""later":1,"#, r#""later":{"fault":[null]},"fault":{},"json":"","matches":true,"#] {
+                let text = format!("{{{more}{}", &text[1..]);
+                assert_eq!(matches(kind, status, &text), Ok(status == DONE), "{text}");
+            }
+        }
+    }
+    let later = real("verify", DIFFERS).replace(r#""verdict":"differ"}"#, r#""verdict":"unclear"}"#).replace("\"good\"", "\"odd\"");
+    let found: Verdict = judged(DIFFERS, &later).unwrap();
+    assert_eq!((found.matches, found.verdict.as_str(), found.json == later), (false, "unclear", true));
+    assert_eq!(found.boot_aggregate, BootAggregate::Other("odd".to_owned()));
+    let text = real("verify", DONE).replace(r#""state":"match""#, r#""state":"waived","reason":7"#).replace("sha256", "sm3_256");
+    let found: Verdict = judged(DONE, &text).unwrap();
+    assert_eq!((found.matches, found.registers[0].state.as_str(), found.registers[0].bank.as_str()), (true, "waived", "sm3_256"));
+    let found: Attestation = judged(DONE, &real("attest", DONE).replace(r#""signature":"checked""#, r#""signature":"vouched""#)).unwrap();
+    assert_eq!((found.matches, found.signature.as_str()), (true, "vouched"));
+    let found: Places = judged(DIFFERS, r#"{"registers":[{"bank":"sha1","register":1,"place":"late"}],"located":false}"#).unwrap();
+    assert_eq!((found.located, found.registers[0].place.as_str()), (false, "late"));
+    let text = b"{\"fault\":{\"kind\":\"policy\",\"number\":3,\"message\":\"refused: policy fault 3\"}}\n".to_vec();
+    let told = Told { fault_kind: 99, fault_number: 3, fault_place: u64::MAX, size: text.len() };
+    let error = Answer { result: REFUSED, told, next: Vec::new(), text }.accepted().unwrap_err();
+    assert_eq!((error.to_string().as_str(), &error), ("refused: policy fault 3", &refused("policy fault 3")));
+}
+
+#[test]
+fn damaged_answers_are_none() {
+    for kind in JUDGING {
+        for status in [DONE, DIFFERS] {
+            let text = real(kind, status);
+            let object: Map<String, Value> = serde_json::from_str(&text).unwrap();
+            for name in object.keys() {
+                for other in [None, Some(Value::Null), Some(serde_json::json!([[]])), Some((-1).into())] {
+                    let mut object = object.clone();
+                    match &other {
+                        Some(other) => object.insert(name.clone(), other.clone()),
+                        None => object.remove(name),
+                    };
+                    let found = matches(kind, status, &serde_json::to_string(&object).unwrap());
+                    let is_optional = match other {
+                        None => ["confirmed", "unconfirmed", "expected", "known_from", "extends", "unknown"].contains(&name.as_str()),
+                        other => other == Some(Value::Null) && ["confirmed", "unconfirmed", "expected", "known_from"].contains(&name.as_str()),
+                    };
+                    assert_eq!(found.is_ok(), is_optional, "{kind} {name}");
+                }
+            }
+            for size in 0..text.len() {
+                assert!(matches(kind, status, &text[..size]).is_err());
+            }
+            let lines = [format!("{text}\n{text}"), format!("{text}x"), format!(" {text}"), format!("[{text}]"), text.replacen(':', ":\n", 1)];
+            assert!(lines.iter().all(|text| matches(kind, status, text).is_err()));
+            let unended = Answer { result: status, told: told_of(status, b""), next: Vec::new(), text: text.into_bytes() };
+            assert!(unended.judged::<Verdict>().is_err());
+        }
+    }
+    // (a verdict on no PCR is no match, whatever the library says)
+    let nothing = r#"{"events":1,"locality":0,"entries":3,"boot_aggregate":"good","registers":[],"verdict":"match"}"#;
+    assert_eq!((matches("verify", DONE, nothing), matches("replay", DONE, nothing)), (Ok(false), Ok(false)));
+    assert_eq!(matches("places", DONE, r#"{"registers":[],"located":true}"#), Ok(false));
+    assert!(answer(DIFFERS, &real_line("key")).unwrap().line::<Key>().is_err());
+}
+
+#[test]
+fn refusals_are_what_is_reported() {
+    let place = |kind, text: &[u8]| Told { fault_kind: kind, ..told_of(REFUSED, text) };
+    let accepted = |result, kind, text: &[u8]| {
+        Answer { result, told: place(kind, text), next: Vec::new(), text: text.to_vec() }.accepted().map(|answer| answer.result)
+    };
+    assert_eq!(accepted(REFUSED, c::IMA_VERIFY_REPLAY, b"refused: replay fault 1 at entry 5\n"), Err(refused("replay fault 1 at entry 5")));
+    assert_eq!(accepted(OUT_OF_MEMORY, c::IMA_VERIFY_MEMORY, b""), Err(Error::OutOfMemory));
+    for (result, kind) in
+        [(REFUSED, 0), (DONE, c::IMA_VERIFY_LOG), (OUT_OF_MEMORY, 0), (c::IMA_VERIFY_MISUSED, 0), (c::IMA_VERIFY_TOO_SHORT, 0), (9, 0)]
+    {
+        assert!(matches!(accepted(result, kind, b"refused: log fault 2\n"), Err(Error::Unexpected { .. })), "{result} {kind}");
+    }
+    for text in ["", "{}", "refused: list fault 1", "{\"fault\":{}}"] {
+        assert!(matches!(accepted(REFUSED, c::IMA_VERIFY_LIST, text.as_bytes()), Err(Error::Unexpected { .. })), "{text}");
+    }
+}
+
+#[test]
+fn call_is_made_again_with_as_much_room_as_it_needs() {
+    let text = b"sha256 10 00\n".repeat(100);
+    let mut rooms = Vec::new();
+    let found = ask(vec![0; 10], |out| {
+        rooms.push(out.len());
+        let is_long = out.len() >= text.len();
+        out[..if is_long { text.len() } else { 0 }].copy_from_slice(if is_long { &text } else { b"" });
+        (if is_long { DONE } else { c::IMA_VERIFY_TOO_SHORT }, told_of(DONE, &text))
+    });
+    assert_eq!((found.unwrap().lines().unwrap(), rooms), (text, vec![10, 1300]));
+    // (a size that no text has, or that has no room in the end)
+    for (result, size, next) in [(DONE, 11, 0), (DONE, usize::MAX, 0), (DONE, 1, 11), (c::IMA_VERIFY_TOO_SHORT, 5, 5), (REFUSED, 11, 0)] {
+        let found = ask_for_both(vec![0; 10], vec![0; 10], |_, _| (result, next, Told { size, ..told_of(result, b"") }));
+        assert!(matches!(found, Err(Error::Unexpected { .. })), "{result} {size} {next}");
+    }
+    let endless = ask(vec![0; 10], |_| (c::IMA_VERIFY_TOO_SHORT, Told { size: usize::MAX - 1, ..told_of(DONE, b"") }));
+    assert!(matches!(endless, Err(Error::OutOfMemory)));
+}
+
+/// A library that gives these pieces, and then nothing.
+#[derive(Clone)]
+struct Scripted(VecDeque<(i32, String)>);
+
+impl Source for Scripted {
+    fn piece(&mut self, out: &mut [u8]) -> (i32, Told) {
+        let (result, text) = self.0.pop_front().unwrap();
+        out[..text.len()].copy_from_slice(text.as_bytes());
+        (result, told_of(result, text.as_bytes()))
+    }
+}
+
+/// How many lines pieces have before an error, if there is one, and nothing comes after it.
+fn counted<T>(pieces: &[(i32, &str)], next: fn(&mut Lines<Scripted>) -> Option<Result<T, Error>>) -> (usize, Option<Error>) {
+    let mut lines = Lines::new(Scripted(pieces.iter().map(|(result, text)| (*result, text.to_string())).collect()));
+    let items: Vec<_> = std::iter::from_fn(|| next(&mut lines)).collect();
+    assert!(next(&mut lines).is_none());
+    (items.iter().filter(|item| item.is_ok()).count(), items.into_iter().find_map(Result::err))
+}
+
+#[test]
+fn listings_that_are_cut_or_damaged_end_in_an_error() {
+    let (entry, event) = (format!("{}\n", real_line("entry")), format!("{}\n", real_line("event")));
+    let (two, later) = (entry.repeat(2), entry.replacen('{', r#"{"later":[],"#, 1));
+    let next_entry = |lines: &mut Lines<Scripted>| lines.item(Lines::next_entry);
+    let next_event = |lines: &mut Lines<Scripted>| lines.item(Lines::next_of::<Event>);
+    let end = |count| format!("{{\"entries\":{count}}}\n");
+    let with_end = |text: &str, count| format!("{text}{}", end(count));
+    for pieces in [&[(MORE, &two[..]), (DONE, &with_end(&later, 3))][..], &[(MORE, &with_end(&two, 0)[..two.len()]), (MORE, &entry), (DONE, &end(3))]]
+    {
+        assert_eq!(counted(pieces, next_entry), (3, None));
+    }
+    assert_eq!(counted(&[(MORE, &event), (MORE, &event.repeat(2)), (DONE, &event)], next_event), (4, None));
+    assert_eq!(counted(&[(MORE, &event), (DONE, "")], next_event), (1, None));
+    for (pieces, count) in [
+        (&[(DONE, &two[..])][..], 2),
+        (&[(DONE, "")], 0),
+        (&[(MORE, "")], 0),
+        (&[(DONE, &with_end(&two, 3))], 2),
+        (&[(MORE, &with_end(&two, 2)), (DONE, "")], 2),
+        (&[(DONE, &with_end(&with_end(&two, 2), 2))], 2),
+        (&[(DONE, &two[..two.len() - 1])], 0),
+        (&[(MORE, &two), (DIFFERS, &end(2))], 2),
+        (&[(MORE, &two), (DONE, "{\"entry\":2}\n")], 2),
+        (&[(DONE, &format!("{entry}\n"))], 1),
+    ] {
+        let (found, error) = counted(pieces, next_entry);
+        assert!(found == count && matches!(error, Some(Error::Unexpected { .. })), "{pieces:?}");
+    }
+    let refusal = "{\"fault\":{\"kind\":\"list\",\"number\":1,\"entry\":5,\"message\":\"refused: list fault 1 at entry 5\"}}\n";
+    assert_eq!(counted(&[(MORE, &two), (REFUSED, refusal)], next_entry), (2, Some(refused("list fault 1 at entry 5"))));
+    assert_eq!(counted(&[(MORE, &two), (OUT_OF_MEMORY, "")], next_entry), (2, Some(Error::OutOfMemory)));
+    let (found, error) = counted(&[(MORE, &event), (DONE, &entry)], next_event);
+    assert!(found == 1 && matches!(error, Some(Error::Unexpected { .. })));
+}
+
+fn real_line(kind: &str) -> String {
+    table().into_iter().find(|real| real.kind == kind).unwrap().line
+}
