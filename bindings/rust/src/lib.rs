@@ -116,7 +116,7 @@ pub fn verify<'a>(log: &[u8], list: &[u8], expected: &[u8], require: impl Into<R
 /// bank alone, or if the nonce is too short; otherwise as for [`verify`].
 pub fn attest(log: &[u8], list: &[u8], quote: &Quote<'_>) -> Result<Attestation, Error> {
     let known = quote.known.map(lines_of);
-    let inputs = library::Attested { log, state: &[], data: list, known: known.as_deref(), prefix: false };
+    let inputs = library::Grown { log, state: &[], data: list, known: known.as_deref(), prefix: false };
     session::attested(&inputs, quote)?.judged()
 }
 
@@ -236,7 +236,7 @@ pub fn read_endorsement_key(area: &[u8]) -> Result<Key, Error> {
 /// # }
 /// ```
 pub fn entries(list: &[u8]) -> Entries<'_> {
-    Entries(lines::Lines::of_list(list, true))
+    Entries(lines::Lines::of(list, library::entries))
 }
 
 /// The events of a firmware event log after its header, one after another.
@@ -267,7 +267,7 @@ pub fn events(log: &[u8]) -> Result<Events<'_>, Error> {
 ///
 /// [`Error::Refused`] if the list is damaged; otherwise as for [`verify`].
 pub fn show(list: &[u8]) -> Result<Vec<u8>, Error> {
-    lines::Lines::of_list(list, false).text()
+    lines::Lines::of(list, library::texts).text()
 }
 
 /// The answer to a call, which has no error.

@@ -51,21 +51,19 @@ calls! {
     endorsement_key = ima_verify_raw_key(area; true, true);
 }
 
-/// The inputs of a session's call.
-pub(crate) struct More<'a> {
+/// The inputs of a call on a list that grows.
+pub(crate) struct Grown<'a> {
     pub(crate) log: &'a [u8],
     pub(crate) state: &'a [u8],
     pub(crate) data: &'a [u8],
-    pub(crate) expected: &'a [u8],
-    pub(crate) require: &'a [u8],
     pub(crate) known: Option<&'a [u8]>,
     pub(crate) prefix: bool,
 }
 
-/// The call of a session: it also gives the size of the next state.
+/// The call of a session on expected PCRs: it also gives the size of the next state.
 #[rustfmt::skip]
-pub(crate) fn verify_more(inputs: &More, next: &mut [u8], out: &mut [u8]) -> (i32, usize, Told) {
-    let &More { log, state, data, expected, require, known, prefix } = inputs;
+pub(crate) fn verify_more(inputs: &Grown, expected: &[u8], require: &str, next: &mut [u8], out: &mut [u8]) -> (i32, usize, Told) {
+    let &Grown { log, state, data, known, prefix } = inputs;
     let (known, known_given) = (known.unwrap_or_default(), known.is_some());
     let (mut next_size, mut told) = (usize::MAX, NOTHING_TOLD);
     // SAFETY: as of the calls above; `next` and `out` are two buffers, and `next_size` is a variable of its own.
@@ -79,19 +77,10 @@ pub(crate) fn verify_more(inputs: &More, next: &mut [u8], out: &mut [u8]) -> (i3
     (result, next_size, told)
 }
 
-/// The inputs of a call by a quote, without the quote.
-pub(crate) struct Attested<'a> {
-    pub(crate) log: &'a [u8],
-    pub(crate) state: &'a [u8],
-    pub(crate) data: &'a [u8],
-    pub(crate) known: Option<&'a [u8]>,
-    pub(crate) prefix: bool,
-}
-
 /// The call of a quote: it also gives the size of the next state.
 #[rustfmt::skip]
-pub(crate) fn attest(inputs: &Attested, quote: &Quote<'_>, next: &mut [u8], out: &mut [u8]) -> (i32, usize, Told) {
-    let &Attested { log, state, data, known, prefix } = inputs;
+pub(crate) fn attest(inputs: &Grown, quote: &Quote<'_>, next: &mut [u8], out: &mut [u8]) -> (i32, usize, Told) {
+    let &Grown { log, state, data, known, prefix } = inputs;
     let (known, known_given) = (known.unwrap_or_default(), known.is_some());
     let &Quote { signing, message, nonce, require, allow_sha1, .. } = quote;
     let (key, signature) = match signing {
@@ -125,29 +114,29 @@ pub(crate) fn some_bytes(bytes: &[u8]) -> &[u8] {
 /// Where the lines of entries or events continue.
 #[derive(Debug, Clone, Copy, Default)]
 pub(crate) struct Position {
-    offset: usize,
-    number: usize,
+    pub(crate) offset: usize,
+    pub(crate) number: usize,
 }
 
-pub(crate) fn entries(list: &[u8], at: &mut Position, json: bool, out: &mut [u8]) -> (i32, Told) {
-    let mut told = NOTHING_TOLD;
-    // SAFETY: as of the calls above; the numbers of the position are borrowed for writing, too. They are those that the
-    // library set for this list, or zeros.
-    let result = unsafe {
-        let (offset, number) = (&mut at.offset, &mut at.number);
-        c::ima_verify_raw_entries(list.as_ptr(), list.len(), offset, number, json, out.as_mut_ptr(), out.len(), &mut told)
+/// The calls for pieces of lines.
+macro_rules! pieces {
+    ($($name:ident = $function:ident($($flag:expr)?);)*) => {
+        $(pub(crate) fn $name(bytes: &[u8], at: &mut Position, out: &mut [u8]) -> (i32, Told) {
+            let (offset, number, mut told) = (&mut at.offset, &mut at.number, NOTHING_TOLD);
+            // SAFETY: as of the calls above; the numbers of the position are borrowed for writing, too. They are those that the library set
+            // for these bytes, or zeros.
+            let result = unsafe {
+                c::$function(bytes.as_ptr(), bytes.len(), offset, number, $($flag,)? out.as_mut_ptr(), out.len(), &mut told)
+            };
+            (result, told)
+        })*
     };
-    (result, told)
 }
 
-pub(crate) fn events(log: &[u8], at: &mut Position, out: &mut [u8]) -> (i32, Told) {
-    let mut told = NOTHING_TOLD;
-    // SAFETY: as of `entries`.
-    let result = unsafe {
-        let (offset, number) = (&mut at.offset, &mut at.number);
-        c::ima_verify_raw_events(log.as_ptr(), log.len(), offset, number, out.as_mut_ptr(), out.len(), &mut told)
-    };
-    (result, told)
+pieces! {
+    entries = ima_verify_raw_entries(true);
+    texts = ima_verify_raw_entries(false);
+    events = ima_verify_raw_events();
 }
 
 /// Calls the library with a buffer for a text, and with a longer one while that is too short. The answer has no error.

@@ -1,49 +1,21 @@
 //! Lines of entries and of events, which the library gives by pieces.
 
 use crate::answer::{line, object, Answer};
-use crate::library::{ask, entries, events, zeros, Position, Told, DONE, MORE, ROOM};
+use crate::library::{ask, events, zeros, Position, Told, DONE, MORE, ROOM};
 use crate::results::{End, Line};
 use crate::{Entry, Error, Event, Header};
 use std::iter::FusedIterator;
 use std::ops::Range;
 
-/// What gives lines by pieces.
-pub(crate) trait Source {
-    /// Writes the next piece, and gives the result and what is reported of the text.
-    fn piece(&mut self, out: &mut [u8]) -> (i32, Told);
-}
-
-/// The entries of a list, as JSON or as text.
-#[derive(Debug, Clone)]
-pub(crate) struct OfList<'a> {
-    list: &'a [u8],
-    json: bool,
-    at: Position,
-}
-
-impl Source for OfList<'_> {
-    fn piece(&mut self, out: &mut [u8]) -> (i32, Told) {
-        entries(self.list, &mut self.at, self.json, out)
-    }
-}
-
-/// The header and the events of a log.
-#[derive(Debug, Clone)]
-pub(crate) struct OfLog<'a> {
-    log: &'a [u8],
-    at: Position,
-}
-
-impl Source for OfLog<'_> {
-    fn piece(&mut self, out: &mut [u8]) -> (i32, Told) {
-        events(self.log, &mut self.at, out)
-    }
-}
+/// What writes the next piece of lines on these bytes, and gives the result and what is reported of the text.
+pub(crate) type Piece = fn(&[u8], &mut Position, &mut [u8]) -> (i32, Told);
 
 /// Goes through lines. Nothing comes after the first error.
 #[derive(Debug, Clone)]
-pub(crate) struct Lines<S> {
-    source: S,
+pub(crate) struct Lines<'a> {
+    bytes: &'a [u8],
+    piece: Piece,
+    at: Position,
     buffer: Vec<u8>,
     /// Where in the buffer the lines are that are not read yet.
     rest: Range<usize>,
@@ -54,21 +26,9 @@ pub(crate) struct Lines<S> {
     is_over: bool,
 }
 
-impl<'a> Lines<OfList<'a>> {
-    pub(crate) fn of_list(list: &'a [u8], json: bool) -> Self {
-        Self::new(OfList { list, json, at: Position::default() })
-    }
-}
-
-impl<'a> Lines<OfLog<'a>> {
-    pub(crate) fn of_log(log: &'a [u8]) -> Self {
-        Self::new(OfLog { log, at: Position::default() })
-    }
-}
-
-impl<S: Source> Lines<S> {
-    pub(crate) fn new(source: S) -> Self {
-        Self { source, buffer: Vec::new(), rest: 0..0, result: MORE, count: 0, is_over: false }
+impl<'a> Lines<'a> {
+    pub(crate) fn of(bytes: &'a [u8], piece: Piece) -> Self {
+        Self { bytes, piece, at: Position::default(), buffer: Vec::new(), rest: 0..0, result: MORE, count: 0, is_over: false }
     }
 
     /// Gets the lines of the next call, which are none only after the last ones.
@@ -81,7 +41,7 @@ impl<S: Source> Lines<S> {
         if buffer.is_empty() {
             buffer = zeros(ROOM)?;
         }
-        let answer = ask(buffer, |out| self.source.piece(out))?;
+        let answer = ask(buffer, |out| (self.piece)(self.bytes, &mut self.at, out))?;
         let is_piece = match answer.result {
             DONE => answer.text.is_empty() || answer.text.ends_with(b"\n"),
             result => result == MORE && answer.text.ends_with(b"\n"),
@@ -158,7 +118,7 @@ fn unexpected(result: i32, line: &[u8]) -> Error {
 /// The entries of a measurement list, by [`entries`](crate::entries).
 #[derive(Debug, Clone)]
 #[must_use]
-pub struct Entries<'a>(pub(crate) Lines<OfList<'a>>);
+pub struct Entries<'a>(pub(crate) Lines<'a>);
 
 impl Iterator for Entries<'_> {
     type Item = Result<Entry, Error>;
@@ -174,13 +134,13 @@ impl FusedIterator for Entries<'_> {}
 #[derive(Debug, Clone)]
 #[must_use]
 pub struct Events<'a> {
-    lines: Lines<OfLog<'a>>,
+    lines: Lines<'a>,
     header: Header,
 }
 
 impl<'a> Events<'a> {
     pub(crate) fn of(log: &'a [u8]) -> Result<Self, Error> {
-        let mut lines = Lines::of_log(log);
+        let mut lines = Lines::of(log, events);
         let header = lines.next_of()?.ok_or_else(|| unexpected(lines.result, b""))?;
         Ok(Self { lines, header })
     }

@@ -1,7 +1,7 @@
 //! Verdicts on a list that grows.
 
 use crate::answer::Answer;
-use crate::library::{self, ask_for_both, some_bytes, verify_more, zeros, Attested, More, ROOM};
+use crate::library::{self, ask_for_both, some_bytes, verify_more, zeros, Grown, ROOM};
 use crate::request::lines_of;
 use crate::results::Judged;
 use crate::{Attestation, Error, Quote, Required, Verdict};
@@ -79,10 +79,9 @@ impl Session {
     /// [`Error::Refused`] if the requirement, an input or the state is refused (with [`Kind::Checkpoint`](crate::Kind::Checkpoint)),
     /// otherwise as for [`verify`](crate::verify).
     pub fn more(&mut self, data: &[u8]) -> Result<Verdict, Error> {
-        let (log, expected, require) = (&self.log, &self.expected, self.require.as_bytes());
-        let (state, known, prefix) = (self.given_state(), self.known.as_deref(), self.prefix);
-        let inputs = More { log, state, data, expected, require, known, prefix };
-        let answer = ask_for_both(zeros(ROOM)?, zeros(ROOM)?, |next, out| verify_more(&inputs, next, out))?;
+        let inputs = self.inputs(data, self.known.as_deref());
+        let call = |next: &mut [u8], out: &mut [u8]| verify_more(&inputs, &self.expected, &self.require, next, out);
+        let answer = ask_for_both(zeros(ROOM)?, zeros(ROOM)?, call)?;
         self.take(answer, |verdict: &Verdict| verdict.matches)
     }
 
@@ -101,8 +100,7 @@ impl Session {
     pub fn attest(&mut self, data: &[u8], quote: &Quote<'_>) -> Result<Attestation, Error> {
         let of_quote = quote.known.map(lines_of);
         let known = of_quote.as_deref().or(self.known.as_deref());
-        let inputs = Attested { log: &self.log, state: self.given_state(), data, known, prefix: self.prefix };
-        let answer = attested(&inputs, quote)?;
+        let answer = attested(&self.inputs(data, known), quote)?;
         self.take(answer, |found: &Attestation| found.matches)
     }
 
@@ -116,8 +114,8 @@ impl Session {
         self.state().and_then(offset_of).unwrap_or_default()
     }
 
-    fn given_state(&self) -> &[u8] {
-        self.state().map(some_bytes).unwrap_or_default()
+    fn inputs<'a>(&'a self, data: &'a [u8], known: Option<&'a [u8]>) -> Grown<'a> {
+        Grown { log: &self.log, state: self.state().map(some_bytes).unwrap_or_default(), data, known, prefix: self.prefix }
     }
 
     /// What an answer says, and its state, if it is a match.
@@ -138,6 +136,6 @@ fn offset_of(state: &[u8]) -> Option<u64> {
 }
 
 /// The answer to a call by a quote.
-pub(crate) fn attested(inputs: &Attested, quote: &Quote<'_>) -> Result<Answer, Error> {
+pub(crate) fn attested(inputs: &Grown, quote: &Quote<'_>) -> Result<Answer, Error> {
     ask_for_both(zeros(ROOM)?, zeros(ROOM)?, |next, out| library::attest(inputs, quote, next, out))
 }

@@ -2,13 +2,13 @@
 
 use super::*;
 use crate::answer::{line, object, Answer};
-use crate::library::{ask, ask_for_both, Told, DIFFERS, DONE, MORE, OUT_OF_MEMORY, REFUSED};
-use crate::lines::{Lines, Source};
+use crate::library::{ask, ask_for_both, Position, Told, DIFFERS, DONE, MORE, OUT_OF_MEMORY, REFUSED};
+use crate::lines::Lines;
 use crate::results::{End, Judged, Line, Refusal};
 use ima_verify_sys as c;
 use serde::de::{DeserializeOwned, Error as _, Visitor};
 use serde::{forward_to_deserialize_any, Deserialize, Deserializer};
-use std::collections::{BTreeSet, VecDeque};
+use std::collections::BTreeSet;
 
 /// A line of the table.
 #[derive(Deserialize)]
@@ -268,21 +268,18 @@ fn call_is_made_again_with_as_much_room_as_it_needs() {
     assert!(matches!(endless, Err(Error::OutOfMemory)));
 }
 
-/// A library that gives these pieces, and then nothing.
-#[derive(Clone)]
-struct Scripted(VecDeque<(i32, String)>);
-
-impl Source for Scripted {
-    fn piece(&mut self, out: &mut [u8]) -> (i32, Told) {
-        let (result, text) = self.0.pop_front().unwrap();
-        out[..text.len()].copy_from_slice(text.as_bytes());
-        (result, told_of(result, text.as_bytes()))
-    }
+/// A library that gives the pieces of a script, one after another.
+fn scripted(script: &[u8], at: &mut Position, out: &mut [u8]) -> (i32, Told) {
+    let (result, text) = serde_json::from_slice::<Vec<(i32, String)>>(script).unwrap().swap_remove(at.number);
+    at.number += 1;
+    out[..text.len()].copy_from_slice(text.as_bytes());
+    (result, told_of(result, text.as_bytes()))
 }
 
 /// How many lines pieces have before an error, if there is one, and nothing comes after it.
-fn counted<T>(pieces: &[(i32, &str)], next: fn(&mut Lines<Scripted>) -> Option<Result<T, Error>>) -> (usize, Option<Error>) {
-    let mut lines = Lines::new(Scripted(pieces.iter().map(|(result, text)| (*result, text.to_string())).collect()));
+fn counted<T>(pieces: &[(i32, &str)], next: fn(&mut Lines<'_>) -> Option<Result<T, Error>>) -> (usize, Option<Error>) {
+    let pieces = serde_json::to_vec(pieces).unwrap();
+    let mut lines = Lines::of(&pieces, scripted);
     let items: Vec<_> = std::iter::from_fn(|| next(&mut lines)).collect();
     assert!(next(&mut lines).is_none());
     (items.iter().filter(|item| item.is_ok()).count(), items.into_iter().find_map(Result::err))
@@ -292,8 +289,8 @@ fn counted<T>(pieces: &[(i32, &str)], next: fn(&mut Lines<Scripted>) -> Option<R
 fn listings_that_are_cut_or_damaged_end_in_an_error() {
     let (entry, event) = (format!("{}\n", real_line("entry")), format!("{}\n", real_line("event")));
     let (two, later) = (entry.repeat(2), entry.replacen('{', r#"{"later":[],"#, 1));
-    let next_entry = |lines: &mut Lines<Scripted>| lines.item(Lines::next_entry);
-    let next_event = |lines: &mut Lines<Scripted>| lines.item(Lines::next_of::<Event>);
+    let next_entry = |lines: &mut Lines<'_>| lines.item(Lines::next_entry);
+    let next_event = |lines: &mut Lines<'_>| lines.item(Lines::next_of::<Event>);
     let end = |count| format!("{{\"entries\":{count}}}\n");
     let with_end = |text: &str, count| format!("{text}{}", end(count));
     for pieces in [&[(MORE, &two[..]), (DONE, &with_end(&later, 3))][..], &[(MORE, &with_end(&two, 0)[..two.len()]), (MORE, &entry), (DONE, &end(3))]]
