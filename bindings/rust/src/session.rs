@@ -119,7 +119,7 @@ impl Session {
     }
 
     /// What an answer says, and its state, if it is a match.
-    fn take<T: Judged>(&mut self, answer: Answer, matches: impl FnOnce(&T) -> bool) -> Result<T, Error> {
+    pub(crate) fn take<T: Judged>(&mut self, answer: Answer, matches: impl FnOnce(&T) -> bool) -> Result<T, Error> {
         let found = answer.judged()?;
         if matches(&found) {
             offset_of(&answer.next).ok_or_else(|| answer.unexpected())?;

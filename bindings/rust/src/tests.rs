@@ -24,12 +24,13 @@ const TENTHS: [(usize, &str); 5] = [
 const AFTER_LONGER: &str = "a2bcf779880ae33077f9e7992851299f30cea5f6cffc6512de6cd10aa457a7f3";
 const AFTER_EVENT: &str = "44c94d432d9d0c4a4d23cb443dc033e9dbfee95ab439adfeef358307f3afbfa3";
 
-fn sample(name: &str) -> Vec<u8> {
-    std::fs::read(format!("{}/../../samples/{name}", env!("CARGO_MANIFEST_DIR"))).unwrap()
+/// A text of the tree around the package.
+fn text_of(path: &str) -> String {
+    std::fs::read_to_string(format!("{}/../../{path}", env!("CARGO_MANIFEST_DIR"))).unwrap()
 }
 
-fn text_of(name: &str) -> String {
-    String::from_utf8(sample(name)).unwrap()
+fn sample(name: &str) -> Vec<u8> {
+    std::fs::read(format!("{}/../../samples/{name}", env!("CARGO_MANIFEST_DIR"))).unwrap()
 }
 
 fn spelled(digits: &str) -> Bytes {
@@ -110,7 +111,7 @@ impl Boot {
             log: sample("real-boot/firmware.log"),
             expected: sample("real-boot/expected.txt"),
             message: sample("quoted/quote.msg"),
-            nonce: Nonce::from_hex(&text_of("quoted/nonce")).unwrap(),
+            nonce: Nonce::from_hex(&text_of("samples/quoted/nonce")).unwrap(),
             key: sample("quoted/AK.pem"),
             signature: sample("quoted/quote.sig"),
             list,

@@ -4,9 +4,9 @@ use super::*;
 use crate::answer::{line, object, Answer};
 use crate::library::{ask, ask_for_both, Position, Told, DIFFERS, DONE, MORE, OUT_OF_MEMORY, REFUSED};
 use crate::lines::Lines;
-use crate::results::{End, Judged, Line, Refusal};
+use crate::results::{End, Judged, Refusal};
 use ima_verify_sys as c;
-use serde::de::{DeserializeOwned, Error as _, Visitor};
+use serde::de::{Error as _, Visitor};
 use serde::{forward_to_deserialize_any, Deserialize, Deserializer};
 use std::collections::BTreeSet;
 
@@ -21,12 +21,13 @@ struct Real {
 }
 
 fn table() -> Vec<Real> {
-    text_of("../tests/bindings/answers.jsonl").lines().map(|line| serde_json::from_str(line).unwrap()).collect()
+    text_of("tests/bindings/answers.jsonl").lines().map(|line| serde_json::from_str(line).unwrap()).collect()
 }
 
-/// A real match, or another line, of this kind.
+/// A real line of this kind: a match, or one with another status.
 fn real(kind: &str, status: i32) -> String {
-    table().into_iter().find(|real| real.kind == kind && real.status == status && real.matches == (status == DONE)).unwrap().line
+    let is_wanted = |real: &Real| real.kind == kind && real.status == status && (real.matches || status != DONE || !JUDGING.contains(&kind));
+    table().into_iter().find(is_wanted).unwrap().line
 }
 
 fn told_of(result: i32, text: &[u8]) -> Told {
@@ -80,58 +81,41 @@ impl<'de> Deserializer<'de> for Names {
     }
 }
 
-fn names_of<T: DeserializeOwned>() -> BTreeSet<String> {
-    T::deserialize(Names).err().unwrap().to_string().split(' ').map(str::to_owned).collect()
+/// For names of the schema's parts the names of a type's members, or its words.
+macro_rules! named {
+    ($($part:literal $of:ty,)*) => {
+        [$(($part, <$of>::deserialize(Names).err().unwrap().to_string().split(' ').map(str::to_owned).collect::<BTreeSet<_>>())),*]
+    };
+    ($($part:literal = $of:ty,)*) => {
+        [$(($part, <$of>::WORDS.iter().map(|word| word.to_string()).collect::<BTreeSet<_>>())),*]
+    };
 }
 
 #[test]
 fn members_and_words_are_those_of_the_schema() {
-    let schema: Value = serde_json::from_str(&text_of("../docs/schema.json")).unwrap();
-    for (name, found) in [
-        ("verify", names_of::<Verdict>()),
-        ("attest", names_of::<Attestation>()),
-        ("replay", names_of::<ListVerdict>()),
-        ("places", names_of::<Places>()),
-        ("pcrs", names_of::<Registers>()),
-        ("key", names_of::<Key>()),
-        ("header", names_of::<Header>()),
-        ("event", names_of::<Event>()),
-        ("entry", names_of::<Entry>()),
-        ("end", names_of::<End>()),
-        ("error", names_of::<Refusal>()),
-        ("fault", names_of::<Fault>()),
-        ("report_row", names_of::<Row>()),
-        ("place_row", names_of::<PlaceRow>()),
-        ("pcr", names_of::<Register>()),
-        ("stray", names_of::<Stray>()),
-        ("quoted_bank", names_of::<QuotedBank>()),
-        ("clock", names_of::<Clock>()),
-        ("declared_algorithm", names_of::<DeclaredAlgorithm>()),
-        ("specification", names_of::<Specification>()),
-    ] {
+    let schema: Value = serde_json::from_str(&text_of("docs/schema.json")).unwrap();
+    let members = named! {
+        "verify" Verdict, "attest" Attestation, "replay" ListVerdict, "places" Places, "pcrs" Registers, "key" Key, "header" Header,
+        "event" Event, "entry" Entry, "end" End, "error" Refusal, "fault" Fault, "report_row" Row, "place_row" PlaceRow, "pcr" Register,
+        "stray" Stray, "quoted_bank" QuotedBank, "clock" Clock, "declared_algorithm" DeclaredAlgorithm, "specification" Specification,
+    };
+    for (name, found) in members {
         let wanted = schema["$defs"][name]["properties"].as_object().unwrap();
         assert_eq!(found, wanted.keys().cloned().collect(), "{name}");
     }
-    for (place, words) in [
-        ("/algorithm", Algorithm::WORDS),
-        ("/boot_aggregate", BootAggregate::WORDS),
-        ("/report_row/properties/state", State::WORDS),
-        ("/place_row/properties/place", Place::WORDS),
-        ("/attest/properties/verdict", Outcome::WORDS),
-        ("/attest/properties/quote", QuoteState::WORDS),
-        ("/attest/properties/signature", SignatureState::WORDS),
-        ("/attest/properties/expected", ExpectedState::WORDS),
-        ("/key/properties/type", KeyType::WORDS),
-        ("/key/properties/scheme", Scheme::WORDS),
-        ("/part", Part::WORDS),
-        ("/event/properties/confirmed", ConfirmedPart::WORDS),
-    ] {
+    let words = named! {
+        "/algorithm" = Algorithm, "/boot_aggregate" = BootAggregate, "/report_row/properties/state" = State, "/part" = Part,
+        "/place_row/properties/place" = Place, "/attest/properties/verdict" = Outcome, "/attest/properties/quote" = QuoteState,
+        "/attest/properties/signature" = SignatureState, "/attest/properties/expected" = ExpectedState,
+        "/key/properties/type" = KeyType, "/key/properties/scheme" = Scheme, "/event/properties/confirmed" = ConfirmedPart,
+    };
+    for (place, found) in words {
         let part = schema["$defs"].pointer(place).unwrap();
-        let wanted = match (&part["enum"], &part["oneOf"]) {
-            (Value::Array(words), _) => words.iter().map(|word| word.as_str().unwrap()).collect::<BTreeSet<_>>(),
-            (_, one_of) => one_of.as_array().unwrap().iter().map(|one| one["const"].as_str().unwrap()).collect(),
+        let wanted: Vec<_> = match (&part["enum"], &part["oneOf"]) {
+            (Value::Array(words), _) => words.iter().collect(),
+            (_, one_of) => one_of.as_array().unwrap().iter().map(|one| &one["const"]).collect(),
         };
-        assert_eq!(words.iter().copied().collect::<BTreeSet<_>>(), wanted, "{place}");
+        assert_eq!(found, wanted.iter().map(|word| word.as_str().unwrap().to_owned()).collect(), "{place}");
     }
     let kinds = schema["$defs"].pointer("/fault/properties/kind/enum").unwrap().as_array().unwrap();
     assert!(Kind::WORDS.iter().all(|word| kinds.contains(&(*word).into()))); // (others are no library's)
@@ -141,19 +125,16 @@ fn members_and_words_are_those_of_the_schema() {
 fn real_answers_are_read() {
     let mut kinds = BTreeSet::new();
     for Real { kind, status, matches: wanted, line: text } in table() {
-        fn read<T: Line>(text: &str) -> bool {
-            line::<T>(format!("{text}\n").as_bytes()).is_some()
-        }
-        let (found, whole) = (|| matches(&kind, status, &text).unwrap(), format!("{text}\n"));
+        let whole = format!("{text}\n").into_bytes();
         let is_read = match kind.as_str() {
-            "pcrs" => read::<Registers>(&text),
-            "key" => read::<Key>(&text),
-            "header" => read::<Header>(&text),
-            "event" => read::<Event>(&text),
-            "entry" => read::<Entry>(&text),
-            "end" => object::<End>(whole.as_bytes()).is_some(),
+            "pcrs" => line::<Registers>(&whole).is_some(),
+            "key" => line::<Key>(&whole).is_some(),
+            "header" => line::<Header>(&whole).is_some(),
+            "event" => line::<Event>(&whole).is_some(),
+            "entry" => line::<Entry>(&whole).is_some(),
+            "end" => object::<End>(&whole).is_some(),
             "error" => matches!(answer(REFUSED, &text).unwrap_err(), Error::Refused { line, .. } if text.contains(&line)),
-            _ => found() == wanted,
+            _ => matches(&kind, status, &text) == Ok(wanted),
         };
         assert!(is_read, "{text}");
         if JUDGING.contains(&kind.as_str()) {
@@ -227,20 +208,25 @@ fn damaged_answers_are_none() {
     let nothing = r#"{"events":1,"locality":0,"entries":3,"boot_aggregate":"good","registers":[],"verdict":"match"}"#;
     assert_eq!((matches("verify", DONE, nothing), matches("replay", DONE, nothing)), (Ok(false), Ok(false)));
     assert_eq!(matches("places", DONE, r#"{"registers":[],"located":true}"#), Ok(false));
-    assert!(answer(DIFFERS, &real_line("key")).unwrap().line::<Key>().is_err());
+    // (a match without a state leaves a session as it was)
+    let mut session = Session::by_quotes(b"");
+    for (status, next, is_read) in [(DONE, "", false), (DONE, "x", false), (DONE, "x\n\nbytes 7\n", true), (DIFFERS, "", true)] {
+        let answer = Answer { next: next.into(), ..answer(status, &real("verify", status)).unwrap() };
+        assert_eq!(session.take(answer, |found: &Verdict| found.matches).is_ok(), is_read);
+    }
+    assert_eq!((session.offset(), session.state()), (7, Some(&b"x\n\nbytes 7\n"[..])));
+    assert!(answer(DIFFERS, &real("key", DONE)).unwrap().line::<Key>().is_err());
 }
 
 #[test]
 fn refusals_are_what_is_reported() {
-    let place = |kind, text: &[u8]| Told { fault_kind: kind, ..told_of(REFUSED, text) };
-    let accepted = |result, kind, text: &[u8]| {
-        Answer { result, told: place(kind, text), next: Vec::new(), text: text.to_vec() }.accepted().map(|answer| answer.result)
+    let accepted = |result, fault_kind, text: &[u8]| {
+        let told = Told { fault_kind, ..told_of(REFUSED, text) };
+        Answer { result, told, next: Vec::new(), text: text.to_vec() }.accepted().map(|answer| answer.result)
     };
     assert_eq!(accepted(REFUSED, c::IMA_VERIFY_REPLAY, b"refused: replay fault 1 at entry 5\n"), Err(refused("replay fault 1 at entry 5")));
     assert_eq!(accepted(OUT_OF_MEMORY, c::IMA_VERIFY_MEMORY, b""), Err(Error::OutOfMemory));
-    for (result, kind) in
-        [(REFUSED, 0), (DONE, c::IMA_VERIFY_LOG), (OUT_OF_MEMORY, 0), (c::IMA_VERIFY_MISUSED, 0), (c::IMA_VERIFY_TOO_SHORT, 0), (9, 0)]
-    {
+    for (result, kind) in [(REFUSED, 0), (DONE, c::IMA_VERIFY_LOG), (OUT_OF_MEMORY, 0), (c::IMA_VERIFY_MISUSED, 0), (9, 0)] {
         assert!(matches!(accepted(result, kind, b"refused: log fault 2\n"), Err(Error::Unexpected { .. })), "{result} {kind}");
     }
     for text in ["", "{}", "refused: list fault 1", "{\"fault\":{}}"] {
@@ -287,16 +273,14 @@ fn counted<T>(pieces: &[(i32, &str)], next: fn(&mut Lines<'_>) -> Option<Result<
 
 #[test]
 fn listings_that_are_cut_or_damaged_end_in_an_error() {
-    let (entry, event) = (format!("{}\n", real_line("entry")), format!("{}\n", real_line("event")));
+    let (entry, event) = (format!("{}\n", real("entry", DONE)), format!("{}\n", real("event", DONE)));
     let (two, later) = (entry.repeat(2), entry.replacen('{', r#"{"later":[],"#, 1));
     let next_entry = |lines: &mut Lines<'_>| lines.item(Lines::next_entry);
     let next_event = |lines: &mut Lines<'_>| lines.item(Lines::next_of::<Event>);
     let end = |count| format!("{{\"entries\":{count}}}\n");
     let with_end = |text: &str, count| format!("{text}{}", end(count));
-    for pieces in [&[(MORE, &two[..]), (DONE, &with_end(&later, 3))][..], &[(MORE, &with_end(&two, 0)[..two.len()]), (MORE, &entry), (DONE, &end(3))]]
-    {
-        assert_eq!(counted(pieces, next_entry), (3, None));
-    }
+    assert_eq!(counted(&[(MORE, &two), (DONE, &with_end(&later, 3))], next_entry), (3, None));
+    assert_eq!(counted(&[(MORE, &two), (MORE, &entry), (DONE, &end(3))], next_entry), (3, None));
     assert_eq!(counted(&[(MORE, &event), (MORE, &event.repeat(2)), (DONE, &event)], next_event), (4, None));
     assert_eq!(counted(&[(MORE, &event), (DONE, "")], next_event), (1, None));
     for (pieces, count) in [
@@ -319,8 +303,4 @@ fn listings_that_are_cut_or_damaged_end_in_an_error() {
     assert_eq!(counted(&[(MORE, &two), (OUT_OF_MEMORY, "")], next_entry), (2, Some(Error::OutOfMemory)));
     let (found, error) = counted(&[(MORE, &event), (DONE, &entry)], next_event);
     assert!(found == 1 && matches!(error, Some(Error::Unexpected { .. })));
-}
-
-fn real_line(kind: &str) -> String {
-    table().into_iter().find(|real| real.kind == kind).unwrap().line
 }

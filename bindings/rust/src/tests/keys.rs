@@ -36,7 +36,7 @@ fn rsa_area(modulus: &[u8], name_hash: u8, exponent: u32, scheme: &[u8]) -> Vec<
 
 #[test]
 fn keys_of_the_samples_are_read() {
-    let names = text_of("keys/names");
+    let names = text_of("samples/keys/names");
     for (read, name, key_type, bits, scheme, hash) in [
         (read_key as Read, "ak-rsassa", KeyType::Rsa, 2048, Scheme::Rsassa, Some(Algorithm::Sha256)),
         (read_key, "ak-rsapss", KeyType::Rsa, 2048, Scheme::Rsapss, Some(Algorithm::Sha384)),
@@ -49,7 +49,7 @@ fn keys_of_the_samples_are_read() {
         let found = read(&area(name)).unwrap();
         assert!(names.lines().any(|line| line == format!("{} {name}.pub", found.name)));
         assert_eq!((found.key_type, found.bits, found.scheme, found.hash), (key_type, bits, scheme, hash));
-        assert_eq!(found.pem, text_of(&format!("keys/{name}.pem")));
+        assert_eq!(found.pem, text_of(&format!("samples/keys/{name}.pem")));
     }
 }
 
@@ -103,7 +103,7 @@ fn keys_that_are_read_verify_quotes() {
     // (a signature of RSA has no known scheme in the form of a TPM)
     for (name, of_area, of_pem) in [("ak-rsassa", 7, 7), ("ak-p256", 2, 2), ("ak-p384", 2, 2), ("ak-p521", 8, 9)] {
         boot.check_refused(&by(&boot, &self::area(name)), &format!("signature fault {of_area}"));
-        boot.check_refused(&by(&boot, text_of(&format!("keys/{name}.pem")).as_bytes()), &format!("signature fault {of_pem}"));
+        boot.check_refused(&by(&boot, text_of(&format!("samples/keys/{name}.pem")).as_bytes()), &format!("signature fault {of_pem}"));
     }
     OTHERS.iter().for_each(|(name, number)| boot.check_refused(&by(&boot, &self::area(name)), &format!("key fault {number}")));
 }

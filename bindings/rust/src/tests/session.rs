@@ -126,12 +126,12 @@ fn sessions_at_once_give_what_they_give_alone() {
     let wanted = CUTS.map(|cut| verify(&boot.log, boot.until(cut), &boot.tenth_after(cut), NOTHING_REQUIRED));
     let run = || {
         for _ in 0..5 {
-            let mut state: Option<Vec<u8>> = None;
+            let mut last = boot.session();
             let found = CUTS.map(|cut| {
                 let session = boot.session_of(cut);
-                let mut session = if let Some(state) = &state { session.resume(state) } else { session };
+                let mut session = last.state().map_or(session.clone(), |state| session.resume(state));
                 let found = session.more(&boot.list[session.offset() as usize..boot.ends[cut]]);
-                state = session.state().map(<[u8]>::to_vec);
+                last = session;
                 found
             });
             assert_eq!(found, wanted);
@@ -247,15 +247,15 @@ fn state_that_is_not_whole_is_refused() {
     let boot = Boot::new();
     let state = boot.state_after(50);
     let check = |state: &[u8], number| check_refused(boot.session().resume(state), &boot.list, &format!("checkpoint fault {number}"));
-    let is_version = |place| if place == 21 || place == 22 { 2 } else { 1 };
+    let of_place = |place| if place == 21 || place == 22 { 2 } else { 1 }; // (the version)
     for size in [0, 1, 21, 22, 23, 40, 100, state.len() / 2, state.len() - 1] {
-        check(&state[..size], is_version(size));
+        check(&state[..size], of_place(size));
     }
     let text = std::str::from_utf8(&state).unwrap();
     for (old, new) in [(text, "\0"), (text, "\n"), (text, " "), ("ima", " ima"), ("50\n", "50\r\n"), ("bytes 5071", "bytes 49")] {
         check(text.replacen(old, new, 1).as_bytes(), 1);
     }
-    for count in ["51", "050", "+50", "-1", "", "18446744073709551616"] {
+    for count in ["51", "050", "+50", "-1", "", "9223372036854775808", "18446744073709551616"] {
         check(text.replacen("entries 50", &format!("entries {count}"), 1).as_bytes(), 1);
         check(text.replacen("bytes 5071", &format!("bytes {count}"), 1).as_bytes(), 1);
     }
@@ -266,9 +266,7 @@ fn state_that_is_not_whole_is_refused() {
         check(text.replacen("checkpoint 3\n", &format!("checkpoint {version}\n"), 1).as_bytes(), 2);
     }
     for place in (0..60).chain((60..state.len()).step_by(97)) {
-        let mut turned = state.clone();
-        turned[place] ^= 1;
-        check(&turned, is_version(place));
+        check(&[&state[..place], &[state[place] ^ 1], &state[place + 1..]].concat(), of_place(place));
     }
 }
 

@@ -8,7 +8,7 @@ const SCHEME: std::ops::Range<usize> = 14..18;
 /// The public area of the key that signed the sample's quote, by RSASSA with SHA-256 (TPM 2.0 Library, part 2, TPM2B_PUBLIC): its modulus is
 /// at the end of the area, and before the exponent in the key.
 pub(super) fn quoting_area() -> Vec<u8> {
-    let pem = text_of("quoted/AK.pem");
+    let pem = text_of("samples/quoted/AK.pem");
     let digits: String = pem.lines().filter(|line| !line.starts_with('-')).collect();
     let value = |digit: u8| b"ABCDEFGHIJKLMNOPQRSTUVWXYZabcdefghijklmnopqrstuvwxyz0123456789+/".iter().position(|of| *of == digit);
     let bits = digits.bytes().filter_map(value).flat_map(|value| (0..6).rev().map(move |bit| value >> bit & 1));
@@ -20,7 +20,7 @@ pub(super) fn quoting_area() -> Vec<u8> {
 
 /// The lines of a kind: a name, and what it has.
 fn lines(kind: &str) -> Vec<(String, Vec<Bytes>)> {
-    let text = text_of("../tests/bindings/signatures.txt");
+    let text = text_of("tests/bindings/signatures.txt");
     let lines = text.lines().filter_map(|line| line.strip_prefix(kind)?.strip_prefix(' ')?.split_once(' '));
     lines.map(|(name, words)| (name.to_owned(), words.split(' ').map(spelled).collect())).collect()
 }
@@ -94,7 +94,7 @@ fn changed_samples_are_not_signed() {
     for bit in 0..8 * boot.message.len() {
         assert_eq!(refusal(&boot, &area, &boot.signature, &turned(&boot.message, bit)), (Kind::Signature, 7));
     }
-    let text = text_of("quoted/AK.pem");
+    let text = text_of("samples/quoted/AK.pem");
     let others = [text.trim(), &text.replace('\n', "\r\n"), &format!("{text}\n"), &text.replace("PUBLIC", "PRIVATE"), &text[..text.len() - 2]];
     for key in others {
         assert_eq!(refusal(&boot, key.as_bytes(), &boot.signature, &boot.message), (Kind::Signature, 9));
