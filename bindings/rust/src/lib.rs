@@ -22,10 +22,14 @@
 //! the expected PCRs were read. [`attest`] compares a log and a list with a quote in place of expected PCRs, and verifies its signature by
 //! the machine's attestation key. [`read_key`] says what a key is.
 //!
+//! # Errors
+//!
+//! An argument, an input or a session's state that is refused is an [`Error::Refused`] with its [`Kind`], its number and its place. Any
+//! call may give [`Error::OutOfMemory`], and [`Error::Unexpected`] or [`Error::Version`] if the library is not as its header describes.
+//!
 //! Any number of threads may call at once.
 
 #![deny(missing_docs)]
-#![warn(clippy::missing_errors_doc)]
 
 mod answer;
 mod error;
@@ -86,8 +90,7 @@ pub fn version() -> u32 {
 ///
 /// # Errors
 ///
-/// [`Error::Refused`] if the requirement is not of its form, or an input not of its; [`Error::OutOfMemory`]; and
-/// [`Error::Unexpected`] or [`Error::Version`] if the library is not as its header describes.
+/// [`Error::Refused`] if the requirement is not of its form, or an input not of its.
 pub fn verify<'a>(log: &[u8], list: &[u8], expected: &[u8], require: impl Into<Required<'a>>) -> Result<Verdict, Error> {
     let Required { registers, known } = require.into();
     let known = known.map(lines_of);
@@ -121,10 +124,6 @@ pub fn attest(log: &[u8], list: &[u8], quote: &Quote<'_>) -> Result<Attestation,
 }
 
 /// Where each expected PCR first has its value. The arguments are as in [`verify`], without known files.
-///
-/// # Errors
-///
-/// As for [`verify`].
 pub fn locate(log: &[u8], list: &[u8], expected: &[u8], require: &str) -> Result<Places, Error> {
     ask(|out| library::locate(log, list, expected, require.as_bytes(), out))?.judged()
 }
@@ -133,10 +132,6 @@ pub fn locate(log: &[u8], list: &[u8], expected: &[u8], require: &str) -> Result
 ///
 /// The list is replayed from the PCRs' reset values, so a PCR that the firmware extends too differs. `require` is as in [`verify`]. A
 /// list without entries is no match.
-///
-/// # Errors
-///
-/// As for [`verify`].
 pub fn replay<'a>(list: &[u8], expected: &[u8], require: impl Into<Required<'a>>) -> Result<ListVerdict, Error> {
     let Required { registers, known } = require.into();
     let known = known.map(lines_of);
@@ -147,30 +142,17 @@ pub fn replay<'a>(list: &[u8], expected: &[u8], require: impl Into<Required<'a>>
 /// that a selection has, such as `sha256:0-10` or `0-7,10`, or of all.
 ///
 /// Nothing says who wrote the text, nor whether a quote holds: take the values of a quote that was checked, or of a trusted machine.
-///
-/// # Errors
-///
-/// [`Error::Refused`] if the selection is not of its form, if the text is not, or if it has none of the PCRs; otherwise as for
-/// [`verify`].
 pub fn expected(printed: &[u8], registers: Option<&str>) -> Result<Vec<u8>, Error> {
     let selection = registers.unwrap_or_default();
     ask(|out| library::expected(printed, selection.as_bytes(), out))?.lines()
 }
 
 /// The PCRs that differ from their reset values after a firmware event log.
-///
-/// # Errors
-///
-/// [`Error::Refused`] if the log is damaged; otherwise as for [`verify`].
 pub fn registers(log: &[u8]) -> Result<Registers, Error> {
     ask(|out| library::log_registers(log, out))?.line()
 }
 
 /// The PCRs, in banks of all algorithms, that differ from their reset values after a measurement list without a log.
-///
-/// # Errors
-///
-/// [`Error::Refused`] if the list is damaged, or the template digest of an entry is not valid; otherwise as for [`verify`].
 pub fn list_registers(list: &[u8]) -> Result<Registers, Error> {
     ask(|out| library::list_registers(list, out))?.line()
 }
@@ -194,10 +176,6 @@ pub fn list_registers(list: &[u8]) -> Result<Registers, Error> {
 /// # Ok(())
 /// # }
 /// ```
-///
-/// # Errors
-///
-/// [`Error::Refused`] with [`Kind::Key`] if the area is none, or the key lacks something; otherwise as for [`verify`].
 pub fn read_key(area: &[u8]) -> Result<Key, Error> {
     ask(|out| library::key(area, out))?.line()
 }
@@ -206,10 +184,6 @@ pub fn read_key(area: &[u8]) -> Result<Key, Error> {
 ///
 /// The key is restricted, never leaves the TPM that made it, decrypts, and does not sign. Nor does its area say whose it is: compare
 /// the PEM with the key of a certificate by the TPM's manufacturer.
-///
-/// # Errors
-///
-/// As for [`read_key`].
 pub fn read_endorsement_key(area: &[u8]) -> Result<Key, Error> {
     ask(|out| library::endorsement_key(area, out))?.line()
 }
@@ -252,20 +226,12 @@ pub fn entries(list: &[u8]) -> Entries<'_> {
 /// # Ok(())
 /// # }
 /// ```
-///
-/// # Errors
-///
-/// [`Error::Refused`] if the header is damaged; otherwise as for [`verify`].
 pub fn events(log: &[u8]) -> Result<Events<'_>, Error> {
     Events::of(log)
 }
 
 /// The entries of a measurement list as text, each in the kernel's form. Paths are as they are: they may have line feeds and control
 /// bytes. [`entries`] gives each entry by itself.
-///
-/// # Errors
-///
-/// [`Error::Refused`] if the list is damaged; otherwise as for [`verify`].
 pub fn show(list: &[u8]) -> Result<Vec<u8>, Error> {
     lines::Lines::of(list, library::texts).text()
 }
