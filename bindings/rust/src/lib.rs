@@ -44,14 +44,12 @@ pub use error::Error;
 pub use lines::{Entries, Events};
 pub use request::{Nonce, Quote, Required, Signing, NOTHING_REQUIRED};
 pub use results::{
-    Attestation, Bytes, Clock, DeclaredAlgorithm, Entry, Event, Fault, Header, Key, ListVerdict, PlaceRow, Places, QuotedBank, Register, Registers,
-    Row, Specification, Stray, Verdict,
+    Attestation, Blob, Bytes, Clock, CommandData, Content, DeclaredAlgorithm, Entry, Event, Fault, Fields, Gpt, Header, ImageData, Key, ListVerdict,
+    LoadOption, Partition, PlaceRow, Places, QuotedBank, Register, Registers, Row, Specification, Stray, Tagged, UefiSignature, UefiSignatureList,
+    Variable, Verdict,
 };
-pub use serde_json::{Map, Value};
 pub use session::Session;
-pub use words::{
-    Algorithm, BootAggregate, ConfirmedPart, ExpectedState, KeyType, Kind, Outcome, Part, Place, QuoteState, Scheme, SignatureState, State,
-};
+pub use words::*;
 
 #[cfg(test)]
 mod tests;

@@ -1,10 +1,8 @@
 //! What lines of JSON have: a field for each member of `docs/schema.json`. Members that only a later library has are in `json` alone.
 
-use crate::words::{Algorithm, BootAggregate, ConfirmedPart, ExpectedState, KeyType, Kind, Outcome, Part};
-use crate::words::{Place, QuoteState, Scheme, SignatureState, State};
+use crate::words::*;
 use serde::de::DeserializeOwned;
 use serde::Deserialize;
-use serde_json::{Map, Value};
 use std::collections::BTreeMap;
 use std::fmt;
 use std::ops::Deref;
@@ -224,8 +222,7 @@ results! {
         path_hex: Option<Bytes>, "Its bytes, if it is not.";
         signature: Option<Bytes>, "The file's signature, which may be empty.";
         payload: Option<Bytes>, "Any other payload, whole.";
-        fields: Option<Map<String, Value>>,
-            "What the fields of another of the kernel's templates say, if the payload is these (docs/formats.md names them).";
+        fields: Option<Fields>, "What the fields of another of the kernel's templates say, if the payload is these.";
     }
 
     /// The header of a firmware event log.
@@ -248,9 +245,7 @@ results! {
             "The part of the data whose hash is the digest, for each bank of which there is one. What is not measured is only what the log \
              claims, and so is the type.";
         confirmed: Option<ConfirmedPart>, "The part of the data that expected PCRs confirm, if there are such: [`events`](crate::events) has none.";
-        content: Map<String, Value>,
-            "What the data says, by the type: one member, named by the form (`text`, `variable`, `image`, ..; docs/event-data.md has them), \
-             which is `unknown` if the data has no form that the library knows.";
+        content: Content, "What the data says, by the type.";
     }
 
     /// An expected PCR, compared, or a required one that is missing.
@@ -328,6 +323,129 @@ results! {
         errata: u8, "Its errata.";
         uintn_size: u8, "The size of a UINTN.";
         vendor: Bytes, "The vendor's bytes.";
+    }
+
+    /// What an event's data says: one member, by the form of the data (docs/event-data.md).
+    Content {
+        separator: Option<u32>, "The number of a separator.";
+        text: Option<String>, "A text.";
+        text_hex: Option<Bytes>, "Its bytes, if it is not valid in its encoding.";
+        guid: Option<String>, "A GUID.";
+        locality: Option<u8>, "The startup locality.";
+        command: Option<CommandData>, "A command of GRUB.";
+        variable: Option<Variable>, "A variable of UEFI.";
+        image: Option<ImageData>, "An image that was loaded.";
+        gpt: Option<Gpt>, "A partition table.";
+        blob: Option<Blob>, "A part of the firmware in memory.";
+        tagged: Option<Tagged>, "A tagged event.";
+        #[serde(default)] unknown: bool, "The data has no form of the event's type that the library knows.";
+    }
+
+    /// A command of GRUB.
+    CommandData {
+        kind: CommandKind, "Its kind, which is only claimed.";
+        text: Option<String>, "The text that was measured.";
+        text_hex: Option<Bytes>, "Its bytes, if it is not valid in its encoding.";
+    }
+
+    /// A variable of UEFI. Of `flag`, `order`, `option`, `signature` and `lists` one is there, by vendor and name, or none.
+    Variable {
+        guid: String, "The vendor.";
+        name: Option<String>, "The name.";
+        name_hex: Option<Bytes>, "Its bytes, if it is not valid in its encoding.";
+        value: Bytes, "The value.";
+        flag: Option<u8>, "What the value says: a byte.";
+        order: Option<Vec<String>>, "The numbers of load options, in the order in which they are tried: the four digits of a `Boot####`.";
+        option: Option<LoadOption>, "A load option.";
+        signature: Option<UefiSignature>, "A signature, a key or a hash.";
+        lists: Option<Vec<UefiSignatureList>>, "Lists of signatures, of keys or of hashes.";
+    }
+
+    /// An image that was loaded.
+    ImageData {
+        location: String, "Where it is in memory, as `0x` and hexadecimal digits.";
+        size: String, "Its size there, likewise.";
+        link_address: String, "The address that it was linked for, likewise.";
+        path: Option<String>, "Its device path.";
+        path_hex: Option<Bytes>, "Its bytes, if it is not whole nodes.";
+    }
+
+    /// A partition table.
+    Gpt {
+        disk: String, "The disk's GUID.";
+        partitions: Vec<Partition>, "Its partitions.";
+    }
+
+    /// A partition.
+    Partition {
+        #[serde(rename = "type")] partition_type: String, "The GUID of its type.";
+        guid: String, "Its GUID.";
+        first: String, "Its first block, as `0x` and hexadecimal digits.";
+        last: String, "Its last block, likewise.";
+        attributes: String, "Its attributes, likewise.";
+        name: Option<String>, "Its name.";
+        name_hex: Option<Bytes>, "Its bytes, if it is not valid in its encoding.";
+    }
+
+    /// A part of the firmware in memory.
+    Blob {
+        description: Option<String>, "What it is, if that is said.";
+        description_hex: Option<Bytes>, "Its bytes, if it is not valid in its encoding.";
+        base: String, "Where it is in memory, as `0x` and hexadecimal digits.";
+        length: String, "How many bytes it has, likewise.";
+    }
+
+    /// A tagged event.
+    Tagged {
+        id: u32, "The tag.";
+        text: Option<String>, "The data, if it is text.";
+        data: Option<Bytes>, "The data, if it is not.";
+    }
+
+    /// A load option.
+    LoadOption {
+        attributes: u32, "Its attributes.";
+        description: Option<String>, "Its description.";
+        description_hex: Option<Bytes>, "Its bytes, if it is not valid in its encoding.";
+        path: Option<String>, "Its device path.";
+        path_hex: Option<Bytes>, "Its bytes, if it is not whole nodes.";
+        data: Bytes, "Its optional data.";
+    }
+
+    /// A signature of UEFI.
+    UefiSignature {
+        owner: String, "The GUID of who put it there.";
+        data: Bytes, "The certificate, or the hash.";
+    }
+
+    /// A list of signatures.
+    UefiSignatureList {
+        #[serde(rename = "type")] list_type: String, "The GUID of the signatures' type.";
+        count: u32, "How many there are.";
+        owners: Vec<String>, "The owner of each signature whose owner differs from that of the signature before it.";
+    }
+
+    /// What the fields of `ima-ngv2`, `ima-sigv2`, `ima-buf`, `ima-modsig` and `evm-sig` say (docs/formats.md). A field that a template
+    /// lacks, or that is empty where it says so, is none.
+    Fields {
+        digest_type: Option<DigestType>, "What the digest is of.";
+        algorithm: Algorithm, "The algorithm of `digest`.";
+        digest: Bytes, "The file's digest.";
+        path: Option<String>, "The file's path, if it is UTF-8.";
+        path_hex: Option<Bytes>, "Its bytes, if it is not.";
+        signature: Option<Bytes>, "The file's signature.";
+        modsig_algorithm: Option<Algorithm>, "The algorithm of `modsig_digest`.";
+        modsig_digest: Option<Bytes>, "The digest of the file without the appended signature.";
+        modsig: Option<Bytes>, "The appended signature.";
+        buffer: Option<Bytes>, "The bytes that were measured.";
+        evm_signature: Option<Bytes>, "The portable signature of EVM.";
+        xattr_names: Option<String>, "The names of the extended attributes, if they are UTF-8.";
+        xattr_names_hex: Option<Bytes>, "Their bytes, if they are not.";
+        xattr_lengths: Option<Vec<u32>>, "The lengths of their values.";
+        xattr_values: Option<Bytes>, "Their values.";
+        uid: Option<u32>, "The file's owner.";
+        gid: Option<u32>, "Its group.";
+        mode: Option<u16>, "Its mode.";
     }
 }
 

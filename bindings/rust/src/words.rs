@@ -140,6 +140,19 @@ words! {
         None = "none", "None.";
     }
 
+    /// The kind of a command of GRUB, by what precedes its text.
+    CommandKind {
+        Grub = "grub", "It is a command.";
+        Kernel = "kernel", "It is the command line of a kernel.";
+        Module = "module", "It is that of a module, such as an initrd.";
+    }
+
+    /// What the digest of an entry's fields is of.
+    DigestType {
+        Ima = "ima", "The file.";
+        Verity = "verity", "Its hash tree, by fs-verity.";
+    }
+
     /// What is refused.
     Kind {
         Argument = "command_line",

@@ -8,6 +8,7 @@ use crate::results::{End, Judged, Refusal};
 use ima_verify_sys as c;
 use serde::de::{Error as _, Visitor};
 use serde::{forward_to_deserialize_any, Deserialize, Deserializer};
+use serde_json::{Map, Value};
 use std::collections::BTreeSet;
 
 /// A line of the table.
@@ -98,6 +99,8 @@ fn members_and_words_are_those_of_the_schema() {
         "verify" Verdict, "attest" Attestation, "replay" ListVerdict, "places" Places, "pcrs" Registers, "key" Key, "header" Header,
         "event" Event, "entry" Entry, "end" End, "error" Refusal, "fault" Fault, "report_row" Row, "place_row" PlaceRow, "pcr" Register,
         "stray" Stray, "quoted_bank" QuotedBank, "clock" Clock, "declared_algorithm" DeclaredAlgorithm, "specification" Specification,
+        "content" Content, "command_data" CommandData, "variable" Variable, "image_data" ImageData, "gpt" Gpt, "partition" Partition,
+        "blob" Blob, "tagged" Tagged, "load_option" LoadOption, "signature" UefiSignature, "signature_list" UefiSignatureList, "fields" Fields,
     };
     for (name, found) in members {
         let wanted = schema["$defs"][name]["properties"].as_object().unwrap();
@@ -108,6 +111,7 @@ fn members_and_words_are_those_of_the_schema() {
         "/place_row/properties/place" = Place, "/attest/properties/verdict" = Outcome, "/attest/properties/quote" = QuoteState,
         "/attest/properties/signature" = SignatureState, "/attest/properties/expected" = ExpectedState,
         "/key/properties/type" = KeyType, "/key/properties/scheme" = Scheme, "/event/properties/confirmed" = ConfirmedPart,
+        "/command_kind" = CommandKind, "/fields/properties/digest_type" = DigestType,
     };
     for (place, found) in words {
         let part = schema["$defs"].pointer(place).unwrap();
