@@ -1,9 +1,8 @@
 //! Do a machine's boot log and measurement list account for the PCRs of its TPM 2.0?
 //!
-//! A firmware event log (TCG, crypto-agile) and a binary measurement list of Linux IMA are replayed, and the resulting PCRs are
-//! compared with expected ones. On the machine the files are `/sys/kernel/security/tpm0/binary_bios_measurements` and
-//! `/sys/kernel/security/ima/binary_runtime_measurements`. The expected PCRs are text, a line for each, such as
-//! `sha256 10 <64 hexadecimal digits>`.
+//! A firmware event log (TCG, crypto-agile) and a binary measurement list of Linux IMA are replayed, and the resulting PCRs are compared with
+//! expected ones. On the machine the files are `/sys/kernel/security/tpm0/binary_bios_measurements` and
+//! `/sys/kernel/security/ima/binary_runtime_measurements`. The expected PCRs are text, a line for each, such as `sha256 10 <64 hexadecimal digits>`.
 //!
 //! ```
 //! # fn main() -> Result<(), Box<dyn std::error::Error>> {
@@ -15,12 +14,11 @@
 //! # }
 //! ```
 //!
-//! A verdict covers only the boot aggregate and the PCRs in the expected text. So each call says which PCRs it must cover, as here.
-//! With such a requirement a verdict is a match only if no event of the log extends PCR 10 and each entry of the list names it. With
-//! [`Required::known`] each entry but the boot aggregate must also be of a known file.
-//! [`entries`] and [`events`] go through the inputs themselves. A [`Session`] is for a list that grows, and for one that grew after
-//! the expected PCRs were read. [`attest`] compares a log and a list with a quote in place of expected PCRs, and verifies its signature by
-//! the machine's attestation key. [`read_key`] says what a key is.
+//! A verdict covers only the boot aggregate and the PCRs in the expected text. So each call says which PCRs it must cover, as here. With such a
+//! requirement a verdict is a match only if no event of the log extends PCR 10 and each entry of the list names it. With [`Required::known`] each
+//! entry but the boot aggregate must also be of a known file. [`entries`] and [`events`] go through the inputs themselves. A [`Session`] is for a
+//! list that grows, and for one that grew after the expected PCRs were read. [`attest`] compares a log and a list with a quote in place of expected
+//! PCRs, and verifies its signature by the machine's attestation key. [`read_key`] says what a key is.
 //!
 //! # Errors
 //!

@@ -170,6 +170,9 @@ fn members_and_words_of_a_later_library_are_taken() {
     assert_eq!((found.matches, found.registers[0].state.as_str(), found.registers[0].bank.as_str()), (true, "waived", "sm3_256"));
     let found: Attestation = judged(DONE, &real("attest", DONE).replace(r#""signature":"checked""#, r#""signature":"vouched""#)).unwrap();
     assert_eq!((found.matches, found.signature.as_str()), (true, "vouched"));
+    let numbered = |number: &str| judged::<Verdict>(DONE, &real("verify", DONE).replace(r#""entries":3"#, &format!(r#""entries":{number}"#)));
+    assert_eq!(numbered("18446744073709551615").unwrap().entries, u64::MAX);
+    assert!(["18446744073709551616", "-1", "3.5", "\"3\""].iter().all(|number| numbered(number).is_err()));
     let found: Places = judged(DIFFERS, r#"{"registers":[{"bank":"sha1","register":1,"place":"late"}],"located":false}"#).unwrap();
     assert_eq!((found.located, found.registers[0].place.as_str()), (false, "late"));
     let text = b"{\"fault\":{\"kind\":\"policy\",\"number\":3,\"message\":\"refused: policy fault 3\"}}\n".to_vec();
@@ -219,7 +222,7 @@ fn damaged_answers_are_none() {
         assert_eq!(session.take(answer, |found: &Verdict| found.matches).is_ok(), is_read);
     }
     assert_eq!((session.offset(), session.state()), (7, Some(&b"x\n\nbytes 7\n"[..])));
-    assert!(answer(DIFFERS, &real("key", DONE)).unwrap().line::<Key>().is_err());
+    assert!(answer(DIFFERS, &real("key", DONE)).unwrap().line::<Key>().is_err() && answer(DIFFERS, "sha256 10 00").unwrap().lines().is_err());
 }
 
 #[test]

@@ -121,26 +121,6 @@ fn refusals_leave_the_session_as_it_was() {
 }
 
 #[test]
-fn sessions_at_once_give_what_they_give_alone() {
-    let boot = Boot::new();
-    let wanted = CUTS.map(|cut| verify(&boot.log, boot.until(cut), &boot.tenth_after(cut), NOTHING_REQUIRED));
-    let run = || {
-        for _ in 0..5 {
-            let mut last = boot.session();
-            let found = CUTS.map(|cut| {
-                let session = boot.session_of(cut);
-                let mut session = last.state().map_or(session.clone(), |state| session.resume(state));
-                let found = session.more(&boot.list[session.offset() as usize..boot.ends[cut]]);
-                last = session;
-                found
-            });
-            assert_eq!(found, wanted);
-        }
-    };
-    std::thread::scope(|scope| (0..8).for_each(|_| drop(scope.spawn(run))));
-}
-
-#[test]
 fn requirement_of_a_session_holds() {
     let boot = Boot::new();
     let eleven = boot.first(11);

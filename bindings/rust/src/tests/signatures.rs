@@ -78,6 +78,21 @@ fn each_way_to_sign_is_verified() {
     assert_eq!(count, 3 * (2 * 5 + 2));
 }
 
+/// Other ways to sign, and signatures of RSA that begin with a zero and are not of the key's size without it.
+#[test]
+fn other_ways_and_sizes_are_not_signed() {
+    let boot = Boot::new();
+    let pem = |name: &str| read_key(&area_of(name)).unwrap().pem.into_bytes();
+    for (name, words) in lines("other") {
+        assert_eq!(refusal(&boot, &pem(&name), &words[0], &boot.message), (Kind::Signature, 7), "{name}");
+    }
+    for (name, words) in lines("message") {
+        let (signature, message) = (&words[2], &words[3]);
+        assert_eq!((signature[0], refusal(&boot, &pem(&name), signature, message).0), (0, Kind::Quote), "{name}");
+        assert_eq!(refusal(&boot, &pem(&name), &signature[1..], message).0, Kind::Signature, "{name}");
+    }
+}
+
 /// The bits of the sample's signature and message count, and its key has one spelling.
 #[test]
 fn changed_samples_are_not_signed() {

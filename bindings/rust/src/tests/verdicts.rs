@@ -277,13 +277,15 @@ fn log_of_any_one_bank_may_extend_register_10() {
 }
 
 #[test]
-fn calls_at_once_give_what_they_give_alone() {
+fn calls_and_sessions_at_once_give_what_they_give_alone() {
     let (boot, start) = (Boot::new(), Barrier::new(8));
     let (longer, forged) = (boot.longer(), boot.forged(5));
     let all = || {
         let verdicts = [&boot.list, &longer, &forged].map(|list| verify(&boot.log, list, &boot.expected, NOTHING_REQUIRED));
-        let places = locate(&boot.log, &longer, &boot.expected, NOTHING_REQUIRED);
-        (verdicts, places, registers(&boot.log), show(&boot.list))
+        let mut session = Session::new(&boot.log, &boot.first(10), NOTHING_REQUIRED);
+        let parts = [(0, 1), (1, 50), (50, 99)].map(|(start, end)| session.more(&boot.list[boot.ends[start]..boot.ends[end]]));
+        let state = session.state().map(<[u8]>::to_vec);
+        (verdicts, parts, state, locate(&boot.log, &longer, &boot.expected, NOTHING_REQUIRED), registers(&boot.log), show(&boot.list))
     };
     let wanted = all();
     let run = || {

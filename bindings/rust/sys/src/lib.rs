@@ -4,15 +4,13 @@
 #![no_std]
 #![deny(missing_docs)]
 
-/// The version of the interface that is declared here. A library whose [`ima_verify_version`] is this one or later has all of
-/// it.
+/// The version of the interface that is declared here. A library whose [`ima_verify_version`] is this one or later has all of it.
 pub const IMA_VERIFY_VERSION: u32 = 1;
 
 /// The text is complete. A verdict is `match`, and a quote's signature is valid, or was checked by the caller; for places, every
 /// value was reached and none is missing. For entries or events, these are the last.
 pub const IMA_VERIFY_DONE: i32 = 0;
-/// The text is complete. A verdict is `differ`, or a quote's signature was not checked; for places, a value was not reached or one
-/// is missing.
+/// The text is complete. A verdict is `differ`, or a quote's signature was not checked; for places, a value was not reached or one is missing.
 pub const IMA_VERIFY_DIFFERS: i32 = 1;
 /// An input is refused, and the text is the line that says why.
 pub const IMA_VERIFY_REFUSED: i32 = 2;
