@@ -211,11 +211,16 @@ fn damaged_answers_are_none() {
             assert!(unended.judged::<Verdict>().is_err());
         }
     }
-    // (a verdict on no PCR is no match, whatever the library says)
+}
+
+/// A verdict on no PCR is none, whatever the library says, and one without a state leaves a session as it was.
+#[test]
+fn match_needs_its_word_and_registers_and_a_state() {
+    let unclear = real("verify", DONE).replace(r#""verdict":"match""#, r#""verdict":"unclear""#);
+    assert!(matches("verify", DONE, &unclear).is_err() && matches("verify", DIFFERS, &unclear) == Ok(false));
     let nothing = r#"{"events":1,"locality":0,"entries":3,"boot_aggregate":"good","registers":[],"verdict":"match"}"#;
     assert_eq!((matches("verify", DONE, nothing), matches("replay", DONE, nothing)), (Ok(false), Ok(false)));
     assert_eq!(matches("places", DONE, r#"{"registers":[],"located":true}"#), Ok(false));
-    // (a match without a state leaves a session as it was)
     let mut session = Session::by_quotes(b"");
     for (status, next, is_read) in [(DONE, "", false), (DONE, "x", false), (DONE, "x\n\nbytes 7\n", true), (DIFFERS, "", true)] {
         let answer = Answer { next: next.into(), ..answer(status, &real("verify", status)).unwrap() };
