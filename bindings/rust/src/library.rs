@@ -1,6 +1,6 @@
 //! Calls the C library, as `bindings/c/ima_verify.h` describes it.
 
-use crate::answers::Answer;
+use crate::answer::Answer;
 use crate::{Error, Quote, Signing};
 use ima_verify_sys as c;
 
@@ -13,8 +13,7 @@ pub(crate) use c::{
 pub(crate) const ROOM: usize = 64 * 1024;
 
 /// What is reported before a call: a size that no text has.
-const NOTHING_TOLD: Told =
-    Told { size: usize::MAX, fault_kind: c::IMA_VERIFY_NO_FAULT, fault_number: 0, fault_place: c::IMA_VERIFY_NO_PLACE };
+const NOTHING_TOLD: Told = Told { size: usize::MAX, fault_kind: c::IMA_VERIFY_NO_FAULT, fault_number: 0, fault_place: c::IMA_VERIFY_NO_PLACE };
 
 pub(crate) fn version() -> u32 {
     // SAFETY: the function takes nothing and only returns a number.
@@ -52,21 +51,19 @@ calls! {
     endorsement_key = ima_verify_raw_key(area; true, true);
 }
 
-/// The inputs of a session's call.
-pub(crate) struct More<'a> {
+/// The inputs of a call on a list that grows.
+pub(crate) struct Grown<'a> {
     pub(crate) log: &'a [u8],
     pub(crate) state: &'a [u8],
     pub(crate) data: &'a [u8],
-    pub(crate) expected: &'a [u8],
-    pub(crate) require: &'a [u8],
     pub(crate) known: Option<&'a [u8]>,
     pub(crate) prefix: bool,
 }
 
-/// The call of a session: it also gives the size of the next state.
+/// The call of a session on expected PCRs: it also gives the size of the next state.
 #[rustfmt::skip]
-pub(crate) fn verify_more(inputs: &More, next: &mut [u8], out: &mut [u8]) -> (i32, usize, Told) {
-    let &More { log, state, data, expected, require, known, prefix } = inputs;
+pub(crate) fn verify_more(inputs: &Grown, expected: &[u8], require: &str, next: &mut [u8], out: &mut [u8]) -> (i32, usize, Told) {
+    let &Grown { log, state, data, known, prefix } = inputs;
     let (known, known_given) = (known.unwrap_or_default(), known.is_some());
     let (mut next_size, mut told) = (usize::MAX, NOTHING_TOLD);
     // SAFETY: as of the calls above; `next` and `out` are two buffers, and `next_size` is a variable of its own.
@@ -80,21 +77,12 @@ pub(crate) fn verify_more(inputs: &More, next: &mut [u8], out: &mut [u8]) -> (i3
     (result, next_size, told)
 }
 
-/// The inputs of a call by a quote, without the quote.
-pub(crate) struct Attested<'a> {
-    pub(crate) log: &'a [u8],
-    pub(crate) state: &'a [u8],
-    pub(crate) data: &'a [u8],
-    pub(crate) known: Option<&'a [u8]>,
-    pub(crate) prefix: bool,
-}
-
 /// The call of a quote: it also gives the size of the next state.
 #[rustfmt::skip]
-pub(crate) fn attest(inputs: &Attested, quote: &Quote<'_>, next: &mut [u8], out: &mut [u8]) -> (i32, usize, Told) {
-    let &Attested { log, state, data, known, prefix } = inputs;
+pub(crate) fn attest(inputs: &Grown, quote: &Quote<'_>, next: &mut [u8], out: &mut [u8]) -> (i32, usize, Told) {
+    let &Grown { log, state, data, known, prefix } = inputs;
     let (known, known_given) = (known.unwrap_or_default(), known.is_some());
-    let &Quote { signing, message, nonce, require, takes_sha1, .. } = quote;
+    let &Quote { signing, message, nonce, require, allow_sha1, .. } = quote;
     let (key, signature) = match signing {
         Signing::ByKey { key, signature } => (some_bytes(key), some_bytes(signature)),
         Signing::ByCaller | Signing::NotChecked => (&[][..], &[][..]),
@@ -106,16 +94,16 @@ pub(crate) fn attest(inputs: &Attested, quote: &Quote<'_>, next: &mut [u8], out:
             log.as_ptr(), log.len(), state.as_ptr(), state.len(), data.as_ptr(), data.len(), message.as_ptr(), message.len(),
             key.as_ptr(), key.len(), signature.as_ptr(), signature.len(),
             nonce.as_ptr(), nonce.len(), require.as_ptr(), require.len(), known.as_ptr(), known.len(), known_given,
-            takes_sha1, signing == Signing::ByCaller, prefix, true,
+            allow_sha1, signing == Signing::ByCaller, prefix, true,
             next.as_mut_ptr(), next.len(), &mut next_size, out.as_mut_ptr(), out.len(), &mut told,
         )
     };
     (result, next_size, told)
 }
 
-/// These bytes, or in place of none, which the library takes as no key and no signature, a zero. It is refused for the same reason: it ends
-/// too early.
-fn some_bytes(bytes: &[u8]) -> &[u8] {
+/// These bytes, or in place of none, which the library takes as no key, no signature or no state, a zero. It is refused for the same reason:
+/// it ends too early.
+pub(crate) fn some_bytes(bytes: &[u8]) -> &[u8] {
     if bytes.is_empty() {
         &[0]
     } else {
@@ -126,29 +114,29 @@ fn some_bytes(bytes: &[u8]) -> &[u8] {
 /// Where the lines of entries or events continue.
 #[derive(Debug, Clone, Copy, Default)]
 pub(crate) struct Position {
-    offset: usize,
-    number: usize,
+    pub(crate) offset: usize,
+    pub(crate) number: usize,
 }
 
-pub(crate) fn entries(list: &[u8], at: &mut Position, json: bool, out: &mut [u8]) -> (i32, Told) {
-    let mut told = NOTHING_TOLD;
-    // SAFETY: as of the calls above; the numbers of the position are borrowed for writing, too. They are those that the
-    // library set for this list, or zeros.
-    let result = unsafe {
-        let (offset, number) = (&mut at.offset, &mut at.number);
-        c::ima_verify_raw_entries(list.as_ptr(), list.len(), offset, number, json, out.as_mut_ptr(), out.len(), &mut told)
+/// The calls for pieces of lines.
+macro_rules! pieces {
+    ($($name:ident = $function:ident($($flag:expr)?);)*) => {
+        $(pub(crate) fn $name(bytes: &[u8], at: &mut Position, out: &mut [u8]) -> (i32, Told) {
+            let (offset, number, mut told) = (&mut at.offset, &mut at.number, NOTHING_TOLD);
+            // SAFETY: as of the calls above; the numbers of the position are borrowed for writing, too. They are those that the library set
+            // for these bytes, or zeros.
+            let result = unsafe {
+                c::$function(bytes.as_ptr(), bytes.len(), offset, number, $($flag,)? out.as_mut_ptr(), out.len(), &mut told)
+            };
+            (result, told)
+        })*
     };
-    (result, told)
 }
 
-pub(crate) fn events(log: &[u8], at: &mut Position, out: &mut [u8]) -> (i32, Told) {
-    let mut told = NOTHING_TOLD;
-    // SAFETY: as of `entries`.
-    let result = unsafe {
-        let (offset, number) = (&mut at.offset, &mut at.number);
-        c::ima_verify_raw_events(log.as_ptr(), log.len(), offset, number, out.as_mut_ptr(), out.len(), &mut told)
-    };
-    (result, told)
+pieces! {
+    entries = ima_verify_raw_entries(true);
+    texts = ima_verify_raw_entries(false);
+    events = ima_verify_raw_events();
 }
 
 /// Calls the library with a buffer for a text, and with a longer one while that is too short. The answer has no error.
@@ -161,9 +149,7 @@ pub(crate) fn ask(text: Vec<u8>, mut call: impl FnMut(&mut [u8]) -> (i32, Told))
 
 /// Calls the library with buffers for a next checkpoint, whose size the call gives, and for a text.
 pub(crate) fn ask_for_both(
-    mut next: Vec<u8>,
-    mut text: Vec<u8>,
-    mut call: impl FnMut(&mut [u8], &mut [u8]) -> (i32, usize, Told),
+    mut next: Vec<u8>, mut text: Vec<u8>, mut call: impl FnMut(&mut [u8], &mut [u8]) -> (i32, usize, Told),
 ) -> Result<Answer, Error> {
     if version() < c::IMA_VERIFY_VERSION {
         return Err(Error::Version(version()));

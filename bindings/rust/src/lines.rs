@@ -1,88 +1,39 @@
 //! Lines of entries and of events, which the library gives by pieces.
 
-use crate::answers::{algorithms, entry, entry_count, event, object, Answer};
-use crate::library::{ask, entries, events, zeros, Position, Told, DONE, MORE, ROOM};
-use crate::{Entry, Error, Event, LogAlgorithm};
-use serde::de::DeserializeOwned;
+use crate::answer::{line, object, Answer};
+use crate::library::{ask, events, zeros, Position, Told, DONE, MORE, ROOM};
+use crate::results::{End, Line};
+use crate::{Entry, Error, Event, Header};
+use std::iter::FusedIterator;
+use std::ops::Range;
 
-/// What gives lines by pieces.
-pub(crate) trait Source {
-    /// Writes the next piece, and gives the result and what is reported of the text.
-    fn piece(&mut self, out: &mut [u8]) -> (i32, Told);
-
-    /// Whether there are no lines at all.
-    fn is_empty(&self) -> bool;
-}
-
-/// The entries of a list, as JSON or as text.
-#[derive(Debug, Clone)]
-pub(crate) struct OfList<'a> {
-    list: &'a [u8],
-    json: bool,
-    at: Position,
-}
-
-impl Source for OfList<'_> {
-    fn piece(&mut self, out: &mut [u8]) -> (i32, Told) {
-        entries(self.list, &mut self.at, self.json, out)
-    }
-
-    fn is_empty(&self) -> bool {
-        self.list.is_empty() && !self.json // (as JSON the last line says how many entries there are)
-    }
-}
-
-/// The algorithms and the events of a log.
-#[derive(Debug, Clone)]
-pub(crate) struct OfLog<'a> {
-    log: &'a [u8],
-    at: Position,
-}
-
-impl Source for OfLog<'_> {
-    fn piece(&mut self, out: &mut [u8]) -> (i32, Told) {
-        events(self.log, &mut self.at, out)
-    }
-
-    fn is_empty(&self) -> bool {
-        false
-    }
-}
+/// What writes the next piece of lines on these bytes, and gives the result and what is reported of the text.
+pub(crate) type Piece = fn(&[u8], &mut Position, &mut [u8]) -> (i32, Told);
 
 /// Goes through lines. Nothing comes after the first error.
 #[derive(Debug, Clone)]
-pub(crate) struct Lines<S> {
-    source: S,
+pub(crate) struct Lines<'a> {
+    bytes: &'a [u8],
+    piece: Piece,
+    at: Position,
     buffer: Vec<u8>,
-    /// The lines of the piece that are not read yet.
-    start: usize,
-    end: usize,
+    /// Where in the buffer the lines are that are not read yet.
+    rest: Range<usize>,
     /// The result of the last call.
     result: i32,
-    number: u64,
+    /// How many entries were read.
+    count: u64,
     is_over: bool,
 }
 
-impl<'a> Lines<OfList<'a>> {
-    pub(crate) fn of_list(list: &'a [u8], json: bool) -> Self {
-        Self::new(OfList { list, json, at: Position::default() })
-    }
-}
-
-impl<'a> Lines<OfLog<'a>> {
-    pub(crate) fn of_log(log: &'a [u8]) -> Self {
-        Self::new(OfLog { log, at: Position::default() })
-    }
-}
-
-impl<S: Source> Lines<S> {
-    pub(crate) fn new(source: S) -> Self {
-        Self { source, buffer: Vec::new(), start: 0, end: 0, result: MORE, number: 0, is_over: false }
+impl<'a> Lines<'a> {
+    pub(crate) fn of(bytes: &'a [u8], piece: Piece) -> Self {
+        Self { bytes, piece, at: Position::default(), buffer: Vec::new(), rest: 0..0, result: MORE, count: 0, is_over: false }
     }
 
     /// Gets the lines of the next call, which are none only after the last ones.
     fn fill(&mut self) -> Result<(), Error> {
-        (self.start, self.end) = (0, 0);
+        self.rest = 0..0;
         if self.result == DONE {
             return Ok(());
         }
@@ -90,84 +41,60 @@ impl<S: Source> Lines<S> {
         if buffer.is_empty() {
             buffer = zeros(ROOM)?;
         }
-        let answer = ask(buffer, |out| self.source.piece(out))?;
-        if !self.is_piece(&answer) {
+        let answer = ask(buffer, |out| (self.piece)(self.bytes, &mut self.at, out))?;
+        let is_piece = match answer.result {
+            DONE => answer.text.is_empty() || answer.text.ends_with(b"\n"),
+            result => result == MORE && answer.text.ends_with(b"\n"),
+        };
+        if !is_piece {
             return Err(answer.unexpected());
         }
-        (self.result, self.end, self.buffer) = (answer.result, answer.text.len(), answer.text);
+        let Answer { result, text, .. } = answer;
+        (self.result, self.rest, self.buffer) = (result, 0..text.len(), text);
         let room = self.buffer.capacity();
         self.buffer.resize(room, 0);
         Ok(())
     }
 
-    fn is_piece(&self, answer: &Answer) -> bool {
-        if self.source.is_empty() {
-            return answer.result == DONE && answer.text.is_empty();
+    /// The next line, or none after the last one.
+    fn next_line(&mut self) -> Result<Option<&[u8]>, Error> {
+        if self.rest.is_empty() {
+            self.fill()?;
         }
-        matches!(answer.result, DONE | MORE) && answer.text.ends_with(b"\n")
+        let rest = &self.buffer[self.rest.clone()];
+        let Some(at) = rest.iter().position(|byte| *byte == b'\n') else { return Ok(None) };
+        self.rest.start += at + 1;
+        Ok(Some(&rest[..=at]))
     }
 
-    /// What the next line is read as.
-    fn next<L: DeserializeOwned, T>(&mut self, read: impl FnOnce(L, u64) -> Option<T>) -> Option<Result<T, Error>> {
+    /// What the next line has, if there is one.
+    pub(crate) fn next_of<T: Line>(&mut self) -> Result<Option<T>, Error> {
+        let result = self.result;
+        let Some(text) = self.next_line()? else { return Ok(None) };
+        line(text).map(Some).ok_or_else(|| unexpected(result, text))
+    }
+
+    /// The next entry, or none after the line that says how many there are. Without this line the list was cut.
+    pub(crate) fn next_entry(&mut self) -> Result<Option<Entry>, Error> {
+        let result = self.result;
+        let Some(text) = self.next_line()? else { return Err(unexpected(result, b"")) };
+        if let Some(entry) = line(text) {
+            self.count += 1;
+            return Ok(Some(entry));
+        }
+        let (end, text) = (object::<End>(text), text.to_vec());
+        let is_end = end.map(|end| end.entries) == Some(self.count) && self.result == DONE && self.rest.is_empty();
+        is_end.then_some(None).ok_or_else(|| unexpected(result, &text))
+    }
+
+    /// An item of an iterator, after which there may be none.
+    pub(crate) fn item<T>(&mut self, next: impl FnOnce(&mut Self) -> Result<Option<T>, Error>) -> Option<Result<T, Error>> {
         if self.is_over {
             return None;
         }
-        let item = self.next_or_error(read);
+        let item = next(self);
         self.is_over = !matches!(item, Ok(Some(_)));
         item.transpose()
-    }
-
-    fn next_or_error<L: DeserializeOwned, T>(&mut self, read: impl FnOnce(L, u64) -> Option<T>) -> Result<Option<T>, Error> {
-        if self.start == self.end {
-            self.fill()?;
-        }
-        let rest = &self.buffer[self.start..self.end];
-        let Some(at) = rest.iter().position(|byte| *byte == b'\n') else { return Ok(None) };
-        let line = &rest[..=at];
-        let Some(item) = object(line).and_then(|value| read(value, self.number)) else {
-            return Err(self.unexpected(line));
-        };
-        (self.start, self.number) = (self.start + line.len(), self.number + 1);
-        Ok(Some(item))
-    }
-
-    pub(crate) fn next_algorithms(&mut self) -> Option<Result<Vec<LogAlgorithm>, Error>> {
-        self.next(algorithms)
-    }
-
-    pub(crate) fn next_entry(&mut self) -> Option<Result<Entry, Error>> {
-        if self.is_over {
-            return None;
-        }
-        match self.ends_with_count() {
-            Ok(false) => self.next(entry),
-            end => {
-                self.is_over = true;
-                end.err().map(Err)
-            }
-        }
-    }
-
-    /// Whether the next line is the last one. It says how many entries there are, or the list was cut.
-    fn ends_with_count(&mut self) -> Result<bool, Error> {
-        if self.start == self.end {
-            self.fill()?;
-        }
-        let rest = &self.buffer[self.start..self.end];
-        let at = rest.iter().position(|byte| *byte == b'\n');
-        if self.result != DONE || at.map_or(true, |at| at + 1 < rest.len()) {
-            return Ok(false);
-        }
-        let counted = object(rest).and_then(|line| entry_count(line, self.number));
-        counted.map(|()| true).ok_or_else(|| self.unexpected(rest))
-    }
-
-    fn unexpected(&self, line: &[u8]) -> Error {
-        Error::Unexpected { result: self.result, size: line.len(), text: line.to_vec() }
-    }
-
-    pub(crate) fn next_event(&mut self) -> Option<Result<Event, Error>> {
-        self.next(event)
     }
 
     /// The text of all pieces.
@@ -175,11 +102,61 @@ impl<S: Source> Lines<S> {
         let mut text = Vec::new();
         loop {
             self.fill()?;
-            if self.end == 0 {
+            if self.rest.is_empty() {
                 return Ok(text);
             }
-            text.try_reserve(self.end).map_err(|_| Error::OutOfMemory)?;
-            text.extend_from_slice(&self.buffer[..self.end]);
+            text.try_reserve(self.rest.len()).map_err(|_| Error::OutOfMemory)?;
+            text.extend_from_slice(&self.buffer[self.rest.clone()]);
         }
     }
 }
+
+fn unexpected(result: i32, line: &[u8]) -> Error {
+    Error::Unexpected { result, size: line.len(), text: line.to_vec() }
+}
+
+/// The entries of a measurement list, by [`entries`](crate::entries).
+#[derive(Debug, Clone)]
+#[must_use]
+pub struct Entries<'a>(pub(crate) Lines<'a>);
+
+impl Iterator for Entries<'_> {
+    type Item = Result<Entry, Error>;
+
+    fn next(&mut self) -> Option<Self::Item> {
+        self.0.item(Lines::next_entry)
+    }
+}
+
+impl FusedIterator for Entries<'_> {}
+
+/// The events of a firmware event log, by [`events`](crate::events).
+#[derive(Debug, Clone)]
+#[must_use]
+pub struct Events<'a> {
+    lines: Lines<'a>,
+    header: Header,
+}
+
+impl<'a> Events<'a> {
+    pub(crate) fn of(log: &'a [u8]) -> Result<Self, Error> {
+        let mut lines = Lines::of(log, events);
+        let header = lines.next_of()?.ok_or_else(|| unexpected(lines.result, b""))?;
+        Ok(Self { lines, header })
+    }
+
+    /// The log's header.
+    pub fn header(&self) -> &Header {
+        &self.header
+    }
+}
+
+impl Iterator for Events<'_> {
+    type Item = Result<Event, Error>;
+
+    fn next(&mut self) -> Option<Self::Item> {
+        self.lines.item(Lines::next_of)
+    }
+}
+
+impl FusedIterator for Events<'_> {}

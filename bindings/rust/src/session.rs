@@ -1,8 +1,10 @@
 //! Verdicts on a list that grows.
 
-use crate::answers::{Answer, Checkpoint};
-use crate::library::{self, ask_for_both, verify_more, zeros, Attested, More, ROOM};
-use crate::{lines_of, Attestation, Error, Quote, Required, SignatureState, Signing, Verdict};
+use crate::answer::Answer;
+use crate::library::{self, ask_for_both, some_bytes, verify_more, zeros, Grown, ROOM};
+use crate::request::lines_of;
+use crate::results::Judged;
+use crate::{Attestation, Error, Quote, Required, Verdict};
 
 /// Verdicts on a measurement list that grows: each is on all of the list so far, but only what is new of it is given.
 ///
@@ -15,9 +17,9 @@ use crate::{lines_of, Attestation, Error, Quote, Required, SignatureState, Signi
 /// let mut session = Session::new(&log, &expected, "sha256:0-10").prefix();
 /// let verdict = session.more(&[&list[..], b"cut"].concat())?; // more than the PCRs confirm
 /// assert_eq!((verdict.matches, verdict.confirmed, session.offset()), (true, Some(4), list.len() as u64));
-/// assert_eq!(verdict.unconfirmed.unwrap().line, "unconfirmed: list fault 1 at entry 4");
+/// assert_eq!(verdict.unconfirmed.unwrap().message, "unconfirmed: list fault 1 at entry 4");
 ///
-/// let mut later = Session::new(&log, &expected, "sha256:0-10").resume(session.state().unwrap())?;
+/// let mut later = Session::new(&log, &expected, "sha256:0-10").resume(session.state().unwrap());
 /// let verdict = later.more(&list[later.offset() as usize..])?;
 /// assert_eq!((verdict.matches, verdict.entries), (true, 4));
 /// # Ok(())
@@ -31,7 +33,7 @@ pub struct Session {
     require: String,
     known: Option<Vec<u8>>,
     prefix: bool,
-    reached: Checkpoint,
+    state: Option<Vec<u8>>,
 }
 
 impl Session {
@@ -43,7 +45,7 @@ impl Session {
     pub fn new<'a>(log: &[u8], expected: &[u8], require: impl Into<Required<'a>>) -> Self {
         let Required { registers, known } = require.into();
         let (log, expected, require) = (log.to_vec(), expected.to_vec(), registers.to_owned());
-        Self { log, expected, require, known: known.map(lines_of), prefix: false, reached: Checkpoint::default() }
+        Self { log, expected, require, known: known.map(lines_of), prefix: false, state: None }
     }
 
     /// A session for [`attest`](Self::attest) alone: no PCRs are expected, and [`more`](Self::more) gives an error.
@@ -60,14 +62,10 @@ impl Session {
 
     /// A session that continues from the state of an earlier one, with a log of the same boot. The expected PCRs may be others.
     ///
-    /// A state is trusted: who can write it can choose the verdict. Never take it from the machine that is judged.
-    ///
-    /// # Errors
-    ///
-    /// A state that is not whole, even an empty one, is [`Error::Refused`] with [`Kind::Checkpoint`](crate::Kind::Checkpoint),
-    /// here or by [`more`](Self::more).
-    pub fn resume(self, state: &[u8]) -> Result<Self, Error> {
-        Ok(Self { reached: Checkpoint::of_state(state)?, ..self })
+    /// A state is trusted: who can write it can choose the verdict. Never take it from the machine that is judged. One that is not
+    /// whole, even an empty one, is refused by [`more`](Self::more) and [`attest`](Self::attest).
+    pub fn resume(self, state: &[u8]) -> Self {
+        Self { state: Some(state.to_vec()), ..self }
     }
 
     /// The verdict on the list that the state covers, followed by these bytes, which may be none. If it is a match, the state then
@@ -78,12 +76,13 @@ impl Session {
     ///
     /// # Errors
     ///
-    /// [`Error::Refused`] if the requirement, an input or the state is refused, otherwise as for [`verify`](crate::verify).
+    /// [`Error::Refused`] if the requirement, an input or the state is refused (with [`Kind::Checkpoint`](crate::Kind::Checkpoint)),
+    /// otherwise as for [`verify`](crate::verify).
     pub fn more(&mut self, data: &[u8]) -> Result<Verdict, Error> {
-        let (log, state, expected, require) = (&self.log, &self.reached.text, &self.expected, self.require.as_bytes());
-        let inputs = More { log, state, data, expected, require, known: self.known.as_deref(), prefix: self.prefix };
-        let answer = ask_for_both(zeros(ROOM)?, zeros(ROOM)?, |next, out| verify_more(&inputs, next, out))?;
-        self.answered(data.len(), answer)
+        let inputs = self.inputs(data, self.known.as_deref());
+        let call = |next: &mut [u8], out: &mut [u8]| verify_more(&inputs, &self.expected, &self.require, next, out);
+        let answer = ask_for_both(zeros(ROOM)?, zeros(ROOM)?, call)?;
+        self.take(answer, |verdict: &Verdict| verdict.matches)
     }
 
     /// The verdict by a quote on the list that the state covers, followed by these bytes, which may be none. After a match the state
@@ -101,54 +100,42 @@ impl Session {
     pub fn attest(&mut self, data: &[u8], quote: &Quote<'_>) -> Result<Attestation, Error> {
         let of_quote = quote.known.map(lines_of);
         let known = of_quote.as_deref().or(self.known.as_deref());
-        let inputs = Attested { log: &self.log, state: &self.reached.text, data, known, prefix: self.prefix };
-        let (found, reached) = attested(&inputs, quote, &self.reached)?;
-        if let Some(reached) = reached {
-            self.reached = reached;
-        }
-        Ok(found)
-    }
-
-    /// The verdict that the answer to a call with so many bytes has.
-    fn answered(&mut self, size: usize, answer: Answer) -> Result<Verdict, Error> {
-        let (verdict, reached) = answer.more(&self.reached, size as u64, self.known.is_some(), self.prefix)?;
-        if let Some(reached) = reached {
-            self.reached = reached;
-        }
-        Ok(verdict)
+        let answer = attested(&self.inputs(data, known), quote)?;
+        self.take(answer, |found: &Attestation| found.matches)
     }
 
     /// What to keep, and to [`resume`](Self::resume) another session from. None before the first match on a list from its start.
     pub fn state(&self) -> Option<&[u8]> {
-        Some(&self.reached.text[..]).filter(|text| !text.is_empty())
+        self.state.as_deref()
     }
 
-    /// How many bytes of the list the state covers: [`more`](Self::more) takes those that follow.
+    /// How many bytes of the list the state covers: [`more`](Self::more) takes those that follow. It is 0 for a state that is refused.
     pub fn offset(&self) -> u64 {
-        self.reached.bytes
+        self.state().and_then(offset_of).unwrap_or_default()
     }
-}
 
-impl Signing<'_> {
-    /// What a report says of the signature.
-    fn state(&self) -> SignatureState {
-        match self {
-            Self::ByKey { .. } => SignatureState::Valid,
-            Self::ByCaller => SignatureState::Checked,
-            Self::NotChecked => SignatureState::NotChecked,
+    fn inputs<'a>(&'a self, data: &'a [u8], known: Option<&'a [u8]>) -> Grown<'a> {
+        Grown { log: &self.log, state: self.state().map(some_bytes).unwrap_or_default(), data, known, prefix: self.prefix }
+    }
+
+    /// What an answer says, and its state, if it is a match.
+    pub(crate) fn take<T: Judged>(&mut self, answer: Answer, matches: impl FnOnce(&T) -> bool) -> Result<T, Error> {
+        let found = answer.judged()?;
+        if matches(&found) {
+            offset_of(&answer.next).ok_or_else(|| answer.unexpected())?;
+            self.state = Some(answer.next);
         }
+        Ok(found)
     }
 }
 
-/// The verdict by a quote, and the next checkpoint, if it is a match.
-pub(crate) fn attested(
-    inputs: &Attested,
-    quote: &Quote<'_>,
-    from: &Checkpoint,
-) -> Result<(Attestation, Option<Checkpoint>), Error> {
-    let answer = ask_for_both(zeros(ROOM)?, zeros(ROOM)?, |next, out| library::attest(inputs, quote, next, out))?;
-    answer.attestation(from, inputs.data.len() as u64, inputs.known.is_some(), inputs.prefix, quote.signing.state())
+/// How many bytes of a list a state covers, by its third line (docs/formats.md). The library reads all of it.
+fn offset_of(state: &[u8]) -> Option<u64> {
+    let digits = state.split(|byte| *byte == b'\n').nth(2)?.strip_prefix(b"bytes ")?;
+    std::str::from_utf8(digits).ok()?.parse().ok()
 }
 
-#[cfg(test)]
-mod tests;
+/// The answer to a call by a quote.
+pub(crate) fn attested(inputs: &Grown, quote: &Quote<'_>) -> Result<Answer, Error> {
+    ask_for_both(zeros(ROOM)?, zeros(ROOM)?, |next, out| library::attest(inputs, quote, next, out))
+}

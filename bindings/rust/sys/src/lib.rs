@@ -4,15 +4,13 @@
 #![no_std]
 #![deny(missing_docs)]
 
-/// The version of the interface that is declared here. A library whose [`ima_verify_version`] is this one or later has all of
-/// it.
+/// The version of the interface that is declared here. A library whose [`ima_verify_version`] is this one or later has all of it.
 pub const IMA_VERIFY_VERSION: u32 = 1;
 
 /// The text is complete. A verdict is `match`, and a quote's signature is valid, or was checked by the caller; for places, every
 /// value was reached and none is missing. For entries or events, these are the last.
 pub const IMA_VERIFY_DONE: i32 = 0;
-/// The text is complete. A verdict is `differ`, or a quote's signature was not checked; for places, a value was not reached or one
-/// is missing.
+/// The text is complete. A verdict is `differ`, or a quote's signature was not checked; for places, a value was not reached or one is missing.
 pub const IMA_VERIFY_DIFFERS: i32 = 1;
 /// An input is refused, and the text is the line that says why.
 pub const IMA_VERIFY_REFUSED: i32 = 2;
@@ -74,170 +72,63 @@ extern "C" {
 
     /// The verdict on a log, a list and expected PCRs.
     pub fn ima_verify_raw_verdict(
-        log: *const u8,
-        log_size: usize,
-        list: *const u8,
-        list_size: usize,
-        expected: *const u8,
-        expected_size: usize,
-        require: *const u8,
-        require_size: usize,
-        known: *const u8,
-        known_size: usize,
-        known_given: bool,
-        json: bool,
-        out: *mut u8,
-        room: usize,
+        log: *const u8, log_size: usize, list: *const u8, list_size: usize, expected: *const u8, expected_size: usize, require: *const u8,
+        require_size: usize, known: *const u8, known_size: usize, known_given: bool, json: bool, out: *mut u8, room: usize,
         told: *mut ima_verify_told,
     ) -> i32;
 
     /// Where each expected PCR first has its value.
     pub fn ima_verify_raw_locate(
-        log: *const u8,
-        log_size: usize,
-        list: *const u8,
-        list_size: usize,
-        expected: *const u8,
-        expected_size: usize,
-        require: *const u8,
-        require_size: usize,
-        json: bool,
-        out: *mut u8,
-        room: usize,
-        told: *mut ima_verify_told,
+        log: *const u8, log_size: usize, list: *const u8, list_size: usize, expected: *const u8, expected_size: usize, require: *const u8,
+        require_size: usize, json: bool, out: *mut u8, room: usize, told: *mut ima_verify_told,
     ) -> i32;
 
     /// The verdict on a list without a log.
     pub fn ima_verify_raw_replay(
-        list: *const u8,
-        list_size: usize,
-        expected: *const u8,
-        expected_size: usize,
-        require: *const u8,
-        require_size: usize,
-        known: *const u8,
-        known_size: usize,
-        known_given: bool,
-        json: bool,
-        out: *mut u8,
-        room: usize,
-        told: *mut ima_verify_told,
+        list: *const u8, list_size: usize, expected: *const u8, expected_size: usize, require: *const u8, require_size: usize, known: *const u8,
+        known_size: usize, known_given: bool, json: bool, out: *mut u8, room: usize, told: *mut ima_verify_told,
     ) -> i32;
 
     /// The verdict on a list that grows, and the checkpoint to continue from.
     pub fn ima_verify_raw_more(
-        log: *const u8,
-        log_size: usize,
-        state: *const u8,
-        state_size: usize,
-        more: *const u8,
-        more_size: usize,
-        expected: *const u8,
-        expected_size: usize,
-        require: *const u8,
-        require_size: usize,
-        known: *const u8,
-        known_size: usize,
-        known_given: bool,
-        prefix: bool,
-        json: bool,
-        next: *mut u8,
-        next_room: usize,
-        next_size: *mut usize,
-        out: *mut u8,
-        room: usize,
-        told: *mut ima_verify_told,
+        log: *const u8, log_size: usize, state: *const u8, state_size: usize, more: *const u8, more_size: usize, expected: *const u8,
+        expected_size: usize, require: *const u8, require_size: usize, known: *const u8, known_size: usize, known_given: bool, prefix: bool,
+        json: bool, next: *mut u8, next_room: usize, next_size: *mut usize, out: *mut u8, room: usize, told: *mut ima_verify_told,
     ) -> i32;
 
     /// The verdict on a log and a list that grows by a quote with its signature, and the checkpoint to continue from. Without bytes in `key`
     /// and `signature` none is verified: `is_signed` says that the caller has.
     pub fn ima_verify_raw_attest(
-        log: *const u8,
-        log_size: usize,
-        state: *const u8,
-        state_size: usize,
-        more: *const u8,
-        more_size: usize,
-        message: *const u8,
-        message_size: usize,
-        key: *const u8,
-        key_size: usize,
-        signature: *const u8,
-        signature_size: usize,
-        nonce: *const u8,
-        nonce_size: usize,
-        require: *const u8,
-        require_size: usize,
-        known: *const u8,
-        known_size: usize,
-        known_given: bool,
-        takes_sha1: bool,
-        is_signed: bool,
-        prefix: bool,
-        json: bool,
-        next: *mut u8,
-        next_room: usize,
-        next_size: *mut usize,
-        out: *mut u8,
-        room: usize,
-        told: *mut ima_verify_told,
+        log: *const u8, log_size: usize, state: *const u8, state_size: usize, more: *const u8, more_size: usize, message: *const u8,
+        message_size: usize, key: *const u8, key_size: usize, signature: *const u8, signature_size: usize, nonce: *const u8, nonce_size: usize,
+        require: *const u8, require_size: usize, known: *const u8, known_size: usize, known_given: bool, takes_sha1: bool, is_signed: bool,
+        prefix: bool, json: bool, next: *mut u8, next_room: usize, next_size: *mut usize, out: *mut u8, room: usize, told: *mut ima_verify_told,
     ) -> i32;
 
     /// The expected PCRs that a text which tpm2-tools printed states.
     pub fn ima_verify_raw_expected(
-        printed: *const u8,
-        printed_size: usize,
-        registers: *const u8,
-        registers_size: usize,
-        json: bool,
-        out: *mut u8,
-        room: usize,
+        printed: *const u8, printed_size: usize, registers: *const u8, registers_size: usize, json: bool, out: *mut u8, room: usize,
         told: *mut ima_verify_told,
     ) -> i32;
 
     /// The PCRs after a log, or after a list without a log.
     pub fn ima_verify_raw_registers(
-        bytes: *const u8,
-        size: usize,
-        of_list: bool,
-        json: bool,
-        out: *mut u8,
-        room: usize,
-        told: *mut ima_verify_told,
+        bytes: *const u8, size: usize, of_list: bool, json: bool, out: *mut u8, room: usize, told: *mut ima_verify_told,
     ) -> i32;
 
     /// The key of a public area, for attestation or as an endorsement key.
     pub fn ima_verify_raw_key(
-        area: *const u8,
-        area_size: usize,
-        endorsement: bool,
-        json: bool,
-        out: *mut u8,
-        room: usize,
-        told: *mut ima_verify_told,
+        area: *const u8, area_size: usize, endorsement: bool, json: bool, out: *mut u8, room: usize, told: *mut ima_verify_told,
     ) -> i32;
 
     /// The algorithms and the events of a log from a position on, as lines of JSON.
     pub fn ima_verify_raw_events(
-        log: *const u8,
-        log_size: usize,
-        offset: *mut usize,
-        number: *mut usize,
-        out: *mut u8,
-        room: usize,
-        told: *mut ima_verify_told,
+        log: *const u8, log_size: usize, offset: *mut usize, number: *mut usize, out: *mut u8, room: usize, told: *mut ima_verify_told,
     ) -> i32;
 
     /// The entries of a list from a position on.
     pub fn ima_verify_raw_entries(
-        list: *const u8,
-        list_size: usize,
-        offset: *mut usize,
-        number: *mut usize,
-        json: bool,
-        out: *mut u8,
-        room: usize,
-        told: *mut ima_verify_told,
+        list: *const u8, list_size: usize, offset: *mut usize, number: *mut usize, json: bool, out: *mut u8, room: usize, told: *mut ima_verify_told,
     ) -> i32;
 }
 
