@@ -22,7 +22,7 @@ BRACKETED = re.compile(rf" \((?:in |by )?{LINK.pattern}\)")
 # What the repository's pages say of the repository, and what it becomes.
 RULES = (
     (re.compile(r"(?<![\w/])\./ima-agent\b"), "ima-agent"),
-    (re.compile(r" \(here \[`attest/collect`\]\(\.\./attest/collect\), `attest/enroll` and `attest/verify`, with the `ima-agent` on PATH\)"), ""),
+    (re.compile(r" \(here \[`attest/`\]\(\.\./attest/collect\) has them, and calls the `ima-agent` on PATH\)"), ""),
     (re.compile(r"(?:(?<=\$PWD/)|(?<![\w/]))samples/"), f"{SAMPLES}/"),
     (re.compile(r"(?<![\w/])bindings/c/ima_verify\.h"), "include/ima_verify.h"),
     # of the page of the fleet

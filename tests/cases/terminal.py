@@ -374,7 +374,7 @@ def takes_only_files(words):
 
 def unread(name, folder, takes_only_files):
     """That the file of this name cannot be read, and what the system says why, if it still says so; or that it is no regular file."""
-    if takes_only_files and (folder / name).exists() and not (folder / name).is_file():
+    if takes_only_files and name and (folder / name).exists() and not (folder / name).is_file():
         return f"cannot read {name}: it is no regular file"
     place = os.open(folder, os.O_RDONLY)
     try:

@@ -20,7 +20,7 @@ BOUNDS = {
     "bindings/rust/README.md": 350,
     "dist/README.md": 400,
     "dist/release.md": 400,
-    "docs/assurance.md": 1810,
+    "docs/assurance.md": 1800,
     "docs/attest.md": 1300,
     "docs/calls.md": 1800,
     "docs/cli.md": 1800,
