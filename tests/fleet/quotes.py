@@ -660,7 +660,7 @@ BAD_QUOTES = {
     6: (lambda case: case.change("quote.msg", turned), "refused", BAD_SIGNATURE),
     7: (lambda case: case.change("quote.sig", turned), "refused", BAD_SIGNATURE),
     8: (lambda case: case.change("quote.msg", lambda data: data[:-1]), "refused", BAD_SIGNATURE),
-    9: (lambda case: case.change("quote.sig", lambda data: data[:-1]), "refused", NO_SCHEME),
+    9: (lambda case: case.change("quote.sig", lambda data: b"\xff" + data[1:-1]), "refused", NO_SCHEME),  # (as a TPM has it, no scheme)
     10: (lambda case: case.remove("quote.msg"), "refused", ABSENT.format("quote")),
     11: (lambda case: case.remove("quote.sig"), "refused", ABSENT.format("signature")),
     12: (lambda case: case.key.unlink(), "refused", "no key: the verifier has none of this machine"),
