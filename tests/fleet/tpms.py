@@ -11,7 +11,7 @@ from typing import Optional
 
 sys.path.append(str(Path(__file__).resolve().parents[1] / "attest"))
 
-from emulated import free_ports  # noqa: E402
+from emulated import TRIES, free_ports  # noqa: E402
 from reference.registers import SHA256  # noqa: E402
 
 NEEDED = ("swtpm", "swtpm_ioctl", "tpm2_startup", "tpm2_shutdown", "tpm2_createprimary", "tpm2_evictcontrol", "tpm2_readpublic", "tpm2_pcrextend",
@@ -52,6 +52,12 @@ class Tpm:
     def start(self, *words):
         """Starts the emulator, as power comes to the TPM, and then the TPM by these words of tpm2_startup."""
         self.folder.mkdir(exist_ok=True)
+        if not any(self.is_started() for _ in range(TRIES)):
+            raise RuntimeError("swtpm does not answer")
+        self.tool("tpm2_startup", *words)
+
+    def is_started(self):
+        """Whether the emulator is started, at ports that are free. It ends if another process takes one of them meanwhile."""
         self.port, control = free_ports()
         self.emulator = subprocess.Popen(
             ["swtpm", "socket", "--tpm2", "--tpmstate", f"dir={self.folder}", "--flags", "not-need-init", "--server",
@@ -61,9 +67,10 @@ class Tpm:
         limit = time.monotonic() + SECONDS
         while not is_listening(self.port):
             if time.monotonic() > limit or self.emulator.poll() is not None:
-                raise RuntimeError("swtpm does not answer")
+                self.stop()
+                return False
             time.sleep(0.02)
-        self.tool("tpm2_startup", *words)
+        return True
 
     def stop(self):
         """Takes the power from the TPM."""
