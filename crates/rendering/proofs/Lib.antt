@@ -1,2 +1,3 @@
 pub mod EntryLineLaws
 pub mod FaultCellLaws
+pub mod SummaryLaws

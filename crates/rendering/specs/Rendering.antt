@@ -84,6 +84,10 @@ abbrev pub ShowsAnswer : Inputs → Requested → Option (List ℕ) → Form →
 ShowsAnswer inputs request save form old new shown status =
     (next : Option SavedState) × IsShown inputs request form shown status next × HasSaved old new save next
 
+-- The summary is that of an answer to what is asked for.
+abbrev pub IsSummaryOn : Inputs → Requested → Summary → Type 0
+IsSummaryOn inputs request summary = (given : Answered) × IsAnswer inputs request given × (summary ≡ summary_of given)
+
 -- The text of a checkpoint, if there is one.
 abbrev pub state_of : Option SavedState → List ℕ
 state_of None = []

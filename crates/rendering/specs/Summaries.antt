@@ -35,6 +35,14 @@ no_summary = record {
   unknown = 0;
 }
 
+abbrev pub is_match_of : Outcome → Bool
+is_match_of Match = true
+is_match_of outcome = false
+
+-- The verdict is a match though nothing was compared.
+abbrev pub compares_nothing : Summary → Bool
+compares_nothing summary = is_match_of summary.verdict && (summary.compared == 0)
+
 abbrev pub outcome_of : Bool → Outcome
 outcome_of true = Match
 outcome_of false = Differ

@@ -3,7 +3,7 @@
 ghost use Rattle.std.specs.Prelude.{◌≡◌, option_map, IfOk, IfErr, OnErr, OnOk};
 ghost use Rattle.agent_inputs.specs.Loading.{unknown};
 ghost use Rattle.judging.specs.Requests.{requested_of};
-ghost use Rattle.rendering.specs.Rendering.{GivesAnswer, HasSaved, IsNotSaved, IsOutputFault, IsRefusalOn, ShowsAnswer, answer_cell, answer_status, render, state_of};
+ghost use Rattle.rendering.specs.Rendering.{GivesAnswer, HasSaved, IsNotSaved, IsOutputFault, IsRefusalOn, IsSummaryOn, ShowsAnswer, answer_cell, answer_status, render, state_of};
 ghost use Rattle.cells.specs.Cells.{ShowsMembers};
 
 use crate::no_files::NoFiles;
@@ -58,24 +58,26 @@ pub struct Rendered {
     pub summary: Summary,
 }
 
-/// The output of what is asked for, in this form. If all is well, the checkpoint of what a verdict is on is saved last, if a name is given
-/// for it.
+/// The output of what is asked for, in this form, and its summary. If all is well, the checkpoint of what a verdict is on is saved last, if a
+/// name is given for it.
 pub fn output_for<F: AgentFiles>(
     alloc: Global,
     files: &mut F,
     request: Request<'_>,
     name: Option<&str>,
     form: Form,
-) -> Result<Output, RunFault>
-    ensures shown { IfOk result (λ output. ShowsAnswer (F.inputs files.old) (requested_of request.entry) (option_map (λ name. name.now) name.entry) form
-        (F.replaced files.old) (F.replaced files.new) output.text.items output.status) }
+) -> Result<(Output, Summary), RunFault>
+    ensures shown { IfOk result (λ given. ShowsAnswer (F.inputs files.old) (requested_of request.entry) (option_map (λ name. name.now) name.entry) form
+        (F.replaced files.old) (F.replaced files.new) given.0.text.items given.0.status) }
+    ensures summary { IfOk result (λ given. IsSummaryOn (F.inputs files.old) (requested_of request.entry) given.1) }
     ensures kept { OnErr result (F.replaced files.new ≡ F.replaced files.old) }
     ensures fault { IfErr result (IsOutputFault (F.inputs files.old) (requested_of request.entry) (option_map (λ name. name.now) name.entry)) }
 {
     let given = answer_request(alloc, files, request)?;
     let output = render(alloc, &given, form)?;
+    let summary = Summary::of(&given);
     save(alloc, files, name, given.next)?;
-    Ok(output)
+    Ok((output, summary))
 }
 
 // Saves the checkpoint, if there is one, under this name, if there is one.

@@ -7,7 +7,7 @@ ghost use Rattle.boot_verdict.specs.Names.{is_match, list_verdict_of, verdict_of
 ghost use Rattle.tpm_quotes.specs.Spelling.{selects};
 ghost use Rattle.attestations.specs.Quoted.{bank_selection_of};
 ghost use Rattle.attestations.specs.Reports.{attest_verdict_of};
-ghost use Rattle.rendering.specs.Summaries.{count_of, differing_of, missing_of, no_summary, outcome_by, outcome_of, reason_of, reasons_by, reasons_on, selected_of, summary_of, summary_of_list, summary_of_quote, summary_of_report, summary_of_rows};
+ghost use Rattle.rendering.specs.Summaries.{compares_nothing, count_of, differing_of, missing_of, no_summary, outcome_by, outcome_of, reason_of, reasons_by, reasons_on, selected_of, summary_of, summary_of_list, summary_of_quote, summary_of_report, summary_of_rows};
 
 use attestations::{AttestReport, Selected};
 use boot_verdict::{ListReport, Report, Requirement, Row, State, Strays};
@@ -106,6 +106,13 @@ impl Summary {
             | Answer::Expected(_)
             | Answer::Key { .. } => NONE,
         }
+    }
+
+    /// Whether the verdict is `match` though no register was compared: nothing says then that log and list are those of the machine.
+    pub fn compares_nothing(&self) -> bool
+        ensures { result ≡ compares_nothing self.now }
+    {
+        matches!(self.verdict, Outcome::Match) && self.compared == 0
     }
 }
 
