@@ -581,14 +581,19 @@ def boot_of(words):
     """The call that answers `boot`, or `events --json` with what confirms them; or None."""
     name, *rest = words or [""]
     given = given_in(rest, BOOT_OPTIONS, BOOT_FLAGS, 1) if name in ("boot", "events") else None
-    try:
-        read_words(words)
-    except (Fault, HelpAsked, VersionAsked):
-        return None
-    if given is None or (name == "events" and not {"--expected", "--quote"} & given[1].keys()):
+    if given is None or not is_well_formed(words) or (name == "events" and not {"--expected", "--quote"} & given[1].keys()):
         return None
     [log], values, flags = given
     return Boot(name == "events", log, values, tuple(flags))
+
+
+def is_well_formed(words):
+    """Whether the command takes its arguments."""
+    try:
+        read_words(words)
+    except (Fault, HelpAsked, VersionAsked):
+        return False
+    return True
 
 
 def more_of(words):
