@@ -46,8 +46,8 @@ pub fn explanation<R: FileSystem + io::Input>(
             io::ErrorKind::InvalidData => shown_line(alloc, "an argument is not UTF-8"),
             _ => Err(AllocError),
         },
-        Failure::Differs { .. } | Failure::Unsigned { .. } | Failure::NothingCompared =>
-            Ok(String::new(alloc)),
+        Failure::Differs { .. } | Failure::Unsigned { .. } => Ok(String::new(alloc)),
+        Failure::NothingCompared => Ok(String::new(alloc)),
         Failure::Output => shown_line(alloc, "the output could not be written"),
     }
 }

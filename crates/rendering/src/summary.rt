@@ -307,9 +307,7 @@ fn count_selected(selections: &[Selected]) -> usize
 fn selects(selections: &[Selected], alg: Alg, register: u32) -> bool
     ensures { result ≡ selects (map bank_selection_of selections.now) alg register }
 {
-    selections
-        .iter()
-        .any(|bank| bank.alg.tpm_id() == alg.tpm_id() && bank.selects(register))
+    selections.iter().any(|bank| bank.alg.tpm_id() == alg.tpm_id() && bank.selects(register))
 }
 
 // How many entries the whole list has.
