@@ -1,1 +1,1 @@
-mod SentenceLaws
+pub mod SentenceLaws

@@ -1,6 +1,6 @@
 //! The text of an error.
 
-ghost use Rattle.std.specs.Prelude.{◌≡◌, ◌++◌, codes, option_map, string_bytes, IfOk};
+ghost use Rattle.std.specs.Prelude.{◌≡◌, true, is_some, option_map, string_bytes, IfErr, IfOk};
 ghost use Rattle.error_texts.specs.ErrorTexts.{digits_of, error_text, named_place, text_of, words_after, words_before};
 ghost use Rattle.error_texts.specs.Sentences.{said};
 
@@ -18,7 +18,8 @@ pub fn error_text(
     number: u32,
     place: Option<u64>,
 ) -> Result<Option<String>, AllocError>
-    ensures { IfOk result (λ text. option_map string_bytes text ≡ error_text kind number place) }
+    ensures text { IfOk result (λ text. option_map string_bytes text ≡ error_text kind number place) }
+    ensures memory { IfErr result (λ _. is_some (error_text kind number place) ≡ true) }
 {
     match sentence(kind, number) {
         Some(sentence) => Ok(Some(text_of(alloc, kind, named_place(kind, place), sentence)?)),

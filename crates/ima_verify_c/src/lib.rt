@@ -9,6 +9,7 @@
 //! lines. It counts if `checks_known`, even without bytes: then no file is known. It is given only where `require` names registers.
 #![tactic(auto)]
 
+pub mod error_text;
 mod replies;
 mod requests;
 mod text_info;

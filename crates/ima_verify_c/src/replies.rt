@@ -17,7 +17,7 @@ use rendering::{
 use std::alloc::{AllocError, Global};
 
 /// What a call returns if all is well.
-const DONE: u8 = 0;
+pub(crate) const DONE: u8 = 0;
 
 /// What a call returns if not all is well.
 const DIFFERS: u8 = 1;
@@ -26,7 +26,7 @@ const DIFFERS: u8 = 1;
 const REFUSED: u8 = 2;
 
 /// What a call returns if memory ran out.
-const OUT_OF_MEMORY: u8 = 3;
+pub(crate) const OUT_OF_MEMORY: u8 = 3;
 
 /// What a call returns if the capacity is too small.
 const TOO_SHORT: i32 = 4;
@@ -35,7 +35,7 @@ const TOO_SHORT: i32 = 4;
 const MORE: u8 = 5;
 
 /// What a call returns if a position is none, or nothing can be asked for so.
-const MISUSED: i32 = 6;
+pub(crate) const MISUSED: i32 = 6;
 
 /// Gives the answer to what is asked of bytes in memory, or the line of a fault, in this form.
 pub(crate) fn give(
@@ -201,8 +201,8 @@ fn memory_line_in(form: Form) -> &'static [u8]
     }
 }
 
-// Writes a text at the start of the caller's buffer, if it fits, and reports its size and the fault that it is the line of.
-fn put(
+/// Writes a text at the start of the caller's buffer, if it fits, and reports its size and the fault that it is the line of.
+pub(crate) fn put(
     text: &[u8],
     status: u8,
     fault: Option<&RunFault>,
