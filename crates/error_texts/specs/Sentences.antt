@@ -48,7 +48,7 @@ list_sentence number =
 
 abbrev pub replay_sentence : ℕ → Option SentenceData
 replay_sentence number =
-    if number == 1 then row (codes "its template digest is not the SHA-1 of its data, and it is no violation")
+    if number == 1 then row (codes "its template digest is not the SHA-1 of what it covers, and it is no violation")
         (codes "Copy the list again. If the error stays, the entry was changed: do not trust the list.")
     else None
 
@@ -112,7 +112,7 @@ quote_sentence number =
     else if number == 8 then row (codes "The quote selects no PCR") all_pcrs
     else if number == 9 then row (codes "The quote's digest is not by SHA-256, SHA-384 or SHA-512")
         (codes "Ask the machine for a quote by one of these hashes.")
-    else if number == 10 then row (codes "Bytes follow the quote") copy_quote
+    else if number == 10 then row (codes "The message goes on after the quote") copy_quote
     else if number == 11 then row (codes "The quote answers another nonce than the one given")
         (codes "Ask the machine for a new quote with this nonce.")
     else if number == 12 then row (codes "The quote does not select a PCR in a bank in which it is required") all_pcrs

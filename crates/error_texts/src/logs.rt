@@ -56,7 +56,7 @@ pub(crate) fn replay_sentence(number: u32) -> Option<Sentence>
 {
     match number {
         1 => row(
-            "its template digest is not the SHA-1 of its data, and it is no violation",
+            "its template digest is not the SHA-1 of what it covers, and it is no violation",
             "Copy the list again. If the error stays, the entry was changed: do not trust the list.",
         ),
         _ => None,

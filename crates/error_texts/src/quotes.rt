@@ -40,7 +40,7 @@ pub(crate) fn quote_sentence(number: u32) -> Option<Sentence>
             "The quote's digest is not by SHA-256, SHA-384 or SHA-512",
             "Ask the machine for a quote by one of these hashes.",
         ),
-        10 => row("Bytes follow the quote", COPY_QUOTE),
+        10 => row("The message goes on after the quote", COPY_QUOTE),
         11 => row(
             "The quote answers another nonce than the one given",
             "Ask the machine for a new quote with this nonce.",
