@@ -20,7 +20,7 @@ FUNCTION = re.compile(r"fn (\w+)_sentence\(number")
 CONSTANT = re.compile(r'const (\w+): &str =\s*"(.*)";')
 ROW = re.compile(r'(\d+) => row\(\s*"(.*)",\s*(?:"(.*)"|(\w+)),?\s*\)')
 # Tables that are parts of others.
-WHOLES = {"purpose": "key"}
+WHOLES = {"asked": "quote", "purpose": "key"}
 # A table of docs/errors.txt, and one of the manual.
 SECTION = re.compile(r"^([A-Z][a-z]+) faults \(.*\n((?: +.*\n)+)", re.MULTILINE)
 PART = re.compile(r"^\.Ss ([A-Z][a-z]+) faults\n(?:.*\n)*?\.Bl .*\n((?:.*\n)*?)\.El\n", re.MULTILINE)

@@ -26,11 +26,11 @@ abbrev pub log_sentence : ℕ → Option SentenceData
 log_sentence number =
     if number == 1 then row (codes "its bytes are not all there") (codes "Copy the log again.")
     else if number == 2 then row (codes "the first event is not the Specification ID Version Event of a crypto-agile log")
-        (codes "Give binary_bios_measurements, as the kernel has it. Kernels before 5.3 and some cloud machines have it only in the form of TPM 1.2, which is not read.")
+    (codes "Give binary_bios_measurements, as the kernel has it. Kernels before 5.3 and some cloud machines have it only in the form of TPM 1.2, which is not read.")
     else if number == 3 then row (codes "the header's algorithm table or vendor bytes are malformed") firmware
     else if number == 4 then row (codes "the header gives a known algorithm a wrong digest size") firmware
     else if number == 5 then row (codes "the header declares no known algorithm")
-        (codes "Enable the SHA-256, SHA-384 or SHA-512 bank of the machine's TPM, and boot again.")
+    (codes "Enable the SHA-256, SHA-384 or SHA-512 bank of the machine's TPM, and boot again.")
     else if number == 6 then row (codes "it has a digest of an algorithm that the header does not declare") firmware
     else if number == 7 then row (codes "it has two digests of one algorithm") firmware
     else if number == 8 then row (codes "it extends a PCR, but lacks the digest of a bank") firmware
@@ -41,15 +41,15 @@ abbrev pub list_sentence : ℕ → Option SentenceData
 list_sentence number =
     if number == 1 then row (codes "its bytes are not all there") (codes "Copy the list again.")
     else if number == 2 then row (codes "it extends a PCR above 23")
-        (codes "Give binary_runtime_measurements, as the kernel has it. Boot a big-endian machine with ima_canonical_fmt.")
+    (codes "Give binary_runtime_measurements, as the kernel has it. Boot a big-endian machine with ima_canonical_fmt.")
     else if number == 3 then row (codes "it is of the template ima, and its path is longer than 255 bytes")
-        (codes "The kernel writes no such entry: copy the list again.")
+    (codes "The kernel writes no such entry: copy the list again.")
     else None
 
 abbrev pub replay_sentence : ℕ → Option SentenceData
 replay_sentence number =
     if number == 1 then row (codes "its template digest is not the SHA-1 of what it covers, and it is no violation")
-        (codes "Copy the list again. If the error stays, the entry was changed: do not trust the list.")
+    (codes "Copy the list again. If the error stays, the entry was changed: do not trust the list.")
     else None
 
 -- ---- what is wrong with PCR values, known files or a checkpoint, and what to do
@@ -60,20 +60,20 @@ start_again = codes "Start again with the whole list."
 abbrev pub expected_sentence : ℕ → Option SentenceData
 expected_sentence number =
     if number == 1 then row (codes "it does not state a PCR and its value")
-        (codes "Write a bank, a PCR and its value in hexadecimal, without 0x. If tpm2-tools printed the text, convert it first, unchanged.")
+    (codes "Write a bank, a PCR and its value in hexadecimal, without 0x. If tpm2-tools printed the text, convert it first, unchanged.")
     else if number == 2 then row (codes "it repeats a PCR of its bank") (codes "State each PCR of a bank once.")
     else if number == 4 then row (codes "they are what tpm2_quote printed, which nobody has verified")
-        (codes "Verify the quote itself, or give what tpm2_pcrread printed.")
+    (codes "Verify the quote itself, or give what tpm2_pcrread printed.")
     else if number == 5 then row (codes "the line of the signature is missing") (codes "Give the whole text that tpm2_checkquote printed.")
     else if number == 6 then row (codes "no PCR is stated, or none of those that are wanted")
-        (codes "Read these PCRs again: the tool failed, or read others.")
+    (codes "Read these PCRs again: the tool failed, or read others.")
     else None
 
 abbrev pub known_sentence : ℕ → Option SentenceData
 known_sentence number =
     if number == 1 then row (codes "it is a SHA-1 digest, which can be forged") (codes "Give digests by SHA-256, SHA-384 or SHA-512.")
     else if number == 2 then row (codes "it is not a digest and a name, as sha256sum prints them")
-        (codes "Give what sha256sum, sha384sum or sha512sum printed, unchanged.")
+    (codes "Give what sha256sum, sha384sum or sha512sum printed, unchanged.")
     else None
 
 abbrev pub checkpoint_sentence : ℕ → Option SentenceData
@@ -98,25 +98,29 @@ all_pcrs = codes "Ask the machine for a quote of all required PCRs."
 abbrev pub signature : List ℕ
 signature = codes "Give the signature that tpm2_quote wrote with this message, and a key of its kind and size."
 
+abbrev pub asked_sentence : ℕ → Option SentenceData
+asked_sentence number =
+    if number == 11 then row (codes "The quote answers another nonce than the one given")
+    (codes "Ask the machine for a new quote with this nonce.")
+    else if number == 12 then row (codes "The quote does not select a PCR in a bank in which it is required") all_pcrs
+    else None
+
 abbrev pub quote_sentence : ℕ → Option SentenceData
 quote_sentence number =
     if number == 1 then row (codes "The message is cut short") copy_quote
     else if number == 2 then row (codes "The message is not a quote that a TPM made")
-        (codes "Give the message that tpm2_quote wrote, not its signature or its PCR values.")
+    (codes "Give the message that tpm2_quote wrote, not its signature or its PCR values.")
     else if number == 3 then row (codes "The flag of the quote's clock is neither 0 nor 1") copy_quote
     else if number == 4 then row (codes "The quote selects PCRs of a bank that is not known")
-        (codes "Ask the machine for a quote of SHA-1, SHA-256, SHA-384 or SHA-512 banks only.")
+    (codes "Ask the machine for a quote of SHA-1, SHA-256, SHA-384 or SHA-512 banks only.")
     else if number == 5 then row (codes "The quote selects PCRs of a bank twice") once
     else if number == 6 then row (codes "The quote has more selections than there are known banks") once
     else if number == 7 then row (codes "The quote selects a PCR above 23") (codes "Ask the machine for a quote of PCRs from 0 to 23.")
     else if number == 8 then row (codes "The quote selects no PCR") all_pcrs
     else if number == 9 then row (codes "The quote's digest is not by SHA-256, SHA-384 or SHA-512")
-        (codes "Ask the machine for a quote by one of these hashes.")
+    (codes "Ask the machine for a quote by one of these hashes.")
     else if number == 10 then row (codes "The message goes on after the quote") copy_quote
-    else if number == 11 then row (codes "The quote answers another nonce than the one given")
-        (codes "Ask the machine for a new quote with this nonce.")
-    else if number == 12 then row (codes "The quote does not select a PCR in a bank in which it is required") all_pcrs
-    else None
+    else asked_sentence number
 
 abbrev pub signature_sentence : ℕ → Option SentenceData
 signature_sentence number =
@@ -125,15 +129,15 @@ signature_sentence number =
     else if number == 3 then row (codes "The signature's hash is not known") signature
     else if number == 4 then row (codes "Bytes follow the signature") signature
     else if number == 5 then row (codes "The signature's scheme is not one that the key takes")
-        (codes "Give this key's signature: this one is by another key, or was changed.")
+    (codes "Give this key's signature: this one is by another key, or was changed.")
     else if number == 6 then row (codes "The signature's hash is SHA-1, or not the key's")
-        (codes "Have this key sign by SHA-256, SHA-384 or SHA-512. The signature may also be another key's.")
+    (codes "Have this key sign by SHA-256, SHA-384 or SHA-512. The signature may also be another key's.")
     else if number == 7 then row (codes "The message is not signed by this key")
-        (codes "Give the message, the signature and the key of one quote. If they are, one of them was changed: do not trust the quote.")
+    (codes "Give the message, the signature and the key of one quote. If they are, one of them was changed: do not trust the quote.")
     else if number == 8 then row (codes "The key is neither an RSA key of 2,048 to 4,096 bits nor on P-256 or P-384")
-        (codes "Verify the signature by other software. Then leave out key and signature, and say that it was checked.")
+    (codes "Verify the signature by other software. Then leave out key and signature, and say that it was checked.")
     else if number == 9 then row (codes "The PEM is of a kind of key that is not taken, or is written in another form")
-        (codes "Give the key's public area, as tpm2_createak -u writes it.")
+    (codes "Give the key's public area, as tpm2_createak -u writes it.")
     else None
 
 -- ---- what is wrong with a TPM's key, and what to do
@@ -165,7 +169,7 @@ purpose_sentence number =
     else if number == 18 then row (codes "The key decrypts, which an attestation key must not") attestation
     else if number == 19 then row (codes "The key's scheme is not RSASSA, RSAPSS or ECDSA") (codes "Make an attestation key of one of these schemes.")
     else if number == 20 then row (codes "The key's signatures are by SHA-1")
-        (codes "Make an attestation key that signs by SHA-256, SHA-384 or SHA-512.")
+    (codes "Make an attestation key that signs by SHA-256, SHA-384 or SHA-512.")
     else if number == 21 then row (codes "The key signs, which an endorsement key must not") endorsement
     else if number == 22 then row (codes "The key does not decrypt") endorsement
     else None
@@ -198,7 +202,7 @@ report = codes "This is an error of the program itself: report it."
 abbrev pub book_sentence : ℕ → Option SentenceData
 book_sentence number =
     if number == 1 then row (codes "the template or the book does not take digests of this algorithm")
-        (codes "Choose another hash, or another template: ima takes SHA-1 only.")
+    (codes "Choose another hash, or another template: ima takes SHA-1 only.")
     else if number == 2 then row (codes "there is no bank of this algorithm") (codes "Choose a hash of which the log has a bank.")
     else if number == 3 then row (codes "there is no such PCR") (codes "Choose a PCR from 0 to 23.")
     else if number == 4 then row (codes "the path has a NUL") (codes "Rename the file.")

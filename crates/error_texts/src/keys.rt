@@ -27,8 +27,14 @@ pub(crate) fn key_sentence(number: u32) -> Option<Sentence>
     match number {
         1 => row("The public area is cut short", AREA),
         2 => row("The key is neither an RSA nor an ECC key", OTHER_KIND),
-        3 => row("The public area names a hash that is not known", LONGER_HASH),
-        4 => row("The key's symmetric algorithm is neither none nor AES", OTHER_KEY),
+        3 => row(
+            "The public area names a hash that is not known",
+            LONGER_HASH,
+        ),
+        4 => row(
+            "The key's symmetric algorithm is neither none nor AES",
+            OTHER_KEY,
+        ),
         5 => row("The key's scheme is not known", OTHER_KEY),
         6 => row("The key's exponent is not 65,537", OTHER_KEY),
         7 => row("The key's curve is not P-256, P-384 or P-521", OTHER_KIND),
@@ -60,7 +66,10 @@ fn purpose_sentence(number: u32) -> Option<Sentence>
 {
     match number {
         17 => row("The key does not sign", ATTESTATION),
-        18 => row("The key decrypts, which an attestation key must not", ATTESTATION),
+        18 => row(
+            "The key decrypts, which an attestation key must not",
+            ATTESTATION,
+        ),
         19 => row(
             "The key's scheme is not RSASSA, RSAPSS or ECDSA",
             "Make an attestation key of one of these schemes.",
@@ -69,7 +78,10 @@ fn purpose_sentence(number: u32) -> Option<Sentence>
             "The key's signatures are by SHA-1",
             "Make an attestation key that signs by SHA-256, SHA-384 or SHA-512.",
         ),
-        21 => row("The key signs, which an endorsement key must not", ENDORSEMENT),
+        21 => row(
+            "The key signs, which an endorsement key must not",
+            ENDORSEMENT,
+        ),
         22 => row("The key does not decrypt", ENDORSEMENT),
         _ => None,
     }

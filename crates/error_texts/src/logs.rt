@@ -18,13 +18,22 @@ pub(crate) fn log_sentence(number: u32) -> Option<Sentence>
             "the first event is not the Specification ID Version Event of a crypto-agile log",
             "Give binary_bios_measurements, as the kernel has it. Kernels before 5.3 and some cloud machines have it only in the form of TPM 1.2, which is not read.",
         ),
-        3 => row("the header's algorithm table or vendor bytes are malformed", FIRMWARE),
-        4 => row("the header gives a known algorithm a wrong digest size", FIRMWARE),
+        3 => row(
+            "the header's algorithm table or vendor bytes are malformed",
+            FIRMWARE,
+        ),
+        4 => row(
+            "the header gives a known algorithm a wrong digest size",
+            FIRMWARE,
+        ),
         5 => row(
             "the header declares no known algorithm",
             "Enable the SHA-256, SHA-384 or SHA-512 bank of the machine's TPM, and boot again.",
         ),
-        6 => row("it has a digest of an algorithm that the header does not declare", FIRMWARE),
+        6 => row(
+            "it has a digest of an algorithm that the header does not declare",
+            FIRMWARE,
+        ),
         7 => row("it has two digests of one algorithm", FIRMWARE),
         8 => row("it extends a PCR, but lacks the digest of a bank", FIRMWARE),
         9 => row("it extends a PCR above 23", FIRMWARE),

@@ -48,7 +48,10 @@ pub(crate) fn gather_sentence(number: u32) -> Option<Sentence>
         3 => row("the receipts of a group are out of order", REPORT),
         4 => row("two groups have a receipt for one record", REPORT),
         5 => row("a record has no receipt", REPORT),
-        6 => row("an operation was refused by a full book, which is not full", REPORT),
+        6 => row(
+            "an operation was refused by a full book, which is not full",
+            REPORT,
+        ),
         _ => None,
     }
 }

@@ -1,7 +1,7 @@
 //! What is wrong with a quote or its signature, and what to do.
 
 ghost use Rattle.std.specs.Prelude.{◌≡◌, option_map};
-ghost use Rattle.error_texts.specs.Sentences.{quote_sentence, signature_sentence, said};
+ghost use Rattle.error_texts.specs.Sentences.{asked_sentence, quote_sentence, signature_sentence, said};
 
 use crate::table::{Sentence, row};
 
@@ -24,13 +24,19 @@ pub(crate) fn quote_sentence(number: u32) -> Option<Sentence>
             "The message is not a quote that a TPM made",
             "Give the message that tpm2_quote wrote, not its signature or its PCR values.",
         ),
-        3 => row("The flag of the quote's clock is neither 0 nor 1", COPY_QUOTE),
+        3 => row(
+            "The flag of the quote's clock is neither 0 nor 1",
+            COPY_QUOTE,
+        ),
         4 => row(
             "The quote selects PCRs of a bank that is not known",
             "Ask the machine for a quote of SHA-1, SHA-256, SHA-384 or SHA-512 banks only.",
         ),
         5 => row("The quote selects PCRs of a bank twice", ONCE),
-        6 => row("The quote has more selections than there are known banks", ONCE),
+        6 => row(
+            "The quote has more selections than there are known banks",
+            ONCE,
+        ),
         7 => row(
             "The quote selects a PCR above 23",
             "Ask the machine for a quote of PCRs from 0 to 23.",
@@ -41,11 +47,23 @@ pub(crate) fn quote_sentence(number: u32) -> Option<Sentence>
             "Ask the machine for a quote by one of these hashes.",
         ),
         10 => row("The message goes on after the quote", COPY_QUOTE),
+        _ => asked_sentence(number),
+    }
+}
+
+// What is wrong with a quote that is not the one that was asked for.
+fn asked_sentence(number: u32) -> Option<Sentence>
+    ensures { option_map said result ≡ asked_sentence number }
+{
+    match number {
         11 => row(
             "The quote answers another nonce than the one given",
             "Ask the machine for a new quote with this nonce.",
         ),
-        12 => row("The quote does not select a PCR in a bank in which it is required", ALL_PCRS),
+        12 => row(
+            "The quote does not select a PCR in a bank in which it is required",
+            ALL_PCRS,
+        ),
         _ => None,
     }
 }
@@ -56,7 +74,10 @@ pub(crate) fn signature_sentence(number: u32) -> Option<Sentence>
 {
     match number {
         1 => row("The signature is cut short", SIGNATURE),
-        2 => row("The signature's scheme is not RSASSA, RSAPSS or ECDSA", SIGNATURE),
+        2 => row(
+            "The signature's scheme is not RSASSA, RSAPSS or ECDSA",
+            SIGNATURE,
+        ),
         3 => row("The signature's hash is not known", SIGNATURE),
         4 => row("Bytes follow the signature", SIGNATURE),
         5 => row(

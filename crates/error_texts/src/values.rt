@@ -16,7 +16,10 @@ pub(crate) fn expected_sentence(number: u32) -> Option<Sentence>
             "it does not state a PCR and its value",
             "Write a bank, a PCR and its value in hexadecimal, without 0x. If tpm2-tools printed the text, convert it first, unchanged.",
         ),
-        2 => row("it repeats a PCR of its bank", "State each PCR of a bank once."),
+        2 => row(
+            "it repeats a PCR of its bank",
+            "State each PCR of a bank once.",
+        ),
         4 => row(
             "they are what tpm2_quote printed, which nobody has verified",
             "Verify the quote itself, or give what tpm2_pcrread printed.",
