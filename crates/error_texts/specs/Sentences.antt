@@ -107,7 +107,7 @@ asked_sentence number =
 
 abbrev pub quote_sentence : ℕ → Option SentenceData
 quote_sentence number =
-    if number == 1 then row (codes "The message is cut short") copy_quote
+    if number == 1 then row (codes "The quote's message is cut short") copy_quote
     else if number == 2 then row (codes "The message is not a quote that a TPM made")
     (codes "Give the message that tpm2_quote wrote, not its signature or its PCR values.")
     else if number == 3 then row (codes "The flag of the quote's clock is neither 0 nor 1") copy_quote
@@ -119,7 +119,7 @@ quote_sentence number =
     else if number == 8 then row (codes "The quote selects no PCR") all_pcrs
     else if number == 9 then row (codes "The quote's digest is not by SHA-256, SHA-384 or SHA-512")
     (codes "Ask the machine for a quote by one of these hashes.")
-    else if number == 10 then row (codes "The message goes on after the quote") copy_quote
+    else if number == 10 then row (codes "The quote's message goes on after the quote") copy_quote
     else asked_sentence number
 
 abbrev pub signature_sentence : ℕ → Option SentenceData

@@ -19,7 +19,7 @@ pub(crate) fn quote_sentence(number: u32) -> Option<Sentence>
     ensures { option_map said result ≡ quote_sentence number }
 {
     match number {
-        1 => row("The message is cut short", COPY_QUOTE),
+        1 => row("The quote's message is cut short", COPY_QUOTE),
         2 => row(
             "The message is not a quote that a TPM made",
             "Give the message that tpm2_quote wrote, not its signature or its PCR values.",
@@ -46,7 +46,7 @@ pub(crate) fn quote_sentence(number: u32) -> Option<Sentence>
             "The quote's digest is not by SHA-256, SHA-384 or SHA-512",
             "Ask the machine for a quote by one of these hashes.",
         ),
-        10 => row("The message goes on after the quote", COPY_QUOTE),
+        10 => row("The quote's message goes on after the quote", COPY_QUOTE),
         _ => asked_sentence(number),
     }
 }
