@@ -4,14 +4,14 @@
 tests/cases/terminal.py [PROGRAM]: by default the program that was built in this tree.
 
 Each command of the cases whose files have at most 4 MiB runs with a terminal as its standard error. Status and output must be what the
-case wants. After a fault the terminal must get its sentence, which is made here of the fault's line, by the tables of docs/errors.txt, and
-where the input is not what it should be the line of tests/reference/hints.py that says so. After a verdict `differ`, or values that are not
-located, it must get the lines of that reference, and none if an input is no regular file. After a success it must get nothing, but after a match
-with which nothing was compared the line that says so; and after a refused command line some text of clap's: `USAGES` has some. Where the output
-goes to the same terminal, the sentence must come after the line. Further commands have names with bytes that a terminal acts upon, are out of
-memory, have an output that fails or a standard stream that is closed, or measure for more than a second. Each of these runs without a terminal
-too, and standard error must then get nothing. Pipes that are closed one after another show when which number is due, and none if the clock fails.
-The script counts commands."""
+case wants. After a fault the terminal must get its sentence, which is made here of the fault's line, by the tables of docs/errors.txt and by
+tests/faults/words.txt, and where the input is not what it should be the line of tests/reference/hints.py that says so. After a verdict `differ`,
+or values that are not located, it must get the lines of that reference, and none if an input is no regular file. After a success it must get
+nothing, but after a match with which nothing was compared the line that says so; and after a refused command line some text of clap's: `USAGES`
+has some. Where the output goes to the same terminal, the sentence must come after the line. Further commands have names with bytes that a
+terminal acts upon, are out of memory, have an output that fails or a standard stream that is closed, or measure for more than a second. Each of
+these runs without a terminal too, and standard error must then get nothing. Pipes that are closed one after another show when which number is
+due, and none if the clock fails. The script counts commands."""
 
 import json
 import os
@@ -116,9 +116,9 @@ INPUTS = {
     "replay": ["list", "expected"],
 }
 
-# The sentences of docs/errors.txt's tables of faults, by number; those of expected registers from 4 on name no line.
+# The sentences by which the program displays faults, by number; those of expected registers from 4 on name no line.
 LOG, LIST, REPLAY, EXPECTED, KNOWN, QUOTE, SIGNATURE, KEY, CHECKPOINT, BOOK = map(
-    form.sentences_of, ("Log", "List", "Replay", "Expected", "Known", "Quote", "Signature", "Key", "Checkpoint", "Book"))
+    form.displayed_of, ("Log", "List", "Replay", "Expected", "Known", "Quote", "Signature", "Key", "Checkpoint", "Book"))
 
 # The numbers of the signature faults that are of the key, and what to do about each; about a key that is no public area, which the first ten of its
 # faults are of; and where nobody looked at a signature.

@@ -7,14 +7,14 @@ use Rattle.agent_inputs.specs.Loading.{unknown}
 use Rattle.cells.specs.declared.writer.Form.{Form}
 use Rattle.judging.specs.Requests.{Requested}
 use Rattle.rendering.specs.Rendering.{IsRefusalOn}
-use Rattle.ima_verify_c.specs.declared.told.Told.{Told}
+use Rattle.ima_verify_c.specs.declared.text_info.TextInfo.{TextInfo}
 use Rattle.ima_verify_c.specs.Answers.{Answers, AnswersMore, HasNoAnswerOn, IsAnswerAndNext, IsAnswerTo, IsRefusal}
 
 -- The line of a fault or of `Memory` is that of a fault with a reason that both have.
-pub refused : (Reason : RunFault → Type 0) (form : Form) (fault : RunFault) (answer : ℤ) (told : Told) (old new : List ℕ)
-    → Reason fault → Reason Memory → Answers (IsRefusal (λ reason. (reason ≡ fault) ⊎ (reason ≡ Memory)) form) answer told old new
-    → Answers (IsRefusal Reason form) answer told old new
-refused Reason form fault answer told old new here memory given = record {
+pub refused : (Reason : RunFault → Type 0) (form : Form) (fault : RunFault) (answer : ℤ) (info : TextInfo) (old new : List ℕ)
+    → Reason fault → Reason Memory → Answers (IsRefusal (λ reason. (reason ≡ fault) ⊎ (reason ≡ Memory)) form) answer info old new
+    → Answers (IsRefusal Reason form) answer info old new
+refused Reason form fault answer info old new here memory given = record {
   text = given.text;
   status = given.status;
   fault = given.fault;
@@ -26,13 +26,13 @@ refused Reason form fault answer told old new here memory given = record {
   caused (reason, is, inl same, line) = (reason, is, subst Reason (sym same) here, line)
   caused (reason, is, inr same, line) = (reason, is, subst Reason (sym same) memory, line)
 
-module _ (request : Requested) (form : Form) (fault : RunFault) (answer : ℤ) (told : Told) (old new : List ℕ) (reason : IsRefusalOn unknown request fault)
-    (given : Answers (IsRefusal (λ reason. (reason ≡ fault) ⊎ (reason ≡ Memory)) form) answer told old new) where
-  refusal : Answers (IsRefusal (HasNoAnswerOn request) form) answer told old new
-  refusal = refused (HasNoAnswerOn request) form fault answer told old new (inl reason) (inr refl) given
+module _ (request : Requested) (form : Form) (fault : RunFault) (answer : ℤ) (info : TextInfo) (old new : List ℕ) (reason : IsRefusalOn unknown request fault)
+    (given : Answers (IsRefusal (λ reason. (reason ≡ fault) ⊎ (reason ≡ Memory)) form) answer info old new) where
+  refusal : Answers (IsRefusal (HasNoAnswerOn request) form) answer info old new
+  refusal = refused (HasNoAnswerOn request) form fault answer info old new (inl reason) (inr refl) given
 
   -- The line of a fault was given.
-  pub gives_refusal : Answers (IsAnswerTo request form) answer told old new
+  pub gives_refusal : Answers (IsAnswerTo request form) answer info old new
   gives_refusal = record {
     text = refusal.text;
     status = refusal.status;
@@ -42,7 +42,7 @@ module _ (request : Requested) (form : Form) (fault : RunFault) (answer : ℤ) (
   }
 
   -- Beside the line of a fault there is no checkpoint.
-  pub gives_no_next : (next : List ℕ) → AnswersMore (IsAnswerAndNext request form) answer told old new 0 next next
+  pub gives_no_next : (next : List ℕ) → AnswersMore (IsAnswerAndNext request form) answer info old new 0 next next
   gives_no_next next = record {
     text = refusal.text;
     status = refusal.status;

@@ -1,2 +1,3 @@
 mod GivingLaws
 mod LineLaws
+mod ErrorLaws

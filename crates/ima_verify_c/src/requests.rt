@@ -55,14 +55,14 @@ pub(crate) fn verdict_of<'a>(log: &'a [u8], state: &'a [u8], prefix: bool) -> Re
 pub(crate) fn signing_in<'a>(
     key: &'a [u8],
     signature: &'a [u8],
-    is_signed: bool,
+    signature_checked: bool,
 ) -> Option<Signing<'a>>
-    ensures { option_map signing_of result ≡ signing_in key.now signature.now is_signed }
+    ensures { option_map signing_of result ≡ signing_in key.now signature.now signature_checked }
 {
     match (given_bytes(key), given_bytes(signature)) {
-        (None, None) if is_signed => Some(Signing::ByCaller),
+        (None, None) if signature_checked => Some(Signing::ByCaller),
         (None, None) => Some(Signing::NotChecked),
-        (Some(key), Some(signature)) if !is_signed => Some(Signing::ByKey {
+        (Some(key), Some(signature)) if !signature_checked => Some(Signing::ByKey {
             key: Input::Bytes(key),
             signature: Input::Bytes(signature),
         }),
@@ -124,7 +124,7 @@ pub(crate) fn registers_on(of_list: bool, bytes: &[u8]) -> Request<'_>
     }
 }
 
-/// All that is told of the key of this public area, if it is an endorsement key, or an attestation key.
+/// All that is reported of the key of this public area, if it is an endorsement key, or an attestation key.
 pub(crate) fn key_in(area: &[u8], endorsement: bool) -> Request<'_>
     ensures { requested_of result ≡ requested_of_key area.now endorsement }
 {
