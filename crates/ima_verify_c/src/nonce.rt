@@ -36,7 +36,7 @@ impl Nonce<'_> {
 pub(crate) fn nonce_in<'a>(
     alloc: Global,
     nonce: &'a [u8],
-    digits: &[u8],
+    digits: &'a [u8],
 ) -> Result<Option<Nonce<'a>>, RunFault>
     ensures some { IfOk result (λ given. IfSome given (λ found. nonce_in nonce.now digits.now ≡ AsksFor (nonce_bytes found))) }
     ensures none { IfOk result (λ given. IfNone given (nonce_in nonce.now digits.now ≡ Misused)) }
