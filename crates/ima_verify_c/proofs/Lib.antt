@@ -1,2 +1,3 @@
+mod ComparedLaws
 mod GivingLaws
 mod LineLaws

@@ -12,6 +12,7 @@
 //! verdict, as [`numbers`] has them: the first is left as it is; after 2, 3 and 4 they are those of no verdict, and after 6 all are as they were.
 #![tactic(auto)]
 
+pub mod laws;
 mod nonce;
 mod numbers;
 mod replies;
