@@ -1,0 +1,3 @@
+pub mod MatchingLaws
+pub mod QuotedLaws
+pub mod PlaceLaws
