@@ -134,20 +134,8 @@ pub record ReadsPlaces (text : List ℕ) (places : List Pcr) (rest : Option (Bor
   pub only : (all : List Pcr) → SpellsPlaces text all → (others : List Pcr) × (all ≡ places ++ others) × LeftSpells rest others
 
 -- Nothing is read yet.
-pub none_of_nothing : (text : List ℕ) → text ≡ [] → ReadsPlaces text [] None
-none_of_nothing text none = record {
-  spell = λ others is. rw (is, none) (record { text_is = refl; exist = tt });
-  only = λ all is. (all, refl, are_none all (sym is.text_is ∙ none));
-} where
-  are_none : (all : List Pcr) → matching_text all ≡ [] → all ≡ []
-  are_none [] is = refl
-  are_none (first ∷ others) is = absurd (no_text first others is)
-
-pub none_of_some : (text : Bor (List ℕ)) → 0 < length text.now → ReadsPlaces text.now [] (Some text)
-none_of_some text some = record {
-  spell = λ others is. whole others is;
-  only = λ all is. (all, refl, left all is);
-} where
+pub reads_nothing : (text : Bor (List ℕ)) → 0 < length text.now → ReadsPlaces text.now [] (Some text)
+reads_nothing text some = record { spell = whole; only = λ all is. (all, refl, left all is) } where
   whole : (others : List Pcr) → LeftSpells (Some text) others → SpellsPlaces text.now others
   whole [] is = absurd is
   whole (first ∷ others) is = is

@@ -49,7 +49,10 @@ pub fn read_matching(alloc: Global, text: &[u8]) -> Result<Vec<Pcr>, RunFault>
         ⊎ ((fault ≡ Usage) × ((places : List APcr) → SpellsPlaces text.now places → ⊥))) }
 {
     let mut places = Vec::new(alloc);
-    let mut rest = given(text);
+    if text.is_empty() {
+        return Ok(places);
+    }
+    let mut rest = Some(text);
     while let Some(left) = rest {
         let (part, after) = part_at(left);
         let Some(place) = place_named(part) else {
@@ -59,11 +62,6 @@ pub fn read_matching(alloc: Global, text: &[u8]) -> Result<Vec<Pcr>, RunFault>
         rest = after;
     }
     Ok(places)
-}
-
-// The text, if it has bytes.
-fn given(text: &[u8]) -> Option<&[u8]> {
-    if text.is_empty() { None } else { Some(text) }
 }
 
 // The first part, before the first comma, and the text after that, if there is one.
