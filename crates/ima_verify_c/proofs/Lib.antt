@@ -1,2 +1,3 @@
+mod BootLaws
 mod GivingLaws
 mod LineLaws

@@ -1,3 +1,4 @@
 pub mod Answers
+pub mod Boot
 pub mod Numbers
 pub mod Requests

@@ -38,7 +38,7 @@ const TOO_SHORT: i32 = 4;
 const MORE: u8 = 5;
 
 /// What a call returns if a position is none, or nothing can be asked for so.
-const MISUSED: i32 = 6;
+pub(crate) const MISUSED: i32 = 6;
 
 /// Gives the answer to what is asked of bytes in memory, or the line of a fault, in this form.
 pub(crate) fn give(
@@ -62,8 +62,8 @@ pub(crate) fn give(
     }
 }
 
-// What a call returns for an answer with this exit status.
-fn answer_of_status(status: u8) -> u8
+/// What a call returns for an answer with this exit status.
+pub(crate) fn answer_of_status(status: u8) -> u8
     ensures { result ≡ answer_of_status status }
 {
     if status == 0 { DONE } else { DIFFERS }
@@ -187,8 +187,8 @@ fn give_piece(
     put(&piece.text, status, None, out, info)
 }
 
-// Gives the line of a fault in this form; that of `Memory`, if there is no memory for it.
-fn give_fault(
+/// Gives the line of a fault in this form; that of `Memory`, if there is no memory for it.
+pub(crate) fn give_fault(
     alloc: Global,
     form: Form,
     fault: &RunFault,
@@ -241,8 +241,8 @@ fn memory_line_in(form: Form) -> &'static [u8]
     }
 }
 
-// Writes a text at the start of the caller's buffer, if it fits, and reports its size and the fault that it is the line of.
-fn put(
+/// Writes a text at the start of the caller's buffer, if it fits, and reports its size and the fault that it is the line of.
+pub(crate) fn put(
     text: &[u8],
     status: u8,
     fault: Option<&RunFault>,

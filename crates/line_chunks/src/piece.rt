@@ -19,7 +19,7 @@ pub struct LineOffset {
 
 impl LineOffset {
     /// Whether so many entries or events may be before it, in as many bytes.
-    pub(crate) fn is_within(self, size: usize) -> bool
+    pub fn is_within(self, size: usize) -> bool
         ensures { result ≡ is_within self size }
     {
         self.number <= self.offset && self.offset <= size
