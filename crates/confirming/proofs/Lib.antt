@@ -1,3 +1,4 @@
 pub mod MatchingLaws
 pub mod QuotedLaws
 pub mod PlaceLaws
+pub mod ExistLaws
