@@ -1,4 +1,5 @@
 mod ComparedLaws
+mod BootLaws
 mod GivingLaws
 mod LineLaws
 mod ErrorLaws

@@ -17,6 +17,7 @@ use Rattle.line_chunks.specs.declared.piece.PieceEnd.TheVariants.{Last, Longer, 
 use Rattle.line_chunks.specs.declared.piece.Piece.{Piece}
 use Rattle.line_chunks.specs.declared.piece.LineOffset.{LineOffset}
 use Rattle.line_chunks.specs.Pieces.{AreEntriesBefore, FailsAfterEntries, IsEntryPiece, AreEventsBefore, FailsAfterEvents, IsEventPiece, end_in, is_within}
+use Rattle.measured_data.specs.declared.confirmed.Pcr.{Pcr}
 use Rattle.rendering.specs.FaultTexts.{fault_line, json_fault_line, said_of}
 use Rattle.ima_verify_c.specs.Numbers.{numbers_if}
 use Rattle.ima_verify_c.specs.Requests.{Asked, AsksFor, Misused, NotHexadecimal}
@@ -233,6 +234,7 @@ GivesEntries form list position after answer info old new =
     GivesLines (AreEntriesBefore form list) (IsEntryPiece form list) (FailsAfterEntries form list) form (end_in form list) position after answer info
     old new
 
-abbrev pub GivesEvents : List ℕ → LineOffset → LineOffset → ℤ → TextInfo → List ℕ → List ℕ → Type 0
-GivesEvents log position after answer info old new =
-    GivesLines (AreEventsBefore log) (IsEventPiece log) (FailsAfterEvents log) Json (length log) position after answer info old new
+abbrev pub GivesEvents : Option (List Pcr) → List ℕ → LineOffset → LineOffset → ℤ → TextInfo → List ℕ → List ℕ → Type 0
+GivesEvents matched log position after answer info old new =
+    GivesLines (AreEventsBefore matched log) (IsEventPiece matched log) (FailsAfterEvents matched log) Json (length log) position after answer info old
+    new

@@ -14,6 +14,7 @@
 
 pub mod error_text;
 pub mod laws;
+mod boot;
 mod nonce;
 mod numbers;
 mod replies;
@@ -23,19 +24,22 @@ mod text_info;
 ghost use Rattle.std.specs.Prelude.{◌≡◌};
 ghost use Rattle.judging.specs.Requests.{ExpectedOf};
 ghost use Rattle.judging.specs.Inputs.{BytesOf};
-ghost use Rattle.ima_verify_c.specs.Answers.{Answers, AnswersAsked, AnswersCounted, AnswersMore, GivesEntries, GivesEvents, IsAnswerAndNext, IsAnswerTo, IsAnswerWith, interface_version};
+ghost use Rattle.ima_verify_c.specs.Answers.{Answers, AnswersAsked, AnswersCounted, AnswersMore, GivesEntries, IsAnswerAndNext, IsAnswerTo, IsAnswerWith, interface_version};
+ghost use Rattle.ima_verify_c.specs.Boot.{GivesEventsBy};
 ghost use Rattle.ima_verify_c.specs.Requests.{requested_of_attestation, requested_of_key, requested_of_list, requested_of_more, requested_of_positions, requested_of_registers, requested_of_verdict, form_of, given_bytes, known_in};
 
+use crate::boot::{give_events, give_misuse, given_places};
 use crate::nonce::nonce_in;
-use crate::replies::{give, give_both, give_counted, give_lines, give_no_report, give_nothing};
+use crate::replies::{give, give_both, give_counted, give_fault, give_lines, give_no_report, give_nothing};
 use crate::requests::{
     form_of, given_bytes, key_in, known_in, registers_on, requested_by, resume_of, scope_of,
     signing_in, verdict_of,
 };
 use agent_plans::Form;
 use judging::{AttestRequest, Input, ReportKind, Request};
-use line_chunks::{LineOffset, entry_lines, event_lines};
+use line_chunks::{LineOffset, entry_lines};
 use std::alloc::Global;
+pub use boot::{ima_verify_raw_boot, ima_verify_raw_matching};
 pub use text_info::TextInfo;
 
 /// The version of this interface: 1. A later version may have more functions; what these do stays as it is.
@@ -279,26 +283,42 @@ pub extern "C" fn ima_verify_raw_key(
     give(alloc, request, form_of(json), out, info)
 }
 
-/// The algorithms and the events of a firmware event log, as `events --json` writes them, from a position on: as many whole lines as the
-/// buffer has the capacity for. The position is set to where the next call goes on.
+/// The algorithms and the events of a firmware event log, as `events --json` writes them, from a position on: as many whole lines as there is
+/// capacity for. The position is set to where the next call goes on. With `matching_given` they have what is confirmed by the PCRs of the text
+/// `matching`, which [`ima_verify_raw_matching`] gives; it has to be the same in each call.
 #[unsafe(no_mangle)]
 pub extern "C" fn ima_verify_raw_events(
     alloc: Global,
     log: &[u8],
+    matching: &[u8],
+    matching_given: bool,
     offset: &mut usize,
     number: &mut usize,
     out: &mut [u8],
     info: &mut TextInfo,
 ) -> i32
-    ensures { GivesEvents log.now (record { offset = offset.old; number = number.old }) (record { offset = offset.new; number = number.new })
-        result info.new out.old out.new }
+    ensures { GivesEventsBy matching_given matching.now log.now (record { offset = offset.old; number = number.old })
+        (record { offset = offset.new; number = number.new }) result info.new out.old out.new }
 {
     let position = LineOffset {
         offset: *offset,
         number: *number,
     };
-    let found = event_lines(alloc, log, position, out.len());
-    give_lines(alloc, Form::Json, found, offset, number, out, info)
+    if !position.is_within(log.len()) {
+        return give_misuse(info);
+    }
+    match given_places(alloc, matching_given, matching) {
+        Ok(matched) => give_events(
+            alloc,
+            log,
+            matched.as_deref(),
+            offset,
+            number,
+            out,
+            info,
+        ),
+        Err(fault) => give_fault(alloc, Form::Json, &fault, out, info),
+    }
 }
 
 /// The entries of a measurement list, as `show` writes them, from a position on, as [`ima_verify_raw_events`] gives events.

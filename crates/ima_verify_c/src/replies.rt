@@ -62,8 +62,8 @@ pub(crate) fn give(
     }
 }
 
-// What a call returns for an answer with this exit status.
-fn answer_of_status(status: u8) -> u8
+/// What a call returns for an answer with this exit status.
+pub(crate) fn answer_of_status(status: u8) -> u8
     ensures { result ≡ answer_of_status status }
 {
     if status == 0 { DONE } else { DIFFERS }
@@ -187,8 +187,8 @@ fn give_piece(
     put(&piece.text, status, None, out, info)
 }
 
-// Gives the line of a fault in this form; that of `Memory`, if there is no memory for it.
-fn give_fault(
+/// Gives the line of a fault in this form; that of `Memory`, if there is no memory for it.
+pub(crate) fn give_fault(
     alloc: Global,
     form: Form,
     fault: &RunFault,
