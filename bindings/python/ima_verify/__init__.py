@@ -17,8 +17,8 @@ while its entries or events are gone through.
 
 Each verdict takes `require`, the PCRs that it must cover, such as `sha256:0-10` or
 `sha256:0-7,sha1:10`, with PCR 10 of some bank. There is no default: `NOTHING` requires none. A
-verdict for which no PCR was compared is no match. With `require` an event of the log that extends PCR 10, or an entry
-of the list that extends another, is no match.
+verdict for which no PCR was compared is no match. With `require` an event of the log that extends
+PCR 10, or an entry of the list that extends another, is no match.
 
 With `known`, texts as sha256sum prints them, each entry but the boot aggregate must be of a file
 whose digest is in one of them; `unknown` has the numbers of the others.
@@ -229,7 +229,11 @@ def boot(
         Refused: The log, the earlier log, the expected PCRs or an input of the quote.
         Misuse: As `attest` does for a quote.
 
-    >>> logs = (Path("../ovmf-boot", name).read_bytes() for name in ("systemd-boot.log", "secure-boot.log"))
+    >>> names = "systemd-boot.log", "systemd-boot.expected", "secure-boot.log"
+    >>> now, pcrs, earlier = (Path("../ovmf-boot", name).read_bytes() for name in names)
+    >>> booted = ima_verify.boot(now, expected=pcrs, before=earlier)
+    >>> booted.secure_boot, booted.ima_policy.ima_policy, booted.alike[0].alike
+    ('off', 'asked', 1)
     """
     compared = {} if before is None else {"before": bytes_of("before", before), "compares": True}
     answer = _library.call(

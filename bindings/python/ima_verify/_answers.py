@@ -131,13 +131,19 @@ def _converter(hint: Any) -> _Converter:
         item = _converter(arguments[0])
         return lambda value: tuple([item(each) for each in _list(value)])
     if origin is dict:
-        item = _converter(arguments[1])
-        return lambda value: {name: item(each) for name, each in _dict(value).items()}
+        return functools.partial(_members, arguments[1])
     if dataclasses.is_dataclass(hint):
         return functools.partial(_made, hint)
     if hint is bytes:
         return bytes.fromhex
     return (lambda value: value) if hint is Any else _exactly(hint)
+
+
+def _members(kind: Any, value: Any) -> dict[str, Any]:
+    """The members of an object by their names. (If they are words or bytes, one that is no string
+    is of a later library.)"""
+    convert, members = _converter(kind), _dict(value).items()
+    return {name: convert(each) for name, each in members if kind is Any or isinstance(each, str)}
 
 
 def _one_of(converters: Sequence[_Converter]) -> _Converter:
