@@ -4,9 +4,11 @@ time."""
 from collections.abc import Iterator
 from typing import TypeVar
 
+from . import _library
 from ._answers import read_count, read_line
 from ._errors import LibraryError
-from ._library import JSON, Buffer, Pieces
+from ._inputs import Quote, Text, bytes_of, confirming
+from ._library import Buffer, Pieces
 from ._results import Entry, Event, Header
 
 _Item = TypeVar("_Item")
@@ -21,7 +23,7 @@ class Listing(Iterator[_Item]):
     Iterating raises OutOfMemory if the library gets no memory, and LibraryError if its answer is
     not as its header says; then the next step asks again."""
 
-    def __init__(self, pieces: Pieces, kind: type[_Item]):
+    def __init__(self, pieces: Pieces, kind: type[_Item]) -> None:
         self._pieces, self._kind = pieces, kind
         self._lines: list[bytes] = []  # (those that were not given yet, the last one first)
         self._count = 0
@@ -44,8 +46,9 @@ class Listing(Iterator[_Item]):
 class Entries(Listing[Entry]):
     """The entries of a measurement list."""
 
-    def __init__(self, measurements: Buffer):
-        super().__init__(Pieces("entries", measurements, JSON), Entry)
+    def __init__(self, measurements: Buffer) -> None:
+        listed = bytes_of("measurements", measurements)
+        super().__init__(Pieces("entries", list=listed, json=True), Entry)
 
     def _is_at_end(self) -> bool:
         """The last line says how many entries there are: without it the answer was cut."""
@@ -62,9 +65,20 @@ class Events(Listing[Event]):
 
     Attributes:
         header: What the log's header states.
+        matches: False if the verdict by the quote is no match: then nothing is confirmed.
     """
 
-    def __init__(self, log: Buffer):
-        super().__init__(Pieces("events", log), Event)
+    def __init__(
+        self, log: Buffer, *, expected: Text | None = None, quote: Quote | None = None
+    ) -> None:
+        given, by = bytes_of("log", log), confirming(expected, quote)
+        status, matching = _library.DONE, b""
+        if by:
+            status, matching = _library.call("matching", log=given, **by)
+        if status not in (_library.DONE, _library.DIFFERS):
+            _library.unexpected(status, matching)
+        self.matches = status == _library.DONE
+        pieces = Pieces("events", log=given, matching=matching, matching_given=bool(by))
+        super().__init__(pieces, Event)
         self._is_at_end()  # (this has the first lines)
         self.header = read_line(Header, self._lines.pop())

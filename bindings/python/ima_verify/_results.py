@@ -138,6 +138,7 @@ class Verdict(_Judged):
         locality: The locality from which the TPM was started.
         confirmed: How many first entries the verdict covers, from a session with `prefix`.
         unconfirmed: The first error after these.
+        compared: How many expected PCRs were compared. Without one there is no match.
         boot_aggregate: What the first entry says of the log's PCRs: "good"; "wrong"; "nobank": it
             is by a bank that the log lacks; or "missing".
         registers: The expected PCRs, compared, and then the required ones that are missing.
@@ -154,6 +155,7 @@ class Verdict(_Judged):
     entries: int
     confirmed: int | None = None
     unconfirmed: Fault | None = None
+    compared: int
     boot_aggregate: str
     registers: tuple[Row, ...]
     extends: tuple[Stray, ...] = ()
@@ -170,6 +172,7 @@ class ListVerdict(_Judged):
     matches: bool
     json: str = field(repr=False)
     entries: int
+    compared: int
     registers: tuple[Row, ...]
     extends: tuple[Stray, ...] = ()
     known_from: int | None = None
@@ -307,7 +310,8 @@ class Event:
         measured: Which part of `data` was measured, in each bank in which one was: "data": all
             of it; "value": that of a variable; or "command": the text of a command of GRUB. The
             rest, and the type, are only what the log claims.
-        confirmed: Which part of the data is confirmed. (No call here asks for it.)
+        confirmed: Which part of the data is confirmed: "data", "value" or "command" as above, or
+            "none". It is None if `events` is given neither expected PCRs nor a quote.
         content: What the data says: one member, by its form (docs/event-data.md).
     """
 
@@ -352,3 +356,127 @@ class Header:
     json: str = field(repr=False)
     algorithms: tuple[LogAlgorithm, ...]
     specification: Specification
+
+
+@dataclass(frozen=True, slots=True, kw_only=True)
+class Image:
+    """A program that the firmware started.
+
+    Attributes:
+        image: The event's number; or "unknown", if no bank answers for PCR 4, or no event extends
+            it.
+        digests: Its digest in each bank that answers.
+        claimed: What the event's data claims.
+    """
+
+    image: int | str
+    digests: dict[str, bytes] | None = None
+    claimed: dict[str, Any] | None = None
+
+
+@dataclass(frozen=True, slots=True, kw_only=True)
+class Command:
+    """A command that a boot loader measured.
+
+    Attributes:
+        command: The event's number; or "unknown", if texts of the PCR are not reported.
+        register: The PCR.
+        text, text_hex: The text; its bytes if it is not valid in its encoding.
+        claimed: What the data claims of a command of GRUB.
+        event: The first event that is not reported.
+    """
+
+    command: int | str
+    register: int
+    text: str | None = None
+    text_hex: bytes | None = None
+    claimed: dict[str, Any] | None = None
+    event: int | None = None
+
+
+@dataclass(frozen=True, slots=True, kw_only=True)
+class ImaPolicy:
+    """Whether a command asked Linux to measure files.
+
+    Attributes:
+        ima_policy: "asked"; "possible": a command may set a policy; or "unknown".
+        event: The first event whose text did.
+    """
+
+    ima_policy: str
+    event: int | None = None
+
+
+@dataclass(frozen=True, slots=True, kw_only=True)
+class BootVariable:
+    """A variable of UEFI that says what to start.
+
+    Attributes:
+        boot_variable: The event's number; or "unknown", if no bank answers for PCR 1, or no event
+            extends it.
+        content: What its data says (docs/event-data.md).
+    """
+
+    boot_variable: int | str
+    content: dict[str, Any] | None = None
+
+
+@dataclass(frozen=True, slots=True, kw_only=True)
+class Alike:
+    """A PCR of two boots.
+
+    Attributes:
+        bank: The first bank in which the logs differ.
+        alike: How many first events have the same digests in that bank; "all": the logs extend the
+            PCR alike in each bank that answers; or "unknown": no bank answers.
+    """
+
+    register: int
+    bank: str | None = None
+    alike: int | str
+
+
+@dataclass(frozen=True, slots=True, kw_only=True)
+class Changed:
+    """An event that one of two boots has.
+
+    Attributes:
+        now, before: The event's number in the log, or in the earlier log.
+        digest: Its digest in the bank in which the logs differ, if it has one.
+        claimed: What its data claims.
+    """
+
+    register: int
+    now: int | None = None
+    before: int | None = None
+    digest: bytes | None = None
+    claimed: dict[str, Any]
+
+
+@dataclass(frozen=True, slots=True, kw_only=True)
+class Boot:
+    """What a machine booted: the lines of `ima-agent boot --json` (docs/event-data.md).
+
+    Attributes:
+        matches: False if the verdict by the quote is no match: then all is unknown.
+        json: The lines.
+        secure_boot: "on", "off" or "unknown".
+        firmware_version: The content that states the version, or "unknown".
+        images: The programs that the firmware started.
+        commands: What boot loaders measured in the PCRs 8 and 12.
+        ima_policy: Whether Linux was asked to measure files.
+        boot_variables: BootOrder and each Boot####.
+        alike: With an earlier log, each PCR that one of the logs extends.
+        changed: With an earlier log, the events that one of both has.
+    """
+
+    matches: bool
+    json: str = field(repr=False)
+    secure_boot: str
+    firmware_version: dict[str, Any] | str
+    images: tuple[Image, ...] = ()
+    commands: tuple[Command, ...] = ()
+    ima_policy: ImaPolicy
+    boot_variables: tuple[BootVariable, ...] = ()
+    alike: tuple[Alike, ...] = ()
+    changed: tuple[Changed, ...] = ()

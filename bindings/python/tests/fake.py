@@ -7,45 +7,54 @@ import unittest.mock
 
 from ima_verify import _library
 
-UNSET = ctypes.c_size_t(-1).value
-NO_FAULT = _library.NO_FAULT, 0, _library.NO_PLACE
+NO_ERROR = _library.NO_ERROR, 0, _library.NO_PLACE
 NUMBERS = {kind: number for number, kind in _library.KINDS.items()}
 
 
 class Call:
-    """A call of a raw function: what it is given, and where its answer goes."""
+    """A call of a raw function: what it is given by the names of arguments, and where its answer
+    goes."""
 
     def __init__(self, name, words):
-        count = 2 * _library.FUNCTIONS[name][0]
-        pairs = zip(words[:count:2], words[1:count:2])
-        self.inputs = [ctypes.string_at(pointer, size) for pointer, size in pairs]
-        self.options = words[count:-3]
-        self._out, self.capacity, self._info = words[-3:]
+        *left, self._out, self.capacity, self._info = words
+        self.given = {}
+        for argument in _library.FUNCTIONS[name]:
+            count = len(_library.TYPES.get(argument, _library._BYTES))
+            part, left = left[:count], left[count:]
+            is_bytes = argument not in _library.TYPES
+            value = ctypes.string_at(*part) if is_bytes else part[0] if count == 1 else part
+            self.given[argument] = value
 
-    def give(self, status, text=b"", fault=NO_FAULT, size=None):
+    @property
+    def said(self):
+        """The bytes, the flags and the numbers that are given, but for those that say nothing."""
+        return {name: value for name, value in self.given.items()
+                if isinstance(value, (bytes, int)) and value}
+
+    def give(self, status, text=b"", error=NO_ERROR, size=None, state=b""):
         """Answers so; the size of the text may be another."""
         ctypes.memmove(self._out, text, min(len(text), self.capacity))
         info = self._info.contents
         info.size = len(text) if size is None else size
-        info.fault_kind, info.fault_number, info.fault_place = fault
+        info.error_kind, info.error_number, info.error_place = error
+        if "next" in self.given:
+            out, _, size_of_state = self.given["next"]
+            ctypes.memmove(out, state, len(state))
+            size_of_state[0] = len(state)
         return status
-
-    def give_state(self, state, size=None):
-        """Answers with this checkpoint."""
-        out, capacity, size_of_state = self.options[-3:]
-        ctypes.memmove(out, state, min(len(state), capacity))
-        size_of_state[0] = len(state) if size is None else size
 
 
 @contextlib.contextmanager
 def library(**answers):
-    """A library with these functions alone, which are given a `Call` and give its status. Gives
-    the calls."""
+    """A library with these functions, each of which is given a `Call` and gives its status, and
+    with no text of errors. Gives the calls."""
     calls, functions = [], {}
-    for name, answer in answers.items():
+    for name, answer in {"error_text": lambda call: call.give(3), **answers}.items():
         def function(*words, name=name, answer=answer):
-            calls.append(Call(name, words))
-            return answer(calls[-1])
+            call = Call(name, words)
+            if name != "error_text":
+                calls.append(call)
+            return answer(call)
 
         made = ctypes.CFUNCTYPE(ctypes.c_int32, *_library.types_of(name))(function)
         functions[f"ima_verify_raw_{name}"] = made
@@ -54,19 +63,15 @@ def library(**answers):
         yield calls
 
 
-def answering(name, status, text=b"", fault=NO_FAULT, size=None, state=b""):
+def answering(name, *answer, **more):
     """A library whose function of this name always answers so."""
-    def answer(call):
-        if name in ("more", "attest"):
-            call.give_state(state)
-        return call.give(status, text, fault, size)
-
-    return library(**{name: answer})
+    return library(**{name: lambda call: call.give(*answer, **more)})
 
 
-def fault_of(kind, number, place=_library.NO_PLACE):
-    """The error of an input."""
-    return NUMBERS[kind], number, place
+def giving(name, *answers):
+    """A library whose function of this name gives these answers, one at each call."""
+    left = iter(answers)
+    return library(**{name: lambda call: call.give(*next(left))})
 
 
 @contextlib.contextmanager

@@ -1,0 +1,165 @@
+"""Entries and events, which come by pieces, and texts that are longer than their buffer."""
+
+import array
+import dataclasses
+import tracemalloc
+import unittest
+
+from samples import (
+    ASCII, CHANGED, ENTRIES, EXPECTED, LIST, LOG, REGISTERS, REQUIRED, VIOLATIONS, line_of,
+)
+
+import fake
+import ima_verify
+from ima_verify import _library
+
+DONE, DIFFERS, REFUSED, OUT_OF_MEMORY, TOO_SHORT, MORE, MISUSED = range(7)
+MANY, HEADER_SIZE = 150, 65
+ENTRY, HEADER, EVENT = (line_of(kind) for kind in ("entry", "header", "event"))
+COUNT = b'{"entries":2}\n'
+MEMORY = OUT_OF_MEMORY, b"", (7, 0, _library.NO_PLACE)
+REFUSAL = REFUSED, b"", (3, 1, 2)
+
+
+def with_length(data):
+    return len(data).to_bytes(4, "little") + data
+
+
+def listed_entry(name, payload, template=b"ima-ng", digest=20 * b"x"):
+    """An entry of PCR 10 for a file."""
+    fields = with_length(b"sha1:\0" + payload) + with_length(name + b"\0")
+    return b"\x0a\0\0\0" + digest + with_length(template) + with_length(fields)
+
+
+class Pieces(unittest.TestCase):
+    """What a library may answer, one piece after another."""
+
+    def test_piece_is_asked_for_when_it_is_needed(self):
+        with fake.giving("entries", (MORE, ENTRY), (DONE, ENTRY + COUNT)) as calls:
+            listing = ima_verify.entries(b"x")
+            for count in (0, 1, 2):
+                self.assertEqual([call.capacity for call in calls], count * [_library.PIECE_CAPACITY])
+                next(listing, None)
+            self.assertEqual((list(listing), list(listing), len(calls)), ([], [], 2))
+
+    def test_what_comes_before_an_error_is_given_first(self):
+        for pieces in ([], [ENTRY], [ENTRY + ENTRY], [ENTRY, ENTRY]):
+            with fake.giving("entries", *((MORE, piece) for piece in pieces), REFUSAL):
+                listing, found = ima_verify.entries(b"x"), []
+                with self.assertRaises(ima_verify.Refused):
+                    found.extend(iter(listing.__next__, None))
+                self.assertEqual((list(listing), listing._count), ([], b"".join(pieces).count(b"\n")))
+        with fake.giving("events", (MORE, HEADER), REFUSAL):
+            self.assertRaises(ima_verify.Refused, list, ima_verify.events(b"x"))
+        with fake.giving("events", REFUSAL):
+            self.assertRaises(ima_verify.Refused, ima_verify.events, b"x")
+
+    def test_memory_that_ran_out_may_be_there_the_next_time(self):
+        with fake.giving("entries", MEMORY, (MORE, ENTRY), MEMORY, (DONE, ENTRY + COUNT)):
+            listing = ima_verify.entries(b"x")
+            for _ in range(2):
+                self.assertRaises(ima_verify.OutOfMemory, next, listing)
+                next(listing)
+            self.assertEqual(list(listing), [])
+
+    def test_entries_without_their_number_are_cut(self):
+        both = ENTRY + ENTRY
+        for answers in (
+            [(DONE, both)], [(DONE, both + COUNT + COUNT)], [(DONE, b'{"entries":1}\n')],
+            [(DONE, both + b'{"entries":3}\n')], [(DONE, both + b'{"entries":"2"}\n')],
+            [(DONE, both + b"{}\n")], [(DONE, both + b"\n")], [(DONE, both + COUNT[:-1])],
+            [(MORE, both), (DONE, b'{"entries":1}\n')], [(MORE, COUNT)], [(DONE, b"")],
+            [(MORE, b"")], [(DIFFERS, both + COUNT)], [(MISUSED, both + COUNT)],
+        ):
+            with fake.giving("entries", *answers):
+                with self.assertRaises(ima_verify.LibraryError, msg=answers):
+                    list(ima_verify.entries(b"x"))
+        for answer in ((DONE, b""), (MORE, b""), (MORE, b"x"), (DONE, ENTRY[:-1])):
+            for name, called in (("entries", ima_verify.show), ("events", ima_verify.events)):
+                with fake.answering(name, *answer):
+                    self.assertRaises(ima_verify.LibraryError, called, b"x")
+
+    def test_text_longer_than_the_buffer_takes_a_second_call(self):
+        size = len(REGISTERS)
+        for capacity, wanted in ((1, [1, size]), (size - 1, [size - 1, size]), (size, [size])):
+            with fake.counted("registers") as capacities:
+                answer = _library.call("registers", capacity, bytes=LOG)
+            self.assertEqual((answer, capacities), ((DONE, REGISTERS), wanted))
+
+    def test_sizes_that_cannot_be_are_errors(self):
+        unset = 2**64 - 1
+        for status, size in ((DONE, _library.REPORT_CAPACITY + 1), (DONE, unset), (TOO_SHORT, 50),
+                             (TOO_SHORT, unset), (TOO_SHORT, 1 << 63)):
+            with fake.answering("registers", status, size=size):
+                self.assertRaises(ima_verify.LibraryError, ima_verify.registers, b"")
+        with fake.answering("registers", TOO_SHORT, size=1 << 62):
+            self.assertRaises(MemoryError, ima_verify.registers, b"")
+
+
+class Inputs(unittest.TestCase):
+    """Real lists and logs."""
+
+    def test_entries_are_those_of_the_reference(self):
+        lines = b""
+        for count, (found, wanted) in enumerate(zip(ima_verify.entries(LIST), ENTRIES, strict=True)):
+            fields = wanted.fields()
+            self.assertEqual((found.entry, found.digest), (count, fields.digest))
+            self.assertEqual((found.genuine, found.violation), (True, count in VIOLATIONS))
+            words = (b"%2d" % found.register, found.template_digest.hex().encode(),
+                     found.template.encode(), f"{found.algorithm}:{found.digest.hex()}".encode())
+            lines += b" ".join((*words, found.path_bytes)) + b"\n"
+        self.assertEqual(lines, ASCII)
+        changed = [found.entry for found in ima_verify.entries(CHANGED) if not found.genuine]
+        self.assertEqual(changed, [5])
+
+    def test_paths_are_their_bytes(self):
+        names = b"/a\nb", b'/"\\\x1b[2J', b"/\xc3\xa9", b"/\xff", b"", b"/}\n{", b"/" + 5000 * b"\1"
+        data = b"".join(listed_entry(name, bytes(20)) for name in names)
+        found = list(ima_verify.entries(data))
+        self.assertEqual(tuple(each.path_bytes for each in found), names)
+        self.assertEqual([each.entry for each in found if each.path is None], [3])
+
+    def test_items_of_all_pieces_are_those_of_the_input(self):
+        """No more than a piece is kept."""
+        for read, name, first, data, more in (
+            (ima_verify.entries, "entry", 0, LIST, LIST),
+            (ima_verify.events, "event", 1, LOG, LOG[HEADER_SIZE:]),
+        ):
+            once, many = list(read(data)), data + MANY * more
+            for count, found in enumerate(read(many)):
+                place = {name: count + first, "json": found.json}
+                self.assertEqual(found, dataclasses.replace(once[count % len(once)], **place))
+            self.assertEqual(count + 1, len(once) * (1 + MANY))
+            tracemalloc.start()
+            with self.assertRaises(ima_verify.Refused) as caught:
+                for _ in read(many + b"x"):
+                    pass
+            self.assertEqual(caught.exception.place, count + 1 + first)
+            self.assertLess(tracemalloc.get_traced_memory()[1], len(many) + 6 * _library.PIECE_CAPACITY)
+            tracemalloc.stop()
+        self.assertEqual(ima_verify.show(MANY * LIST), MANY * ASCII)
+
+    def test_line_may_be_longer_than_a_piece(self):
+        payload = _library.PIECE_CAPACITY * b"\x5a"
+        long = b"\x0a\0\0\0" + 20 * b"x" + with_length(b"x") + with_length(payload)
+        found = list(ima_verify.entries(LIST + long + LIST))
+        self.assertEqual((len(found), found[99].payload), (199, payload))
+
+    def test_memory_of_an_input_stays_while_it_is_gone_through(self):
+        listed = bytearray(10 * LIST)
+        found = ima_verify.entries(listed)
+        first = next(found)
+        self.assertRaises(BufferError, listed.extend, b"x")
+        self.assertEqual([first, *found], list(ima_verify.entries(10 * LIST)))
+        listed.extend(b"x")  # (at the end nothing is kept)
+        self.assertRaises(ima_verify.Refused, ima_verify.list_registers, listed)
+        listed.extend(b"x")
+
+    def test_all_types_of_bytes_give_the_same(self):
+        wanted, padded = ima_verify.verify(LOG, LIST, EXPECTED, **REQUIRED), b"x" + LIST + b"x"
+        for form in (bytearray(LIST), memoryview(padded)[1:-1], memoryview(bytearray(padded))[1:-1],
+                     memoryview(LIST[::-1])[::-1], memoryview(LIST).cast("B", (1, len(LIST)))):
+            self.assertEqual(ima_verify.verify(LOG, form, EXPECTED, **REQUIRED), wanted)
+        # (36 zero bytes: an entry of PCR 0 with an empty name and payload, and 4 more)
+        self.assertRaises(ima_verify.Refused, ima_verify.show, array.array("I", 9 * [0]))
+        self.assertEqual(ima_verify.show(array.array("I", 8 * [0])), b" 0 " + 40 * b"0" + b"  \n")
