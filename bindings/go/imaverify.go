@@ -7,12 +7,13 @@
 //
 // A verdict covers only the boot aggregate and the PCRs in the expected text. So each call says which PCRs it must cover:
 // Verify(log, list, expected, "sha256:0-10"). With such a requirement a verdict is a match only if no event of the log extends PCR
-// 10 and each entry of the list names it. With the option Known each entry but the boot aggregate must also be of a known file. Entries
-// and Events go through the inputs themselves. A Session is for a list that grows, and for one that grew after the expected PCRs were read.
-// Attest compares a log and a list with a quote in place of expected PCRs, and verifies its signature by the machine's attestation key.
-// ReadKey says what a key is.
+// 10 and each entry of the list names it. With the option Known each entry but the boot aggregate must also be of a known file. A Session is
+// for a list that grows, and for one that grew after the expected PCRs were read. Attest compares a log and a list with a quote in place of
+// expected PCRs, and verifies its signature by the machine's attestation key. ReadKey says what a key is.
 //
-// If an input or a selection is refused, the error is a *RefusedError. If memory runs out, it is ErrOutOfMemory. If the
+// Boot says what a machine booted. Entries and Events go through the inputs themselves; ConfirmedEvents also says what is confirmed.
+//
+// If an input or an argument is refused, the error is a *RefusedError. If memory runs out, it is ErrOutOfMemory. If the
 // library's answer is not as its header describes, it is an *UnexpectedError. With any error the result is the zero value, whose
 // Matches and Located are false.
 //
@@ -21,11 +22,7 @@
 // Any number of goroutines may call at once. No input may change during a call.
 package imaverify
 
-import (
-	"bytes"
-	"encoding/hex"
-	"strings"
-)
+import "bytes"
 
 // Quote is a quote with its signature, and what a verdict by it needs.
 //
@@ -52,27 +49,17 @@ type Quote struct {
 	SignatureChecked bool
 }
 
-// prepared gives the quote as the library takes it, with the nonce as bytes. To the library no bytes are no key and no signature.
-func (q Quote) prepared() (Quote, error) {
-	isSigned := q.Key != nil && q.Signature != nil
-	if !isSigned && (q.Key != nil || q.Signature != nil) || isSigned && q.SignatureChecked || q.Nonce != nil && q.NonceHex != "" {
-		return Quote{}, argumentError()
+// notEmpty is a file as the library takes it, to which no bytes are no file: an empty one has a zero, which ends too early as well. Nil
+// stays none.
+func notEmpty(file []byte) []byte {
+	if file != nil && len(file) == 0 {
+		return []byte{0}
 	}
-	if isSigned {
-		q.Key, q.Signature = someBytes(q.Key), someBytes(q.Signature)
-	}
-	if q.NonceHex != "" {
-		nonce, err := hex.DecodeString(strings.TrimSpace(q.NonceHex))
-		if err != nil {
-			return Quote{}, argumentError()
-		}
-		q.Nonce = nonce
-	}
-	return q, nil
+	return file
 }
 
-// NothingRequired is a requirement that names no PCR: a verdict then covers only what the expected text names. A verdict on no
-// PCRs is no match, even if its JSON says so.
+// NothingRequired is a requirement that names no PCR: a verdict then covers only what the expected text names, and is no match if
+// that is nothing.
 const NothingRequired = "none"
 
 // Version is the version of the library's interface.
@@ -90,7 +77,7 @@ func Verify(log, list, expected []byte, require string, options ...Option) (Verd
 	if err != nil {
 		return Verdict{}, err
 	}
-	return resultFor[Verdict](func(out []byte) (int32, errorInfo) {
+	return resultFor[Verdict](func(out []byte) (int32, textInfo) {
 		return callVerdict(log, list, expected, []byte(require), known, out)
 	})
 }
@@ -112,7 +99,7 @@ func Attest(log, list []byte, quote Quote, options ...Option) (Attestation, erro
 
 // Locate says where each expected PCR first has its value. The arguments and the errors are those of Verify, without options.
 func Locate(log, list, expected []byte, require string) (Places, error) {
-	return resultFor[Places](func(out []byte) (int32, errorInfo) { return callLocate(log, list, expected, []byte(require), out) })
+	return resultFor[Places](func(out []byte) (int32, textInfo) { return callLocate(log, list, expected, []byte(require), out) })
 }
 
 // Replay gives the verdict on a measurement list without a log. The list is replayed from the PCRs' reset values, so a PCR that the
@@ -122,7 +109,7 @@ func Replay(list, expected []byte, require string, options ...Option) (ListVerdi
 	if err != nil {
 		return ListVerdict{}, err
 	}
-	return resultFor[ListVerdict](func(out []byte) (int32, errorInfo) {
+	return resultFor[ListVerdict](func(out []byte) (int32, textInfo) {
 		return callReplay(list, expected, []byte(require), known, out)
 	})
 }
@@ -132,7 +119,7 @@ func Replay(list, expected []byte, require string, options ...Option) (ListVerdi
 // is refused. Nothing says who wrote the text, nor whether a quote holds: take the values of a quote that was checked, or of a trusted
 // machine.
 func ExpectedFrom(printed []byte, registers string) ([]byte, error) {
-	given, err := ask(make([]byte, firstCapacity), func(out []byte) (int32, errorInfo) {
+	given, err := ask(make([]byte, firstCapacity), func(out []byte) (int32, textInfo) {
 		return callExpected(printed, []byte(registers), out)
 	})
 	if err != nil {
@@ -151,13 +138,13 @@ func (a answer) lines() ([]byte, error) {
 
 // Registers gives the PCRs that differ from their reset values after a firmware event log.
 func Registers(log []byte) (PCRs, error) {
-	return resultFor[PCRs](func(out []byte) (int32, errorInfo) { return callRegisters(log, false, out) })
+	return resultFor[PCRs](func(out []byte) (int32, textInfo) { return callRegisters(log, false, out) })
 }
 
 // ListRegisters gives the PCRs, in banks of all algorithms, that differ from their reset values after a measurement list without
 // a log.
 func ListRegisters(list []byte) (PCRs, error) {
-	return resultFor[PCRs](func(out []byte) (int32, errorInfo) { return callRegisters(list, true, out) })
+	return resultFor[PCRs](func(out []byte) (int32, textInfo) { return callRegisters(list, true, out) })
 }
 
 // ReadKey gives the attestation key of a public area, a TPM2B_PUBLIC: the file that `tpm2_createak -u` writes.
@@ -180,5 +167,5 @@ func ReadEndorsementKey(area []byte) (Key, error) {
 }
 
 func readKey(area []byte, isEndorsement bool) (Key, error) {
-	return resultFor[Key](func(out []byte) (int32, errorInfo) { return callKey(area, isEndorsement, out) })
+	return resultFor[Key](func(out []byte) (int32, textInfo) { return callKey(area, isEndorsement, out) })
 }

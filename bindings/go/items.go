@@ -97,8 +97,8 @@ type Specification struct {
 // none, whatever digests it states, so no PCR confirms it. Type is the name of the type, or empty if it has none. Digests has those of
 // the log's banks. JSON is its line.
 //
-// Measured has the part of the data whose hash is the digest, for each bank of which there is one; what is not measured is only what
-// the log claims, and so is the type. Confirmed is absent: the package confirms no events.
+// Measured has the part of the data whose hash is the digest, for each bank of which there is one. Confirmed is the part that the evidence
+// of ConfirmedEvents confirms, and otherwise empty. What is not confirmed is only what the log claims, and so is the type.
 type Event struct {
 	Number     uint64             `json:"event"`
 	Register   uint32             `json:"register"`
@@ -112,8 +112,7 @@ type Event struct {
 	JSON       string             `json:"-"`
 }
 
-// Part is a part of an event's data. If a PCR has the value that the log gives it, a part that is measured was hashed at the event's
-// place in the PCR.
+// Part is a part of an event's data.
 type Part string
 
 const (

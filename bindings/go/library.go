@@ -17,7 +17,7 @@ import "C"
 
 import "unsafe"
 
-// What a call returns. (It is never misused.)
+// What a call returns.
 const (
 	done        = C.IMA_VERIFY_DONE
 	differs     = C.IMA_VERIFY_DIFFERS
@@ -25,17 +25,19 @@ const (
 	outOfMemory = C.IMA_VERIFY_OUT_OF_MEMORY
 	tooShort    = C.IMA_VERIFY_TOO_SHORT
 	moreLines   = C.IMA_VERIFY_MORE
+	misused     = C.IMA_VERIFY_MISUSED
 )
 
 const (
 	headerVersion      = C.IMA_VERIFY_VERSION
 	noPlace            = C.IMA_VERIFY_NO_PLACE // the place of an error that names none
-	checkpointCapacity = C.IMA_VERIFY_CHECKPOINT_ROOM
+	checkpointCapacity = C.IMA_VERIFY_CHECKPOINT_CAPACITY
+	argumentNumber     = C.IMA_VERIFY_ARGUMENT
 )
 
 // The kinds of errors for which an input is refused.
 var kinds = map[uint32]Kind{
-	C.IMA_VERIFY_ARGUMENT:   KindArgument,
+	argumentNumber:          KindArgument,
 	C.IMA_VERIFY_LOG:        KindLog,
 	C.IMA_VERIFY_LIST:       KindList,
 	C.IMA_VERIFY_REPLAY:     KindReplay,
@@ -47,15 +49,22 @@ var kinds = map[uint32]Kind{
 	C.IMA_VERIFY_SIGNATURE:  KindSignature,
 }
 
-// errorInfo is what a call reports of its text: the size, and the error that the text is the line of.
-type errorInfo struct {
+// What tells which PCRs match after a log.
+const (
+	byNothing  = 0
+	byExpected = 1
+	byQuote    = 2
+)
+
+// textInfo is what a call reports of its text: the size, and the error that the text is the line of.
+type textInfo struct {
 	size         uint64
 	kind, number uint32
 	place        uint64
 }
 
-func givenBy(result C.int32_t, t *C.struct_ima_verify_told) (int32, errorInfo) {
-	return int32(result), errorInfo{uint64(t.size), uint32(t.fault_kind), uint32(t.fault_number), uint64(t.fault_place)}
+func reported(status C.int32_t, info *C.struct_ima_verify_info) (int32, textInfo) {
+	return int32(status), textInfo{uint64(info.size), uint32(info.error_kind), uint32(info.error_number), uint64(info.error_place)}
 }
 
 // position is where the lines of entries or events continue.
@@ -82,74 +91,113 @@ func libraryVersion() uint32 {
 	return uint32(C.ima_verify_version())
 }
 
-func callVerdict(log, list, expected, require []byte, known knownFiles, out []byte) (int32, errorInfo) {
-	var t C.struct_ima_verify_told
-	return givenBy(C.ima_verify_raw_verdict(start(log), size(log), start(list), size(list), start(expected), size(expected),
+// (The numbers of a verdict are for programs that read no JSON: none are asked for.)
+
+func callVerdict(log, list, expected, require []byte, known knownFiles, out []byte) (int32, textInfo) {
+	var info C.struct_ima_verify_info
+	var numbers C.uint64_t
+	return reported(C.ima_verify_raw_verdict(start(log), size(log), start(list), size(list), start(expected), size(expected),
 		start(require), size(require), start(known.text), size(known.text), C.bool(known.checked), true,
-		start(out), size(out), &t), &t)
+		&numbers, 0, start(out), size(out), &info), &info)
 }
 
-func callLocate(log, list, expected, require, out []byte) (int32, errorInfo) {
-	var t C.struct_ima_verify_told
-	return givenBy(C.ima_verify_raw_locate(start(log), size(log), start(list), size(list), start(expected), size(expected),
-		start(require), size(require), true, start(out), size(out), &t), &t)
+func callLocate(log, list, expected, require, out []byte) (int32, textInfo) {
+	var info C.struct_ima_verify_info
+	return reported(C.ima_verify_raw_locate(start(log), size(log), start(list), size(list), start(expected), size(expected),
+		start(require), size(require), true, start(out), size(out), &info), &info)
 }
 
-func callReplay(list, expected, require []byte, known knownFiles, out []byte) (int32, errorInfo) {
-	var t C.struct_ima_verify_told
-	return givenBy(C.ima_verify_raw_replay(start(list), size(list), start(expected), size(expected),
+func callReplay(list, expected, require []byte, known knownFiles, out []byte) (int32, textInfo) {
+	var info C.struct_ima_verify_info
+	var numbers C.uint64_t
+	return reported(C.ima_verify_raw_replay(start(list), size(list), start(expected), size(expected),
 		start(require), size(require), start(known.text), size(known.text), C.bool(known.checked), true,
-		start(out), size(out), &t), &t)
+		&numbers, 0, start(out), size(out), &info), &info)
 }
 
 // callMore also gives the size of the next checkpoint.
-func callMore(log, state, data, expected, require []byte, known knownFiles, prefix bool, next, out []byte) (int32, uint64, errorInfo) {
-	var t C.struct_ima_verify_told
+func callMore(log, state, data, expected, require []byte, known knownFiles, prefix bool, next, out []byte) (int32, uint64, textInfo) {
+	var info C.struct_ima_verify_info
+	var numbers C.uint64_t
 	var nextSize C.size_t
-	result, info := givenBy(C.ima_verify_raw_more(start(log), size(log), start(state), size(state), start(data), size(data),
+	status, found := reported(C.ima_verify_raw_more(start(log), size(log), start(state), size(state), start(data), size(data),
 		start(expected), size(expected), start(require), size(require),
 		start(known.text), size(known.text), C.bool(known.checked), C.bool(prefix), true,
-		start(next), size(next), &nextSize, start(out), size(out), &t), &t)
-	return result, uint64(nextSize), info
+		&numbers, 0, start(next), size(next), &nextSize, start(out), size(out), &info), &info)
+	return status, uint64(nextSize), found
 }
 
 // callAttest also gives the size of the next checkpoint.
-func callAttest(log, state, data []byte, quote Quote, known knownFiles, prefix bool, next, out []byte) (int32, uint64, errorInfo) {
-	var t C.struct_ima_verify_told
+func callAttest(log, state, data []byte, quote Quote, known knownFiles, prefix bool, next, out []byte) (int32, uint64, textInfo) {
+	var info C.struct_ima_verify_info
+	var numbers C.uint64_t
 	var nextSize C.size_t
-	require := []byte(quote.Require)
-	result, info := givenBy(C.ima_verify_raw_attest(start(log), size(log), start(state), size(state), start(data), size(data),
-		start(quote.Message), size(quote.Message), start(quote.Key), size(quote.Key), start(quote.Signature), size(quote.Signature),
-		start(quote.Nonce), size(quote.Nonce), start(require), size(require),
+	key, signature := notEmpty(quote.Key), notEmpty(quote.Signature)
+	nonceHex, require := []byte(quote.NonceHex), []byte(quote.Require)
+	status, found := reported(C.ima_verify_raw_attest(start(log), size(log), start(state), size(state), start(data), size(data),
+		start(quote.Message), size(quote.Message), start(key), size(key), start(signature), size(signature),
+		start(quote.Nonce), size(quote.Nonce), start(nonceHex), size(nonceHex), start(require), size(require),
 		start(known.text), size(known.text), C.bool(known.checked),
 		C.bool(quote.AllowSHA1), C.bool(quote.SignatureChecked), C.bool(prefix), true,
-		start(next), size(next), &nextSize, start(out), size(out), &t), &t)
-	return result, uint64(nextSize), info
+		&numbers, 0, start(next), size(next), &nextSize, start(out), size(out), &info), &info)
+	return status, uint64(nextSize), found
 }
 
-func callExpected(printed, registers, out []byte) (int32, errorInfo) {
-	var t C.struct_ima_verify_told
-	return givenBy(C.ima_verify_raw_expected(start(printed), size(printed), start(registers), size(registers), false,
-		start(out), size(out), &t), &t)
+func callMatching(log []byte, evidence Evidence, out []byte) (int32, textInfo) {
+	var info C.struct_ima_verify_info
+	quote := evidence.quote
+	key, signature := notEmpty(quote.Key), notEmpty(quote.Signature)
+	nonceHex, require := []byte(quote.NonceHex), []byte(quote.Require)
+	return reported(C.ima_verify_raw_matching(start(log), size(log), C.uint32_t(evidence.by),
+		start(evidence.expected), size(evidence.expected), start(evidence.list), size(evidence.list),
+		start(quote.Message), size(quote.Message), start(key), size(key), start(signature), size(signature),
+		start(quote.Nonce), size(quote.Nonce), start(nonceHex), size(nonceHex), start(require), size(require),
+		C.bool(quote.AllowSHA1), C.bool(quote.SignatureChecked), start(out), size(out), &info), &info)
 }
 
-func callRegisters(data []byte, ofList bool, out []byte) (int32, errorInfo) {
-	var t C.struct_ima_verify_told
-	return givenBy(C.ima_verify_raw_registers(start(data), size(data), C.bool(ofList), true, start(out), size(out), &t), &t)
+func callBoot(log, before []byte, compares bool, evidence Evidence, out []byte) (int32, textInfo) {
+	var info C.struct_ima_verify_info
+	quote := evidence.quote
+	key, signature := notEmpty(quote.Key), notEmpty(quote.Signature)
+	nonceHex, require := []byte(quote.NonceHex), []byte(quote.Require)
+	return reported(C.ima_verify_raw_boot(start(log), size(log), start(before), size(before), C.bool(compares), C.uint32_t(evidence.by),
+		start(evidence.expected), size(evidence.expected), start(evidence.list), size(evidence.list),
+		start(quote.Message), size(quote.Message), start(key), size(key), start(signature), size(signature),
+		start(quote.Nonce), size(quote.Nonce), start(nonceHex), size(nonceHex), start(require), size(require),
+		C.bool(quote.AllowSHA1), C.bool(quote.SignatureChecked), true, start(out), size(out), &info), &info)
 }
 
-func callKey(area []byte, isEndorsement bool, out []byte) (int32, errorInfo) {
-	var t C.struct_ima_verify_told
-	return givenBy(C.ima_verify_raw_key(start(area), size(area), C.bool(isEndorsement), true, start(out), size(out), &t), &t)
+func callExpected(printed, registers, out []byte) (int32, textInfo) {
+	var info C.struct_ima_verify_info
+	return reported(C.ima_verify_raw_expected(start(printed), size(printed), start(registers), size(registers), false,
+		start(out), size(out), &info), &info)
 }
 
-func callEntries(list []byte, at *position, isJSON bool, out []byte) (int32, errorInfo) {
-	var t C.struct_ima_verify_told
-	return givenBy(C.ima_verify_raw_entries(start(list), size(list), &at.offset, &at.number, C.bool(isJSON),
-		start(out), size(out), &t), &t)
+func callRegisters(data []byte, ofList bool, out []byte) (int32, textInfo) {
+	var info C.struct_ima_verify_info
+	return reported(C.ima_verify_raw_registers(start(data), size(data), C.bool(ofList), true, start(out), size(out), &info), &info)
 }
 
-func callEvents(log []byte, at *position, out []byte) (int32, errorInfo) {
-	var t C.struct_ima_verify_told
-	return givenBy(C.ima_verify_raw_events(start(log), size(log), &at.offset, &at.number, start(out), size(out), &t), &t)
+func callKey(area []byte, isEndorsement bool, out []byte) (int32, textInfo) {
+	var info C.struct_ima_verify_info
+	return reported(C.ima_verify_raw_key(start(area), size(area), C.bool(isEndorsement), true, start(out), size(out), &info), &info)
+}
+
+func callEntries(list []byte, at *position, isJSON bool, out []byte) (int32, textInfo) {
+	var info C.struct_ima_verify_info
+	return reported(C.ima_verify_raw_entries(start(list), size(list), &at.offset, &at.number, C.bool(isJSON),
+		start(out), size(out), &info), &info)
+}
+
+// callEvents has each event say what these PCRs confirm of it, if they are given.
+func callEvents(log, matching []byte, matchingGiven bool, at *position, out []byte) (int32, textInfo) {
+	var info C.struct_ima_verify_info
+	return reported(C.ima_verify_raw_events(start(log), size(log), start(matching), size(matching), C.bool(matchingGiven),
+		&at.offset, &at.number, start(out), size(out), &info), &info)
+}
+
+func callErrorText(of textInfo, out []byte) (int32, textInfo) {
+	var info C.struct_ima_verify_info
+	return reported(C.ima_verify_raw_error_text(C.uint32_t(of.kind), C.uint32_t(of.number), C.uint64_t(of.place),
+		start(out), size(out), &info), &info)
 }

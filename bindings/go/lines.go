@@ -4,27 +4,24 @@ import "bytes"
 
 // lines goes through the lines of entries or of events, which the library gives by pieces.
 type lines struct {
-	call    func(out []byte) (int32, errorInfo) // for the next piece
-	isEmpty bool                                // whether there are no lines, since the list has no bytes
-	buffer  []byte
-	rest    []byte // the lines of the piece that are not read yet
-	status  int32  // of the last call
-	count   uint64 // how many items were read
-	err     error
+	call   func(out []byte) (int32, textInfo) // for the next piece
+	buffer []byte
+	rest   []byte // the lines of the piece that are not read yet
+	status int32  // of the last call
+	err    error
 }
 
-func linesOf(isEmpty bool, call func(out []byte) (int32, errorInfo)) *lines {
-	return &lines{call: call, isEmpty: isEmpty, buffer: make([]byte, firstCapacity), status: moreLines}
+func linesOf(call func(out []byte) (int32, textInfo)) *lines {
+	return &lines{call: call, buffer: make([]byte, firstCapacity), status: moreLines}
 }
 
-// piece gives the lines that the next call gives, which are none only for an empty list. After the last ones, and after an
-// error, it gives nil.
+// piece gives the lines that the next call gives. After the last ones, and after an error, it gives nil.
 func (l *lines) piece() []byte {
 	if l.err != nil || l.status == done {
 		return nil
 	}
 	given, err := ask(l.buffer, l.call)
-	if err == nil && !l.isPiece(given) {
+	if err == nil && !isPiece(given) {
 		err = given.unexpected()
 	}
 	if err != nil {
@@ -35,9 +32,10 @@ func (l *lines) piece() []byte {
 	return given.text
 }
 
-func (l *lines) isPiece(given answer) bool {
-	if l.isEmpty {
-		return given.status == done && len(given.text) == 0
+// isPiece is whether an answer has whole lines: some, if more follow.
+func isPiece(given answer) bool {
+	if len(given.text) == 0 {
+		return given.status == done
 	}
 	return (given.status == done || given.status == moreLines) && bytes.HasSuffix(given.text, []byte("\n"))
 }
@@ -50,16 +48,6 @@ func (l *lines) line() []byte {
 	return l.rest[:bytes.IndexByte(l.rest, '\n')+1]
 }
 
-// isLast says whether no line comes after this one, which is the next.
-func (l *lines) isLast(line []byte) bool {
-	return l.status == done && len(line) > 0 && len(line) == len(l.rest)
-}
-
-// fail ends the lines with an error of this line.
-func (l *lines) fail(line []byte) {
-	l.rest, l.err = nil, answer{status: l.status, text: line}.unexpected()
-}
-
 // nextOf reads the next line, and says whether there is one.
 func nextOf[T any](l *lines) (T, bool) {
 	var read, none T
@@ -68,16 +56,11 @@ func nextOf[T any](l *lines) (T, bool) {
 		return none, false
 	}
 	if !decode(line, &read) {
-		l.fail(line)
+		l.rest, l.err = nil, answer{status: l.status, text: line}.unexpected()
 		return none, false
 	}
-	l.rest, l.count = l.rest[len(line):], l.count+1
+	l.rest = l.rest[len(line):]
 	return read, true
-}
-
-// endLine is the line after the last entry of a whole list.
-type endLine struct {
-	Entries uint64 `json:"entries"`
 }
 
 // EntryScanner goes through the entries of a measurement list, as bufio.Scanner goes through lines.
@@ -89,18 +72,13 @@ type EntryScanner struct {
 // Next reads the next entry, which Entry then gives. It is false after the last entry, and at an error, which Err then gives.
 func (s *EntryScanner) Next() bool {
 	line := s.lines.line()
-	if !s.lines.isLast(line) {
-		var isNext bool
-		s.entry, isNext = nextOf[Entry](s.lines)
-		return isNext
+	if s.lines.status == done && len(line) == len(s.lines.rest) { // (the last line says how many entries there are)
+		s.entry, s.lines.rest = Entry{}, nil
+		return false
 	}
-	// (the last line says how many entries there are, or the list was cut)
-	var end endLine
-	if !decode(line, &end) || end.Entries != s.lines.count {
-		s.lines.fail(line)
-	}
-	s.entry, s.lines.rest = Entry{}, nil
-	return false
+	var isNext bool
+	s.entry, isNext = nextOf[Entry](s.lines)
+	return isNext
 }
 
 // Entry gives the entry that Next read, or the zero value if it read none.
@@ -116,14 +94,20 @@ func (s *EntryScanner) Err() error {
 
 // EventScanner goes through the events of a firmware event log, as bufio.Scanner goes through lines.
 type EventScanner struct {
-	lines  *lines
-	header LogHeader
-	event  Event
+	lines        *lines
+	header       LogHeader
+	event        Event
+	quoteDiffers bool
 }
 
 // Header gives the log's header, with the algorithms that it declares.
 func (s *EventScanner) Header() LogHeader {
 	return s.header
+}
+
+// QuoteDiffers says that a quote which was given as evidence is no match for log and list: no event is confirmed then.
+func (s *EventScanner) QuoteDiffers() bool {
+	return s.quoteDiffers
 }
 
 // Next reads the next event, which Event then gives. It is false after the last event, and at an error, which Err then gives.
@@ -150,7 +134,7 @@ func (s *EventScanner) Err() error {
 // For a damaged list Next gives the entries before the error. A loop that ends early does not come to the error.
 func Entries(list []byte) *EntryScanner {
 	at := new(position)
-	return &EntryScanner{lines: linesOf(false, func(out []byte) (int32, errorInfo) { return callEntries(list, at, true, out) })}
+	return &EntryScanner{lines: linesOf(func(out []byte) (int32, textInfo) { return callEntries(list, at, true, out) })}
 }
 
 // Events goes through the events of a firmware event log after its header. The log must not change before the last call of
@@ -158,14 +142,32 @@ func Entries(list []byte) *EntryScanner {
 //
 // For a log that is damaged later Next gives the events before the error. A loop that ends early does not come to the error.
 func Events(log []byte) (*EventScanner, error) {
-	at := new(position)
-	return eventsOf(linesOf(false, func(out []byte) (int32, errorInfo) { return callEvents(log, at, out) }))
+	return eventsBy(log, nil, false)
 }
 
-// eventsOf reads the first line, which is the header.
-func eventsOf(l *lines) (*EventScanner, error) {
+// ConfirmedEvents goes through events as Events does, and each says in Confirmed what the evidence confirms of its data. The evidence is
+// read here alone. Its errors are those of Verify and Attest; the zero value is refused with KindArgument.
+func ConfirmedEvents(log []byte, evidence Evidence) (*EventScanner, error) {
+	matching, err := ask(make([]byte, firstCapacity), func(out []byte) (int32, textInfo) { return callMatching(log, evidence, out) })
+	if err != nil {
+		return nil, err
+	}
+	events, err := eventsBy(log, matching.text, true)
+	if err == nil {
+		events.quoteDiffers = matching.status == differs
+	}
+	return events, err
+}
+
+// eventsBy reads the first line, which is the header. The others say what these PCRs confirm, if they are given.
+func eventsBy(log, matching []byte, matchingGiven bool) (*EventScanner, error) {
+	at := new(position)
+	l := linesOf(func(out []byte) (int32, textInfo) { return callEvents(log, matching, matchingGiven, at, out) })
 	header, isNext := nextOf[LogHeader](l)
-	if !isNext {
+	if !isNext && l.err == nil {
+		l.err = answer{status: l.status}.unexpected() // (a log has a header)
+	}
+	if l.err != nil {
 		return nil, l.err
 	}
 	return &EventScanner{lines: l, header: header}, nil
@@ -175,7 +177,7 @@ func eventsOf(l *lines) (*EventScanner, error) {
 // feeds and control bytes. Entries gives each entry by itself.
 func Show(list []byte) ([]byte, error) {
 	at := new(position)
-	return allOf(linesOf(len(list) == 0, func(out []byte) (int32, errorInfo) { return callEntries(list, at, false, out) }))
+	return allOf(linesOf(func(out []byte) (int32, textInfo) { return callEntries(list, at, false, out) }))
 }
 
 func allOf(l *lines) ([]byte, error) {

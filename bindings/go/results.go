@@ -77,8 +77,8 @@ type Stray struct {
 	Register int    `json:"register"`
 }
 
-// Fault is an error as JSON has it: Message is its line. Event, Entry and Number are absent where it has none.
-type Fault struct {
+// ErrorInfo is an error as JSON has it: Message is its line. Event, Entry and Number are absent where it has none.
+type ErrorInfo struct {
 	Kind    Kind    `json:"kind"`
 	Number  uint32  `json:"number,omitempty"`
 	Event   *uint64 `json:"event,omitempty"`
@@ -101,7 +101,7 @@ type Verdict struct {
 	Locality      uint8         `json:"locality"`
 	Entries       uint64        `json:"entries"`
 	Confirmed     uint64        `json:"confirmed,omitempty"`
-	Unconfirmed   *Fault        `json:"unconfirmed,omitempty"`
+	Unconfirmed   *ErrorInfo    `json:"unconfirmed,omitempty"`
 	BootAggregate BootAggregate `json:"boot_aggregate"`
 	Registers     []Row         `json:"registers"`
 	Extends       []Stray       `json:"extends,omitempty"`
@@ -162,7 +162,7 @@ type Attestation struct {
 	Locality      uint8          `json:"locality"`
 	Entries       uint64         `json:"entries"`
 	Confirmed     uint64         `json:"confirmed,omitempty"`
-	Unconfirmed   *Fault         `json:"unconfirmed,omitempty"`
+	Unconfirmed   *ErrorInfo     `json:"unconfirmed,omitempty"`
 	BootAggregate BootAggregate  `json:"boot_aggregate"`
 	Expected      Confirmation   `json:"expected,omitempty"`
 	Registers     []Row          `json:"registers,omitempty"`
