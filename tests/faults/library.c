@@ -4,11 +4,12 @@
  *
  * FUNCTION is the name of a function without ima_verify_. After it can stand :json for that form, :prefix if the confirmed prefix is asked
  * for, :list for the registers of a list, :signed if a quote's signature was checked, :by_key if it is given with a key, :known for known files,
- * :endorsement for a key of that purpose, :before for the log of an earlier boot, and :expected or :quote for what confirms a boot or events. INPUT are its files, and ROOM is the size of its buffer. RESULT and the file TEXT are the answer
- * that it has with ample memory, and the file NEXT is the checkpoint that it gives in a buffer of NEXT_ROOM bytes; a function that gives none
- * has no such buffer. In the Nth turn the Nth allocation is refused, until a turn ends with none refused. Each turn calls twice: the call whose
- * allocation is refused has the answer, or says that memory ran out, and then leaves the checkpoint's buffer as it was; the next one has the
- * answer. The error that a call tells must be that of its text, and the verdict of its summary that of its result.
+ * :endorsement for a key of that purpose, :before for the log of an earlier boot, and :expected or :quote for what confirms a boot or events.
+ * INPUT are its files, and ROOM is the size of its buffer. RESULT and the file TEXT are the answer that it has with ample memory, and the file
+ * NEXT is the checkpoint that it gives in a buffer of NEXT_ROOM bytes; a function that gives none has no such buffer. In the Nth turn the Nth
+ * allocation is refused, until a turn ends with none refused. Each turn calls twice: the call whose allocation is refused has the answer, or says
+ * that memory ran out, and then leaves the checkpoint's buffer as it was; the next one has the answer. The error that a call tells must be that
+ * of its text, and the verdict of its summary that of its result.
  *
  * Of entries and events a turn calls until the last line has come: by pieces for which there is ROOM, or, if that is too short for a line,
  * by single lines. What comes must be TEXT, also where a call in between says that memory ran out.

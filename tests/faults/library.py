@@ -244,6 +244,7 @@ CASES = (
         ("a changed list", "log", "changed list", "expected", "none"),
         ("a bank that the log lacks", "log", "list", "other bank", "none"),
         ("an empty list", "log", "empty", "expected", "none"),
+        ("no expected registers", "log", "list", "empty", "none"),
         ("no expected registers, but required ones", "log", "list", "empty", "all"),
         ("registers that are missing", "log", "list", "expected", "more"),
         ("an empty log", "empty", "list", "expected", "none"),
@@ -254,9 +255,6 @@ CASES = (
         ("a requirement that names none", "log", "list", "expected", "no registers"),
         ("a requirement of every bank", "log", "list", "expected", "range"),
         ("a requirement with a part that is none", "log", "list", "expected", "part that is none"),
-    )),
-    (("locate",), BOTH, (
-        ("no expected registers", "log", "list", "empty", "none"),
     )),
     (("more", "more:prefix"), BOTH, (
         ("the real boot", "log", "empty", "list", "expected", "none"),
@@ -442,10 +440,13 @@ def cases(files):
 
 def answer_to(case, program, following, files):
     """The program's answer. It prints no entries of a damaged list without --json: those before the fault are the sample's. Where it has the
-    status of what is not attested, the library refuses the quote, or says that the verdict is not `match`."""
+    status of what is not attested, the library refuses the quote, or says that the verdict is not `match`; and so it says where nothing is
+    compared."""
     answer = subprocess.run([program, *case.words(following)], capture_output=True, timeout=SECONDS)
     if case.is_by_quote() and answer.returncode == NOT_ATTESTED:
         return REFUSED if QUOTE_REFUSED.search(answer.stdout) else DIFFERS, answer.stdout
+    if case.is_of("verdict") and answer.returncode == 0 and not case.inputs[2].read_bytes():
+        return DIFFERS, b"differ".join(answer.stdout.rsplit(b"match", 1))
     if answer.returncode not in (0, 1, 2):
         raise RuntimeError(f"{program} {case.function} of {case.title}: status {answer.returncode}, {answer.stderr[-500:]!r}")
     if case.function == "entries" and answer.returncode == 2:
