@@ -11,5 +11,5 @@ mod table;
 mod texts;
 mod values;
 
-pub use table::{Sentence, sentence};
+pub use table::{Sentence, sentence_of};
 pub use texts::error_text;

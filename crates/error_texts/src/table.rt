@@ -21,7 +21,7 @@ pub struct Sentence {
 
 /// The sentence of an error of this kind with this number, which is 0 where the kind has no numbers; nothing for a number that the kind
 /// does not have, and for a kind whose errors name a file.
-pub fn sentence(kind: FaultKind, number: u32) -> Option<Sentence>
+pub fn sentence_of(kind: FaultKind, number: u32) -> Option<Sentence>
     ensures { option_map said result ≡ sentence_of kind number }
 {
     match kind {

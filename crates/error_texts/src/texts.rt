@@ -4,14 +4,14 @@ ghost use Rattle.std.specs.Prelude.{◌≡◌, true, is_some, option_map, string
 ghost use Rattle.error_texts.specs.ErrorTexts.{digits_of, error_text, named_place, text_of, words_after, words_before};
 ghost use Rattle.error_texts.specs.Sentences.{said};
 
-use crate::table::{Sentence, sentence};
+use crate::table::{Sentence, sentence_of};
 use agent_inputs::FaultKind;
 use itoa::Buffer;
 use std::alloc::{AllocError, Global};
 
 /// The text of an error: where it is, what is wrong, and what to do. For example: 'The measurement list is damaged at entry 3: its bytes are not
 /// all there. Copy the list again.' `place` is the event, the entry or the line that the error names, of a file that cannot be measured its
-/// number. Nothing if the error has no [`sentence`]. Fails only if memory runs out.
+/// number. Nothing if the error has no sentence ([`sentence_of`]). Fails only if memory runs out.
 pub fn error_text(
     alloc: Global,
     kind: FaultKind,
@@ -21,7 +21,7 @@ pub fn error_text(
     ensures text { IfOk result (λ text. option_map string_bytes text ≡ error_text kind number place) }
     ensures memory { IfErr result (λ _. is_some (error_text kind number place) ≡ true) }
 {
-    match sentence(kind, number) {
+    match sentence_of(kind, number) {
         Some(sentence) => Ok(Some(text_of(alloc, kind, named_place(kind, place), sentence)?)),
         None => Ok(None),
     }
