@@ -1,3 +1,4 @@
 mod BootLaws
+mod ComparedLaws
 mod GivingLaws
 mod LineLaws

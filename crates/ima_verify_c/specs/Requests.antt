@@ -4,8 +4,11 @@ use Rattle.agent_plans.specs.declared.plan.Scope.{Scope}
 use Rattle.agent_plans.specs.declared.plan.Scope.TheVariants.{Prefix, Whole}
 use Rattle.cells.specs.declared.writer.Form.{Form}
 use Rattle.cells.specs.declared.writer.Form.TheVariants.{Json, Text}
+use Rattle.growing_lists.specs.declared.saved_state.SavedState.{SavedState}
 use Rattle.hex.specs.Hex.{decode_of}
 use Rattle.hex.specs.declared.error.FromHexError.{FromHexError}
+use Rattle.agent_inputs.specs.Loading.{unknown}
+use Rattle.judging.specs.Answering.{IsResumedState, IsTaken, checkpoint_of}
 use Rattle.judging.specs.Requests.{Any, Attests, ByCaller, ByKey, Requested, Compared, Compares, Judgement, KeyOf, ListRegistersOf, ListVerdictOf, LogRegistersOf, NotChecked, PositionsOf, Requires, Signing, These, VerdictOf}
 use Rattle.judging.specs.Inputs.{BytesOf, Where}
 use Rattle.tpm_keys.specs.declared.kinds.KeyPart.TheVariants.{All}
@@ -50,6 +53,10 @@ scope_of prefix = if prefix then Prefix else Whole
 -- Where the checkpoint is that is gone on from, if it has bytes.
 abbrev pub resume_of : List ℕ → Option Where
 resume_of state = option_map BytesOf (given_bytes state)
+
+-- What is gone on from, if anything, is the checkpoint of some list.
+abbrev pub IsOfSomeList : Option Where → Type 0
+IsOfSomeList resume = (known : Option SavedState) → IsResumedState unknown resume known → (taken : List ℕ) × IsTaken (checkpoint_of known) taken
 
 -- The verdict on a log and a list, or on its confirmed prefix, from a checkpoint on, if there is one.
 abbrev pub verdict_of : List ℕ → List ℕ → Bool → Judgement

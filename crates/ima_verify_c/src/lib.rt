@@ -13,6 +13,7 @@
 #![tactic(auto)]
 
 mod boot;
+pub mod laws;
 mod nonce;
 mod numbers;
 mod replies;
