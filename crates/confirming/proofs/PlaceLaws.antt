@@ -1,5 +1,5 @@
 -- Registers of banks as a text: what a text spells, and how it is read part after part.
-use Rattle.std.proofs.Common.{rules, ◌≡◌, ℕ, ◌+◌, ◌<◌, ◌^◌, false, List, [], ◌∷◌, ◌++◌, length, take, flat_map, get_or, Option, Some, None, option_map, Bor, decimal, refl, sym, ap, ◌∙◌, subst, inl, inr, arith, append_assoc, append-nil, length-append, ◌==◌}
+use Rattle.std.proofs.Common.{rules, ◌≡◌, ℕ, ◌+◌, ◌-◌, ◌<◌, ◌≤◌, ◌^◌, Bool, true, false, List, [], ◌∷◌, ◌++◌, length, take, take_all, drop, flat_map, get_or, Option, Some, None, option_map, Bor, decimal, refl, sym, ap, ◌∙◌, subst, inl, inr, arith, append_assoc, append-nil, length-append, ◌==◌}
 use Rattle.std.specs.List.{AllByRecursion}
 use Rattle.std.specs.Str.Iter.{LacksByte}
 use Rattle.std.specs.Str.Parse.{AllDigits}
@@ -115,7 +115,50 @@ one_more places i d lt =
     ∙ flat_map-append (λ (place : Pcr). 44 ∷ place_text place) (take i places) (get_or places i d ∷ [])
     ∙ ap (λ (t : List ℕ). later_text (take i places) ++ t) (append-nil (44 ∷ place_text (get_or places i d)))
 
+-- A register is written as its bank's name, a colon and its number.
+pub place_written : (old named parted new name number : List ℕ) (place : Pcr) → named ≡ old ++ name → parted ≡ named ++ 58 ∷ []
+    → new ≡ parted ++ number → name ≡ name_of place.alg → number ≡ decimal place.register → new ≡ old ++ place_text place
+place_written old named parted new name number place names parts ends name_is number_is =
+    rw (ends, parts, names, name_is, number_is)
+    (append_assoc (old ++ name_of place.alg) (58 ∷ []) (decimal place.register)
+    ∙ append_assoc old (name_of place.alg) (58 ∷ decimal place.register))
+
+-- One more register is written, after a comma.
+pub place_more : (first : List ℕ) (places : List Pcr) (i : ℕ) (place : Pcr) (old comma new : List ℕ) → i < length places
+    → old ≡ first ++ later_text (take i places) → comma ≡ old ++ 44 ∷ [] → new ≡ comma ++ place_text (get_or places i place)
+    → new ≡ first ++ later_text (take (i + 1) places)
+place_more first places i place old comma new lt so_far parts ends =
+    let text = place_text (get_or places i place) in
+    ends ∙ ap (λ (l : List ℕ). l ++ text) (parts ∙ ap (λ (l : List ℕ). l ++ 44 ∷ []) so_far)
+    ∙ append_assoc (first ++ later_text (take i places)) (44 ∷ []) text
+    ∙ append_assoc first (later_text (take i places)) (44 ∷ text)
+    ∙ ap (λ (l : List ℕ). first ++ l) (sym (one_more places i place lt))
+
+-- All registers after the first.
+abbrev pub others_of : List Pcr → List Pcr
+others_of places = take (length places - 1) (drop 1 places)
+
+text_parts : (places : List Pcr) (first : Pcr) → 0 < length places
+    → matching_text places ≡ place_text (get_or places 0 first) ++ later_text (others_of places)
+text_parts [] first some = absurd (omega (arith, some))
+text_parts (place ∷ places) first some =
+    ap (λ (l : List Pcr). place_text place ++ later_text l) (sym (take_all (length (place ∷ places) - 1) places (omega arith)))
+
+-- They are all written.
+pub places_written : (places : List Pcr) (first : Pcr) (i : ℕ) (none begun text : List ℕ) → 0 < length places → none ≡ []
+    → begun ≡ none ++ place_text (get_or places 0 first) → text ≡ begun ++ later_text (take i (others_of places))
+    → length (others_of places) ≤ i → text ≡ matching_text places
+places_written places first i none begun text some empty starts so_far all =
+    so_far
+    ∙ ap (λ (l : List Pcr). begun ++ later_text l) (take_all i (others_of places) all)
+    ∙ ap (λ (l : List ℕ). l ++ later_text (others_of places)) (starts ∙ ap (λ (l : List ℕ). l ++ place_text (get_or places 0 first)) empty)
+    ∙ sym (text_parts places first some)
+
 -- ---- read part after part
+
+pub not_empty : (is_empty : Bool) (text : List ℕ) → is_empty ≡ (length text == 0) → is_empty ≡ false → 0 < length text
+not_empty is_empty [] tells none = absurd cc
+not_empty is_empty (byte ∷ text) tells none = omega arith
 
 -- What is left of a text spells these registers: none if nothing is left, else one at least.
 abbrev pub LeftSpells : Option (Bor (List ℕ)) → List Pcr → Type 0

@@ -20,12 +20,13 @@ pub fn write_matching(alloc: Global, places: &[Pcr]) -> Result<Vec<u8>, AllocErr
     ensures { IfOk result (λ text. text.items ≡ matching_text places.now) }
 {
     let mut text = Vec::new(alloc);
-    if let [first, others @ ..] = places {
-        append_place(first, &mut text)?;
-        for place in others {
-            text.push(b',')?;
-            append_place(place, &mut text)?;
-        }
+    let [first, others @ ..] = places else {
+        return Ok(text);
+    };
+    append_place(first, &mut text)?;
+    for place in others {
+        text.push(b',')?;
+        append_place(place, &mut text)?;
     }
     Ok(text)
 }

@@ -1,5 +1,5 @@
-mod ComparedLaws
 mod BootLaws
+mod ComparedLaws
+mod ErrorLaws
 mod GivingLaws
 mod LineLaws
-mod ErrorLaws

@@ -12,9 +12,9 @@
 //! verdict, as [`numbers`] has them: the first is left as it is; after 2, 3 and 4 they are those of no verdict, and after 6 all are as they were.
 #![tactic(auto)]
 
+mod boot;
 pub mod error_text;
 pub mod laws;
-mod boot;
 mod nonce;
 mod numbers;
 mod replies;

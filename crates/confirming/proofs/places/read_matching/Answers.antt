@@ -1,10 +1,10 @@
-use Rattle.std.proofs.Common.{arith, inl, inr, refl}
+use Rattle.std.proofs.Common.{inl, inr, refl}
 use Rattle.std.proofs.lemmas.Result.{err_from_is_err_and}
-use Rattle.confirming.proofs.PlaceLaws.{reads_all, reads_more, reads_none, reads_nothing}
+use Rattle.confirming.proofs.PlaceLaws.{not_empty, reads_all, reads_more, reads_none, reads_nothing}
 use Rattle.confirming.proofs.places.read_matching.Goals as goal
 
 pub loop-rest-init : goal.loop-rest-init
-loop-rest-init c = rw c.new-places.ensures.items (reads_nothing c.args.text (omega (arith, c.if-is_empty.false)))
+loop-rest-init c = rw c.new-places.ensures.items (reads_nothing c.args.text (not_empty _ c.args.text.now c.is_empty.ensures c.if-is_empty.false))
 
 pub returns-in_default-place_named-clause-fault : goal.returns-in_default-place_named-clause-fault
 returns-in_default-place_named-clause-fault c =
