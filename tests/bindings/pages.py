@@ -58,6 +58,10 @@ GO_QUOTE = """	verdict, err := attested(files[0], string(files[1]), files[2], fi
 		log.Fatal(err)
 	}
 	fmt.Println(verdict.Conclusion, verdict.Entries)"""
+GO_BOOT = """	quote := imaverify.Quote{Key: files[0], NonceHex: string(files[1]), Message: files[2], Signature: files[3], Require: "sha256:0-10"}
+	if err := booted(files[4], files[5], quote); err != nil {
+		log.Fatal(err)
+	}"""
 GO_PAGE = """	if err := unknownFiles(files[0], files[1], files[2], files[3]); err != nil {
 		log.Fatal(err)
 	}"""
@@ -80,11 +84,18 @@ def page_of(language):
     return f"{begun}{program}\n{function}"
 
 
-def quote_page_of(language):
+def quote_page_of(language, call=GO_QUOTE):
     """The first example of a language's page, of a quote, as a program."""
     names = "AK.pub", "nonce", "quote.msg", "quote.sig", *FILES[:2]
-    begun = go_call(GO_QUOTE, *names) if language == "go" else ""
+    begun = go_call(call, *names) if language == "go" else ""
     return begun + examples_of(language)[0]
+
+
+def boot_page_of(language):
+    """The example of what was booted, as a program: it is one of its own, or the function `booted` of the first example."""
+    if language == "rust":
+        return examples_of(language)[1]
+    return quote_page_of(language, GO_BOOT) + ("booted()\n" if language == "python" else "")
 
 
 def quoting_area():
@@ -98,7 +109,7 @@ def quoting_area():
 def quote_inputs(folder):
     """Folders with what the programs of a quote read, each with what they must print: a line, or as a pattern a part of an error."""
     files = {name: (QUOTED / name).read_bytes() for name in ("quote.msg", "quote.sig", "nonce")}
-    files |= {"AK.pub": quoting_area(), **{name: (SAMPLE / name).read_bytes() for name in FILES[:2]}}
+    files |= {"AK.pub": quoting_area(), **{name: (SAMPLE / name).read_bytes() for name in FILES}}
     message, pem = files["quote.msg"], (QUOTED / "AK.pem").read_bytes()
     for name, changes, wanted in (
         ("a boot", {}, "match 99\n"),
