@@ -70,8 +70,7 @@ enum ima_verify_result {
      * quote is no match, and nothing is confirmed. */
     IMA_VERIFY_DIFFERS = 1,
     /* An input is refused: `error` says why, and the text is the line that says so, such as
-     * `refused: log fault 1 at event 0`. As JSON it is an object whose one member is `fault`; no other line has
-     * such a member. */
+     * `refused: log fault 1 at event 0`. As JSON it is an object with the member `fault`; no other line has one. */
     IMA_VERIFY_REFUSED = 2,
     /* Memory ran out: the text is the line `failed: memory`, or that as JSON. */
     IMA_VERIFY_OUT_OF_MEMORY = 3,

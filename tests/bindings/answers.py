@@ -11,11 +11,6 @@ member of docs/schema.json that no line before them has. A line of answers.jsonl
     status     what the library returns with it: 0 (IMA_VERIFY_DONE) or 1 (IMA_VERIFY_DIFFERS); an `error` has 2 (IMA_VERIFY_REFUSED)
     matches    for a verdict and for places: whether a package says that all match; false for a verdict on no PCR, whose status may be 0
     line       the answer, without its line feed
-
-tests/bindings/answers.py sentences
-
-That writes instead the sentences of docs/errors.txt on the errors that a library gives, a line each: kind, number, sentence. Each package has these
-lines in a file: bindings/python/ima_verify/sentences.txt, bindings/go/sentences.txt, bindings/rust/src/sentences.txt.
 """
 
 import json
@@ -93,17 +88,10 @@ def answers():
     return sorted(chosen, key=lambda answer: order.index(answer["kind"]))
 
 
-def sentences():
-    """A line for each error of an input, with its kind, its number, and what it means."""
-    for kind in REFUSED_KINDS:
-        for number, sentence in form.sentences_of(kind.capitalize()).items():
-            yield f"{kind} {number} {sentence.replace('register R of', 'a register of')}\n"
-
-
 def table():
     """A line for each answer."""
     return (json.dumps(answer, separators=(",", ":"), ensure_ascii=False) + "\n" for answer in answers())
 
 
 if __name__ == "__main__":
-    sys.stdout.writelines(sentences() if sys.argv[1:] == ["sentences"] else table())
+    sys.stdout.writelines(table())

@@ -1,50 +1,52 @@
-/* Holds the library to what ima_verify.h promises of wrong calls, room, faults, requirements, known files, quotes, their signatures, sessions by
- * them, keys, pieces and the stack.
+/* Holds the library to what ima_verify.h promises of wrong calls, capacity, errors, requirements, known files, numbers, quotes, their signatures,
+ * sessions, keys, boots, pieces and the stack.
  *
- *     header LOG LIST EXPECTED PRINTED MESSAGE NONCE AREA PEM KNOWN BEFORE BANKS_LOG BANKS_LIST BANKS_MESSAGE SIGNED [STACK]
+ *     header FOLDER
  *
- * The files are those of the sample boot; PRINTED is what tpm2_pcrread printed, MESSAGE is the message of a quote of registers 0 to 10 in
- * the SHA-256 bank, and NONCE has its nonce in hexadecimal. AREA is the public area of an attestation key of RSA, 2048 bits, that signs by
- * RSASSA with SHA-256, and PEM is that key. KNOWN lists the files of LIST, and BEFORE has the registers before its first violation. The
- * files whose names begin with BANKS are those of a boot with banks of all algorithms, whose quote has the same nonce. SIGNED is the folder of
- * quotes of the sample boot by keys of each kind, with this nonce and their signatures. Each function is called in a thread with so many bytes
- * of stack, by default the 512 KiB of the header. Prints a line for each check that fails, how much stack was used at most, and last 'N passed,
- * M failed'. The status is 1 if one failed. */
+ * FOLDER has the sample boot and what its inputs are changed to, in files whose names are those below (`header_files` of pages.py). Checkpoints are
+ * kept there too. Prints a line for each check that fails, how much stack was used at most, and last 'N passed, M failed'. The status is 1 if one
+ * failed. */
 #define _GNU_SOURCE
 #include <ima_verify.h>
 
 #include <pthread.h>
-#include <signal.h>
 #include <stdio.h>
 #include <stdlib.h>
 #include <sys/mman.h>
 #include <unistd.h>
 
-enum {
-    ROOM = 1 << 16,
-    FILL = 0xa7,
-    STACK = 512 * 1024,
-    GUARD = 1 << 24,
-    SIGNAL_STACK = 1 << 16,
-    UNSET = 77,
-    SHOWN = 60
-};
+enum { SPACE = 1 << 16, FILL = 0xa7, STACK = 512 * 1024, GUARD = 1 << 24, UNSET = 77, SHOWN = 60, WORDS = 300, LONG = 17000 };
+#define NONE IMA_VERIFY_NO_PLACE
+#define DONE IMA_VERIFY_DONE
+#define DIFFERS IMA_VERIFY_DIFFERS
+#define TEXT IMA_VERIFY_TEXT
+
+/* The inputs of the functions. */
+enum { LOG, LIST, EXPECTED, PRINTED, MESSAGE, NONCE, AREA, REQUIRE, KNOWN, STATE, SELECTION, KEY, SIGNATURE, NONCE_HEX, BEFORE, INPUTS };
+static const char *const input_names[INPUTS] = {"log",   "list",  "expected",  "printed", "message",   "nonce",     "area",  "require",
+                                                "known", "state", "selection", "key",     "signature", "nonce_hex", "before"};
 
 /* All that a function may be given. */
 struct given {
-    struct ima_verify_evidence evidence;
-    struct ima_verify_bytes state, printed, registers, message, signing_key, signature, nonce, area, pem, files, before;
+    struct ima_verify_bytes in[INPUTS];
     enum ima_verify_origin origin;
     enum ima_verify_purpose purpose;
     struct ima_verify_position position;
-    bool prefix, takes_sha1, signature_checked;
+    struct ima_verify_error error;
+    bool checks_known, prefix, allow_sha1, signature_checked;
 };
 
-static struct ima_verify_bytes load(const char *name) {
-    uint8_t *bytes = malloc(ROOM);
+static struct given sample;
+static const struct ima_verify_bytes none = {NULL, 0};
+static const char *const signers[] = {"rsassa", "rsapss", "rsa3072", "p256", "p384"};
+enum { SIGNERS = 5 };
+
+/* The bytes of a file of the folder, and a file with these bytes. */
+static struct ima_verify_bytes kept(const char *name) {
+    uint8_t *bytes = malloc(SPACE);
     FILE *stream = fopen(name, "rb");
-    size_t size = stream && bytes ? fread(bytes, 1, ROOM, stream) : ROOM;
-    if (size == ROOM) {
+    size_t size = stream && bytes ? fread(bytes, 1, SPACE, stream) : SPACE;
+    if (size == SPACE) {
         perror(name);
         exit(2);
     }
@@ -52,1144 +54,825 @@ static struct ima_verify_bytes load(const char *name) {
     return (struct ima_verify_bytes){bytes, size};
 }
 
-/* A quote of the sample boot: its message, the key that signed it, as public area and as PEM, and the signature, as number alone and as the TPM gave
- * it. */
-struct signing {
-    struct ima_verify_bytes message, area, pem, plain, whole;
-};
+static void keep(const char *name, const uint8_t *bytes, size_t size) {
+    FILE *stream = fopen(name, "wb");
+    if (!stream || fwrite(bytes, 1, size, stream) != size || fclose(stream) != 0) exit(2);
+}
 
-enum signers { RSASSA, RSAPSS, RSA3072, P256, P384, TAKEN, P521 = TAKEN, SIGNERS };
+static struct ima_verify_bytes joined(struct ima_verify_bytes bytes, struct ima_verify_bytes others) {
+    uint8_t *both = malloc(bytes.size + others.size + 1);
+    if (!both) abort();
+    if (bytes.size) memcpy(both, bytes.data, bytes.size);
+    if (others.size) memcpy(both + bytes.size, others.data, others.size);
+    return (struct ima_verify_bytes){both, bytes.size + others.size};
+}
 
-static const char *const signer_names[SIGNERS] = {"rsassa", "rsapss", "rsa3072", "p256", "p384", "p521"};
-static struct signing signers[SIGNERS];
+static struct ima_verify_bytes turned(struct ima_verify_bytes bytes, size_t place, int bits) {
+    struct ima_verify_bytes changed = joined(bytes, none);
+    ((uint8_t *)changed.data)[place] ^= (uint8_t)bits;
+    return changed;
+}
 
-static void load_signers(const char *folder) {
-    static const char *const ends[] = {"msg", "pub", "pem", "sig", "tpmt"};
-    for (int i = 0; i < SIGNERS; i++) {
-        struct ima_verify_bytes *parts[] = {&signers[i].message, &signers[i].area, &signers[i].pem, &signers[i].plain, &signers[i].whole};
-        for (int part = 0; part < 5; part++) {
-            char name[FILENAME_MAX];
-            snprintf(name, sizeof name, "%s/%s.%s", folder, signer_names[i], ends[part]);
-            *parts[part] = load(name);
-        }
+/* Changes an input, by `NAME=TEXT`, in which `_` is a space, or `NAME@FILE`, or to its first bytes (`NAME:COUNT`), without its last ones
+ * (`NAME-COUNT`), with a file after it (`NAME+FILE`), or with a bit turned (`NAME~PLACE`, or `NAME~PLACE^BITS`; the last byte's place is -1); or sets
+ * a flag. */
+static void change(struct given *given, char *word) {
+    size_t length = strcspn(word, "=@:-+~");
+    char how = word[length], *value = word + length + (how != 0);
+    int number = 0;
+    word[length] = 0;
+    while (number < INPUTS && strcmp(input_names[number], word) != 0) number++;
+    struct ima_verify_bytes *input = &given->in[number];
+    long count = strtol(value, &value, 10);
+    if (strcmp(word, "checked") == 0) given->checks_known = true;
+    else if (strcmp(word, "prefix") == 0) given->prefix = true;
+    else if (strcmp(word, "sha1") == 0) given->allow_sha1 = true;
+    else if (strcmp(word, "unsigned") == 0) given->signature_checked = false;
+    else if (strcmp(word, "endorsement") == 0) given->purpose = IMA_VERIFY_ENDORSEMENT;
+    else if (strcmp(word, "of_list") == 0) given->origin = IMA_VERIFY_OF_LIST;
+    else if (number == INPUTS) exit(2);
+    else if (how == '@') *input = kept(word + length + 1);
+    else if (how == '+') *input = joined(*input, kept(word + length + 1));
+    else if (how == ':') input->size = (size_t)count;
+    else if (how == '-') input->size -= (size_t)count;
+    else if (how == '~') *input = turned(*input, count < 0 ? input->size - 1 : (size_t)count, *value ? (int)strtol(value + 1, NULL, 10) : 1);
+    else {
+        for (char *at = word + length + 1; *at; at++)
+            if (*at == '_') *at = ' ';
+        *input = joined(ima_verify_text(word + length + 1), none);
     }
 }
 
-/* The sample with another member. */
-#define WITH(member, value) (given = *sample, given.member = (value), &given)
+/* The sample with changes, one after another. */
+static struct given changed(const char *changes) {
+    struct given given = sample;
+    char words[WORDS], *rest = words;
+    snprintf(words, sizeof words, "%s", changes);
+    for (char *word; (word = strsep(&rest, " "));)
+        if (*word) change(&given, word);
+    return given;
+}
 
-static uint8_t text[ROOM], checkpoint[ROOM];
+/* Changes with a word after a name, or with a number. */
+static const char *with(const char *changes, const char *word) {
+    static char words[WORDS];
+    snprintf(words, sizeof words, "%s%s", changes, word);
+    return words;
+}
+
+static const char *sized(const char *changes, size_t size) {
+    char digits[SHOWN];
+    snprintf(digits, sizeof digits, "%zu", size);
+    return with(changes, digits);
+}
+
+/* The changes to another quote, of which nobody says that its signature was checked. */
+static const char *signed_by(const char *name, const char *key, const char *signature, const char *changes) {
+    static char words[WORDS];
+    snprintf(words, sizeof words, "unsigned message@%s.msg key@%s.%s signature@%s.%s %s", name, name, key, name, signature, changes);
+    return words;
+}
+
+static uint8_t text[SPACE], checkpoint[SPACE];
 static struct ima_verify_output out, next, *to = &out, *to_next = &next;
 static struct ima_verify_position position, *at = &position;
+static struct ima_verify_summary summary, *summed = &summary;
 static enum ima_verify_result result;
 static long passed, failed;
 
-/* Counts a check of the last call. */
-static void check(bool holds, const char *name, const char *what) {
-    passed += holds;
-    failed += !holds;
-    if (holds)
-        return;
-    int shown = out.size < SHOWN ? (int)out.size : SHOWN;
-    printf("WRONG: %s, %s: result %d, %zu bytes '%.*s', fault %u %u %lld\n", name, what, (int)result, out.size, shown, (char *)text,
-           out.fault.kind, out.fault.number, (long long)out.fault.place);
-}
-
-typedef enum ima_verify_result called(const struct given *given, enum ima_verify_form form);
-
-static enum ima_verify_result call_verdict(const struct given *given, enum ima_verify_form form) {
-    return ima_verify_verdict(&given->evidence, form, to);
-}
-
-static enum ima_verify_result call_locate(const struct given *given, enum ima_verify_form form) {
-    return ima_verify_locate(&given->evidence, form, to);
-}
-
-static enum ima_verify_result call_replay(const struct given *given, enum ima_verify_form form) {
-    return ima_verify_replay(&given->evidence, form, to);
-}
-
-static enum ima_verify_result call_more(const struct given *given, enum ima_verify_form form) {
-    return ima_verify_more(&given->evidence, given->state, given->prefix, form, to_next, to);
+static struct ima_verify_evidence evidence_of(const struct given *given) {
+    return (struct ima_verify_evidence){.log = given->in[LOG], .list = given->in[LIST], .expected = given->in[EXPECTED],
+                                        .require = given->in[REQUIRE], .known = given->in[KNOWN], .checks_known = given->checks_known};
 }
 
 static struct ima_verify_quoted quoted_of(const struct given *given) {
-    const struct ima_verify_evidence *evidence = &given->evidence;
     return (struct ima_verify_quoted){
-        .log = evidence->log,         .list = evidence->list,       .message = given->message,
-        .key = given->signing_key,    .signature = given->signature,
-        .nonce = given->nonce,        .require = evidence->require, .takes_sha1 = given->takes_sha1,
-        .known = evidence->known,     .judges_known = evidence->judges_known,
-        .signature_checked = given->signature_checked,
-    };
+        .log = given->in[LOG], .list = given->in[LIST], .message = given->in[MESSAGE], .key = given->in[KEY], .signature = given->in[SIGNATURE],
+        .nonce = given->in[NONCE], .nonce_hex = given->in[NONCE_HEX], .require = given->in[REQUIRE], .allow_sha1 = given->allow_sha1,
+        .signature_checked = given->signature_checked, .known = given->in[KNOWN], .checks_known = given->checks_known};
 }
 
-static enum ima_verify_result call_attest(const struct given *given, enum ima_verify_form form) {
-    struct ima_verify_quoted quoted = quoted_of(given);
-    return ima_verify_attest(&quoted, form, to);
-}
-
-static enum ima_verify_result call_attest_more(const struct given *given, enum ima_verify_form form) {
-    struct ima_verify_quoted quoted = quoted_of(given);
-    return ima_verify_attest_more(&quoted, given->state, given->prefix, form, to_next, to);
-}
-
-static enum ima_verify_result call_expected(const struct given *given, enum ima_verify_form form) {
-    return ima_verify_expected(given->printed, given->registers, form, to);
-}
-
-static enum ima_verify_result call_registers(const struct given *given, enum ima_verify_form form) {
-    bool is_log = given->origin == IMA_VERIFY_OF_LOG;
-    return ima_verify_registers(given->origin, is_log ? given->evidence.log : given->evidence.list, form, to);
-}
-
-static enum ima_verify_result call_key(const struct given *given, enum ima_verify_form form) {
-    return ima_verify_key(given->area, given->purpose, form, to);
-}
-
-static enum ima_verify_result call_entries(const struct given *given, enum ima_verify_form form) {
-    return ima_verify_entries(given->evidence.list, at, form, to);
-}
-
-static enum ima_verify_result call_events(const struct given *given, enum ima_verify_form form) {
-    (void)form;
-    return ima_verify_events(given->evidence.log, at, to);
-}
-
-enum inputs {
-    OF_LOG = 1,
-    OF_LIST = 2,
-    OF_EXPECTED = 4,
-    OF_REQUIRE = 8,
-    OF_STATE = 16,
-    OF_PRINTED = 32,
-    OF_REGISTERS = 64,
-    OF_MESSAGE = 128,
-    OF_NONCE = 256,
-    OF_AREA = 512,
-    OF_KNOWN = 1024,
-    OF_SIGNING_KEY = 2048,
-    OF_SIGNATURE = 4096,
-    ALL = OF_LOG | OF_LIST | OF_EXPECTED | OF_REQUIRE | OF_KNOWN,
-    QUOTED = OF_LOG | OF_LIST | OF_REQUIRE | OF_KNOWN | OF_MESSAGE | OF_SIGNING_KEY | OF_SIGNATURE | OF_NONCE,
-    INPUTS = 13
+/* A set of numbers, of functions or of inputs. */
+#define ONE(number) (1u << (number))
+enum {
+    BY_PCRS = ONE(LOG) | ONE(EXPECTED),
+    COMPARED = BY_PCRS | ONE(LIST) | ONE(REQUIRE) | ONE(KNOWN),
+    QUOTED = ONE(LOG) | ONE(LIST) | ONE(REQUIRE) | ONE(MESSAGE) | ONE(KEY) | ONE(SIGNATURE) | ONE(NONCE) | ONE(NONCE_HEX) | ONE(KNOWN)
 };
 
-/* Each function, and which inputs it looks at. */
-static const struct function {
+/* Each function: its number and name, which inputs it looks at, and its call with what it needs of them. */
+#define ALL_FUNCTIONS(F)                                                                                                       \
+    F(VERDICT, "verdict", COMPARED, ima_verify_verdict(&evidence, form, summed, to))                                           \
+    F(LOCATE, "locate", COMPARED, ima_verify_locate(&evidence, form, to))                                                      \
+    F(REPLAY, "replay", COMPARED, ima_verify_replay(&evidence, form, summed, to))                                              \
+    F(MORE, "more", COMPARED | ONE(STATE), ima_verify_more(&evidence, in[STATE], given->prefix, form, summed, to_next, to))    \
+    F(ATTEST, "attest", QUOTED, ima_verify_attest(&quoted, form, summed, to))                                                  \
+    F(ATTEST_MORE, "attest_more", QUOTED | ONE(STATE),                                                                         \
+      ima_verify_attest_more(&quoted, in[STATE], given->prefix, form, summed, to_next, to))                                    \
+    F(READ_EXPECTED, "expected", ONE(PRINTED) | ONE(SELECTION), ima_verify_expected(in[PRINTED], in[SELECTION], form, to))     \
+    F(REGISTERS, "registers", ONE(LOG), ima_verify_registers(given->origin, in[given->origin ? LIST : LOG], form, to))         \
+    F(READ_KEY, "key", ONE(AREA), ima_verify_key(in[AREA], given->purpose, form, to))                                          \
+    F(ERROR_TEXT, "error_text", 0, ima_verify_error_text(&given->error, to))                                                   \
+    F(BOOT, "boot", ONE(LOG), ima_verify_boot(in[LOG], before, NULL, NULL, form, to))                                          \
+    F(BOOT_BY_PCRS, "boot by PCRs", BY_PCRS, ima_verify_boot(in[LOG], before, &in[EXPECTED], NULL, form, to))                  \
+    F(BOOT_BY_QUOTE, "boot by a quote", QUOTED, ima_verify_boot(in[LOG], before, NULL, &quoted, form, to))                     \
+    F(ENTRIES, "entries", ONE(LIST), ima_verify_entries(in[LIST], at, form, to))                                               \
+    F(EVENTS, "events", ONE(LOG), ima_verify_events(in[LOG], NULL, NULL, at, to))                                              \
+    F(EVENTS_BY_PCRS, "events by PCRs", BY_PCRS, ima_verify_events(in[LOG], &in[EXPECTED], NULL, at, to))                      \
+    F(EVENTS_BY_QUOTE, "events by a quote", QUOTED, ima_verify_events(in[LOG], NULL, &quoted, at, to))
+
+#define NUMBER(number, name, inputs, call) number,
+#define ROW(number, name, inputs, call) {name, inputs, call_##number},
+#define CALL(number, name, inputs, call)                                                                   \
+    static enum ima_verify_result call_##number(const struct given *given, enum ima_verify_form form) {    \
+        struct ima_verify_evidence evidence = evidence_of(given);                                          \
+        struct ima_verify_quoted quoted = quoted_of(given);                                                \
+        const struct ima_verify_bytes *in = given->in, *before = in[BEFORE].data ? &in[BEFORE] : NULL;     \
+        return (void)form, (void)evidence, (void)quoted, (void)before, call;                               \
+    }
+
+enum { ALL_FUNCTIONS(NUMBER) FUNCTIONS };
+ALL_FUNCTIONS(CALL)
+static const struct {
     const char *name;
-    called *call;
-    int inputs;
-} functions[] = {
-    {"verdict", call_verdict, ALL},
-    {"locate", call_locate, ALL},
-    {"replay", call_replay, ALL},
-    {"more", call_more, ALL | OF_STATE},
-    {"attest", call_attest, QUOTED},
-    {"attest_more", call_attest_more, QUOTED | OF_STATE},
-    {"expected", call_expected, OF_PRINTED | OF_REGISTERS},
-    {"registers", call_registers, OF_LOG},
-    {"key", call_key, OF_AREA},
-    {"entries", call_entries, OF_LIST},
-    {"events", call_events, OF_LOG},
+    unsigned inputs;
+    enum ima_verify_result (*call)(const struct given *given, enum ima_verify_form form);
+} functions[FUNCTIONS] = {ALL_FUNCTIONS(ROW)};
+
+enum {
+    ALL = ONE(FUNCTIONS) - 1,
+    WHOLE = ONE(VERDICT) | ONE(MORE),
+    COMPARING = WHOLE | ONE(LOCATE) | ONE(REPLAY),
+    ATTESTING = ONE(ATTEST) | ONE(ATTEST_MORE),
+    SESSIONS = ONE(MORE) | ONE(ATTEST_MORE),
+    JUDGING = WHOLE | ONE(REPLAY) | ATTESTING,
+    BOOTS = ONE(BOOT) | ONE(BOOT_BY_PCRS) | ONE(BOOT_BY_QUOTE),
+    EVENTS_ALL = ONE(EVENTS) | ONE(EVENTS_BY_PCRS) | ONE(EVENTS_BY_QUOTE),
+    CONFIRMING = ONE(BOOT_BY_QUOTE) | ONE(EVENTS_BY_QUOTE),
+    BY_A_QUOTE = ATTESTING | CONFIRMING,
+    PIECES = ONE(ENTRIES) | EVENTS_ALL
 };
-enum { FUNCTIONS = sizeof functions / sizeof functions[0] };
-static const struct function *const verdict = &functions[0], *const locate = &functions[1], *const replay = &functions[2];
-static const struct function *const more = &functions[3], *const attest = &functions[4], *const attest_more = &functions[5];
-static const struct function *const expecting = &functions[6], *const registers = &functions[7], *const key = &functions[8];
-static const struct function *const entries = &functions[9], *const events = &functions[10];
 
-static bool gives_checkpoint(const struct function *function) {
-    return function == more || function == attest_more;
+static bool is_in(int which, unsigned set) {
+    return set >> which & 1;
 }
 
-static struct ima_verify_bytes *input(struct given *given, int number) {
-    struct ima_verify_bytes *inputs[INPUTS] = {
-        &given->evidence.log, &given->evidence.list, &given->evidence.expected, &given->evidence.require, &given->state,
-        &given->printed,      &given->registers,     &given->message,           &given->nonce,            &given->area,
-        &given->evidence.known, &given->signing_key, &given->signature,
-    };
-    return inputs[number];
+#define EACH(which, set)                            \
+    for (int which = 0; which < FUNCTIONS; which++) \
+        if (is_in(which, set))
+
+/* Counts a check of the last call. */
+static void check(bool holds, int which, const char *what) {
+    passed += holds;
+    failed += !holds;
+    if (holds) return;
+    printf("WRONG: %s, %s: result %d, %zu bytes '%.*s', error %u %u %lld, verdict %d for %d\n", functions[which].name, what, (int)result, out.size,
+           out.size < SHOWN ? (int)out.size : SHOWN, (char *)text, out.error.kind, out.error.number, (long long)out.error.place,
+           (int)summary.verdict, (int)summary.reason);
 }
 
-/* Gives each output this room, where nothing is set yet. */
-static void prepare(const struct given *given, size_t room) {
-    static const struct ima_verify_fault unset = {UNSET, UNSET, UNSET};
+static const struct ima_verify_error no_error = {IMA_VERIFY_NO_ERROR, 0, IMA_VERIFY_NO_PLACE}, unset = {UNSET, UNSET, UNSET};
+
+/* Gives each output this capacity, where nothing is set yet. */
+static void prepare(const struct given *given, size_t capacity) {
     memset(text, FILL, sizeof text);
     memset(checkpoint, FILL, sizeof checkpoint);
-    out = (struct ima_verify_output){text, room, UNSET, unset};
-    next = (struct ima_verify_output){checkpoint, room, UNSET, unset};
+    out = (struct ima_verify_output){text, capacity, UNSET, unset};
+    next = (struct ima_verify_output){checkpoint, capacity, UNSET, unset};
+    summary = (struct ima_verify_summary){sizeof summary, UNSET, UNSET, UNSET, UNSET, UNSET, UNSET, UNSET, UNSET, UNSET, UNSET};
     position = given->position;
 }
 
-static enum ima_verify_result ask(const struct function *function, const struct given *given, enum ima_verify_form form, size_t room) {
-    prepare(given, room);
-    return result = function->call(given, form);
+static enum ima_verify_result ask(int which, const struct given *given, enum ima_verify_form form, size_t capacity) {
+    prepare(given, capacity);
+    return result = functions[which].call(given, form);
+}
+
+static enum ima_verify_result ask_text(int which, const char *changes) {
+    struct given given = changed(changes);
+    return ask(which, &given, TEXT, SPACE);
 }
 
 static bool is_filled(const uint8_t *bytes, size_t from) {
-    for (size_t i = from; i < ROOM; i++)
-        if (bytes[i] != FILL)
-            return false;
-    return true;
+    while (from < SPACE && bytes[from] == FILL) from++;
+    return from == SPACE;
 }
 
+static bool is_error(const struct ima_verify_output *output, struct ima_verify_error error) {
+    return output->error.kind == error.kind && output->error.number == error.number && output->error.place == error.place;
+}
+
+/* Whether an output is as it was, or both texts. */
 static bool is_unset(const struct ima_verify_output *output) {
-    return output->size == UNSET && output->fault.kind == UNSET && output->fault.number == UNSET && output->fault.place == UNSET;
+    return output->size == UNSET && is_error(output, unset);
 }
 
-static bool is_fault(uint32_t kind, uint32_t number, uint64_t place) {
-    return out.fault.kind == kind && out.fault.number == number && out.fault.place == place;
-}
-
-static bool has_no_fault(void) {
-    return is_fault(IMA_VERIFY_NO_FAULT, 0, IMA_VERIFY_NO_PLACE);
-}
-
-/* The fault of a call is that of its text, also if there is no checkpoint. */
-static bool is_checkpoint_without_fault(void) {
-    return next.fault.kind == IMA_VERIFY_NO_FAULT && next.fault.number == 0 && next.fault.place == IMA_VERIFY_NO_PLACE;
-}
-
-/* Whether both outputs are as they were. */
 static bool is_left(void) {
     return is_filled(text, 0) && is_filled(checkpoint, 0);
 }
 
-static bool is_text(const char *words) {
-    return out.size == strlen(words) && memcmp(text, words, out.size) == 0;
+/* The numbers of a summary, after the first. */
+#define SUM(...) (&(const struct ima_verify_summary){sizeof summary, __VA_ARGS__})
+
+static bool is_sum(const struct ima_verify_summary *wanted) {
+    return memcmp(&summary, wanted, sizeof summary) == 0;
+}
+
+static const struct ima_verify_summary no_verdict = {sizeof summary, 0, 0, 0, 0, 0, NONE, 0, 0, 0, 0};
+
+static bool has_no_checkpoint(int which) {
+    return is_filled(checkpoint, 0) && (is_in(which, SESSIONS) ? next.size == 0 && is_error(&next, no_error) : is_unset(&next));
+}
+
+static bool has_text(const char *part) {
+    return memmem(text, out.size, part, strlen(part)) != NULL;
+}
+
+static bool is_same(const uint8_t *bytes, size_t size, struct ima_verify_bytes wanted) {
+    return size == wanted.size && memcmp(bytes, wanted.data, size) == 0;
 }
 
 /* Nothing was read or written. */
-static void check_misused(enum ima_verify_result given, const char *name, const char *what) {
-    result = given;
-    check(result == IMA_VERIFY_MISUSED && is_unset(&out) && is_unset(&next) && is_left(), name, what);
+static void misused(int which, enum ima_verify_result of, const char *what) {
+    result = of;
+    bool is_summary_left = summary.verdict == UNSET && summary.unknown == UNSET;
+    check(result == IMA_VERIFY_MISUSED && is_unset(&out) && is_unset(&next) && is_left() && is_summary_left, which, what);
 }
 
-static void check_wrong_calls(const struct given *sample) {
+static void misuse(unsigned set, const char *changes) {
+    EACH(which, set)
+        misused(which, ask_text(which, changes), changes);
+}
+
+static void check_inputs(int which) {
+    for (int number = 0; number < INPUTS; number++) {
+        struct given given = sample;
+        if (!is_in(number, functions[which].inputs)) continue;
+        given.in[number] = (struct ima_verify_bytes){NULL, 1};
+        misused(which, ask(which, &given, TEXT, SPACE), "NULL as an input with a size");
+        given.in[number] = none;
+        enum ima_verify_result of_null = ask(which, &given, TEXT, SPACE);
+        size_t size = out.size;
+        check(result <= IMA_VERIFY_REFUSED, which, "NULL as an empty input");
+        given.in[number] = ima_verify_text("");
+        check(ask(which, &given, TEXT, SPACE) == of_null && out.size == size, which, "an empty input");
+    }
+}
+
+static void check_wrong_calls(void) {
     volatile int no_form = 2;
-    for (int i = 0; i < FUNCTIONS; i++) {
-        const struct function *function = &functions[i];
-        for (int number = 0; number < INPUTS; number++) {
-            struct given given = *sample;
-            if (!(function->inputs & 1 << number))
-                continue;
-            *input(&given, number) = (struct ima_verify_bytes){NULL, 1};
-            check_misused(ask(function, &given, IMA_VERIFY_TEXT, ROOM), function->name, "NULL as an input with a size");
-            *input(&given, number) = (struct ima_verify_bytes){NULL, 0};
-            enum ima_verify_result of_null = ask(function, &given, IMA_VERIFY_TEXT, ROOM);
-            size_t size = out.size;
-            check(result <= IMA_VERIFY_REFUSED, function->name, "NULL as an empty input");
-            *input(&given, number) = ima_verify_text("");
-            check(ask(function, &given, IMA_VERIFY_TEXT, ROOM) == of_null && out.size == size, function->name, "an empty input");
-        }
-        if (function->call != call_events)
-            check_misused(ask(function, sample, (enum ima_verify_form)no_form, ROOM), function->name, "a form that is none");
+    struct given given = sample;
+    EACH(which, ALL) {
+        check_inputs(which);
+        if (!is_in(which, EVENTS_ALL | ONE(ERROR_TEXT)))
+            misused(which, ask(which, &sample, (enum ima_verify_form)no_form, SPACE), "a form that is none");
     }
-    struct given given = *sample;
     given.origin = (enum ima_verify_origin)no_form;
-    check_misused(ask(registers, &given, IMA_VERIFY_TEXT, ROOM), "registers", "an origin that is none");
     given.purpose = (enum ima_verify_purpose)no_form;
-    check_misused(ask(key, &given, IMA_VERIFY_TEXT, ROOM), "key", "a purpose that is none");
-    check_misused(ask(locate, WITH(evidence.judges_known, true), IMA_VERIFY_TEXT, ROOM), "locate", "no known file");
-    given.evidence.known = sample->files;
-    check_misused(ask(locate, &given, IMA_VERIFY_TEXT, ROOM), "locate", "known files");
-    for (int i = 0; i < 6; i++)
-        check_misused(ask(&functions[i], WITH(evidence.known, sample->files), IMA_VERIFY_TEXT, ROOM), functions[i].name,
-                      "known files that nothing is judged by");
-    given.position = (struct ima_verify_position){given.evidence.list.size + 1, 0};
-    check_misused(ask(entries, &given, IMA_VERIFY_TEXT, ROOM), "entries", "a position behind the list");
-    given.position.offset += 1;
-    check_misused(ask(entries, &given, IMA_VERIFY_JSON, ROOM), "entries", "a position behind the list's number of entries");
-    given.position.offset = given.evidence.log.size + 1;
-    check_misused(ask(events, &given, IMA_VERIFY_TEXT, ROOM), "events", "a position behind the log");
+    EACH(which, ONE(REGISTERS) | ONE(READ_KEY))
+        misused(which, ask(which, &given, TEXT, SPACE), "an origin or a purpose that is none");
+    misuse(ONE(LOCATE) | CONFIRMING, "checked");
+    misuse(COMPARING | BY_A_QUOTE, "known@files");
+    misuse(BY_A_QUOTE, "nonce_hex=00");
+    misuse(BY_A_QUOTE, "key@rsassa.pub signature@rsassa.sig");
+    misuse(BY_A_QUOTE, "key@rsassa.pub");
+    misuse(BY_A_QUOTE, "signature@rsassa.sig");
+    misuse(BY_A_QUOTE, "key@rsassa.pub unsigned");
+    misuse(BY_A_QUOTE, "signature@rsassa.sig unsigned");
+    EACH(which, PIECES)
+        for (size_t more = 1; more <= 2; more++) {
+            given.position.offset = sample.in[which == ENTRIES ? LIST : LOG].size + more;
+            misused(which, ask(which, &given, more == 1 ? TEXT : IMA_VERIFY_JSON, SPACE), "a position behind the input");
+        }
+    const struct ima_verify_error errors[] = {no_error, {99, 1, NONE}, {IMA_VERIFY_LOG, 99, NONE}};
+    for (int i = 0; i < 3; i++) {
+        given.error = errors[i];
+        misused(ERROR_TEXT, ask(ERROR_TEXT, &given, TEXT, SPACE), "no error");
+    }
 }
 
-static void check_wrong_outputs(const struct given *sample) {
-    for (int i = 0; i < FUNCTIONS; i++) {
-        const struct function *function = &functions[i];
-        to = NULL;
-        check_misused(ask(function, sample, IMA_VERIFY_TEXT, ROOM), function->name, "no output");
-        to = &out;
-        prepare(sample, ROOM);
-        out.data = NULL;
-        check_misused(function->call(sample, IMA_VERIFY_TEXT), function->name, "an output with room at NULL");
-        out.room = 0;
-        result = function->call(sample, IMA_VERIFY_TEXT);
-        check(result == IMA_VERIFY_TOO_SHORT && out.size > 0, function->name, "no room at NULL");
-    }
-    for (int i = 0; i < 2; i++) {
-        const struct function *function = i ? attest_more : more;
-        to_next = NULL;
-        check_misused(ask(function, sample, IMA_VERIFY_TEXT, ROOM), function->name, "no output for a checkpoint");
-        to_next = &next;
-        prepare(sample, ROOM);
-        next.data = NULL;
-        check_misused(function->call(sample, IMA_VERIFY_TEXT), function->name, "a checkpoint with room at NULL");
-        next.room = 0;
-        result = function->call(sample, IMA_VERIFY_TEXT);
-        bool is_told = out.size > 0 && next.size > 0 && is_filled(text, 0);
-        check(result == IMA_VERIFY_TOO_SHORT && is_told, function->name, "no room at NULL for a checkpoint");
-    }
+/* An output is none, or has its capacity at NULL, or none at all. */
+static void check_output(int which, struct ima_verify_output **pointer, struct ima_verify_output *output) {
+    *pointer = NULL;
+    misused(which, ask(which, &sample, TEXT, SPACE), "no output");
+    *pointer = output;
+    prepare(&sample, SPACE);
+    output->data = NULL;
+    misused(which, functions[which].call(&sample, TEXT), "an output with capacity at NULL");
+    output->capacity = 0;
+    result = functions[which].call(&sample, TEXT);
+    check(result == IMA_VERIFY_TOO_SHORT && output->size > 0 && out.size > 0 && is_filled(text, 0), which, "no capacity at NULL");
+}
+
+static void check_wrong_outputs(void) {
+    struct ima_verify_quoted quoted = quoted_of(&sample);
+    const struct ima_verify_bytes *log = &sample.in[LOG], *expected = &sample.in[EXPECTED];
+    EACH(which, ALL)
+        check_output(which, &to, &out);
+    EACH(which, SESSIONS)
+        check_output(which, &to_next, &next);
     at = NULL;
-    check_misused(ask(entries, sample, IMA_VERIFY_TEXT, ROOM), "entries", "no position");
-    check_misused(ask(events, sample, IMA_VERIFY_TEXT, ROOM), "events", "no position");
+    EACH(which, PIECES)
+        misused(which, ask(which, &sample, TEXT, SPACE), "no position");
     at = &position;
-    prepare(sample, ROOM);
-    check_misused(ima_verify_verdict(NULL, IMA_VERIFY_TEXT, to), "verdict", "no evidence");
-    check_misused(ima_verify_locate(NULL, IMA_VERIFY_TEXT, to), "locate", "no evidence");
-    check_misused(ima_verify_replay(NULL, IMA_VERIFY_TEXT, to), "replay", "no evidence");
-    check_misused(ima_verify_more(NULL, sample->state, false, IMA_VERIFY_TEXT, to_next, to), "more", "no evidence");
-    check_misused(ima_verify_attest(NULL, IMA_VERIFY_TEXT, to), "attest", "no evidence");
-    check_misused(ima_verify_attest_more(NULL, sample->state, false, IMA_VERIFY_TEXT, to_next, to), "attest_more", "no evidence");
+    prepare(&sample, SPACE);
+    misused(VERDICT, ima_verify_verdict(NULL, TEXT, summed, to), "no evidence");
+    misused(LOCATE, ima_verify_locate(NULL, TEXT, to), "no evidence");
+    misused(REPLAY, ima_verify_replay(NULL, TEXT, summed, to), "no evidence");
+    misused(MORE, ima_verify_more(NULL, none, false, TEXT, summed, to_next, to), "no evidence");
+    misused(ATTEST, ima_verify_attest(NULL, TEXT, summed, to), "no evidence");
+    misused(ATTEST_MORE, ima_verify_attest_more(NULL, none, false, TEXT, summed, to_next, to), "no evidence");
+    misused(ERROR_TEXT, ima_verify_error_text(NULL, to), "no error");
+    misused(BOOT, ima_verify_boot(*log, NULL, expected, &quoted, TEXT, to), "expected PCRs and a quote");
+    misused(BOOT, ima_verify_boot(*log, &(struct ima_verify_bytes){NULL, 1}, NULL, NULL, TEXT, to), "an earlier boot at NULL");
+    misused(EVENTS, ima_verify_events(*log, expected, &quoted, at, to), "expected PCRs and a quote");
 }
 
-/* With too little room nothing is written, and with what the call asks for there is enough. */
-static void check_rooms(const struct given *sample) {
+/* A summary may be left out, be that of a newer header, or have less numbers. */
+static void check_summaries(void) {
+    struct {
+        struct ima_verify_summary summary;
+        uint64_t more[2];
+    } newer;
+    EACH(which, JUDGING) {
+        summed = NULL;
+        enum ima_verify_result of = ask(which, &sample, TEXT, SPACE);
+        check(result <= DIFFERS && summary.verdict == UNSET, which, "no summary");
+        summed = &newer.summary;
+        memset(&newer, FILL, sizeof newer);
+        newer.summary.size = sizeof newer;
+        ask(which, &sample, TEXT, SPACE);
+        check(result == of && newer.summary.entries == 99 && newer.more[0] == 0 && newer.more[1] == 0, which, "a newer summary");
+        newer.summary.size = 2 * sizeof newer.summary.size;
+        newer.summary.reason = UNSET;
+        ask(which, &sample, TEXT, SPACE);
+        check(result == of && newer.summary.verdict == (of ? 2 : 1) && newer.summary.reason == UNSET, which, "one number");
+        for (newer.summary.size = 0; newer.summary.size < 16; newer.summary.size += 15)
+            misused(which, ask(which, &sample, TEXT, SPACE), "a size that no summary has");
+        summed = &summary;
+    }
+}
+
+/* With too little capacity nothing is written, and with what the call asks for there is enough. */
+static void check_capacities(void) {
     for (int i = 0; i < FUNCTIONS * 2; i++) {
-        const struct function *function = &functions[i / 2];
-        enum ima_verify_form form = i % 2 ? IMA_VERIFY_JSON : IMA_VERIFY_TEXT;
-        ask(function, sample, form, 0);
+        int which = i / 2;
+        enum ima_verify_form form = i % 2 ? IMA_VERIFY_JSON : TEXT;
+        bool is_session = is_in(which, SESSIONS);
+        ask(which, &sample, form, 0);
         size_t size = out.size, next_size = next.size;
-        check(result == IMA_VERIFY_TOO_SHORT && is_left() && has_no_fault() && size > 0, function->name, "no room");
-        check(position.offset == 0 && position.number == 0, function->name, "the position after no room");
-        ask(function, sample, form, size - 1);
-        check(result == IMA_VERIFY_TOO_SHORT && is_left() && has_no_fault() && out.size == size, function->name, "a byte too few");
-        if (gives_checkpoint(function)) {
-            bool has_size = next_size > 0 && next_size < IMA_VERIFY_CHECKPOINT_ROOM;
-            check(has_size && is_checkpoint_without_fault(), function->name, "the size of a checkpoint");
+        check(result == IMA_VERIFY_TOO_SHORT && is_left() && is_error(&out, no_error) && size > 0, which, "no capacity");
+        check(position.offset == 0 && position.number == 0 && (!is_in(which, JUDGING) || is_sum(&no_verdict)), which, "what no capacity leaves");
+        ask(which, &sample, form, size - 1);
+        check(result == IMA_VERIFY_TOO_SHORT && is_left() && is_error(&out, no_error) && out.size == size, which, "a byte too few");
+        if (is_session) {
+            bool has_size = next_size > 0 && next_size < IMA_VERIFY_CHECKPOINT_CAPACITY;
+            check(has_size && is_error(&next, no_error), which, "the size of a checkpoint");
             size = size > next_size ? size : next_size;
         }
-        ask(function, sample, form, size);
-        check(result <= IMA_VERIFY_DIFFERS || result == IMA_VERIFY_MORE, function->name, "enough room");
-        check(is_filled(text, out.size) && is_filled(checkpoint, gives_checkpoint(function) ? next.size : 0), function->name, "after the text");
-        check(has_no_fault(), function->name, "no fault");
+        ask(which, &sample, form, size);
+        check(result <= DIFFERS || result == IMA_VERIFY_MORE, which, "enough capacity");
+        check(is_filled(text, out.size) && is_filled(checkpoint, is_session ? next.size : 0), which, "after the text");
+        check(is_error(&out, no_error), which, "no error");
     }
-    /* (one output of two) */
-    for (int which = 0; which < 4; which++) {
-        const struct function *function = which & 2 ? attest_more : more;
-        ask(function, sample, IMA_VERIFY_TEXT, ROOM);
+    for (int i = 0; i < 4; i++) {
+        int which = i & 2 ? ATTEST_MORE : MORE;
+        ask(which, &sample, TEXT, SPACE);
         size_t size = out.size, next_size = next.size;
-        memset(text, FILL, sizeof text);
-        memset(checkpoint, FILL, sizeof checkpoint);
-        out.room = which & 1 ? ROOM : size - 1;
-        next.room = which & 1 ? next_size - 1 : ROOM;
-        result = function->call(sample, IMA_VERIFY_TEXT);
-        bool is_told = out.size == size && next.size == next_size;
-        check(result == IMA_VERIFY_TOO_SHORT && is_left() && is_told, function->name, "one output that is too short");
+        prepare(&sample, i & 1 ? SPACE : size - 1);
+        next.capacity = i & 1 ? next_size - 1 : SPACE;
+        result = functions[which].call(&sample, TEXT);
+        bool are_sizes = out.size == size && next.size == next_size;
+        check(result == IMA_VERIFY_TOO_SHORT && is_left() && are_sizes && is_sum(&no_verdict), which, "one output of two is too short");
     }
 }
 
-static void check_refusal(const struct function *function, const struct given *given, const char *line, uint32_t kind, uint32_t number,
-                          uint64_t place) {
-    ask(function, given, IMA_VERIFY_TEXT, ROOM);
-    check(result == IMA_VERIFY_REFUSED && is_text(line) && is_fault(kind, number, place), function->name, line);
-    bool has_none = next.size == 0 && is_checkpoint_without_fault();
-    check(is_filled(checkpoint, 0) && (!gives_checkpoint(function) || has_none), function->name, "no checkpoint");
-    ask(function, given, IMA_VERIFY_JSON, ROOM);
-    bool is_json = out.size > 10 && memcmp(text, "{\"fault\":{", 10) == 0 && text[out.size - 1] == '\n';
-    check(result == IMA_VERIFY_REFUSED && is_json && is_fault(kind, number, place), function->name, "a fault as JSON");
+/* The error that a line says after `refused: `. */
+static struct ima_verify_error error_in(const char *line) {
+    static const char *const kinds[] = {"", "command", "log", "list", "replay", "expected", "checkpoint", "", "quote", "key", "known", "signature"};
+    struct ima_verify_error error = no_error;
+    char kind[SHOWN];
+    unsigned long long place;
+    if (sscanf(line, "%s fault %u at %*s %llu", kind, &error.number, &place) == 3) error.place = place;
+    while (strcmp(kinds[error.kind], kind) != 0) error.kind++;
+    return error;
 }
 
-static void check_faults(const struct given *sample) {
-    static uint8_t changed[ROOM];
-    struct given given;
-    const char *argument = "refused: command line\n";
-
-    for (int i = 0; i < 4; i++) {
-        check_refusal(&functions[i], WITH(evidence.require, ima_verify_text("")), argument, IMA_VERIFY_ARGUMENT, 0, IMA_VERIFY_NO_PLACE);
-        check_refusal(&functions[i], WITH(evidence.require, ima_verify_text("sha256:0-24")), argument, IMA_VERIFY_ARGUMENT, 0,
-                      IMA_VERIFY_NO_PLACE);
-        check_refusal(&functions[i], WITH(evidence.require, ima_verify_text("sha256:0-9")), argument, IMA_VERIFY_ARGUMENT, 0,
-                      IMA_VERIFY_NO_PLACE);
-        check_refusal(&functions[i], WITH(evidence.expected, ima_verify_text("sha256 24 00\n")), "refused: expected fault 1 at line 1\n",
-                      IMA_VERIFY_EXPECTED, 1, 1);
-        struct ima_verify_bytes list = sample->evidence.list;
-        list.size--;
-        check_refusal(&functions[i], WITH(evidence.list, list), "refused: list fault 1 at entry 98\n", IMA_VERIFY_LIST, 1, 98);
-        memcpy(changed, list.data, sample->evidence.list.size);
-        changed[4] ^= 1;
-        list = (struct ima_verify_bytes){changed, sample->evidence.list.size};
-        check_refusal(&functions[i], WITH(evidence.list, list), "refused: replay fault 1 at entry 0\n", IMA_VERIFY_REPLAY, 1, 0);
-        if (&functions[i] != replay)
-            check_refusal(&functions[i], WITH(evidence.log, ima_verify_none()), "refused: log fault 1 at event 0\n", IMA_VERIFY_LOG, 1,
-                          0);
-    }
-    check_refusal(expecting, WITH(registers, ima_verify_text("x")), argument, IMA_VERIFY_ARGUMENT, 0, IMA_VERIFY_NO_PLACE);
-    check_refusal(more, WITH(state, ima_verify_text("x")), "refused: checkpoint fault 1\n", IMA_VERIFY_CHECKPOINT, 1,
-                  IMA_VERIFY_NO_PLACE);
-    memcpy(changed, sample->evidence.log.data, sample->evidence.log.size);
-    changed[32] ^= 1; /* (the signature of the header) */
-    struct ima_verify_bytes log = {changed, sample->evidence.log.size};
-    check_refusal(registers, WITH(evidence.log, log), "refused: log fault 2\n", IMA_VERIFY_LOG, 2, IMA_VERIFY_NO_PLACE);
+/* What an error is in words: sentences, which name its place. */
+static void check_words(int which, struct ima_verify_error error, const char *line) {
+    char place[SHOWN];
+    prepare(&sample, SPACE);
+    snprintf(place, sizeof place, " %llu", (unsigned long long)error.place);
+    result = ima_verify_error_text(&error, to);
+    check(result == DONE && is_error(&out, no_error) && out.size > 10 && text[out.size - 1] == '.', which, line);
+    check(error.place == NONE || has_text(place), which, line);
 }
 
-static void check_requirements(const struct given *sample) {
-    struct given given;
-    for (int i = 0; i < 4; i++) {
-        const struct function *function = &functions[i];
-        bool is_list = function == replay;
-        enum ima_verify_result wanted = is_list ? IMA_VERIFY_DIFFERS : IMA_VERIFY_DONE;
-        ask(function, sample, IMA_VERIFY_TEXT, ROOM);
-        check(result == wanted, function->name, "the sample");
-        ask(function, WITH(evidence.require, ima_verify_none()), IMA_VERIFY_TEXT, ROOM);
-        check(result == wanted, function->name, "nothing is required");
-        ask(function, WITH(evidence.require, ima_verify_text("sha512:10")), IMA_VERIFY_TEXT, ROOM);
-        check(result == IMA_VERIFY_DIFFERS, function->name, "a register that is missing");
-        given.evidence.require = ima_verify_none();
-        given.evidence.expected = ima_verify_text("");
-        wanted = function == verdict ? IMA_VERIFY_DONE : IMA_VERIFY_DIFFERS;
-        ask(function, &given, IMA_VERIFY_TEXT, ROOM);
-        check(result == wanted, function->name, "no register is expected");
+/* Each of these functions refuses an input, with this line, in both forms; there is neither a checkpoint nor a verdict. */
+static void refuses(unsigned set, const char *changes, const char *line) {
+    struct ima_verify_error error = error_in(line);
+    struct given given = changed(changes);
+    char whole[2 * SHOWN];
+    snprintf(whole, sizeof whole, "refused: %s\n", line);
+    EACH(which, set) {
+        ask(which, &given, TEXT, SPACE);
+        bool is_line = is_in(which, EVENTS_ALL) || is_same(text, out.size, ima_verify_text(whole));
+        check(result == IMA_VERIFY_REFUSED && is_line && is_error(&out, error), which, line);
+        check(has_no_checkpoint(which) && (!is_in(which, JUDGING) || is_sum(&no_verdict)), which, "no checkpoint and no verdict");
+        ask(which, &given, IMA_VERIFY_JSON, SPACE);
+        bool is_json = out.size > 10 && memcmp(text, "{\"fault\":{", 10) == 0 && text[out.size - 1] == '\n';
+        check(result == IMA_VERIFY_REFUSED && is_json && is_error(&out, error), which, "an error as JSON");
+        check_words(which, error, line);
     }
 }
 
-static bool has_line(const char *line) {
-    return memmem(text, out.size, line, strlen(line)) != NULL;
+/* Each of these functions gives a complete text, which has these lines, or as JSON these members; a verdict has these numbers, if they are not
+ * NULL, and no checkpoint unless it is a match. */
+static void gives(unsigned set, const char *changes, enum ima_verify_result wanted, const char *lines, const char *members,
+                  const struct ima_verify_summary *numbers) {
+    struct given given = changed(changes);
+    EACH(which, set)
+        for (int form = 0; form < 2; form++) {
+            ask(which, &given, form ? IMA_VERIFY_JSON : TEXT, SPACE);
+            check(result == wanted && is_error(&out, no_error) && has_text(form || is_in(which, EVENTS_ALL) ? members : lines), which, changes);
+            check(wanted == DONE || has_no_checkpoint(which), which, "no checkpoint");
+            check(!numbers || is_sum(numbers), which, changes);
+        }
 }
 
-static bool ends_with(const char *words) {
-    size_t size = strlen(words);
-    return out.size >= size && memcmp(text + out.size - size, words, size) == 0;
+static void check_refusals(void) {
+    static const char *const quote_requirements[] = {"sha256:0-9", "sha256:1-10", "sha1:0-10", "sha256:0-9,sha1:10", "none", "", "sha256:0-24"};
+    static const char *const no_digits[] = {"", "\n", "5a0f1", "5a0f1d3c7b2e48690123456789abcdefg0", "5a0f1d3c7b2e48690123456789abcdef\n\n",
+                                            "_5a0f1d3c7b2e48690123456789abcdef", "5a0f1d3c7b2e48690123456789abcd", "0x5a0f1d3c7b2e48690123456789abcdef"};
+    unsigned lists = COMPARING | BY_A_QUOTE, logs = (COMPARING & ~ONE(REPLAY)) | ATTESTING | ONE(REGISTERS) | BOOTS | EVENTS_ALL;
+    refuses(COMPARING, "require=", "command line");
+    refuses(COMPARING, "require=sha256:0-24", "command line");
+    refuses(COMPARING, "require=sha256:0-9", "command line");
+    refuses(ONE(READ_EXPECTED), "selection=x", "command line");
+    refuses(COMPARING | ONE(BOOT_BY_PCRS) | ONE(EVENTS_BY_PCRS), "expected=sha256_24_00\n", "expected fault 1 at line 1");
+    refuses(lists, "list-1", "list fault 1 at entry 98");
+    refuses(lists, "list~4", "replay fault 1 at entry 0");
+    refuses(logs, "log=none", "log fault 1 at event 0");
+    refuses(logs, "log~32", "log fault 2"); /* (the signature of the header) */
+    refuses(ONE(BOOT) | ONE(BOOT_BY_PCRS), "before=none", "log fault 1 at event 0");
+    refuses(ONE(MORE), "state=x", "checkpoint fault 1");
+    for (size_t i = 0; i < sizeof quote_requirements / sizeof quote_requirements[0]; i++)
+        refuses(BY_A_QUOTE, with("require=", quote_requirements[i]), "command line");
+    for (size_t i = 0; i < sizeof no_digits / sizeof no_digits[0]; i++)
+        refuses(BY_A_QUOTE, with("nonce= nonce_hex=", no_digits[i]), "command line");
+    refuses(BY_A_QUOTE, "nonce:15", "command line");
+    refuses(BY_A_QUOTE, "nonce:16", "quote fault 11");
+    refuses(BY_A_QUOTE, "nonce~0", "quote fault 11");
+    refuses(BY_A_QUOTE, "nonce= nonce_hex=5a0f1d3c7b2e48690123456789abcdef", "quote fault 11");
+    refuses(BY_A_QUOTE, "require=sha256:0-11", "quote fault 12");
+    refuses(BY_A_QUOTE, "require=sha1:0-10 sha1", "quote fault 12");
+    refuses(BY_A_QUOTE, "message@log", "quote fault 2");
+    for (size_t size = 0; size < sample.in[MESSAGE].size; size++) refuses(ONE(ATTEST), sized("message:", size), "quote fault 1");
+    /* (the message is refused before the log, and the log before the list) */
+    refuses(BY_A_QUOTE, "log=none list-1", "log fault 1 at event 0");
+    refuses(ATTESTING, "log=none list-1 message=", "quote fault 1");
+    /* (known files are refused after the other inputs that are not the log and the list, and before these) */
+    refuses(JUDGING, "checked known=x log=none", "known fault 2 at line 1");
+    refuses(JUDGING, "checked known@files known+weak log=none", "known fault 1 at line 94");
+    refuses(JUDGING, "checked known@files known+weak log=none require=none", "command line");
+    refuses(SESSIONS, "checked known=x state=x", "checkpoint fault 1");
+    refuses(JUDGING & ~ATTESTING, "checked known=x state=x expected=sha256_24_00\n", "expected fault 1 at line 1");
+    refuses(ATTESTING, "checked known=x state=x message=", "quote fault 1");
 }
 
-/* Whether a report in both forms has the entries that are not known before what follows them. */
-static void check_unknown(const struct function *function, const struct given *given, const char *lines, const char *members,
-                          const char *what) {
-    ask(function, given, IMA_VERIFY_TEXT, ROOM);
-    check(result == IMA_VERIFY_DIFFERS && has_no_fault() && has_line(lines), function->name, what);
-    check(!gives_checkpoint(function) || (next.size == 0 && is_filled(checkpoint, 0)), function->name, "no checkpoint");
-    ask(function, given, IMA_VERIFY_JSON, ROOM);
-    check(result == IMA_VERIFY_DIFFERS && has_no_fault() && has_line(members), function->name, what);
-}
-
-/* A sample whose entries must be of known files. */
-static struct given knowing(const struct given *sample) {
-    struct given given = *sample;
-    given.evidence.known = sample->files;
-    given.evidence.judges_known = true;
-    return given;
-}
-
-/* The sample's list has 98 entries after the boot aggregate; those of no known file are its violations 93, 94 and 97. */
-static void check_known_files(const struct given *sample) {
-    static const char some[] = "\nknown_from 0\nunknown entry 93\nunknown entry 94\nunknown entry 97\n%s\n";
-    struct given known = knowing(sample), given;
-    for (int i = 0; i < 6; i++) {
-        const struct function *function = &functions[i];
-        bool is_quoted = function == attest || function == attest_more;
-        char lines[2 * SHOWN];
-        if (function == locate)
-            continue;
-        snprintf(lines, sizeof lines, some, is_quoted ? "quote match" : "verdict differ");
-        check_unknown(function, &known, lines, ",\"known_from\":0,\"unknown\":[93,94,97],", "known files");
-        ask(function, sample, IMA_VERIFY_TEXT, ROOM);
-        check(!has_line("known"), function->name, "no known files");
-        given = known;
-        given.evidence.known = (struct ima_verify_bytes){NULL, 0};
-        check_unknown(function, &given, "\nknown_from 0\nunknown entry 1\nunknown entry 2\n", "\"known_from\":0,\"unknown\":[1,2,3,4,",
-                      "no file is known");
-        ask(function, &known, IMA_VERIFY_TEXT, ROOM);
-        size_t size = out.size;
-        ask(function, &known, IMA_VERIFY_TEXT, size - 1);
-        check(result == IMA_VERIFY_TOO_SHORT && is_left() && out.size == size, function->name, "a byte too few for unknown entries");
+/* By expected PCRs. After the list alone the PCRs 8 and 10 to 23 have their values, which neither firmware nor kernel extends, or the list does. */
+static void check_verdicts(void) {
+    enum { SHA256 = IMA_VERIFY_BANK_SHA256, SHA512 = IMA_VERIFY_BANK_SHA512 };
+    const char *match = "\nverdict match\n", *differ = "\nverdict differ\n", *place = "sha256 10 after entry 98\n";
+    const char *match_json = ",\"verdict\":\"match\"}\n", *differ_json = ",\"verdict\":\"differ\"}\n", *place_json = "\"number\":98}";
+    gives(WHOLE, "", DONE, match, match_json, SUM(1, 0, 24, 24, 0, NONE, 0, 99, 99, 0));
+    gives(ONE(REPLAY), "", DIFFERS, differ, differ_json, SUM(2, 2, 24, 15, SHA256, 0, 0, 99, 99, 0));
+    gives(ONE(LOCATE), "", DONE, place, place_json, NULL);
+    gives(WHOLE, "require=none", DONE, match, match_json, SUM(1, 0, 24, 24, 0, NONE, 0, 99, 99, 0));
+    gives(ONE(REPLAY), "require=none", DIFFERS, differ, differ_json, SUM(2, 2, 24, 15, SHA256, 0, 0, 99, 99, 0));
+    gives(ONE(LOCATE), "require=none", DONE, place, place_json, NULL);
+    gives(WHOLE, "require=sha512:10", DIFFERS, "\nsha512 10 missing\n", differ_json, SUM(2, 3, 24, 24, SHA512, 10, 1, 99, 99, 0));
+    gives(ONE(LOCATE) | ONE(REPLAY), "require=sha512:10", DIFFERS, "sha512 10 missing\n", "\"sha512\"", NULL);
+    gives(WHOLE | ONE(REPLAY), "require=none expected=", DIFFERS, differ, ",\"compared\":0,", SUM(2, 8, 0, 0, 0, NONE, 0, 99, 99, 0));
+    gives(ONE(LOCATE), "require=none expected=", DIFFERS, "", "\"located\":false", NULL);
+    gives(WHOLE, "list= require=none expected@first", DIFFERS, differ, differ_json, SUM(2, 5, 1, 1, 0, NONE, 0, 0, 0, 0));
+    /* (entry 98 of 100 extends PCR 11, which counts only with a requirement, and never for `locate`; and an event extends PCR 10) */
+    gives(COMPARING, "list@strayed expected@tenth require=none", DONE, "sha256 10 ", "\"register\":10", NULL);
+    gives(ONE(MORE), "list@strayed expected@tenth require=none prefix", DONE, match, match_json, SUM(1, 0, 1, 1, 0, NONE, 0, 100, 100, 0));
+    gives(ONE(LOCATE), "list@strayed expected@tenth require=sha256:10", DONE, "sha256 10 after entry 99\n", "\"number\":99}", NULL);
+    gives(WHOLE | ONE(REPLAY), "list@strayed expected@tenth require=sha256:10", DIFFERS, "\nentry 98 extends 11\n", "\"entry\":98,",
+          SUM(2, 6, 1, 1, 0, NONE, 0, 100, 100, 0));
+    gives(ONE(MORE), "list@strayed expected@tenth require=sha256:10 prefix", DIFFERS, "\nentry 98 extends 11\n", "\"entry\":98,", NULL);
+    gives(ONE(VERDICT), "log@log10", DIFFERS, "\nevent 25 extends 10\n", "\"event\":25,", NULL);
+    /* (98 entries follow the boot aggregate, of which the violations 93, 94 and 97 are of no known file) */
+    const char *unknown = "\nknown_from 0\nunknown entry 93\nunknown entry 94\nunknown entry 97\n", *json = ",\"known_from\":0,\"unknown\":[93,94,97],";
+    gives(WHOLE, "checked known@files", DIFFERS, unknown, json, SUM(2, 7, 24, 24, 0, NONE, 0, 99, 99, 3));
+    gives(ONE(REPLAY), "checked known@files", DIFFERS, unknown, json, SUM(2, 2, 24, 15, SHA256, 0, 0, 99, 99, 3));
+    gives(ATTESTING, "checked known@files", DIFFERS, unknown, json, SUM(2, 7, 11, 11, 0, NONE, 0, 99, 99, 3));
+    gives(JUDGING, "checked", DIFFERS, "\nknown_from 0\nunknown entry 1\nunknown entry 2\n", "\"known_from\":0,\"unknown\":[1,2,3,4,", NULL);
+    EACH(which, JUDGING) {
+        ask_text(which, "");
+        check(!has_text("known"), which, "no known files");
     }
 }
 
 /* A match of the entries before the first violation, and the entries after them, from its checkpoint on. */
-static void check_known_prefix(const struct given *sample) {
-    static uint8_t state[ROOM];
-    struct given given = knowing(sample);
-    given.prefix = true;
-    given.evidence.expected = sample->before;
-    ask(more, &given, IMA_VERIFY_TEXT, ROOM);
-    bool is_told = has_line("\nconfirmed 93 of 99 entries\n") && ends_with("\nknown_from 0\nverdict match\n");
-    check(result == IMA_VERIFY_DONE && next.size > 0 && is_told, "more", "a prefix of known files");
-    memcpy(state, checkpoint, next.size);
-    const uint8_t *bytes = memmem(state, next.size, "\nbytes ", 7);
-    size_t covered = bytes ? strtoul((const char *)bytes + 7, NULL, 10) : 0;
-    struct ima_verify_bytes list = sample->evidence.list;
-    check(0 < covered && covered < list.size, "more", "the bytes of a checkpoint");
-    given.state = (struct ima_verify_bytes){state, next.size};
-    given.evidence.list = (struct ima_verify_bytes){list.data + covered, list.size - covered};
-    given.evidence.expected = sample->evidence.expected;
-    check_unknown(more, &given, "\nknown_from 93\nunknown entry 93\nunknown entry 94\nunknown entry 97\nverdict differ\n",
-                  ",\"known_from\":93,\"unknown\":[93,94,97],", "from a checkpoint");
+static void check_known_prefix(void) {
+    ask_text(MORE, "checked known@files expected@earlier prefix");
+    keep("by_prefix", checkpoint, next.size);
+    const uint8_t *bytes = memmem(checkpoint, next.size, "\nbytes ", 7);
+    size_t covered = bytes ? strtoul((const char *)bytes + 7, NULL, 10) : 0, size = sample.in[LIST].size;
+    check(0 < covered && covered < size && has_text("\nconfirmed 93 of 99 entries\n"), MORE, "the bytes of a checkpoint");
+    keep("rest", sample.in[LIST].data + covered, size - covered);
+    gives(ONE(MORE), "checked known@files expected@earlier prefix", DONE, "\nknown_from 0\nverdict match\n", "\"known_from\":0,\"unknown\":[]",
+          SUM(1, 0, 11, 11, 0, NONE, 0, 99, 93, 0));
+    gives(ONE(MORE), "checked known@files state@by_prefix list@rest", DIFFERS,
+          "\nknown_from 93\nunknown entry 93\nunknown entry 94\nunknown entry 97\nverdict differ\n", ",\"known_from\":93,\"unknown\":[93,94,97],", NULL);
 }
 
-/* Known files are refused after the other inputs that are not the log and the list, and before these. */
-static void check_known_faults(const struct given *sample) {
-    static const char weak[] = "3f786850e387550fdab836ed7e6dc881de23001b  a\n";
-    static uint8_t lines[ROOM];
-    struct ima_verify_bytes files = sample->files;
-    struct given given = knowing(sample);
-    given.evidence.log = ima_verify_none();
-    for (int i = 0; i < 6; i++) {
-        const struct function *function = &functions[i];
-        if (function == locate)
-            continue;
-        given.evidence.known = ima_verify_text("x");
-        check_refusal(function, &given, "refused: known fault 2 at line 1\n", IMA_VERIFY_KNOWN, 2, 1);
-        memcpy(lines, files.data, files.size);
-        memcpy(lines + files.size, weak, sizeof weak - 1);
-        given.evidence.known = (struct ima_verify_bytes){lines, files.size + sizeof weak - 1};
-        check_refusal(function, &given, "refused: known fault 1 at line 94\n", IMA_VERIFY_KNOWN, 1, 94);
-        given.evidence.require = ima_verify_none();
-        check_refusal(function, &given, "refused: command line\n", IMA_VERIFY_ARGUMENT, 0, IMA_VERIFY_NO_PLACE);
-        given.evidence.require = sample->evidence.require;
-    }
-    given.state = ima_verify_text("x");
-    check_refusal(more, &given, "refused: checkpoint fault 1\n", IMA_VERIFY_CHECKPOINT, 1, IMA_VERIFY_NO_PLACE);
-    check_refusal(attest_more, &given, "refused: checkpoint fault 1\n", IMA_VERIFY_CHECKPOINT, 1, IMA_VERIFY_NO_PLACE);
-    given.evidence.expected = ima_verify_text("sha256 24 00\n");
-    for (int i = 0; i < 4; i++)
-        if (&functions[i] != locate)
-            check_refusal(&functions[i], &given, "refused: expected fault 1 at line 1\n", IMA_VERIFY_EXPECTED, 1, 1);
-    given.message = ima_verify_text("");
-    check_refusal(attest, &given, "refused: quote fault 1\n", IMA_VERIFY_QUOTE, 1, IMA_VERIFY_NO_PLACE);
-}
-
-static void check_quote_refusals(const struct given *sample) {
-    static const char *const arguments[] = {"sha256:0-9", "sha256:1-10", "sha1:0-10", "sha256:0-9,sha1:10", "none", "", "sha256:0-24"};
-    static uint8_t changed[ROOM];
-    const char *argument = "refused: command line\n", *lacks = "refused: quote fault 12\n";
-    struct given given;
-    struct ima_verify_bytes nonce = sample->nonce, message = sample->message, log = sample->evidence.log, list = sample->evidence.list;
-
-    for (size_t i = 0; i < sizeof arguments / sizeof arguments[0]; i++)
-        check_refusal(attest, WITH(evidence.require, ima_verify_text(arguments[i])), argument, IMA_VERIFY_ARGUMENT, 0, IMA_VERIFY_NO_PLACE);
-    nonce.size = 15;
-    check_refusal(attest, WITH(nonce, nonce), argument, IMA_VERIFY_ARGUMENT, 0, IMA_VERIFY_NO_PLACE);
-    nonce.size = 16;
-    check_refusal(attest, WITH(nonce, nonce), "refused: quote fault 11\n", IMA_VERIFY_QUOTE, 11, IMA_VERIFY_NO_PLACE);
-    memcpy(changed, sample->nonce.data, sample->nonce.size);
-    changed[0] ^= 1;
-    nonce = (struct ima_verify_bytes){changed, sample->nonce.size};
-    check_refusal(attest, WITH(nonce, nonce), "refused: quote fault 11\n", IMA_VERIFY_QUOTE, 11, IMA_VERIFY_NO_PLACE);
-    check_refusal(attest, WITH(evidence.require, ima_verify_text("sha256:0-11")), lacks, IMA_VERIFY_QUOTE, 12, IMA_VERIFY_NO_PLACE);
-    given = *sample;
-    given.takes_sha1 = true;
-    given.evidence.require = ima_verify_text("sha1:0-10");
-    check_refusal(attest, &given, lacks, IMA_VERIFY_QUOTE, 12, IMA_VERIFY_NO_PLACE);
-    for (message.size = 0; message.size < sample->message.size; message.size++)
-        check_refusal(attest, WITH(message, message), "refused: quote fault 1\n", IMA_VERIFY_QUOTE, 1, IMA_VERIFY_NO_PLACE);
-    check_refusal(attest, WITH(message, log), "refused: quote fault 2\n", IMA_VERIFY_QUOTE, 2, IMA_VERIFY_NO_PLACE);
-    /* (the message is refused before the log, and the log before the list) */
-    list.size--;
-    check_refusal(attest, WITH(evidence.list, list), "refused: list fault 1 at entry 98\n", IMA_VERIFY_LIST, 1, 98);
-    given.evidence.log = ima_verify_none();
-    check_refusal(attest, &given, "refused: log fault 1 at event 0\n", IMA_VERIFY_LOG, 1, 0);
-    given.message = ima_verify_text("");
-    check_refusal(attest, &given, "refused: quote fault 1\n", IMA_VERIFY_QUOTE, 1, IMA_VERIFY_NO_PLACE);
-    memcpy(changed, sample->evidence.list.data, sample->evidence.list.size);
-    changed[4] ^= 1;
-    list = (struct ima_verify_bytes){changed, sample->evidence.list.size};
-    check_refusal(attest, WITH(evidence.list, list), "refused: replay fault 1 at entry 0\n", IMA_VERIFY_REPLAY, 1, 0);
-}
-
-/* Whether a report in both forms says how the quote compares, and ends so. */
-static void check_conclusion(const struct given *given, bool is_quoted, const char *words, const char *members, const char *what) {
-    enum ima_verify_result wanted = strstr(words, "\nverdict match\n") ? IMA_VERIFY_DONE : IMA_VERIFY_DIFFERS;
-    ask(attest, given, IMA_VERIFY_TEXT, ROOM);
-    bool is_told = has_line(is_quoted ? "\nquote match\n" : "\nquote differ\n");
-    check(result == wanted && has_no_fault() && is_told && ends_with(words), "attest", what);
-    ask(attest, given, IMA_VERIFY_JSON, ROOM);
-    is_told = has_line(is_quoted ? ",\"quote\":\"match\"," : ",\"quote\":\"differ\",");
-    check(result == wanted && has_no_fault() && is_told && ends_with(members), "attest as JSON", what);
-}
-
-/* Checks the verdict by a quote, and that there is none without its signature. */
-static void check_quoted(const struct given *given, bool is_quoted, bool is_match, const char *what) {
-    struct given unsigned_one = *given;
-    unsigned_one.signature_checked = false;
-    if (is_match)
-        check_conclusion(given, is_quoted, "\nverdict match\n", ",\"signature\":\"checked\",\"verdict\":\"match\"}\n", what);
-    else
-        check_conclusion(given, is_quoted, "\nverdict differ\n", ",\"signature\":\"checked\",\"verdict\":\"differ\"}\n", what);
-    check_conclusion(&unsigned_one, is_quoted, "\nsignature not checked\n",
-                     ",\"signature\":\"not checked\",\"verdict\":\"signature not checked\"}\n", what);
-    check(!has_line("\"verdict\":\"match\""), "attest without a signature", what);
+/* The verdict by a quote whose signature the caller checked, and that there is none without its signature; and that it confirms only if it matches. */
+static void quotes(const char *changes, const struct ima_verify_summary *numbers) {
+    bool is_match = numbers->verdict == IMA_VERIFY_VERDICT_MATCH, is_quoted = numbers->matching > 0;
+    enum ima_verify_result wanted = is_match ? DONE : DIFFERS;
+    char lines[3 * SHOWN], members[3 * SHOWN], unsigned_one[4 * SHOWN];
+    struct ima_verify_summary unchecked = *numbers;
+    unchecked.verdict = IMA_VERIFY_VERDICT_NONE;
+    unchecked.reason = IMA_VERIFY_REASON_SIGNATURE;
+    const char *quote = is_quoted ? "match" : "differ", *verdict = is_match ? "match" : "differ";
+    snprintf(lines, sizeof lines, "\nquote %s\nsignature checked\nverdict %s\n", quote, verdict);
+    snprintf(members, sizeof members, ",\"quote\":\"%s\",\"signature\":\"checked\",\"verdict\":\"%s\"}\n", quote, verdict);
+    gives(ATTESTING, changes, wanted, lines, members, numbers);
+    gives(CONFIRMING, changes, wanted, "secure_boot ", "", NULL);
+    snprintf(unsigned_one, sizeof unsigned_one, "%s unsigned", changes);
+    snprintf(lines, sizeof lines, "\nquote %s\nsignature not checked\n", quote);
+    gives(ATTESTING, unsigned_one, DIFFERS, lines, "\"signature\":\"not checked\",\"verdict\":\"signature not checked\"}\n", &unchecked);
+    check(!has_text("\"verdict\":\"match\""), ATTEST, unsigned_one);
+    gives(CONFIRMING, unsigned_one, DIFFERS, "secure_boot unknown\n", "", NULL);
 }
 
 /* The sample's quote is of its log and its list, and of no other ones. */
-static void check_quote(const struct given *sample) {
-    enum { LAST = 95 };
-    static const uint8_t event[50] = {9, 0, 0, 0, 13, 0, 0, 0, 1, 0, 0, 0, 0x0b};
-    static uint8_t longer[ROOM], changed[ROOM];
-    struct ima_verify_bytes list = sample->evidence.list, log = sample->evidence.log, message = sample->message;
-    struct given given;
-
-    check_quoted(sample, true, true, "the sample");
-    ask(attest, sample, IMA_VERIFY_TEXT, ROOM);
-    check(has_line("quoted sha256 0 1 2 3 4 5 6 7 8 9 10\nsigner 000b"), "attest", "what the quote states");
-    check(has_line("\nevents 24 locality 0\nentries 99\nboot_aggregate good\n"), "attest", "what log and list have");
-    check_quoted(WITH(takes_sha1, true), true, true, "SHA-1 alone may be required");
-    list.size -= LAST;
-    check_quoted(WITH(evidence.list, list), false, false, "a list that is cut by an entry");
-    list = sample->evidence.list;
-    memcpy(longer, list.data, list.size);
-    memcpy(longer + list.size, list.data + list.size - LAST, LAST);
-    check_quoted(WITH(evidence.list, ((struct ima_verify_bytes){longer, list.size + LAST})), false, false, "a list that went on");
-    longer[list.size - LAST] = 11;
-    check_quoted(WITH(evidence.list, ((struct ima_verify_bytes){longer, list.size + LAST})), true, false, "an entry of register 11");
-    ask(attest, &given, IMA_VERIFY_TEXT, ROOM);
-    check(has_line("\nentry 98 extends 11\nquote match\n"), "attest", "an entry of register 11");
-    memcpy(longer, log.data, log.size);
-    memcpy(longer + log.size, event, sizeof event);
-    check_quoted(WITH(evidence.log, ((struct ima_verify_bytes){longer, log.size + sizeof event})), false, false, "a log of another boot");
-    longer[log.size] = 10;
-    check_quoted(&given, false, false, "an event of register 10");
-    memcpy(changed, message.data, message.size);
-    changed[message.size - 1] ^= 1;
-    check_quoted(WITH(message, ((struct ima_verify_bytes){changed, message.size})), false, false, "another digest");
+static void check_quotes(void) {
+    const struct ima_verify_summary *match = SUM(1, 0, 11, 11, 0, NONE, 0, 99, 99, 0), *differ = SUM(2, 4, 11, 0, 0, NONE, 0, 99, 99, 0);
+    quotes("", match);
+    gives(ATTESTING, "", DONE, "quoted sha256 0 1 2 3 4 5 6 7 8 9 10\nsigner 000b", "{\"quoted\":[", match);
+    gives(ATTESTING, "", DONE, "\nevents 24 locality 0\nentries 99\nboot_aggregate good\n", ",\"entries\":99,", match);
+    quotes("sha1", match);
+    quotes("nonce= nonce_hex=5a0f1d3c7b2e48690123456789abcdef00112233", match);
+    quotes("nonce= nonce_hex=5A0F1D3C7B2E48690123456789abcdef00112233\n", match);
+    quotes("list-95", SUM(2, 4, 11, 0, 0, NONE, 0, 98, 98, 0));
+    quotes("list+last", SUM(2, 4, 11, 0, 0, NONE, 0, 100, 100, 0));
+    quotes("list@strayed", SUM(2, 6, 11, 11, 0, NONE, 0, 100, 100, 0));
+    gives(ATTESTING, "list@strayed", DIFFERS, "\nentry 98 extends 11\nquote match\n", "\"entry\":98,", NULL);
+    quotes("log@log9", differ);
+    quotes("log@log10", differ);
+    quotes("message@other_message", differ);
+    /* (a boot with banks of all algorithms, whose checkpoint, which attest does not give, is about as long as one can be) */
+    ask_text(ATTEST_MORE, "log@banks_log list@banks_list message@banks_message");
+    check(result == DONE && next.size > LONG && next.size < IMA_VERIFY_CHECKPOINT_CAPACITY, ATTEST_MORE, "banks of all algorithms");
+    quotes("log@banks_log list@banks_list message@banks_message", SUM(1, 0, 11, 11, 0, NONE, 0, summary.entries, summary.entries, 0));
 }
 
-/* The verdict by a quote of a boot with banks of all algorithms is that of the sample's, though its checkpoint, which attest does not give, is
- * about as long as one can be. */
-static void check_quoted_banks(const struct given *sample, struct ima_verify_bytes log, struct ima_verify_bytes list,
-                               struct ima_verify_bytes message) {
-    enum { LONG = 17000 };
-    struct given given = *sample;
-    given.evidence.log = log;
-    given.evidence.list = list;
-    given.message = message;
-    check_quoted(&given, true, true, "banks of all algorithms");
-    ask(attest_more, &given, IMA_VERIFY_TEXT, ROOM);
-    bool is_long = next.size > LONG && next.size < IMA_VERIFY_CHECKPOINT_ROOM;
-    check(result == IMA_VERIFY_DONE && has_no_fault() && is_long, "attest_more", "banks of all algorithms");
+/* A match with this checkpoint, which is kept if it is the first by its name. */
+static void continues(int which, const char *changes, const char *name) {
+    ask_text(which, changes);
+    if (access(name, F_OK) != 0) keep(name, checkpoint, next.size);
+    check(result == DONE && next.size > 0 && is_same(checkpoint, next.size, kept(name)) && has_text("\nverdict match\n"), which, changes);
 }
 
-/* Asks for a checkpoint, and copies it. */
-static struct ima_verify_bytes saved_by(const struct function *function, const struct given *given, uint8_t *room, const char *what) {
-    ask(function, given, IMA_VERIFY_TEXT, ROOM);
-    check(result == IMA_VERIFY_DONE && next.size > 0 && has_no_fault(), function->name, what);
-    memcpy(room, checkpoint, next.size);
-    return (struct ima_verify_bytes){room, next.size};
-}
-
-static bool has_checkpoint(struct ima_verify_bytes wanted) {
-    return next.size == wanted.size && memcmp(checkpoint, wanted.data, wanted.size) == 0;
-}
-
-/* Sessions by a quote go on from what a quote confirmed, in its boot, and from nothing else. */
-static void check_quoted_sessions(const struct given *sample) {
-    enum { LAST = 95, RESETS = 8, RESTARTS = 12 };
-    static const uint8_t event[50] = {9, 0, 0, 0, 13, 0, 0, 0, 1, 0, 0, 0, 0x0b};
-    static uint8_t quoted[ROOM], compared[ROOM], front[ROOM], changed[ROOM], longer[ROOM];
-    const char *other = "refused: checkpoint fault 4\n";
-    struct ima_verify_bytes list = sample->evidence.list, log = sample->evidence.log, message = sample->message, none = {NULL, 0};
-    struct given given;
-
-    struct ima_verify_bytes by_quote = saved_by(attest_more, sample, quoted, "the sample");
-    size_t size = out.size;
-    memcpy(changed, text, size);
-    ask(attest, sample, IMA_VERIFY_TEXT, ROOM);
-    check(out.size == size && memcmp(text, changed, size) == 0, "attest", "as attest_more without a checkpoint");
-    ask(attest_more, WITH(signature_checked, false), IMA_VERIFY_TEXT, ROOM);
-    check(result == IMA_VERIFY_DIFFERS && next.size == 0, "attest_more", "no checkpoint without a signature");
-
-    given = *sample;
-    given.state = by_quote;
-    given.evidence.list = none;
-    ask(attest_more, &given, IMA_VERIFY_TEXT, ROOM);
-    check(result == IMA_VERIFY_DONE && has_checkpoint(by_quote) && has_line("\nentries 99\n"), "attest_more", "nothing follows");
-    given.prefix = true;
-    memcpy(longer, list.data, list.size);
-    memcpy(longer + list.size, list.data + list.size - LAST, LAST);
-    given.evidence.list = (struct ima_verify_bytes){longer + list.size, LAST};
-    ask(attest_more, &given, IMA_VERIFY_TEXT, ROOM);
-    bool is_told = has_line("\nconfirmed 99 of 100 entries\n");
-    check(result == IMA_VERIFY_DONE && has_checkpoint(by_quote) && is_told, "attest_more", "an entry that is not quoted follows");
-    given.prefix = false;
-    ask(attest_more, &given, IMA_VERIFY_TEXT, ROOM);
-    check(result == IMA_VERIFY_DIFFERS && next.size == 0 && has_line("\nentries 100\n"), "attest_more", "the whole of a list that went on");
-    given = *sample;
-    given.prefix = true;
-    given.evidence.list = (struct ima_verify_bytes){longer, list.size + LAST};
-    check(saved_by(attest_more, &given, front, "a prefix").size == by_quote.size && has_checkpoint(by_quote), "attest_more", "a prefix");
-
-    /* (expected registers tell no boot) */
-    struct ima_verify_bytes by_registers = saved_by(more, sample, compared, "the sample");
-    given = *sample;
-    given.evidence.list = none;
-    given.state = by_registers;
-    check_refusal(attest_more, &given, other, IMA_VERIFY_CHECKPOINT, 4, IMA_VERIFY_NO_PLACE);
-    given.state = by_quote;
-    ask(more, &given, IMA_VERIFY_TEXT, ROOM);
-    check(result == IMA_VERIFY_DONE && has_checkpoint(by_registers), "more", "from what a quote confirmed");
-
+/* Sessions by a quote continue from what a quote confirmed, in its boot, and from nothing else. */
+static void check_sessions(void) {
+    continues(ATTEST_MORE, "", "by_quote");
+    struct ima_verify_bytes report = joined((struct ima_verify_bytes){text, out.size}, none);
+    ask_text(ATTEST, "");
+    check(is_same(text, out.size, report), ATTEST, "as attest_more without a checkpoint");
+    continues(ATTEST_MORE, "state@by_quote list=", "by_quote");
+    continues(ATTEST_MORE, "state@by_quote list@last prefix", "by_quote");
+    check(has_text("\nconfirmed 99 of 100 entries\n"), ATTEST_MORE, "an entry that is not quoted");
+    continues(ATTEST_MORE, "list+last prefix", "by_quote");
+    gives(ONE(ATTEST_MORE), "state@by_quote list@last", DIFFERS, "\nentries 100\n", "\"entries\":100,", NULL);
+    /* (expected PCRs tell no boot) */
+    continues(MORE, "", "by_pcrs");
+    continues(MORE, "state@by_quote list=", "by_pcrs");
+    refuses(ONE(ATTEST_MORE), "state@by_pcrs list=", "checkpoint fault 4");
     /* (the message has the clock's eight bytes and then the counts, after the header, the signer and the nonce) */
-    size_t clock = 6 + 2 + (size_t)message.data[7] + 2 + sample->nonce.size;
-    for (size_t count = RESETS; count <= RESTARTS; count += RESTARTS - RESETS) {
-        memcpy(changed, message.data, message.size);
-        changed[clock + count + 3] ^= 1;
-        given.message = (struct ima_verify_bytes){changed, message.size};
-        check_refusal(attest_more, &given, other, IMA_VERIFY_CHECKPOINT, 4, IMA_VERIFY_NO_PLACE);
-    }
-    given.message = message;
-    memcpy(longer, log.data, log.size);
-    memcpy(longer + log.size, event, sizeof event);
-    given.evidence.log = (struct ima_verify_bytes){longer, log.size + sizeof event};
-    check_refusal(attest_more, &given, "refused: checkpoint fault 3\n", IMA_VERIFY_CHECKPOINT, 3, IMA_VERIFY_NO_PLACE);
-    given.state.size--;
-    check_refusal(attest_more, &given, "refused: checkpoint fault 1\n", IMA_VERIFY_CHECKPOINT, 1, IMA_VERIFY_NO_PLACE);
-    given.message = none;
-    check_refusal(attest_more, &given, "refused: quote fault 1\n", IMA_VERIFY_QUOTE, 1, IMA_VERIFY_NO_PLACE);
-}
-
-/* The sample by another quote, of which nobody says that its signature was checked. */
-static struct given signed_by(const struct given *sample, struct ima_verify_bytes message, struct ima_verify_bytes signing_key,
-                              struct ima_verify_bytes signature) {
-    struct given given = *sample;
-    given.message = message;
-    given.signing_key = signing_key;
-    given.signature = signature;
-    given.signature_checked = false;
-    return given;
-}
-
-static void check_valid(const struct given *given, bool is_match, const char *what) {
-    if (is_match)
-        check_conclusion(given, true, "\nsignature valid\nverdict match\n", ",\"signature\":\"valid\",\"verdict\":\"match\"}\n", what);
-    else
-        check_conclusion(given, false, "\nsignature valid\nverdict differ\n", ",\"signature\":\"valid\",\"verdict\":\"differ\"}\n", what);
+    size_t clock = 6 + 2 + (size_t)sample.in[MESSAGE].data[7] + 2 + sample.in[NONCE].size;
+    refuses(ONE(ATTEST_MORE), sized("state@by_quote message~", clock + 8 + 3), "checkpoint fault 4");
+    refuses(ONE(ATTEST_MORE), sized("state@by_quote message~", clock + 12 + 3), "checkpoint fault 4");
+    refuses(ONE(ATTEST_MORE), "state@by_quote log@log9", "checkpoint fault 3");
+    refuses(ONE(ATTEST_MORE), "state@by_quote state-1 log@log9", "checkpoint fault 1");
+    refuses(ONE(ATTEST_MORE), "state@by_quote state-1 message=", "quote fault 1");
+    /* (a key and a signature count as the caller's word) */
+    continues(ATTEST_MORE, "message@p256.msg", "by_p256");
+    continues(ATTEST_MORE, signed_by("p256", "pem", "tpmt", ""), "by_p256");
+    continues(ATTEST_MORE, signed_by("p256", "pem", "tpmt", "state@by_p256 list="), "by_p256");
 }
 
 /* A signature by a key of each kind is valid, by the key's area and its PEM, in both forms; the verdict is that on log and list. */
-static void check_signatures(const struct given *sample) {
-    enum { LAST = 95 };
-    struct ima_verify_bytes list = sample->evidence.list;
-    list.size -= LAST;
-    for (int i = 0; i < TAKEN; i++) {
-        const struct signing *by = &signers[i];
-        for (int form = 0; form < 4; form++) {
-            struct given given = signed_by(sample, by->message, form & 1 ? by->pem : by->area, form & 2 ? by->whole : by->plain);
-            check_valid(&given, true, signer_names[i]);
-            check(!has_line("checked"), "attest as JSON", "no word of the caller");
-        }
-        struct given given = signed_by(sample, by->message, by->area, by->plain);
-        given.evidence.list = list;
-        check_valid(&given, false, signer_names[i]);
+static void check_signatures(void) {
+    static const char *const keys[] = {"pub", "pem"}, *const ends[] = {"sig", "tpmt"};
+    for (int i = 0; i < SIGNERS * 4; i++) {
+        const char *name = signers[i / 4], *key = keys[i % 2], *end = ends[i / 2 % 2], *by = signed_by(name, key, end, "");
+        gives(ATTESTING, by, DONE, "\nquote match\nsignature valid\nverdict match\n", "\"signature\":\"valid\",\"verdict\":\"match\"}\n",
+              SUM(1, 0, 11, 11, 0, NONE, 0, 99, 99, 0));
+        check(!has_text("checked"), ATTEST_MORE, "no word of the caller");
+        gives(CONFIRMING, by, DONE, "secure_boot off\n", "\"confirmed\":\"data\"", NULL);
+        gives(ATTESTING, signed_by(name, key, end, "list-95"), DIFFERS, "\nquote differ\nsignature valid\nverdict differ\n",
+              "\"differ\",\"signature\":\"valid\",\"verdict\":\"differ\"}\n", SUM(2, 4, 11, 0, 0, NONE, 0, 98, 98, 0));
     }
 }
 
-static void check_signature_fault(const struct given *given, uint32_t number) {
-    char line[SHOWN];
-    snprintf(line, sizeof line, "refused: signature fault %u\n", number);
-    check_refusal(attest, given, line, IMA_VERIFY_SIGNATURE, number, IMA_VERIFY_NO_PLACE);
-    check_refusal(attest_more, given, line, IMA_VERIFY_SIGNATURE, number, IMA_VERIFY_NO_PLACE);
-}
-
-/* Copies bytes, and turns a bit of one of them. */
-static struct ima_verify_bytes turned(struct ima_verify_bytes bytes, size_t place, uint8_t *room) {
-    memcpy(room, bytes.data, bytes.size);
-    room[place] ^= 1;
-    return (struct ima_verify_bytes){room, bytes.size};
-}
-
-/* A signature is refused by each number of its faults. */
-static void check_refused_signatures(const struct given *sample) {
-    static uint8_t changed[ROOM];
-    struct given given;
-    for (int i = 0; i < TAKEN; i++) {
-        const struct signing *by = &signers[i], *other = &signers[i == RSAPSS ? RSASSA : RSAPSS];
-        given = signed_by(sample, by->message, by->area, turned(by->whole, by->whole.size - 1, changed));
-        check_signature_fault(&given, 7);
-        given = signed_by(sample, turned(by->message, by->message.size - 1, changed), by->area, by->plain);
-        check_signature_fault(&given, 7);
-        given = signed_by(sample, by->message, by->pem, turned(by->plain, by->plain.size - 1, changed));
-        check_signature_fault(&given, 7);
-        given = signed_by(sample, by->message, by->area, other->whole);
-        check_signature_fault(&given, 5);
+/* A signature is refused by each number of its errors. */
+static void check_refused_signatures(void) {
+    for (int i = 0; i < SIGNERS; i++) {
+        refuses(ATTESTING, signed_by(signers[i], "pub", "tpmt", "signature~-1"), "signature fault 7");
+        refuses(ATTESTING, signed_by(signers[i], "pub", "sig", "message~-1"), "signature fault 7");
+        refuses(ATTESTING, signed_by(signers[i], "pem", "sig", "signature~-1"), "signature fault 7");
+        refuses(ATTESTING, signed_by(signers[i], "pub", "sig", i == 1 ? "signature@rsassa.tpmt" : "signature@rsapss.tpmt"), "signature fault 5");
     }
-    const struct signing *by = &signers[RSASSA];
-    struct ima_verify_bytes whole = by->whole;
-    given = signed_by(sample, by->message, by->pem, whole);
-    for (given.signature.size = 1; given.signature.size < whole.size; given.signature.size += given.signature.size == 255 ? 2 : 1)
-        check_signature_fault(&given, 1);
-    memcpy(changed, whole.data, whole.size);
-    given.signature = (struct ima_verify_bytes){changed, whole.size + 1};
-    check_signature_fault(&given, 4);
-    given = signed_by(sample, signers[P384].message, signers[P256].area, signers[P384].whole);
-    check_signature_fault(&given, 6);
-    given = signed_by(sample, signers[P521].message, signers[P521].area, signers[P521].whole);
-    check_signature_fault(&given, 8);
-    given.signing_key = signers[P521].pem;
-    check_signature_fault(&given, 9);
-    given = signed_by(sample, by->message, by->pem, by->plain);
-    for (given.signing_key.size = 10; given.signing_key.size < by->pem.size; given.signing_key.size++)
-        check_signature_fault(&given, 9);
-}
-
-/* The key's area must lack nothing. The key is refused before its signature, this before the message, and the message before log and list. */
-static void check_order_of_signatures(const struct given *sample) {
-    static uint8_t changed[ROOM];
-    const struct signing *by = &signers[RSASSA];
-    struct ima_verify_bytes none = {NULL, 0};
-    struct given given = signed_by(sample, none, turned(by->area, 7, changed), ima_verify_text("x"));
-    given.evidence.log = given.evidence.list = none;
-    given.state = ima_verify_text("x");
-    check_refusal(attest_more, &given, "refused: key fault 15\n", IMA_VERIFY_KEY, 15, IMA_VERIFY_NO_PLACE);
-    given.signing_key.size--;
-    check_refusal(attest_more, &given, "refused: key fault 1\n", IMA_VERIFY_KEY, 1, IMA_VERIFY_NO_PLACE);
-    given.evidence.require = ima_verify_text("sha256:0-9");
-    check_refusal(attest_more, &given, "refused: command line\n", IMA_VERIFY_ARGUMENT, 0, IMA_VERIFY_NO_PLACE);
-    given.evidence.require = sample->evidence.require;
-    given.signing_key = by->area;
-    check_signature_fault(&given, 1);
-    given.signature = by->plain;
-    check_signature_fault(&given, 7);
-    given.message = by->message;
-    given.nonce.size--;
-    check_refusal(attest_more, &given, "refused: quote fault 11\n", IMA_VERIFY_QUOTE, 11, IMA_VERIFY_NO_PLACE);
-    given.nonce.size++;
-    check_refusal(attest_more, &given, "refused: checkpoint fault 1\n", IMA_VERIFY_CHECKPOINT, 1, IMA_VERIFY_NO_PLACE);
-    given.state = none;
-    check_refusal(attest_more, &given, "refused: log fault 1 at event 0\n", IMA_VERIFY_LOG, 1, 0);
+    for (size_t size = 1; size < kept("rsassa.tpmt").size; size += size == 255 ? 2 : 1)
+        refuses(ATTESTING, signed_by("rsassa", "pem", "tpmt", sized("signature:", size)), "signature fault 1");
+    for (size_t size = 10; size < kept("rsassa.pem").size; size++)
+        refuses(ATTESTING, signed_by("rsassa", "pem", "sig", sized("key:", size)), "signature fault 9");
+    refuses(ATTESTING, signed_by("rsassa", "pem", "tpmt", "signature+x"), "signature fault 4");
+    refuses(ATTESTING, signed_by("p384", "pub", "tpmt", "key@p256.pub"), "signature fault 6");
+    refuses(ATTESTING, signed_by("p521", "pub", "tpmt", ""), "signature fault 8");
+    refuses(ATTESTING, signed_by("p521", "pem", "tpmt", ""), "signature fault 9");
+    /* (the key's area must lack nothing; it is refused before the signature, this before the message, and the message before log and list) */
+    static const char *const order[][2] = {{"key~7 key-1 require=sha256:0-9", "command line"}, {"key~7 key-1 signature=x message=", "key fault 1"},
+                                           {"key~7 signature=x message=", "key fault 15"},     {"signature=x message=", "signature fault 1"},
+                                           {"message=", "signature fault 7"},                  {"nonce-1", "quote fault 11"},
+                                           {"", "checkpoint fault 1"},                         {"state=", "log fault 1 at event 0"}};
+    for (size_t i = 0; i < sizeof order / sizeof order[0]; i++)
+        refuses(ONE(ATTEST_MORE), signed_by("rsassa", "pub", "sig", with("log= list= state=x ", order[i][0])), order[i][1]);
 }
 
 /* The function that the library exports reads and writes nothing, and tells of no text. */
-static void check_misused_raw(const struct given *given, const char *what) {
-    const struct ima_verify_evidence *evidence = &given->evidence;
-    struct ima_verify_told told = {UNSET, UNSET, UNSET, UNSET};
-    size_t next_size = UNSET;
-    prepare(given, ROOM);
-    result = (enum ima_verify_result)ima_verify_raw_attest(
-        evidence->log.data, evidence->log.size, given->nonce.data, 0, evidence->list.data, evidence->list.size, given->message.data,
-        given->message.size, ima_verify_data(given->signing_key), given->signing_key.size, ima_verify_data(given->signature),
-        given->signature.size, given->nonce.data, given->nonce.size, evidence->require.data, evidence->require.size, given->nonce.data, 0,
-        false, false, given->signature_checked, false, false, checkpoint, ROOM, &next_size, text, ROOM, &told);
-    bool is_told = told.size == 0 && told.fault_kind == IMA_VERIFY_NO_FAULT && told.fault_number == 0 && told.fault_place == IMA_VERIFY_NO_PLACE;
-    check(result == IMA_VERIFY_MISUSED && is_told && next_size == 0 && is_left(), "raw_attest", what);
-}
-
-/* A key and a signature are given together, and not beside the word of the caller. */
-static void check_misused_signatures(const struct given *sample) {
-    static const char *const which[] = {"", "a key without a signature", "a signature without a key", "a key and a signature"};
-    struct ima_verify_bytes none = {NULL, 0};
-    for (int i = 1; i < 7; i++) {
-        int parts = i % 4 ? i % 4 : 3;
-        struct given given = signed_by(sample, signers[RSASSA].message, parts & 1 ? signers[RSASSA].area : none,
-                                       parts & 2 ? signers[RSASSA].plain : none);
-        given.signature_checked = i >= 4;
-        if (parts == 3 && !given.signature_checked)
-            continue;
-        check_misused(ask(attest, &given, IMA_VERIFY_TEXT, ROOM), "attest", which[parts]);
-        check_misused(ask(attest_more, &given, IMA_VERIFY_JSON, ROOM), "attest_more", which[parts]);
-        check_misused_raw(&given, which[parts]);
+static void check_misused_raw(void) {
+    static const char *const wrong[] = {"unsigned key@rsassa.pub", "unsigned signature@rsassa.sig", "key@rsassa.pub signature@rsassa.sig", "nonce_hex=00"};
+    for (int i = 0; i < 4; i++) {
+        struct given given = changed(wrong[i]);
+        const uint8_t *at_input[INPUTS];
+        size_t size[INPUTS], next_size = UNSET;
+        for (int number = 0; number < INPUTS; number++)
+            at_input[number] = ima_verify_data(given.in[number]), size[number] = given.in[number].size;
+        struct ima_verify_info info = {UNSET, UNSET, UNSET, UNSET};
+        prepare(&given, SPACE);
+#define IN(number) at_input[number], size[number]
+        result = (enum ima_verify_result)ima_verify_raw_attest(
+            IN(LOG), IN(STATE), IN(LIST), IN(MESSAGE), IN(KEY), IN(SIGNATURE), IN(NONCE), IN(NONCE_HEX), IN(REQUIRE), IN(KNOWN), false, false,
+            given.signature_checked, false, false, &summary.size, sizeof summary / 8, checkpoint, SPACE, &next_size, text, SPACE, &info);
+        bool is_set = info.size == 0 && info.error_kind == IMA_VERIFY_NO_ERROR && info.error_number == 0 && info.error_place == NONE;
+        check(result == IMA_VERIFY_MISUSED && is_set && next_size == 0 && is_left() && summary.verdict == UNSET, ATTEST, wrong[i]);
     }
 }
 
-/* A session takes a key and a signature as it takes the caller's word. */
-static void check_signed_sessions(const struct given *sample) {
-    static uint8_t state[ROOM];
-    const struct signing *by = &signers[P256];
-    struct given given = *sample;
-    given.message = by->message;
-    struct ima_verify_bytes saved = saved_by(attest_more, &given, state, "a quote by a key on a curve");
-    given = signed_by(sample, by->message, by->pem, by->whole);
-    ask(attest_more, &given, IMA_VERIFY_TEXT, ROOM);
-    check(result == IMA_VERIFY_DONE && has_checkpoint(saved), "attest_more", "a valid signature");
-    size_t size = out.size;
-    ask(attest_more, &given, IMA_VERIFY_TEXT, size - 1);
-    check(result == IMA_VERIFY_TOO_SHORT && is_left() && out.size == size, "attest_more", "a byte too few for a valid signature");
-    given.state = saved;
-    given.evidence.list.size = 0;
-    ask(attest_more, &given, IMA_VERIFY_TEXT, ROOM);
-    check(result == IMA_VERIFY_DONE && has_checkpoint(saved), "attest_more", "nothing follows a valid signature");
+/* The text of a key has its name, type, size, scheme and PEM, and JSON the same as members. A key is refused if its area is cut or longer, if it lacks
+ * an attribute (after the size, the type and the hash of the name, the last byte of the attributes has the bits 0 to 7), or for another purpose. */
+static void check_keys(void) {
+    static const char second[] = "\nkey rsa 2048\nscheme rsassa sha256\n";
+    static const char *const refused[][2] = {{"area~9^2", "key fault 12"}, {"area~9^16", "key fault 13"}, {"area~9^32", "key fault 14"},
+                                             {"area~7^1", "key fault 15"}, {"area~7^4", "key fault 17"},  {"area~7^2", "key fault 18"},
+                                             {"area~3^32", "key fault 2"}, {"area+x", "key fault 10"},    {"endorsement", "key fault 21"}};
+    enum { NAME = 5, HEX = 2 * (2 + 32) };
+    char member[HEX + 80];
+    size_t size = NAME + HEX + strlen(second);
+    ask_text(READ_KEY, "");
+    check(result == DONE && out.size > size && memcmp(text, "name 000b", 9) == 0, READ_KEY, "the name");
+    check(memcmp(text + NAME + HEX, second, strlen(second)) == 0 && is_same(text + size, out.size - size, kept("pem")), READ_KEY, "the PEM");
+    snprintf(member, sizeof member, "{\"name\":\"%.*s\",\"type\":\"rsa\",\"bits\":2048,\"scheme\":\"rsassa\",\"hash\":\"sha256\",\"pem\":\"", HEX,
+             (char *)text + NAME);
+    gives(ONE(READ_KEY), "", DONE, second, member, NULL);
+    gives(ONE(READ_KEY), "", DONE, "-----END PUBLIC KEY-----\n", "-----END PUBLIC KEY-----\\n\"}\n", NULL);
+    for (size_t i = 0; i < sizeof refused / sizeof refused[0]; i++) refuses(ONE(READ_KEY), refused[i][0], refused[i][1]);
+    for (size = 0; size < sample.in[AREA].size; size++) refuses(ONE(READ_KEY), sized("area:", size), "key fault 1");
 }
 
-/* The text of a key has its name, type, size, scheme and PEM, and JSON the same as members. */
-static void check_key(const struct given *sample) {
-    static const char first[] = "name 000b", second[] = "\nkey rsa 2048\nscheme rsassa sha256\n";
-    enum { NAME = 5, DIGITS = 2 * (2 + 32) };
-    char name[DIGITS + 1] = "", member[DIGITS + 80];
-    ask(key, sample, IMA_VERIFY_TEXT, ROOM);
-    size_t lines = NAME + DIGITS + strlen(second);
-    bool has_both = out.size == lines + sample->pem.size && memcmp(text, first, strlen(first)) == 0
-                    && memcmp(text + NAME + DIGITS, second, strlen(second)) == 0;
-    check(result == IMA_VERIFY_DONE && has_no_fault() && has_both, "key", "the sample");
-    check(has_both && memcmp(text + lines, sample->pem.data, sample->pem.size) == 0, "key", "the PEM");
-    memcpy(name, text + NAME, DIGITS);
-    ask(key, sample, IMA_VERIFY_JSON, ROOM);
-    snprintf(member, sizeof member, "{\"name\":\"%s\",\"type\":\"rsa\",\"bits\":2048,\"scheme\":\"rsassa\",\"hash\":\"sha256\",\"pem\":\"", name);
-    bool is_json = out.size > strlen(member) && memcmp(text, member, strlen(member)) == 0;
-    check(result == IMA_VERIFY_DONE && has_no_fault() && is_json && ends_with("-----END PUBLIC KEY-----\\n\"}\n"), "key", "as JSON");
-}
-
-static void check_key_fault(const struct given *given, uint32_t number) {
-    char line[SHOWN];
-    snprintf(line, sizeof line, "refused: key fault %u\n", number);
-    check_refusal(key, given, line, IMA_VERIFY_KEY, number, IMA_VERIFY_NO_PLACE);
-}
-
-/* A key is refused if its area is cut or longer, if it lacks an attribute, or if it is for another purpose. */
-static void check_changed_keys(const struct given *sample) {
-    /* (after the size, the type and the hash of the name come the attributes, whose last byte has the bits 0 to 7) */
-    static const struct {
-        int byte, bit;
-        uint32_t number;
-    } attributes[] = {{9, 1, 12}, {9, 4, 13}, {9, 5, 14}, {7, 0, 15}, {7, 2, 17}, {7, 1, 18}};
-    static uint8_t changed[ROOM];
-    struct given given;
-    struct ima_verify_bytes area = sample->area;
-
-    for (area.size = 0; area.size < sample->area.size; area.size++)
-        check_key_fault(WITH(area, area), 1);
-    memcpy(changed, area.data, area.size);
-    area = (struct ima_verify_bytes){changed, area.size + 1};
-    check_key_fault(WITH(area, area), 10);
-    area.size--;
-    for (size_t i = 0; i < sizeof attributes / sizeof attributes[0]; i++) {
-        changed[attributes[i].byte] ^= (uint8_t)(1 << attributes[i].bit);
-        check_key_fault(WITH(area, area), attributes[i].number);
-        changed[attributes[i].byte] = sample->area.data[attributes[i].byte];
-    }
-    changed[3] ^= 0x20;
-    check_key_fault(WITH(area, area), 2);
-    check_key_fault(WITH(purpose, IMA_VERIFY_ENDORSEMENT), 21);
-}
-
-/* The line of register 10, which the sample's list alone extends. */
-static struct ima_verify_bytes tenth_of(struct ima_verify_bytes expected) {
-    const uint8_t *line = memmem(expected.data, expected.size, "sha256 10 ", 10), *next = line;
-    if (line)
-        next = memmem(line, expected.size - (size_t)(line - expected.data), "sha256 11 ", 10);
-    if (!next)
-        abort();
-    return (struct ima_verify_bytes){line, (size_t)(next - line)};
-}
-
-/* A function says with a requirement, and only then, that the entry 98 is of register 11: `locate` never does. */
-static void check_told(const struct function *function, struct given *given) {
-    bool is_told = function != locate;
-    given->evidence.require = ima_verify_none();
-    ask(function, given, IMA_VERIFY_TEXT, ROOM);
-    check(result == IMA_VERIFY_DONE, function->name, "an entry of register 11, where nothing is required");
-    given->evidence.require = ima_verify_text("sha256:10");
-    ask(function, given, IMA_VERIFY_TEXT, ROOM);
-    check(result == (is_told ? IMA_VERIFY_DIFFERS : IMA_VERIFY_DONE) && has_line("entry 98 extends 11\n") == is_told, function->name,
-          "an entry of register 11");
-    check(function != more || (next.size == 0 && is_filled(checkpoint, 0)), function->name, "no checkpoint");
-}
-
-/* The sample's list has an entry of register 11 before its last one, and its log an event of register 10 after its last one. */
-static void check_strays(const struct given *sample) {
-    enum { LAST = 95 };
-    static uint8_t straying[ROOM];
-    static const uint8_t event[50] = {10, 0, 0, 0, 13, 0, 0, 0, 1, 0, 0, 0, 0x0b};
-    struct ima_verify_bytes list = sample->evidence.list, log = sample->evidence.log;
-    struct given given = *sample;
-    memcpy(straying, list.data, list.size);
-    memcpy(straying + list.size, list.data + list.size - LAST, LAST);
-    straying[list.size - LAST] = 11;
-    given.evidence.list = (struct ima_verify_bytes){straying, list.size + LAST};
-    given.evidence.expected = tenth_of(sample->evidence.expected);
-    for (int i = 0; i < 4; i++)
-        check_told(&functions[i], &given);
-    given.prefix = true;
-    check_told(more, &given);
-
-    given = *sample;
-    memcpy(straying, log.data, log.size);
-    memcpy(straying + log.size, event, sizeof event);
-    given.evidence.log = (struct ima_verify_bytes){straying, log.size + sizeof event};
-    ask(verdict, &given, IMA_VERIFY_TEXT, ROOM);
-    check(result == IMA_VERIFY_DIFFERS && has_line("event 25 extends 10\n"), "verdict", "an event of register 10");
+/* What was booted, and which data of an event is confirmed, by expected PCRs, by a quote that matches, and by nothing. */
+static void check_boots(void) {
+    enum { PCRS = ONE(BOOT_BY_PCRS), QUOTE = ONE(BOOT_BY_QUOTE) };
+    static const char off[] = "secure_boot off\nfirmware_version {\"text\":\"\"}\nimage 10 sha256 7302", off_json[] = "{\"secure_boot\":\"off\"}\n";
+    static const char unknown[] = "secure_boot unknown\nfirmware_version unknown\nimage unknown\n", unknown_json[] = "{\"secure_boot\":\"unknown\"}\n";
+    static const char event[] = "\"measured\":{\"sha256\":\"data\"},\"content\":{\"text\":\"\"}}\n";
+    static const char confirmed[] = "\"measured\":{\"sha256\":\"data\"},\"confirmed\":\"data\",\"content\":{\"text\":\"\"}}\n";
+    gives(PCRS | QUOTE, "", DONE, off, off_json, NULL);
+    check(!has_text("alike"), BOOT_BY_QUOTE, "no earlier boot");
+    gives(ONE(BOOT), "", DONE, unknown, unknown_json, NULL);
+    gives(PCRS, "expected=", DONE, unknown, unknown_json, NULL);
+    gives(QUOTE, "unsigned", DIFFERS, unknown, unknown_json, NULL);
+    gives(QUOTE, "list-95", DIFFERS, unknown, unknown_json, NULL);
+    gives(PCRS | QUOTE, "before@log", DONE, "\nregister 0 alike all\nregister 1 alike all\n", "{\"register\":0,\"alike\":\"all\"}\n", NULL);
+    gives(ONE(BOOT), "before@log", DONE, "\nregister 0 alike unknown\n", "{\"register\":0,\"alike\":\"unknown\"}\n", NULL);
+    gives(ONE(EVENTS_BY_PCRS) | ONE(EVENTS_BY_QUOTE), "", DONE, confirmed, confirmed, NULL);
+    gives(ONE(EVENTS), "", DONE, event, event, NULL);
+    check(!has_text("confirmed"), EVENTS, "by nothing");
+    gives(ONE(EVENTS_BY_QUOTE), "unsigned", DIFFERS, "", "\"confirmed\":\"none\"", NULL);
+    check(!has_text("\"confirmed\":\"data\""), EVENTS_BY_QUOTE, "without a signature");
 }
 
 /* Lines one by one, and all at once; and there is nothing after the last. */
-static void check_pieces(const struct given *sample) {
-    static uint8_t whole[ROOM];
-    for (int i = 9 * 2; i < FUNCTIONS * 2; i++) {
-        const struct function *function = &functions[i / 2];
-        enum ima_verify_form form = i % 2 ? IMA_VERIFY_JSON : IMA_VERIFY_TEXT;
-        struct given given = *sample;
+static void check_pieces(void) {
+    static uint8_t whole[SPACE];
+    for (int i = ENTRIES * 2; i < FUNCTIONS * 2; i++) {
+        int which = i / 2;
+        enum ima_verify_form form = i % 2 ? IMA_VERIFY_JSON : TEXT;
+        struct given given = sample;
         /* (as JSON the position after the number of entries is one further than the list) */
-        size_t size = 0, end = function->inputs == OF_LOG ? given.evidence.log.size : given.evidence.list.size + (size_t)(i % 2);
-        ask(function, sample, form, ROOM);
+        size_t size = 0, end = which == ENTRIES ? sample.in[LIST].size + (size_t)(i % 2) : sample.in[LOG].size;
+        ask(which, &sample, form, SPACE);
         size_t whole_size = out.size;
         memcpy(whole, text, whole_size);
-        check(result == IMA_VERIFY_DONE && position.offset == end, function->name, "all at once");
+        check(result == DONE && position.offset == end, which, "all at once");
         bool is_next = true;
         do {
-            ask(function, &given, form, 0);
+            ask(which, &given, form, 0);
             size_t line = out.size;
-            ask(function, &given, form, line);
-            is_next = (result == IMA_VERIFY_DONE || result == IMA_VERIFY_MORE) && position.offset > given.position.offset
+            ask(which, &given, form, line);
+            is_next = (result == DONE || result == IMA_VERIFY_MORE) && position.offset > given.position.offset
                       && out.size == line && size + line <= whole_size && memcmp(whole + size, text, line) == 0;
-            check(is_next, function->name, "the next line");
+            check(is_next, which, "the next line");
             given.position = position;
             size += line;
         } while (is_next && result == IMA_VERIFY_MORE);
-        check(result == IMA_VERIFY_DONE && size == whole_size && position.offset == end, function->name, "line by line");
-        ask(function, &given, form, ROOM);
-        check(result == IMA_VERIFY_DONE && out.size == 0 && position.offset == end, function->name, "nothing after the last line");
+        check(result == DONE && size == whole_size && position.offset == end, which, "line by line");
+        ask(which, &given, form, SPACE);
+        check(result == DONE && out.size == 0 && position.offset == end, which, "nothing after the last line");
     }
 }
 
 /* A call in a thread of its own. */
-struct deep {
-    const struct function *function;
+static struct {
+    int which;
     const struct given *given;
     enum ima_verify_form form;
     enum ima_verify_result result;
-};
+} deep;
 
-static struct deep deep;
-static uint8_t signal_stack[SIGNAL_STACK];
-
-static void overflowed(int number) {
-    static char line[200];
-    int size = snprintf(line, sizeof line, "WRONG: %s%s: more than the stack (signal %d)\n0 passed, 1 failed\n", deep.function->name,
-                        deep.form == IMA_VERIFY_JSON ? " as JSON" : "", number);
-    _exit(write(1, line, (size_t)size) < 0 ? 2 : 1);
+static void *call_deep(void *nothing) {
+    deep.result = functions[deep.which].call(deep.given, deep.form);
+    return nothing;
 }
 
-static void *call_deep(void *none) {
-    stack_t alternate = {.ss_sp = signal_stack, .ss_size = sizeof signal_stack};
-    sigaltstack(&alternate, NULL);
-    deep.result = deep.function->call(deep.given, deep.form);
-    return none;
-}
-
-/* How many bytes of so large a stack a call takes, with what a thread itself takes. */
+/* How many bytes of so large a stack a call takes, with what a thread itself takes. One that takes more ends the program. */
 static size_t stack_of(size_t size) {
     uint8_t *low = mmap(NULL, GUARD + size, PROT_NONE, MAP_PRIVATE | MAP_ANONYMOUS | MAP_NORESERVE, -1, 0), *stack = low + GUARD;
     pthread_attr_t attributes;
     pthread_t thread;
-    if (low == MAP_FAILED || mprotect(stack, size, PROT_READ | PROT_WRITE) != 0)
-        abort();
+    if (low == MAP_FAILED || mprotect(stack, size, PROT_READ | PROT_WRITE) != 0) abort();
     memset(stack, FILL, size);
     pthread_attr_init(&attributes);
-    if (pthread_attr_setstack(&attributes, stack, size) != 0 || pthread_create(&thread, &attributes, call_deep, NULL) != 0)
-        abort();
+    if (pthread_attr_setstack(&attributes, stack, size) != 0 || pthread_create(&thread, &attributes, call_deep, NULL) != 0) abort();
     pthread_join(thread, NULL);
     pthread_attr_destroy(&attributes);
     size_t unused = 0;
-    while (unused < size && stack[unused] == FILL)
-        unused++;
+    while (unused < size && stack[unused] == FILL) unused++;
     munmap(low, GUARD + size);
     return size - unused;
 }
 
-static size_t deepest;
-static char its_name[100];
-
-static void check_deep(const struct function *function, const struct given *given, enum ima_verify_form form, size_t stack,
-                       const char *what) {
-    enum ima_verify_result wanted = ask(function, given, form, ROOM);
-    deep = (struct deep){function, given, form, IMA_VERIFY_MISUSED};
-    position = given->position;
-    size_t used = stack_of(stack);
-    result = deep.result;
-    check(result == wanted, function->name, "in a thread");
-    if (used > deepest) {
+/* What each function is given in a thread with the header's stack. */
+static void check_stack(void) {
+    static const char *const given_so[] = {
+        "", "require=sha1:0-23,sha256:0-23,sha384:0-23,sha512:0-23", "prefix", "checked known@files", "endorsement of_list", "list@other_list", "log=none",
+        "before@log", "log@banks_log list@banks_list message@banks_message", "state@by_pcrs list=", "state@by_pcrs list= prefix",
+        "state@by_pcrs list@last", "state@by_pcrs list@last prefix", "state@by_quote list=", "state@by_quote list= prefix", "state@by_quote list@last",
+        "state@by_quote list@last prefix"};
+    enum { GIVEN = sizeof given_so / sizeof given_so[0] };
+    static char name[WORDS];
+    size_t deepest = 0;
+    for (int i = 0; i < (GIVEN + SIGNERS * 2) * FUNCTIONS * 2; i++) {
+        int which = i / 2 % FUNCTIONS, number = i / 2 / FUNCTIONS, signer = (number - GIVEN) / 2;
+        bool is_pem = (number - GIVEN) % 2;
+        const char *changes = number < GIVEN ? given_so[number] : signed_by(signers[signer], is_pem ? "pem" : "pub", is_pem ? "tpmt" : "sig", "");
+        struct given given = changed(changes);
+        deep.which = which, deep.given = &given, deep.form = i % 2 ? IMA_VERIFY_JSON : TEXT;
+        enum ima_verify_result wanted = ask(which, &given, deep.form, SPACE);
+        position = given.position;
+        size_t used = stack_of(STACK);
+        result = deep.result;
+        check(result == wanted, which, "in a thread");
+        if (used <= deepest) continue;
         deepest = used;
-        snprintf(its_name, sizeof its_name, "%s%s, %s", function->name, form == IMA_VERIFY_JSON ? " as JSON" : "", what);
+        snprintf(name, sizeof name, "%s%s, %s", functions[which].name, i % 2 ? " as JSON" : "", changes);
     }
+    check(deepest > 0 && deepest < STACK, VERDICT, "the stack");
+    printf("%zu bytes of stack at most: %s\n", deepest, name);
 }
 
-static void check_stack(const struct given *sample, size_t stack) {
-    static uint8_t front[ROOM], state[ROOM], quoted[ROOM];
-    struct given given;
-    struct sigaction action = {.sa_handler = overflowed, .sa_flags = SA_ONSTACK};
-    sigaction(SIGSEGV, &action, NULL);
-    sigaction(SIGBUS, &action, NULL);
-    ask(more, sample, IMA_VERIFY_TEXT, ROOM);
-    memcpy(state, checkpoint, next.size);
-    struct ima_verify_bytes saved = {state, next.size}, list = sample->evidence.list;
-    struct ima_verify_bytes by_quote = saved_by(attest_more, sample, quoted, "the sample");
-    memcpy(front, list.data, list.size);
-    front[list.size - 20] ^= 1;
-    for (int i = 0; i < FUNCTIONS * 2; i++) {
-        const struct function *function = &functions[i / 2];
-        enum ima_verify_form form = i % 2 ? IMA_VERIFY_JSON : IMA_VERIFY_TEXT;
-        check_deep(function, sample, form, stack, "the sample");
-        check_deep(function, WITH(evidence.require, ima_verify_text("sha1:0-23,sha256:0-23,sha384:0-23,sha512:0-23")), form, stack,
-                   "all registers");
-        check_deep(function, WITH(prefix, true), form, stack, "the confirmed prefix");
-        given = knowing(sample);
-        check_deep(function, &given, form, stack, "known files");
-        check_deep(function, WITH(origin, IMA_VERIFY_OF_LIST), form, stack, "of the list");
-        check_deep(function, WITH(purpose, IMA_VERIFY_ENDORSEMENT), form, stack, "another purpose");
-        check_deep(function, WITH(evidence.list, ((struct ima_verify_bytes){front, list.size})), form, stack, "a changed list");
-        check_deep(function, WITH(evidence.log, ima_verify_none()), form, stack, "no log");
+int main(int count, char **names) {
+    static void (*const checks[])(void) = {
+        check_wrong_calls, check_wrong_outputs, check_summaries, check_capacities, check_refusals, check_verdicts, check_known_prefix, check_quotes,
+        check_sessions, check_signatures, check_refused_signatures, check_misused_raw, check_keys, check_boots, check_pieces, check_stack};
+    if (count != 2 || chdir(names[1]) != 0) return 2;
+    for (int i = 0; i <= AREA; i++) sample.in[i] = kept(input_names[i]);
+    sample.in[REQUIRE] = ima_verify_text("sha256:0-10");
+    sample.in[SELECTION] = ima_verify_text("0-10");
+    sample.error = (struct ima_verify_error){IMA_VERIFY_QUOTE, 11, NONE};
+    sample.signature_checked = true;
+    check(ima_verify_version() >= IMA_VERIFY_VERSION, VERDICT, "a version older than the header");
+    for (size_t i = 0; i < sizeof checks / sizeof checks[0]; i++) {
+        checks[i]();
+        fflush(stdout);
     }
-    for (int i = 0; i < TAKEN; i++) {
-        given = signed_by(sample, signers[i].message, signers[i].area, signers[i].plain);
-        check_deep(attest, &given, IMA_VERIFY_TEXT, stack, signer_names[i]);
-        given = signed_by(sample, signers[i].message, signers[i].pem, signers[i].whole);
-        check_deep(attest_more, &given, IMA_VERIFY_JSON, stack, signer_names[i]);
-    }
-    for (int i = 0; i < 4; i++) {
-        given = *sample;
-        given.state = saved;
-        given.prefix = i & 1;
-        given.evidence.list = i & 2 ? (struct ima_verify_bytes){list.data + list.size - 95, 95} : ima_verify_text("");
-        check_deep(more, &given, IMA_VERIFY_TEXT, stack, "with a checkpoint");
-        check_deep(more, &given, IMA_VERIFY_JSON, stack, "with a checkpoint");
-        given.state = by_quote;
-        check_deep(attest_more, &given, IMA_VERIFY_TEXT, stack, "with a checkpoint");
-        check_deep(attest_more, &given, IMA_VERIFY_JSON, stack, "with a checkpoint");
-    }
-    check(deepest > 0 && deepest < stack, its_name, "the stack");
-    printf("%zu bytes of stack at most: %s\n", deepest, its_name);
-}
-
-/* The bytes that a text spells in hexadecimal. */
-static struct ima_verify_bytes spelled(struct ima_verify_bytes digits) {
-    static uint8_t bytes[ROOM];
-    struct ima_verify_bytes found = {bytes, 0};
-    for (size_t i = 0; i + 1 < digits.size; i += 2) {
-        char pair[] = {(char)digits.data[i], (char)digits.data[i + 1], 0};
-        bytes[found.size++] = (uint8_t)strtoul(pair, NULL, 16);
-    }
-    return found;
-}
-
-int main(int count, char **words) {
-    if (count < 15)
-        return 2;
-    load_signers(words[14]);
-    struct given sample = {
-        .evidence = {.log = load(words[1]), .list = load(words[2]), .expected = load(words[3]),
-                     .require = ima_verify_text("sha256:0-10")},
-        .state = {NULL, 0},
-        .printed = load(words[4]),
-        .registers = ima_verify_text("0-10"),
-        .message = load(words[5]),
-        .nonce = spelled(load(words[6])),
-        .area = load(words[7]),
-        .pem = load(words[8]),
-        .files = load(words[9]),
-        .before = load(words[10]),
-        .signature_checked = true,
-    };
-    check(ima_verify_version() >= IMA_VERIFY_VERSION, "version", "older than the header");
-    check_wrong_calls(&sample);
-    check_wrong_outputs(&sample);
-    check_rooms(&sample);
-    check_faults(&sample);
-    check_requirements(&sample);
-    check_known_files(&sample);
-    check_known_prefix(&sample);
-    check_known_faults(&sample);
-    check_strays(&sample);
-    check_quote_refusals(&sample);
-    check_quote(&sample);
-    check_quoted_banks(&sample, load(words[11]), load(words[12]), load(words[13]));
-    check_quoted_sessions(&sample);
-    check_signatures(&sample);
-    check_refused_signatures(&sample);
-    check_order_of_signatures(&sample);
-    check_misused_signatures(&sample);
-    check_signed_sessions(&sample);
-    check_key(&sample);
-    check_changed_keys(&sample);
-    check_pieces(&sample);
-    fflush(stdout);
-    check_stack(&sample, count > 15 ? strtoul(words[15], NULL, 10) : STACK);
     printf("%ld passed, %ld failed\n", passed, failed);
     return failed != 0;
 }

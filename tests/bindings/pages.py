@@ -58,6 +58,10 @@ GO_QUOTE = """	verdict, err := attested(files[0], string(files[1]), files[2], fi
 		log.Fatal(err)
 	}
 	fmt.Println(verdict.Conclusion, verdict.Entries)"""
+GO_BOOT = """	quote := imaverify.Quote{Key: files[0], NonceHex: string(files[1]), Message: files[2], Signature: files[3], Require: "sha256:0-10"}
+	if err := booted(files[4], files[5], quote); err != nil {
+		log.Fatal(err)
+	}"""
 GO_PAGE = """	if err := unknownFiles(files[0], files[1], files[2], files[3]); err != nil {
 		log.Fatal(err)
 	}"""
@@ -74,17 +78,24 @@ def examples_of(language):
 
 
 def page_of(language):
-    """The second example of a language's page, of known files, as a program, and after it the third, the function of a list that grows."""
-    _, program, function = examples_of(language)
+    """The last examples of a language's page: of known files, as a program, and after it the function of a list that grows."""
+    *_, program, function = examples_of(language)
     begun = go_call(GO_PAGE, *FILES, "known.txt") if language == "go" else ""
     return f"{begun}{program}\n{function}"
 
 
-def quote_page_of(language):
+def quote_page_of(language, call=GO_QUOTE):
     """The first example of a language's page, of a quote, as a program."""
     names = "AK.pub", "nonce", "quote.msg", "quote.sig", *FILES[:2]
-    begun = go_call(GO_QUOTE, *names) if language == "go" else ""
+    begun = go_call(call, *names) if language == "go" else ""
     return begun + examples_of(language)[0]
+
+
+def boot_page_of(language):
+    """The example of what was booted, as a program: it is one of its own, or the function `booted` of the first example."""
+    if language == "rust":
+        return examples_of(language)[1]
+    return quote_page_of(language, GO_BOOT) + ("booted()\n" if language == "python" else "")
 
 
 def quoting_area():
@@ -98,20 +109,20 @@ def quoting_area():
 def quote_inputs(folder):
     """Folders with what the programs of a quote read, each with what they must print: a line, or as a pattern a part of an error."""
     files = {name: (QUOTED / name).read_bytes() for name in ("quote.msg", "quote.sig", "nonce")}
-    files |= {"AK.pub": quoting_area(), **{name: (SAMPLE / name).read_bytes() for name in FILES[:2]}}
+    files |= {"AK.pub": quoting_area(), **{name: (SAMPLE / name).read_bytes() for name in FILES}}
     message, pem = files["quote.msg"], (QUOTED / "AK.pem").read_bytes()
     for name, changes, wanted in (
         ("a boot", {}, "match 99\n"),
         ("a key as PEM", {"AK.pub": pem}, "match 99\n"),
         ("a TPMT_SIGNATURE", {"quote.sig": (QUOTED / "quote.tpmt").read_bytes()}, "match 99\n"),
         ("a shorter list", {"ima.list": files["ima.list"][:-95]}, "differ 98\n"),
-        ("another nonce", {"nonce": b"00" * 20 + b"\n"}, "refused: quote fault 11"),
-        ("another message", {"quote.msg": message[:-1] + bytes([message[-1] ^ 1])}, "refused: signature fault 7"),
-        ("another key", {"AK.pub": (ROOT / "samples/keys/ak-rsassa.pub").read_bytes()}, "refused: signature fault 7"),
-        ("no signature", {"quote.sig": b""}, "refused: signature fault 1"),
-        ("no key", {"AK.pub": message}, "refused: key fault 1"),
-        ("an empty key", {"AK.pub": b""}, "refused: key fault 1"),
-        ("a PEM that is cut", {"AK.pub": pem[:-1]}, "refused: signature fault 9"),
+        ("another nonce", {"nonce": b"00" * 20 + b"\n"}, "answers another nonce"),
+        ("another message", {"quote.msg": message[:-1] + bytes([message[-1] ^ 1])}, "not signed by this key"),
+        ("another key", {"AK.pub": (ROOT / "samples/keys/ak-rsassa.pub").read_bytes()}, "not signed by this key"),
+        ("no signature", {"quote.sig": b""}, "signature is cut short"),
+        ("no key", {"AK.pub": message}, "public area is cut short"),
+        ("an empty key", {"AK.pub": b""}, "public area is cut short"),
+        ("a PEM that is cut", {"AK.pub": pem[:-1]}, "PEM is of a kind of key that is not taken"),
     ):
         (folder / name).mkdir(parents=True)
         for file, data in {**files, **changes}.items():
@@ -151,16 +162,35 @@ def hiding_inputs():
     yield "an event in the list", log, [*inputs.made_entries(log, inputs.made_measurements(5)), moved]
 
 
-def banks_inputs(folder):
-    """Files of a boot with banks of all algorithms: log, list, and the sample's quote, but of this boot's registers 0 to 10 of SHA-256."""
+def banks_inputs():
+    """A boot with banks of all algorithms: log, list, and the sample's quote, but of this boot's PCRs 0 to 10 of SHA-256."""
     log = inputs.made_log(ALGORITHMS, 24)
     entries, registers = inputs.made_entries(log, inputs.made_measurements(3)), log.registers()
     replay(registers, entries)
     digest = SHA256.hash(b"".join(registers.value(SHA256, register) for register in range(11)))
-    message = (QUOTED / "quote.msg").read_bytes()[:-SHA256.size] + digest  # (the digest is its end)
-    for name, data in (("banks.log", log.spelling()), ("banks.list", list_spelling(entries)), ("banks.msg", message)):
+    return log.spelling(), list_spelling(entries), (QUOTED / "quote.msg").read_bytes()[:-SHA256.size] + digest  # (the digest is its end)
+
+
+def header_files(folder):
+    """A folder with the files that header.c reads: the sample boot, and what its inputs are changed to."""
+    keys, known = ROOT / "samples/keys", ROOT / "samples/known"
+    paths = {"log": SAMPLE / FILES[0], "list": SAMPLE / FILES[1], "expected": SAMPLE / FILES[2], "printed": SAMPLE / "tpm2_pcrread.txt",
+             "message": QUOTED / "quote.msg", "area": keys / "ak-rsassa.pub", "pem": keys / "ak-rsassa.pem", "files": known / "SHA256SUMS",
+             "earlier": known / "before-violations.expected", **{file.name: file for file in (ROOT / "samples/signed").glob("*.*")}}
+    files = {name: path.read_bytes() for name, path in paths.items()}
+    log, entries, lines, message = files["log"], files["list"], files["expected"].splitlines(True), files["message"]
+    last = entries[-95:]
+    # (type, one digest, by SHA-256, which is of zeros; and no data)
+    event = b"".join(value.to_bytes(size, "little") for value, size in ((13, 4), (1, 4), (11, 2), (0, 32), (0, 4)))
+    files |= dict(zip(("banks_log", "banks_list", "banks_message"), banks_inputs()))
+    files |= {"nonce": bytes.fromhex((QUOTED / "nonce").read_text()), "x": b"x", "weak": b"3f786850e387550fdab836ed7e6dc881de23001b  a\n",
+              "last": last, "strayed": entries[:-95] + b"\x0b" + last[1:] + last, "first": lines[0], "tenth": lines[10],
+              "other_list": entries[:-20] + bytes([entries[-20] ^ 1]) + entries[-19:], "other_message": message[:-1] + bytes([message[-1] ^ 1]),
+              **{f"log{number}": log + number.to_bytes(4, "little") + event for number in (9, 10)}}
+    folder.mkdir()
+    for name, data in files.items():
         (folder / name).write_bytes(data)
-        yield folder / name
+    return folder
 
 
 def doc_samples():
