@@ -25,12 +25,6 @@ class Call:
             value = ctypes.string_at(*part) if is_bytes else part[0] if count == 1 else part
             self.given[argument] = value
 
-    @property
-    def said(self):
-        """The bytes, the flags and the numbers that are given, but for those that say nothing."""
-        return {name: value for name, value in self.given.items()
-                if isinstance(value, (bytes, int)) and value}
-
     def give(self, status, text=b"", error=NO_ERROR, size=None, state=b""):
         """Answers so; the size of the text may be another."""
         ctypes.memmove(self._out, text, min(len(text), self.capacity))
@@ -72,17 +66,3 @@ def giving(name, *answers):
     """A library whose function of this name gives these answers, one at each call."""
     left = iter(answers)
     return library(**{name: lambda call: call.give(*next(left))})
-
-
-@contextlib.contextmanager
-def counted(name):
-    """The capacities of the calls of a function of the library, which answers as always."""
-    loaded, capacities = _library.loaded(), []
-
-    def function(*words):
-        capacities.append(words[-2])
-        return getattr(loaded, f"ima_verify_raw_{name}")(*words)
-
-    functions = types.SimpleNamespace(**{f"ima_verify_raw_{name}": function})
-    with unittest.mock.patch.object(_library, "loaded", lambda: functions):
-        yield capacities
