@@ -42,8 +42,7 @@ from ._errors import (
     Error, Kind, LibraryError, LoadError, Misuse, OutOfMemory, Refused, VersionError,
 )
 from ._inputs import (
-    NOTHING, Known, Nothing, Quote, Required, Text, bytes_of, confirming, known_files, required,
-    text_of,
+    NOTHING, Known, Nothing, Quote, Required, Text, bytes_of, confirming, judged, text_of,
 )
 from ._library import Buffer
 from ._listings import Entries, Events
@@ -88,8 +87,7 @@ def verify(
             known. If it is None, none has to be.
 
     Raises:
-        Refused: `expected`, a text of `known`, the log or the list is not valid, or the template
-            digest of an entry does not match.
+        Refused: An input is not valid, or the template digest of an entry does not match.
         Misuse: `require` is not of its form, or it is `NOTHING` though `known` is given.
 
     >>> verdict = ima_verify.verify(log, measurements, expected, require="sha256:0-10,sha1:10")
@@ -99,11 +97,8 @@ def verify(
     >>> ima_verify.verify(log, measurements, expected, require="sha256:0-10", known=[sums]).unknown
     (93, 94, 97)
     """
-    answer = _library.call(
-        "verdict", log=bytes_of("log", log), list=bytes_of("measurements", measurements),
-        expected=text_of("expected", expected), require=required(require), json=True,
-        **known_files(known),
-    )
+    given = judged(measurements, expected, require, known)
+    answer = _library.call("verdict", log=bytes_of("log", log), **given)
     return _answers.read_verdict(Verdict, *answer)
 
 
@@ -113,37 +108,25 @@ def replay(
     """The verdict on a measurement list without a log, and expected PCRs.
 
     The list is replayed from the PCRs' reset values, so a PCR that the firmware extends too
-    differs. A list without entries is no match.
-
-    Raises:
-        Refused, Misuse: As `verify` does.
+    differs. A list without entries is no match. Errors are as of `verify`.
 
     >>> tenth = next(line for line in expected.splitlines() if line.startswith(b"sha256 10 "))
     >>> ima_verify.replay(measurements, tenth, require="sha256:10").matches
     True
     """
-    answer = _library.call(
-        "replay", list=bytes_of("measurements", measurements),
-        expected=text_of("expected", expected), require=required(require), json=True,
-        **known_files(known),
-    )
+    answer = _library.call("replay", **judged(measurements, expected, require, known))
     return _answers.read_verdict(ListVerdict, *answer)
 
 
 def locate(log: Buffer, measurements: Buffer, expected: Text, *, require: Required) -> Places:
-    """Where each expected PCR first has its value.
-
-    Raises:
-        Refused, Misuse: As `verify` does.
+    """Where each expected PCR first has its value. Errors are as of `verify`.
 
     >>> places = ima_verify.locate(log, measurements, expected, require="sha256:0-10")
     >>> [(row.register, row.place, row.number) for row in places.registers[9:11]]
     [(9, 'event', 22), (10, 'entry', 98)]
     """
-    answer = _library.call(
-        "locate", log=bytes_of("log", log), list=bytes_of("measurements", measurements),
-        expected=text_of("expected", expected), require=required(require), json=True,
-    )
+    given = judged(measurements, expected, require)
+    answer = _library.call("locate", log=bytes_of("log", log), **given)
     return _answers.read_places(*answer)
 
 
@@ -187,8 +170,7 @@ def attest(
             message by the machine's key. If it is False, there is no match.
 
     Raises:
-        Refused: The key, the signature, the quote, a text of `known`, the log or the list, in this
-            order.
+        Refused: The key, the signature, the quote, a text of `known`, the log or the list.
         Misuse: `require` is not of its form, leaves out one of the PCRs 0 to 10, or names one of
             the SHA-1 bank alone; or the nonce is too short, or not hexadecimal.
 
@@ -225,9 +207,7 @@ def boot(
             one, all is unknown.
         before: The log of an earlier boot, to compare with. Nothing confirms it.
 
-    Raises:
-        Refused: The log, the earlier log, the expected PCRs or an input of the quote.
-        Misuse: As `attest` does for a quote.
+    Errors are as of `verify` and `attest`.
 
     >>> names = "systemd-boot.log", "systemd-boot.expected", "secure-boot.log"
     >>> now, pcrs, earlier = (Path("../ovmf-boot", name).read_bytes() for name in names)
@@ -363,8 +343,7 @@ def events(
 
     Raises:
         Refused: The log's header is damaged. If another event is, the iterator raises this, after
-            the events before it. With expected PCRs or a quote, these or a damaged log.
-        Misuse: As `attest` does for a quote.
+            the events before it. With expected PCRs or a quote, errors are as of `boot`.
 
     >>> events = ima_verify.events(log)
     >>> [algorithm.name for algorithm in events.header.algorithms], next(events).type
@@ -388,4 +367,6 @@ def show(measurements: Buffer) -> bytes:
     b'51aabe89 /init'
     """
     listed = bytes_of("measurements", measurements)
-    return b"".join(iter(_library.Pieces("entries", list=listed, json=False).next, b""))
+    if not memoryview(listed).nbytes:
+        return b""  # (a text without a line)
+    return b"".join(_library.lines("entries", list=listed, json=False))

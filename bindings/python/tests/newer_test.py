@@ -1,7 +1,8 @@
 """The package reads a newer library, whose objects have one more member, and in whose verdicts
 there may be one more reason to differ.
 
-tests/bindings/test runs it with such a library: IMA_VERIFY_SHIM says which (`member` or `differ`)."""
+tests/bindings/test runs this with such a library. IMA_VERIFY_SHIM says which: `member` or `differ`.
+"""
 
 import os
 import unittest

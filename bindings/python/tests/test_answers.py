@@ -8,10 +8,10 @@ import re
 import subprocess
 import sys
 import unittest
+from unittest.mock import patch
 
 from samples import ROOT, TABLE, of_kind
 
-import fake
 import ima_verify
 from ima_verify import Kind, _answers, _library
 
@@ -51,7 +51,9 @@ def read(answer, line=None, status=None):
         return _answers.read_verdict(LINES[kind], status, text)
     if kind in ("places", "key", "pcrs"):
         return getattr(_answers, f"read_{kind}")(status, text)
-    return _answers.read_count(text) if kind == "end" else _answers.read_line(LINES[kind], text)
+    if kind in ("entry", "end"):
+        return _answers.read_entry(text)
+    return _answers.read_line(LINES[kind], text)
 
 
 def with_more(line):
@@ -114,8 +116,6 @@ class Answers(unittest.TestCase):
                  found.alike[0], found.changed[0])
         for part, value in zip(parts, values[2:], strict=True):
             self.check(part, value)
-        unknown = BOOT.replace(b'{"text":""}', b'"unknown"')
-        self.assertEqual(_answers.read_boot(DONE, unknown).firmware_version, "unknown")
 
 
 class Later(unittest.TestCase):
@@ -184,19 +184,13 @@ class Damaged(unittest.TestCase):
     def test_answer_is_one_object_on_one_line(self):
         for answer in of_kind(*LINES, "pcrs", "end"):
             line = answer["line"]
-            for wrong in ("", "{}", "[]", "null", f"[{line}]", line + line, f"{line}\n", f"\n{line}",
-                          line[:-1], line[1:], line[:len(line) // 2], 100_000 * "["):
+            for wrong in ("", "{}", "[]", "null", f"[{line}]", line + line, f"{line}\n", line[:-1],
+                          f"\n{line}", line[1:], line[:len(line) // 2], 100_000 * "["):
                 self.check_wrong(answer, wrong)
-        for text in (b"", b"\xff\n", b'{"verdict":"match"}'):
-            with self.assertRaises(ima_verify.LibraryError):
-                _answers.read_verdict(ima_verify.Verdict, DONE, text)
-
-    def test_boot_has_its_lines(self):
         lines = BOOT.splitlines(keepends=True)
-        for text in (b"", BOOT[:-1], BOOT + b"x\n", BOOT.replace(b'"off"', b"1"),
-                     *(b"".join(lines[:at] + lines[at + 1:]) for at in (0, 1, 4))):
-            self.assertRaises(ima_verify.LibraryError, _answers.read_boot, DONE, text)
-        self.assertRaises(ima_verify.LibraryError, _answers.read_boot, MORE, BOOT)
+        for at in (0, 1, 4):
+            without = b"".join(lines[:at] + lines[at + 1:])
+            self.assertRaises(ima_verify.LibraryError, _answers.read_boot, DONE, without)
 
 
 class Errors(unittest.TestCase):
@@ -204,25 +198,30 @@ class Errors(unittest.TestCase):
 
     ARGUMENT, MEMORY, IN_LIST = (1, 0, NO_PLACE), (7, 0, NO_PLACE), (3, 1, 2)
 
-    def raised(self, status, error, words=None):
+    def raised(self, status, error, words=b""):
         """The error that is raised of an answer. The library has these words for it, or none."""
-        def in_words(call):
-            self.assertEqual(tuple(call.given.values()), error)
-            return call.give(OUT_OF_MEMORY) if words is None else call.give(DONE, words)
+        def answer(name, given, capacity):
+            info = _library.ErrorInfo()
+            info.size = len(words)
+            if name == "error_text":
+                self.assertEqual(tuple(given.values()), error)
+                return DONE if words else OUT_OF_MEMORY, info, bytearray(words)
+            info.error_kind, info.error_number, info.error_place = error
+            return status, info, bytearray(len(words))
 
-        answer = {"registers": lambda call: call.give(status, b"anything", error)}
-        with fake.library(**answer, error_text=in_words):
+        with patch.object(_library, "_answered", answer):
             with self.assertRaises(ima_verify.Error, msg=f"{status} {error}") as caught:
                 ima_verify.registers(b"x")
         return caught.exception
 
     def test_refusals_are_those_of_the_table(self):
+        numbers = {kind: number for number, kind in _library.KINDS.items()}
         for answer in of_kind("error"):
             fault = json.loads(answer["line"])["fault"]
             kind, number, message = Kind(fault["kind"]), fault["number"], fault["message"]
             digits = re.search(r" at \w+ (\d+)$", message)
             place = int(digits[1]) if digits else None
-            error = fake.NUMBERS[kind], number, NO_PLACE if place is None else place
+            error = numbers[kind], number, NO_PLACE if place is None else place
             found = self.raised(REFUSED, error, "W\u00f6rter.".encode())
             self.assertIs(type(found), ima_verify.Refused)
             self.assertEqual((found.kind, found.number, found.place), (kind, number, place))
@@ -243,17 +242,8 @@ class Errors(unittest.TestCase):
 
     def test_failures_are_of_their_status(self):
         for status, error in (
-            *((status, error) for status in (DONE, DIFFERS, MORE, TOO_SHORT, MISUSED, -1)
-              for error in (self.MEMORY, self.ARGUMENT, self.IN_LIST)),
-            *((OUT_OF_MEMORY, error) for error in (self.ARGUMENT, self.IN_LIST, fake.NO_ERROR)),
-            (REFUSED, self.MEMORY), *((status, fake.NO_ERROR) for status in (REFUSED, MISUSED, -1)),
+            *((status, self.IN_LIST) for status in (DONE, DIFFERS, MORE, OUT_OF_MEMORY, TOO_SHORT)),
+            *((status, (0, 0, NO_PLACE)) for status in (REFUSED, OUT_OF_MEMORY, MISUSED, -1)),
+            (REFUSED, self.MEMORY), (OUT_OF_MEMORY, self.ARGUMENT),
         ):
             self.assertIs(type(self.raised(status, error)), ima_verify.LibraryError)
-
-    def test_all_errors_have_one_base(self):
-        for name, base in (("Refused", Exception), ("OutOfMemory", MemoryError),
-                           ("Misuse", ValueError), ("LoadError", ImportError),
-                           ("VersionError", ima_verify.LoadError), ("LibraryError", RuntimeError)):
-            error = getattr(ima_verify, name)
-            self.assertTrue(issubclass(error, (ima_verify.Error, base)))
-            self.assertEqual((str(error("x")), error("x").kind), ("x", None))

@@ -1,18 +1,19 @@
 """What the package answers, as the reference implementation answers the program's commands, and
 what crosses to the library."""
 
-import ctypes
+import inspect
 import re
 import shutil
 import tempfile
 import unittest
+from concurrent.futures import ThreadPoolExecutor
+from unittest.mock import patch
 
 from samples import (
     AREA, ASCII, BY_KEY, CHANGED, EXPECTED, KEY, LIST, LOG, LONGER, MESSAGE, NONCE, PRINTED,
-    QUOTED, REQUIRED, ROOT, SIGNATURE, SUMS, at_once, line_of, sample, state_after,
+    QUOTED, REQUIRED, ROOT, SIGNATURE, SUMS, line_of, sample, state_after,
 )
 
-import fake
 import ima_verify
 from ima_verify import NOTHING, Kind, Quote, Session, _library
 from reference import answer
@@ -113,9 +114,11 @@ class Reference(unittest.TestCase):
         self.assertEqual(tenth, EXPECTED.splitlines(True)[10])
 
     def test_calls_at_once_give_what_they_give_alone(self):
-        wanted, right = [called() for _, called in CALLS[:4]], []
-        at_once(8, lambda: right.append([called() for _, called in CALLS[:4]] == wanted))
-        self.assertEqual(right, 8 * [True])
+        def ask(_):
+            return [called() for _, called in CALLS[:4]]
+
+        with ThreadPoolExecutor(8) as pool:
+            self.assertEqual(list(pool.map(ask, range(16))), 16 * [ask(0)])
 
 
 class Verdicts(unittest.TestCase):
@@ -147,14 +150,12 @@ class Refusals(unittest.TestCase):
         for called, given, more, *wanted in (
             (verify, (LOG, CHANGED, EXPECTED), REQUIRED, Kind.REPLAY, 1, 5),
             (verify, (LOG, LIST[:-1], EXPECTED), REQUIRED, Kind.LIST, 1, 98),
-            (verify, (LOG[:-1], LIST, EXPECTED), REQUIRED, Kind.LOG, 1, 24),
             (verify, (*two, EXPECTED + b"x"), REQUIRED, Kind.EXPECTED, 1, 25),
             (verify, (*two, EXPECTED), {**REQUIRED, "known": [SUMS, "x"]}, Kind.KNOWN, 2, 94),
             (ima_verify.read_key, (ENDORSEMENT,), {}, Kind.KEY, 17, None),
             (attest, (KEY, MESSAGE, SIGNATURE[::-1], *two), QUOTED, Kind.SIGNATURE, 7, None),
-            (attest, ("", MESSAGE, b"", *two), QUOTED, Kind.KEY, 1, None),
             (attest, (*BY_KEY, *two), {**REQUIRED, "nonce": bytes(16)}, Kind.QUOTE, 11, None),
-            (ima_verify.boot, (LOG,), {"expected": "x"}, Kind.EXPECTED, 1, 1),
+            (ima_verify.boot, (LOG[:-1],), {"expected": EXPECTED}, Kind.LOG, 1, 24),
             (ima_verify.events, (b"",), {"quote": QUOTE}, Kind.LOG, 1, 0),
         ):
             with self.assertRaises(ima_verify.Refused) as caught:
@@ -164,19 +165,18 @@ class Refusals(unittest.TestCase):
             self.assertRegex(str(found), r"^[A-Z].*\.$")
 
     def test_arguments_without_a_meaning_are_a_misuse(self):
-        for require in ("", "none", "None", "sha256", "sha256:0-9", "sha256:24", "\ud800"):
-            for called, given in ((ima_verify.verify, {"expected": EXPECTED}),
-                                  (ima_verify.attest, {**BY_CALLER})):
-                with self.assertRaises(ima_verify.Misuse) as caught:
-                    called(log=LOG, measurements=LIST, **{**given, "require": require})
-                self.assertTrue(str(caught.exception))
-        for nonce in ({"nonce": NONCE[:15]}, {"nonce_hex": ""}, {"nonce_hex": "x" + NONCE.hex()}):
-            self.assertRaises(ima_verify.Misuse, ima_verify.attest, *BY_KEY, LOG, LIST, **REQUIRED,
-                              **nonce)
-        for called in (lambda: Session.by_quotes(LOG).more(LIST),
-                       lambda: ima_verify.expected(PRINTED, "sha256:24"),
-                       lambda: ima_verify.verify(LOG, LIST, EXPECTED, require=NOTHING, known=[])):
-            self.assertRaises(ima_verify.Misuse, called)
+        verify = ima_verify.verify, LOG, LIST, EXPECTED
+        attest = ima_verify.attest, *BY_KEY, LOG, LIST
+        for called, *given, more in (
+            *((*verify, {"require": require}) for require in ("", "none", "sha256:0-9", "\ud800")),
+            *((*attest, {**QUOTED, "require": require}) for require in ("none", "sha256:1-10")),
+            *((*attest, {**REQUIRED, **nonce}) for nonce in (
+                {"nonce": NONCE[:15]}, {"nonce_hex": ""}, {"nonce_hex": "x" + NONCE.hex()})),
+            (*verify, {"require": NOTHING, "known": []}), (Session.by_quotes(LOG).more, LIST, {}),
+            (ima_verify.expected, PRINTED, "sha256:24", {}),
+        ):
+            with self.assertRaisesRegex(ima_verify.Misuse, r"^\S.*\.?$"):
+                called(*given, **more)
 
 
 class Crossing(unittest.TestCase):
@@ -184,23 +184,25 @@ class Crossing(unittest.TestCase):
 
     def test_no_bytes_of_a_key_or_a_state_are_not_none(self):
         """To the library no bytes say that there is none."""
-        text = line_of("attest", verdict="match")
-        with fake.answering("attest", DONE, text, state=b"x") as calls:
+        answer = DONE, line_of("attest", verdict="match"), b"x"
+        with patch.object(_library, "call_more", return_value=answer) as call:
             Session(b"a", "", require="x", state=b"").attest("", b"", b"", b"", **QUOTED)
-        given = calls[0].given
+        given = call.call_args.kwargs
         self.assertEqual([given[name] for name in ("key", "signature", "state")], 3 * [b"\0"])
 
     def test_known_files_cross_as_one_text(self):
+        answer = DONE, line_of("verify", verdict="match")
         for known, crosses in (([], b""), (["\u00e9"], b"\xc3\xa9\n"), ([b"\n", b"x"], b"\nx\n"),
                                ([b"", bytearray(b"a"), memoryview(b"b\nc")], b"a\nb\nc\n")):
-            with fake.answering("verdict", DONE, line_of("verify", verdict="match")) as calls:
+            with patch.object(_library, "call", return_value=answer) as call:
                 ima_verify.verify(b"a", b"b", b"", require="x", known=iter(known))
-            given = calls[0].given
+            given = call.call_args.kwargs
             self.assertEqual((given["known"], given["checks_known"]), (crosses, True))
 
     def test_interface_is_that_of_the_header(self):
         header = (ROOT / "bindings/c/ima_verify.h").read_text()
-        numbers = dict(re.findall(r"^(?:#define|   ) IMA_VERIFY_(\w+)(?: =)? ([^,\n]+)", header, re.M))
+        form = r"^(?:#define|   ) IMA_VERIFY_(\w+)(?: =)? ([^,\n]+)"
+        numbers = dict(re.findall(form, header, re.M))
         self.assertEqual(f'"{ima_verify.__version__}"', numbers["PACKAGE_VERSION"])
         self.assertEqual(f"{ima_verify.__version__}\n", (ROOT / "VERSION").read_text())
         for name in ("VERSION", "DONE", "DIFFERS", "REFUSED", "OUT_OF_MEMORY", "TOO_SHORT", "MORE",
@@ -208,45 +210,33 @@ class Crossing(unittest.TestCase):
             self.assertEqual(getattr(_library, name), int(numbers[name]))
         for number, kind in _library.KINDS.items():
             self.assertEqual(int(numbers[kind.name]), number)
-        kinds = {"const uint8_t*": ctypes.c_void_p, "uint8_t*": _library._OUTPUT[0],
-                 "struct ima_verify_info*": ctypes.POINTER(_library.ErrorInfo),
-                 "bool": ctypes.c_bool, "uint32_t": ctypes.c_uint32, "size_t": ctypes.c_size_t,
-                 "uint64_t": ctypes.c_uint64, "size_t*": ctypes.POINTER(ctypes.c_size_t),
-                 "uint64_t*": ctypes.POINTER(ctypes.c_uint64)}
-        form = r"^int32_t ima_verify_raw_(\w+)\(([^)]*)\);"
-        declared = dict(re.findall(form, header, re.M))
+        form = r"^int32_t ima_verify_raw_(\w+)\(([^;]*),\s+uint8_t \*out,[^;]*\);"
+        declared = {name: re.findall(r"(\w+)(?:,|$)", arguments)
+                    for name, arguments in re.findall(form, header, re.M)}
         self.assertEqual(set(declared), set(_library.FUNCTIONS))
         for name, arguments in declared.items():
-            words = (" ".join(argument.split()) for argument in arguments.split(","))
-            types = [kinds[re.sub(r" ?(\*?)\w+$", r"\1", word)] for word in words]
-            self.assertEqual(types, _library.types_of(name))
-        members = re.search(r"struct ima_verify_info \{(.*?)\}", header, re.S)[1]
-        names = [name for name, _ in _library.ErrorInfo._fields_]
-        self.assertEqual(re.findall(r"(\w+);", members), names)
+            sizes = [name for name in arguments if re.search("(^|_)(size|count|capacity)$", name)]
+            names = [name for name in arguments if name not in sizes]
+            known = [argument.removeprefix("error_") for argument in _library.FUNCTIONS[name]]
+            self.assertEqual(names, known)
+            self.assertEqual(len(arguments) + 3, len(_library.types_of(name)))
 
 
 class Types(unittest.TestCase):
-    """Arguments of other types. The error names the argument."""
+    """Arguments of other types."""
 
-    EVIDENCE, MEASURED = {"log": b"", "measurements": b""}, {"measurements": b""}
-    JUDGED = {"expected": "", "require": "sha256:10"}
-    ATTESTED = {"key": b"", "quote": b"", "signature": b"", "nonce": b"", "require": ""}
-    SESSION = Session(b"", b"", require="x")
-    GIVEN = (
-        (ima_verify.verify, {**EVIDENCE, **JUDGED}), (ima_verify.replay, {**MEASURED, **JUDGED}),
-        (ima_verify.locate, {**EVIDENCE, **JUDGED}), (ima_verify.attest, {**EVIDENCE, **ATTESTED}),
-        (Session, {"log": b"", **JUDGED, "state": b""}), (SESSION.more, {"data": b""}),
-        (SESSION.attest, {"data": b"", **ATTESTED}), (ima_verify.boot, {"log": b"", "before": b""}),
-        (ima_verify.events, {"log": b""}), (ima_verify.entries, MEASURED),
-        (ima_verify.show, MEASURED), (ima_verify.registers, {"log": b""}),
-        (ima_verify.list_registers, MEASURED), (ima_verify.read_key, {"area": b""}),
-        (ima_verify.read_endorsement_key, {"area": b""}), (ima_verify.expected, {"printed": b""}),
-    )
-    TEXTS = "expected", "key", "printed", "require"
+    TEXTS = {"expected": "", "key": "", "printed": "", "require": "sha256:10"}
 
     def test_errors_name_the_argument(self):
-        for called, given in self.GIVEN:
-            for name in given:
+        session = Session(b"", b"", require="sha256:10")
+        functions = (getattr(ima_verify, name) for name in ima_verify.__all__)
+        functions = [function for function in functions if inspect.isfunction(function)]
+        for called in (*functions, Session, session.more, session.attest):
+            parameters = inspect.signature(called).parameters
+            names = {name for name, each in parameters.items() if each.default is each.empty}
+            names |= {"before", "nonce", "state"} & parameters.keys()
+            given = {name: self.TEXTS.get(name, b"") for name in names}
+            for name in names:
                 for wrong in (5, [b""], *([] if name in self.TEXTS else ["firmware.log"])):
                     with self.assertRaisesRegex(TypeError, f"^{name} takes .*, and not "):
                         called(**{**given, name: wrong})
@@ -254,22 +244,21 @@ class Types(unittest.TestCase):
             ima_verify.verify("firmware.log", b"", b"", require="sha256:10")
 
     def test_other_arguments_are_type_errors(self):
-        verify, attest = {**self.EVIDENCE, **self.JUDGED}, {**self.EVIDENCE, **self.ATTESTED}
-        for called, given, name, wrongs in (
-            (ima_verify.verify, verify, "known", (b"a", "a", memoryview(b""), 0, [None, b"a"])),
-            (ima_verify.verify, verify, "require", (None, b"none")),
-            (ima_verify.attest, attest, "key", (None,)), (ima_verify.attest, attest, "nonce", (None,)),
-            (ima_verify.attest, attest, "nonce_hex", ("0a", b"")),
-            (ima_verify.attest, attest, "signature_checked", (True, False)),
-            (ima_verify.attest, attest, "allow_sha1", (None, 1)),
-            (ima_verify.attest, {**attest, "nonce": None}, "nonce_hex", (NONCE.hex().encode(),)),
-            (ima_verify.attest, {**attest, "key": None, "signature": None}, "signature_checked",
-             (None, 1, "yes")),
-            (ima_verify.boot, {"log": b"", "expected": b""}, "quote", (QUOTE,)),
-            (ima_verify.events, {"log": b""}, "quote", (b"", MESSAGE)),
-            (Session, {"log": b"", **self.JUDGED}, "prefix", (None, 1)),
-            (ima_verify.expected, {"printed": b""}, "registers", (10, b"10")),
+        evidence = {"log": b"", "measurements": b""}
+        attest = {**evidence, "quote": b"", "require": "", "nonce": b""}
+        judge, attests = ima_verify.verify, ima_verify.attest
+        by_key, by_caller = ({**attest, "key": key, "signature": key} for key in (b"", None))
+        for called, given, name, *wrongs in (
+            (judge, {**evidence, **self.TEXTS}, "known", b"a", "a", 0, [None]),
+            (attests, by_key, "key", None), (attests, by_key, "nonce", None),
+            (attests, by_key, "nonce_hex", "0a"), (attests, by_key, "signature_checked", True),
+            (attests, by_caller, "signature_checked", None, 1),
+            (attests, {**by_key, "nonce": None}, "nonce_hex", b"0a"),
+            (attests, by_key, "allow_sha1", None, 1),
+            (ima_verify.boot, {"log": b"", "expected": b""}, "quote", QUOTE),
+            (ima_verify.events, {"log": b""}, "quote", b"", MESSAGE),
+            (Session, {"log": b"", "expected": b"", "require": "x"}, "prefix", None, 1),
+            (ima_verify.expected, {"printed": b""}, "registers", 10, b"10"),
         ):
             for wrong in wrongs:
                 self.assertRaises(TypeError, called, **{**given, name: wrong})
-        self.assertRaises(TypeError, ima_verify.verify, b"", b"", b"")  # (without `require`)

@@ -126,40 +126,31 @@ class Loading(Temporary):
 class Hook(Temporary):
     """What is packed, and for which machines; hatchling has no part in that."""
 
-    ELF = b"\x7fELF\x02\x01\x01" + bytes(9) + b"\x03\x00\x3e\x00"
-
-    def setUp(self):
-        super().setUp()
-        interface = types.SimpleNamespace(BuildHookInterface=object)
-        modules = {"hatchling.builders.hooks.plugin.interface": interface}
+    def test_library_is_packed_for_its_machines(self):
+        modules = {"hatchling.builders.hooks.plugin.interface": types.SimpleNamespace(
+            BuildHookInterface=object)}
         with unittest.mock.patch.dict(sys.modules, modules):
-            self.hook = runpy.run_path(str(PACKAGE / "hatch_build.py"))
-
-    def test_platform_has_the_latest_glibc_that_is_asked_for(self):
-        for versions, wanted in (
-            (["2.2.5", "2.5"], "manylinux_2_5"), (["2.17", "2.9"], "manylinux_2_17"),
-            (["3.1", "2.40"], "manylinux_3_1"), ([], "linux"), (["2.36", "PRIVATE"], "linux"),
+            hooks = runpy.run_path(str(PACKAGE / "hatch_build.py"))
+        file, elf = self.folder / "other.so", b"\x7fELF\2\1\1" + bytes(9) + b"\3\0\x3e\0"
+        hook, data = object.__new__(hooks["LibraryHook"]), {"force_include": {}}
+        hook.root = self.folder
+        for named, text, wanted in (
+            ("other.so", elf, "is not a path"), ("", elf, "no library to pack"),
+            (file, elf[:-2] + b"\xb7\0", "no shared library for x86-64"), (file, elf, None),
         ):
-            strings = "".join(f"\0GLIBC_{version}\0" for version in versions).encode()
-            self.assertEqual(self.hook["platform_of"](strings), f"{wanted}_x86_64")
-
-    def test_library_is_that_of_a_path(self):
-        file, hook = self.folder / "other.so", object.__new__(self.hook["LibraryHook"])
-        hook.root, data = self.folder, {"force_include": {}}
-        for named, data_of_file, message in (
-            ("other.so", self.ELF, "is not a path"), ("", self.ELF, "no library to pack"),
-            (file, self.ELF.replace(b"\x3e", b"\xb7"), "no shared library for x86-64"),
-        ):
-            file.write_bytes(data_of_file)
+            file.write_bytes(text)
             with unittest.mock.patch.dict(os.environ, {"IMA_VERIFY_LIBRARY": str(named)}):
                 hook.initialize("editable", data)  # (which packs none)
-                self.assertRaisesRegex(SystemExit, message, hook.initialize, "standard", data)
-        file.write_bytes(self.ELF)
-        with unittest.mock.patch.dict(os.environ, {"IMA_VERIFY_LIBRARY": str(file)}):
-            hook.initialize("standard", data)
-        included = {str(file): "ima_verify/libima_verify.so"}
-        self.assertEqual(data, {"pure_python": False, "tag": "py3-none-linux_x86_64",
-                                "force_include": included})
+                if wanted:
+                    self.assertRaisesRegex(SystemExit, wanted, hook.initialize, "standard", data)
+                else:
+                    hook.initialize("standard", data)
+        self.assertEqual(data["force_include"], {str(file): "ima_verify/libima_verify.so"})
+        self.assertEqual(data["tag"], "py3-none-linux_x86_64")
+        for versions, wanted in (([b"2.2.5", b"2.5"], "manylinux_2_5"), ([b"2.36", b"X"], "linux"),
+                                 ([b"2.17", b"2.9", b"2.2.5"], "manylinux_2_17")):
+            strings = b"".join(b"\0GLIBC_" + version + b"\0" for version in versions)
+            self.assertEqual(hooks["platform_of"](strings), f"{wanted}_x86_64")
 
 
 @unittest.skipUnless(PYTHON, "no Python has hatchling")

@@ -3,18 +3,18 @@
 import copy
 import pickle
 import unittest
+from unittest.mock import patch
 
 from samples import (
     BY_CALLER, BY_KEY, ENDS, EXPECTED, LIST, LOG, LONGER, MESSAGE, NONCE, QUOTED, REQUIRED, SUMS,
-    VIOLATIONS, line_of, state_after, tenth_after,
+    line_of, state_after, tenth_after,
 )
 
-import fake
 import ima_verify
-from ima_verify import Kind, Session
+from ima_verify import Kind, Session, _library
 
 CUTS = 1, 2, 50, 97, 98
-DONE, DIFFERS, REFUSED = range(3)
+DONE, DIFFERS = range(2)
 
 
 class Growing(unittest.TestCase):
@@ -60,13 +60,6 @@ class Growing(unittest.TestCase):
                 self.assertEqual((again.state, again.offset), (state_after(cut), ENDS[cut]))
                 self.assertEqual(again.more(LIST[ENDS[cut]:]).confirmed, cut)
 
-    def test_known_files_are_asked_for_from_the_state_on(self):
-        for start, known, unknown in ((50, [SUMS], VIOLATIONS), (98, [], (98,)), (98, [SUMS], ())):
-            session = Session(LOG, EXPECTED, **REQUIRED, state=state_after(start), known=known)
-            found = session.more(LIST[ENDS[start]:])
-            self.assertEqual((found.matches, found.known_from), (not unknown, start))
-            self.assertEqual(found.unknown, unknown)
-
     def test_states_that_do_not_fit_are_refused(self):
         state = state_after(50)
         for wrong, number in ((b"", 1), (state[:-1], 1), (state + b"\n", 1), (state[:22], 2)):
@@ -105,19 +98,26 @@ class Answers(unittest.TestCase):
     STATE = b"a later checkpoint\nbytes 7\n"
 
     def test_only_a_match_has_a_state(self):
-        for status, text, wanted in ((DONE, self.REPORT, self.STATE), (DIFFERS, self.DIFFERING, None)):
-            session = Session(b"", b"", **REQUIRED)
-            with fake.answering("more", status, text, state=self.STATE):
-                session.more(b"")
-            self.assertEqual((session.state, session.offset), (wanted, 7 if wanted else 0))
+        def answer(name, given, capacity):
+            """Without a state, or with one."""
+            out, _, size = given["next"]
+            size._obj.value = len(state)
+            info = _library.ErrorInfo()
+            info.size = len(text)
+            return status, info, bytearray(text)
 
-    def test_damaged_answers_leave_the_session_as_it_was(self):
         for earlier in (None, self.STATE):
-            for status, text, state in (
-                (DONE, self.REPORT, b""), (DONE, self.DIFFERING, b"x"), (DIFFERS, self.REPORT, b""),
-                (DONE, self.REPORT[:-1], b"x"), (5, self.REPORT, b"x"), (REFUSED, self.REPORT, b""),
+            for status, text, state, is_right in (
+                (DONE, self.REPORT, b"x", True), (DIFFERS, self.DIFFERING, b"", True),
+                (DONE, self.REPORT, b"", False), (DONE, self.DIFFERING, b"x", False),
+                (DIFFERS, self.REPORT, b"", False), (DONE, self.REPORT[:-1], b"x", False),
             ):
                 session = Session(b"", b"", **REQUIRED, state=earlier)
-                with fake.answering("more", status, text, state=state):
-                    self.assertRaises(ima_verify.LibraryError, session.more, b"")
-                self.assertEqual(session.state, earlier)
+                with patch.object(_library, "_answered", answer):
+                    if is_right:
+                        session.more(b"")
+                    else:
+                        self.assertRaises(ima_verify.LibraryError, session.more, b"")
+                moves = is_right and status == DONE
+                self.assertEqual(session.state, b"\0" if moves else earlier)
+        self.assertEqual(Session(b"", b"", **REQUIRED, state=self.STATE).offset, 7)

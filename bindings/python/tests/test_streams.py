@@ -1,24 +1,25 @@
 """Entries and events, which come by pieces, and texts that are longer than their buffer."""
 
 import array
+import ctypes
 import dataclasses
 import tracemalloc
+import types
 import unittest
+from unittest.mock import patch
 
 from samples import (
     ASCII, CHANGED, EXPECTED, LIST, LOG, REGISTERS, REQUIRED, VIOLATIONS, line_of,
 )
 
-import fake
 import ima_verify
-from ima_verify import _library
+from ima_verify import Kind, _library
 
-DONE, DIFFERS, REFUSED, OUT_OF_MEMORY, TOO_SHORT, MORE, MISUSED = range(7)
+DONE, DIFFERS, TOO_SHORT, MORE = 0, 1, 4, 5
 MANY, HEADER_SIZE, PIECE = 150, 65, _library.PIECE_CAPACITY
 ENTRY, HEADER = line_of("entry"), line_of("header")
 COUNT = b'{"entries":2}\n'
-MEMORY = OUT_OF_MEMORY, b"", (7, 0, _library.NO_PLACE)
-REFUSAL = REFUSED, b"", (3, 1, 2)
+REFUSAL = ima_verify.Refused("It is damaged.", Kind.LIST, 1, 2)
 
 
 def with_length(data):
@@ -30,68 +31,76 @@ def entry(template, payload):
     return b"\x0a\0\0\0" + 20 * b"x" + with_length(template) + with_length(payload)
 
 
+def giving(*answers):
+    """A library that gives these answers, one at each call."""
+    return patch.object(_library, "call", side_effect=answers)
+
+
 class Pieces(unittest.TestCase):
     """What a library may answer, one piece after another."""
 
     def test_piece_is_asked_for_when_it_is_needed(self):
-        with fake.giving("entries", (MORE, ENTRY), (DONE, ENTRY + COUNT)) as calls:
+        with giving((MORE, ENTRY), (DONE, ENTRY + COUNT)) as call:
             listing = ima_verify.entries(b"x")
             for count in (0, 1, 2):
-                self.assertEqual([call.capacity for call in calls], count * [PIECE])
+                self.assertEqual(call.call_count, count)
                 next(listing, None)
-            self.assertEqual((list(listing), list(listing), len(calls)), ([], [], 2))
+            self.assertEqual((list(listing), list(listing), call.call_count), ([], [], 2))
 
     def test_what_comes_before_an_error_is_given_first(self):
         for pieces in ([], [ENTRY], [ENTRY + ENTRY], [ENTRY, ENTRY]):
-            with fake.giving("entries", *((MORE, piece) for piece in pieces), REFUSAL):
+            with giving(*((MORE, piece) for piece in pieces), REFUSAL):
                 listing = ima_verify.entries(b"x")
                 for _ in range(b"".join(pieces).count(b"\n")):
                     next(listing)
                 self.assertRaises(ima_verify.Refused, next, listing)
                 self.assertEqual(list(listing), [])
-        with fake.giving("events", (MORE, HEADER), REFUSAL):
+        with giving((MORE, HEADER), REFUSAL):
             self.assertRaises(ima_verify.Refused, list, ima_verify.events(b"x"))
 
-    def test_memory_that_ran_out_may_be_there_the_next_time(self):
-        with fake.giving("entries", MEMORY, (MORE, ENTRY), MEMORY, (DONE, ENTRY + COUNT)):
-            listing = ima_verify.entries(b"x")
-            for _ in range(2):
-                self.assertRaises(ima_verify.OutOfMemory, next, listing)
-                next(listing)
-            self.assertEqual(list(listing), [])
+    def test_what_matches_is_asked_for_before_events(self):
+        """Each piece is asked for with the PCRs that match."""
+        for status, text in ((DONE, b"sha256:0"), (DIFFERS, b"")):
+            with giving((status, text), (MORE, HEADER), (DONE, line_of("event"))) as call:
+                found = ima_verify.events(b"a", expected="c")
+                self.assertEqual((found.matches, len(list(found))), (status == DONE, 1))
+            for asked in call.call_args_list[1:]:
+                given = asked.kwargs["matching"], asked.kwargs["matching_given"]
+                self.assertEqual(given, (text, True))
 
     def test_what_is_cut_is_an_error(self):
         """The last line says how many entries there are."""
         both = ENTRY + ENTRY
         for answers in (
             [(DONE, both)], [(DONE, both + COUNT + COUNT)], [(DONE, both + b'{"entries":3}\n')],
-            [(DONE, both + b"{}\n")], [(DONE, both + COUNT[:-1])], [(MORE, COUNT)], [(MORE, b"")],
-            [(MORE, both), (DONE, b'{"entries":1}\n')], [(DONE, b"")], [(DIFFERS, both + COUNT)],
+            [(DONE, both + b"{}\n")], [(DONE, both + COUNT[:-1])], [(MORE, b"")], [(DONE, b"")],
+            [(MORE, both), (DONE, b'{"entries":1}\n')], [(DIFFERS, both + COUNT)],
         ):
-            with fake.giving("entries", *answers):
+            with giving(*answers):
                 with self.assertRaises(ima_verify.LibraryError, msg=answers):
                     list(ima_verify.entries(b"x"))
-        for answer in ((DONE, b""), (MORE, b""), (MORE, b"x"), (DONE, ENTRY[:-1])):
-            for name, called in (("entries", ima_verify.show), ("events", ima_verify.events)):
-                with fake.answering(name, *answer):
+        for answer in ((DONE, b""), (MORE, b"x"), (DONE, ENTRY[:-1])):
+            for called in (ima_verify.show, ima_verify.events):
+                with giving(answer):
                     self.assertRaises(ima_verify.LibraryError, called, b"x")
 
     def test_text_longer_than_the_buffer_takes_another_call(self):
-        def answer(call):
-            fits = call.capacity >= len(REGISTERS)
-            text = REGISTERS if fits else b""
-            return call.give(DONE if fits else TOO_SHORT, text, size=len(REGISTERS))
+        def answer(*words):
+            *_, out, capacity, info = words
+            capacities.append(capacity)
+            info._obj.size = size
+            if capacity < size <= len(REGISTERS):
+                return TOO_SHORT
+            ctypes.memmove(out, REGISTERS, min(size, capacity))
+            return DONE
 
-        with fake.library(registers=answer) as calls:
+        library = types.SimpleNamespace(ima_verify_raw_registers=answer)
+        with patch.object(_library, "loaded", lambda: library):
+            capacities, size = [], len(REGISTERS)
             self.assertEqual(_library.call("registers", 1), (DONE, REGISTERS))
-        self.assertEqual([call.capacity for call in calls], [1, len(REGISTERS)])
-
-    def test_sizes_that_cannot_be_are_errors(self):
-        unset = 2**64 - 1
-        for status, size in ((DONE, _library.REPORT_CAPACITY + 1), (DONE, unset), (TOO_SHORT, 50),
-                             (TOO_SHORT, unset), (TOO_SHORT, 1 << 63)):
-            with fake.answering("registers", status, size=size):
-                self.assertRaises(ima_verify.LibraryError, ima_verify.registers, b"")
+            self.assertEqual(capacities, [1, size])
+            size = 2**64 - 1
+            self.assertRaises(ima_verify.LibraryError, _library.call, "registers")
 
 
 class Inputs(unittest.TestCase):
@@ -109,7 +118,7 @@ class Inputs(unittest.TestCase):
         self.assertEqual(changed, [5])
 
     def test_paths_are_their_bytes(self):
-        names = b"/a\nb", b'/"\\\x1b[2J', b"/\xc3\xa9", b"/\xff", b"", b"/}\n{", b"/" + PIECE * b"\1"
+        names = b"/a\nb", b'/"\\\x1b[2J', b"/\xc3\xa9", b"/\xff", b"", b"/}{", PIECE * b"\1"
         digest = with_length(b"sha1:\0" + bytes(20))
         data = (entry(b"ima-ng", digest + with_length(name + b"\0")) for name in names)
         found = list(ima_verify.entries(b"".join(data)))
