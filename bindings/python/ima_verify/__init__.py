@@ -232,11 +232,8 @@ def read_key(area: Buffer) -> Key:
     `attest` only after a credential was activated that was made to its `name` and to the machine's
     endorsement key. `ima-enroll` does that, and keeps both.
 
-    Args:
-        area: A TPM2B_PUBLIC: the file that `tpm2_createak -u` writes.
-
-    Raises:
-        Refused: The area is none (KEY, 1 to 10), or the key lacks something (11 to 20).
+    The area is a TPM2B_PUBLIC, the file that `tpm2_createak -u` writes. `Refused` says if it is
+    none, or what the key lacks.
 
     >>> key = ima_verify.read_key(Path("../keys/ak-rsassa.pub").read_bytes())
     >>> key.type, key.bits, key.scheme, key.hash
@@ -253,11 +250,8 @@ def read_endorsement_key(area: Buffer) -> Key:
     It is restricted, never leaves the TPM that made it, decrypts, and does not sign. Its area does
     not say whose it is: compare its `pem` with the key of a certificate by the TPM's manufacturer.
 
-    Args:
-        area: A TPM2B_PUBLIC: the file that `tpm2_createek -u` writes.
-
-    Raises:
-        Refused: The area is none (KEY, 1 to 10), or the key lacks something (11 to 16, 21 and 22).
+    The area is a TPM2B_PUBLIC, the file that `tpm2_createek -u` writes. `Refused` says if it is
+    none, or what the key lacks.
 
     >>> key = ima_verify.read_endorsement_key(Path("../keys/ek-p256.pub").read_bytes())
     >>> key.type, key.bits, key.scheme, key.hash
@@ -273,9 +267,7 @@ def expected(printed: Text, registers: str | None = None) -> bytes:
     `registers` is a selection such as `sha256:0-10` or `0-7,10`; None selects all. The text does
     not say who wrote it, nor whether a quote holds.
 
-    Raises:
-        Refused: The text is not of its form, or states no PCR of the selection.
-        Misuse: `registers` is not of its form.
+    A text that is not of its form, or states no PCR of the selection, is refused.
 
     >>> printed = Path("tpm2_pcrread.txt").read_bytes()
     >>> ima_verify.expected(printed, "0-10") == b"".join(expected.splitlines(True)[:11])
@@ -295,9 +287,6 @@ def expected(printed: Text, registers: str | None = None) -> bytes:
 def registers(log: Buffer) -> tuple[Pcr, ...]:
     """The PCRs that differ from their reset values after a firmware event log.
 
-    Raises:
-        Refused: The log is not valid.
-
     >>> first = ima_verify.registers(log)[0]
     >>> first.bank, first.register, first.value.hex()[:8]
     ('sha256', 0, '177e29c4')
@@ -309,9 +298,6 @@ def list_registers(measurements: Buffer) -> tuple[Pcr, ...]:
     """The PCRs, in banks of all algorithms, that differ from their reset values after a
     measurement list without a log.
 
-    Raises:
-        Refused: The list is not valid, or the template digest of an entry does not match.
-
     >>> [(pcr.bank, pcr.register) for pcr in ima_verify.list_registers(measurements)]
     [('sha1', 10), ('sha256', 10), ('sha384', 10), ('sha512', 10)]
     """
@@ -322,9 +308,8 @@ def list_registers(measurements: Buffer) -> tuple[Pcr, ...]:
 def entries(measurements: Buffer) -> Entries:
     """The entries of a measurement list, one after another. They are never all in memory.
 
-    Raises:
-        Refused: The list is damaged; the iterator raises this, after the entries before the
-            damage. A loop that stops early does not show that the list is whole.
+    If the list is damaged, the iterator raises `Refused` after the entries before the damage. A
+    loop that stops early does not show that the list is whole.
 
     >>> [entry.path for entry in ima_verify.entries(measurements) if not entry.violation][:2]
     ['boot_aggregate', '/init']
@@ -338,12 +323,9 @@ def events(
     """The events of a firmware event log after its header, one after another. They are never all
     in memory.
 
-    Args:
-        expected, quote: What confirms events, as for `boot`: then each has `confirmed`.
-
-    Raises:
-        Refused: The log's header is damaged. If another event is, the iterator raises this, after
-            the events before it. With expected PCRs or a quote, errors are as of `boot`.
+    With expected PCRs or a quote, as for `boot`, each event has `confirmed`. If the log's header is
+    damaged, the call raises `Refused`; if another event is, the iterator does, after the events
+    before it. With expected PCRs or a quote, errors are as of `boot`.
 
     >>> events = ima_verify.events(log)
     >>> [algorithm.name for algorithm in events.header.algorithms], next(events).type
@@ -358,10 +340,7 @@ def show(measurements: Buffer) -> bytes:
     """The entries of a measurement list, each in the kernel's form, as one text.
 
     Paths are as they are: they may have line feeds and control bytes. `entries` gives each by
-    itself.
-
-    Raises:
-        Refused: The list is damaged.
+    itself. A damaged list is refused.
 
     >>> ima_verify.show(measurements).splitlines()[1][-14:]
     b'51aabe89 /init'

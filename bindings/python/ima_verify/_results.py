@@ -100,12 +100,17 @@ class Clock:
     safe: bool
 
 
+@dataclass(frozen=True, slots=True, kw_only=True, repr=False)
 class _Judged:
-    """What a verdict has. As a condition, it is true exactly if it is a match."""
+    """What all verdicts have. As a condition, one is true exactly if it is a match."""
 
-    __slots__ = ()
     matches: bool
+    json: str
     entries: int
+    extends: tuple[Stray, ...] = ()
+    known_from: int | None = None
+    unknown: tuple[int, ...] = ()
+    verdict: str
 
     def __bool__(self) -> bool:
         return self.matches
@@ -136,20 +141,13 @@ class Verdict(_Judged):
         verdict: The word of the line.
     """
 
-    matches: bool
-    json: str = field(repr=False)
     events: int
     locality: int
-    entries: int
     confirmed: int | None = None
     unconfirmed: Fault | None = None
     compared: int
     boot_aggregate: str
     registers: tuple[Row, ...]
-    extends: tuple[Stray, ...] = ()
-    known_from: int | None = None
-    unknown: tuple[int, ...] = ()
-    verdict: str
 
 
 @dataclass(frozen=True, slots=True, kw_only=True, repr=False)
@@ -157,15 +155,8 @@ class ListVerdict(_Judged):
     """The verdict on a list without a log, and expected PCRs. The attributes are as of `Verdict`;
     `json` is the line of `ima-agent replay --json`."""
 
-    matches: bool
-    json: str = field(repr=False)
-    entries: int
     compared: int
     registers: tuple[Row, ...]
-    extends: tuple[Stray, ...] = ()
-    known_from: int | None = None
-    unknown: tuple[int, ...] = ()
-    verdict: str
 
 
 @dataclass(frozen=True, slots=True, kw_only=True, repr=False)
@@ -184,26 +175,19 @@ class Attestation(_Judged):
         matches, json, ...: As of `Verdict`; `json` is the line of `ima-agent attest --json`.
     """
 
-    matches: bool
-    json: str = field(repr=False)
     quoted: tuple[QuotedBank, ...]
     signer: bytes
     clock: Clock
     firmware: int
     events: int
     locality: int
-    entries: int
     confirmed: int | None = None
     unconfirmed: Fault | None = None
     boot_aggregate: str
     expected: str | None = None
     registers: tuple[Row, ...] = ()
-    extends: tuple[Stray, ...] = ()
-    known_from: int | None = None
-    unknown: tuple[int, ...] = ()
     quote: str
     signature: str
-    verdict: str
 
 
 @dataclass(frozen=True, slots=True, kw_only=True)

@@ -1,4 +1,4 @@
-"""The examples of the docstrings and of README.md, how the library is found, and the wheel."""
+"""The examples of the docstrings and of README.md, and how the library is found and packed."""
 
 import contextlib
 import doctest
@@ -14,7 +14,6 @@ import tempfile
 import types
 import unittest
 import unittest.mock
-import zipfile
 from pathlib import Path
 
 from samples import EXPECTED, LIST, LOG, ROOT, SUMS, state_after, tenth_after
@@ -25,17 +24,8 @@ from ima_verify import _library
 PACKAGE, SAMPLE = ROOT / "bindings/python", ROOT / "samples/real-boot"
 HIDDEN = shutil.ignore_patterns("*.so", "__pycache__")
 CALLS = [name for name in ima_verify.__all__ if inspect.isfunction(getattr(ima_verify, name))]
-BUILD = "import sys; from hatchling.build import build_wheel; build_wheel(sys.argv[1])"
 FOUND = "from ima_verify import _library, registers; registers(open({!r}, 'rb').read())\n" \
         "print(_library.loaded()._name)".format(str(SAMPLE / "firmware.log"))
-
-
-def can_build(python):
-    words = [python, "-c", "import hatchling.build"]
-    return subprocess.run(words, stderr=subprocess.DEVNULL).returncode == 0
-
-
-PYTHON = next(filter(can_build, filter(None, (sys.executable, shutil.which("python3")))), None)
 
 
 class Temporary(unittest.TestCase):
@@ -151,26 +141,3 @@ class Hook(Temporary):
                                  ([b"2.17", b"2.9", b"2.2.5"], "manylinux_2_17")):
             strings = b"".join(b"\0GLIBC_" + version + b"\0" for version in versions)
             self.assertEqual(hooks["platform_of"](strings), f"{wanted}_x86_64")
-
-
-@unittest.skipUnless(PYTHON, "no Python has hatchling")
-class Wheel(Temporary):
-    """Made of the library that the other tests use."""
-
-    def test_wheel_has_the_library_and_all_of_the_package(self):
-        """And no other library that is in the package's folder. It uses its own."""
-        source, made = self.folder / "source", self.folder / "made"
-        shutil.copytree(PACKAGE, source, ignore=HIDDEN)
-        (source / "ima_verify/libima_verify.so").write_bytes(b"another")
-        environment = {**os.environ, "IMA_VERIFY_LIBRARY": str(self.library)}
-        subprocess.run([PYTHON, "-B", "-c", BUILD, made], cwd=source, env=environment, check=True)
-        (wheel,) = made.iterdir()
-        self.assertRegex(wheel.name, r"^ima_verify-[0-9.]+-py3-none-manylinux_\d+_\d+_x86_64\.whl$")
-        with zipfile.ZipFile(wheel) as archive:
-            archive.extractall(self.folder)
-            names = {name for name in archive.namelist() if name.startswith("ima_verify/")}
-        files = (PACKAGE / "ima_verify").iterdir()
-        wanted = {f"ima_verify/{file.name}" for file in files if file.suffix in (".py", ".typed")}
-        self.assertEqual(names, {*wanted, "ima_verify/libima_verify.so"})
-        own = self.folder / "ima_verify/libima_verify.so"
-        self.check_found("", own, PYTHONPATH=str(self.folder))
