@@ -42,8 +42,7 @@ from ._errors import (
     Error, Kind, LibraryError, LoadError, Misuse, OutOfMemory, Refused, VersionError,
 )
 from ._inputs import (
-    NOTHING, Known, Nothing, Quote, Required, Text, bytes_of, confirming, known_files, required,
-    text_of,
+    NOTHING, Known, Nothing, Quote, Required, Text, bytes_of, confirming, judged, text_of,
 )
 from ._library import Buffer
 from ._listings import Entries, Events
@@ -88,8 +87,7 @@ def verify(
             known. If it is None, none has to be.
 
     Raises:
-        Refused: `expected`, a text of `known`, the log or the list is not valid, or the template
-            digest of an entry does not match.
+        Refused: An input is not valid, or the template digest of an entry does not match.
         Misuse: `require` is not of its form, or it is `NOTHING` though `known` is given.
 
     >>> verdict = ima_verify.verify(log, measurements, expected, require="sha256:0-10,sha1:10")
@@ -99,11 +97,8 @@ def verify(
     >>> ima_verify.verify(log, measurements, expected, require="sha256:0-10", known=[sums]).unknown
     (93, 94, 97)
     """
-    answer = _library.call(
-        "verdict", log=bytes_of("log", log), list=bytes_of("measurements", measurements),
-        expected=text_of("expected", expected), require=required(require), json=True,
-        **known_files(known),
-    )
+    given = judged(measurements, expected, require, known)
+    answer = _library.call("verdict", log=bytes_of("log", log), **given)
     return _answers.read_verdict(Verdict, *answer)
 
 
@@ -113,37 +108,25 @@ def replay(
     """The verdict on a measurement list without a log, and expected PCRs.
 
     The list is replayed from the PCRs' reset values, so a PCR that the firmware extends too
-    differs. A list without entries is no match.
-
-    Raises:
-        Refused, Misuse: As `verify` does.
+    differs. A list without entries is no match. Errors are as of `verify`.
 
     >>> tenth = next(line for line in expected.splitlines() if line.startswith(b"sha256 10 "))
     >>> ima_verify.replay(measurements, tenth, require="sha256:10").matches
     True
     """
-    answer = _library.call(
-        "replay", list=bytes_of("measurements", measurements),
-        expected=text_of("expected", expected), require=required(require), json=True,
-        **known_files(known),
-    )
+    answer = _library.call("replay", **judged(measurements, expected, require, known))
     return _answers.read_verdict(ListVerdict, *answer)
 
 
 def locate(log: Buffer, measurements: Buffer, expected: Text, *, require: Required) -> Places:
-    """Where each expected PCR first has its value.
-
-    Raises:
-        Refused, Misuse: As `verify` does.
+    """Where each expected PCR first has its value. Errors are as of `verify`.
 
     >>> places = ima_verify.locate(log, measurements, expected, require="sha256:0-10")
     >>> [(row.register, row.place, row.number) for row in places.registers[9:11]]
     [(9, 'event', 22), (10, 'entry', 98)]
     """
-    answer = _library.call(
-        "locate", log=bytes_of("log", log), list=bytes_of("measurements", measurements),
-        expected=text_of("expected", expected), require=required(require), json=True,
-    )
+    given = judged(measurements, expected, require)
+    answer = _library.call("locate", log=bytes_of("log", log), **given)
     return _answers.read_places(*answer)
 
 
@@ -187,8 +170,7 @@ def attest(
             message by the machine's key. If it is False, there is no match.
 
     Raises:
-        Refused: The key, the signature, the quote, a text of `known`, the log or the list, in this
-            order.
+        Refused: The key, the signature, the quote, a text of `known`, the log or the list.
         Misuse: `require` is not of its form, leaves out one of the PCRs 0 to 10, or names one of
             the SHA-1 bank alone; or the nonce is too short, or not hexadecimal.
 
@@ -225,9 +207,7 @@ def boot(
             one, all is unknown.
         before: The log of an earlier boot, to compare with. Nothing confirms it.
 
-    Raises:
-        Refused: The log, the earlier log, the expected PCRs or an input of the quote.
-        Misuse: As `attest` does for a quote.
+    Errors are as of `verify` and `attest`.
 
     >>> names = "systemd-boot.log", "systemd-boot.expected", "secure-boot.log"
     >>> now, pcrs, earlier = (Path("../ovmf-boot", name).read_bytes() for name in names)
@@ -252,11 +232,8 @@ def read_key(area: Buffer) -> Key:
     `attest` only after a credential was activated that was made to its `name` and to the machine's
     endorsement key. `ima-enroll` does that, and keeps both.
 
-    Args:
-        area: A TPM2B_PUBLIC: the file that `tpm2_createak -u` writes.
-
-    Raises:
-        Refused: The area is none (KEY, 1 to 10), or the key lacks something (11 to 20).
+    The area is a TPM2B_PUBLIC, the file that `tpm2_createak -u` writes. `Refused` says if it is
+    none, or what the key lacks.
 
     >>> key = ima_verify.read_key(Path("../keys/ak-rsassa.pub").read_bytes())
     >>> key.type, key.bits, key.scheme, key.hash
@@ -273,11 +250,8 @@ def read_endorsement_key(area: Buffer) -> Key:
     It is restricted, never leaves the TPM that made it, decrypts, and does not sign. Its area does
     not say whose it is: compare its `pem` with the key of a certificate by the TPM's manufacturer.
 
-    Args:
-        area: A TPM2B_PUBLIC: the file that `tpm2_createek -u` writes.
-
-    Raises:
-        Refused: The area is none (KEY, 1 to 10), or the key lacks something (11 to 16, 21 and 22).
+    The area is a TPM2B_PUBLIC, the file that `tpm2_createek -u` writes. `Refused` says if it is
+    none, or what the key lacks.
 
     >>> key = ima_verify.read_endorsement_key(Path("../keys/ek-p256.pub").read_bytes())
     >>> key.type, key.bits, key.scheme, key.hash
@@ -293,9 +267,7 @@ def expected(printed: Text, registers: str | None = None) -> bytes:
     `registers` is a selection such as `sha256:0-10` or `0-7,10`; None selects all. The text does
     not say who wrote it, nor whether a quote holds.
 
-    Raises:
-        Refused: The text is not of its form, or states no PCR of the selection.
-        Misuse: `registers` is not of its form.
+    A text that is not of its form, or states no PCR of the selection, is refused.
 
     >>> printed = Path("tpm2_pcrread.txt").read_bytes()
     >>> ima_verify.expected(printed, "0-10") == b"".join(expected.splitlines(True)[:11])
@@ -315,9 +287,6 @@ def expected(printed: Text, registers: str | None = None) -> bytes:
 def registers(log: Buffer) -> tuple[Pcr, ...]:
     """The PCRs that differ from their reset values after a firmware event log.
 
-    Raises:
-        Refused: The log is not valid.
-
     >>> first = ima_verify.registers(log)[0]
     >>> first.bank, first.register, first.value.hex()[:8]
     ('sha256', 0, '177e29c4')
@@ -329,9 +298,6 @@ def list_registers(measurements: Buffer) -> tuple[Pcr, ...]:
     """The PCRs, in banks of all algorithms, that differ from their reset values after a
     measurement list without a log.
 
-    Raises:
-        Refused: The list is not valid, or the template digest of an entry does not match.
-
     >>> [(pcr.bank, pcr.register) for pcr in ima_verify.list_registers(measurements)]
     [('sha1', 10), ('sha256', 10), ('sha384', 10), ('sha512', 10)]
     """
@@ -342,9 +308,8 @@ def list_registers(measurements: Buffer) -> tuple[Pcr, ...]:
 def entries(measurements: Buffer) -> Entries:
     """The entries of a measurement list, one after another. They are never all in memory.
 
-    Raises:
-        Refused: The list is damaged; the iterator raises this, after the entries before the
-            damage. A loop that stops early does not show that the list is whole.
+    If the list is damaged, the iterator raises `Refused` after the entries before the damage. A
+    loop that stops early does not show that the list is whole.
 
     >>> [entry.path for entry in ima_verify.entries(measurements) if not entry.violation][:2]
     ['boot_aggregate', '/init']
@@ -358,13 +323,9 @@ def events(
     """The events of a firmware event log after its header, one after another. They are never all
     in memory.
 
-    Args:
-        expected, quote: What confirms events, as for `boot`: then each has `confirmed`.
-
-    Raises:
-        Refused: The log's header is damaged. If another event is, the iterator raises this, after
-            the events before it. With expected PCRs or a quote, these or a damaged log.
-        Misuse: As `attest` does for a quote.
+    With expected PCRs or a quote, as for `boot`, each event has `confirmed`. If the log's header is
+    damaged, the call raises `Refused`; if another event is, the iterator does, after the events
+    before it. With expected PCRs or a quote, errors are as of `boot`.
 
     >>> events = ima_verify.events(log)
     >>> [algorithm.name for algorithm in events.header.algorithms], next(events).type
@@ -379,13 +340,12 @@ def show(measurements: Buffer) -> bytes:
     """The entries of a measurement list, each in the kernel's form, as one text.
 
     Paths are as they are: they may have line feeds and control bytes. `entries` gives each by
-    itself.
-
-    Raises:
-        Refused: The list is damaged.
+    itself. A damaged list is refused.
 
     >>> ima_verify.show(measurements).splitlines()[1][-14:]
     b'51aabe89 /init'
     """
     listed = bytes_of("measurements", measurements)
-    return b"".join(iter(_library.Pieces("entries", list=listed, json=False).next, b""))
+    if not memoryview(listed).nbytes:
+        return b""  # (a text without a line)
+    return b"".join(_library.lines("entries", list=listed, json=False))

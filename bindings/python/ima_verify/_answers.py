@@ -10,7 +10,7 @@ from collections.abc import Callable, Sequence
 from typing import Any, TypeVar
 
 from ._library import DIFFERS, DONE, unexpected
-from ._results import Attestation, Boot, Key, ListVerdict, Pcr, Places, Verdict
+from ._results import Attestation, Boot, Entry, Key, ListVerdict, Pcr, Places, Verdict
 
 _Result = TypeVar("_Result")
 _Verdict = TypeVar("_Verdict", Verdict, ListVerdict, Attestation)
@@ -86,10 +86,13 @@ def read_line(kind: type[_Result], line: bytes) -> _Result:
         unexpected(DONE, line)
 
 
-def read_count(line: bytes) -> int:
-    """The number of entries in the line after them."""
+def read_entry(line: bytes) -> Entry | int:
+    """The entry of a line; or from the line after all entries, how many there are."""
     try:
-        return int(_exactly(int)(_object_in(line)["entries"]))
+        members = _object_in(line)
+        if "entry" in members:
+            return _made(Entry, members, json=_line(line))
+        return int(_exactly(int)(members["entries"]))
     except _WRONG:
         unexpected(DONE, line)
 

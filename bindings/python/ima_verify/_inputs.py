@@ -99,14 +99,23 @@ def known_files(known: Known | None) -> dict[str, Any]:
     return {"known": b"".join(lines), "checks_known": True}
 
 
+def judged(
+    measurements: Buffer, expected: Text, require: Required, known: Known | None = None
+) -> dict[str, Any]:
+    """The arguments of a list, and of what it is judged by."""
+    return {
+        "list": bytes_of("measurements", measurements), "expected": text_of("expected", expected),
+        "require": required(require), **known_files(known), "json": True,
+    }
+
+
 def quoted(quote: Quote) -> dict[str, Any]:
     """The arguments of a quote, without the list."""
     if not isinstance(quote.require, str):
         raise TypeError(f"require takes a str, and not {quote.require!r:.80}")
     return {
         "message": bytes_of("quote", quote.quote), **_signing(quote), **_nonce(quote),
-        "require": required(quote.require),
-        "allow_sha1": flag_of("allow_sha1", quote.allow_sha1),
+        "require": required(quote.require), "allow_sha1": flag_of("allow_sha1", quote.allow_sha1),
     }
 
 

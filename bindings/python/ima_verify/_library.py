@@ -4,6 +4,7 @@ import ctypes
 import functools
 import os
 import sys
+from collections.abc import Iterator
 from ctypes import POINTER, byref, c_bool, c_char, c_int32, c_size_t, c_uint32, c_uint64, c_void_p
 from pathlib import Path
 from typing import TYPE_CHECKING, Any, NoReturn, Protocol, TypeAlias
@@ -223,43 +224,18 @@ def unexpected(status: int, text: bytes) -> NoReturn:
     )
 
 
-class Pieces:
-    """The lines that `entries` or `events` of the library give for an input, in pieces. Until the
-    end the input's memory stays where it is."""
-
-    def __init__(self, name: str, **given: Any) -> None:
-        self._name = name
-        self._given = {
-            argument: value if argument in TYPES else _pinned(value)
-            for argument, value in given.items()
-        }
-        # (a list without entries has no text, but a line of JSON)
-        self._may_be_empty = given.get("json") is False and not memoryview(given["list"]).nbytes
-        self._position = 0, 0
-        self.is_over = False
-
-    def next(self) -> bytes:
-        """The next whole lines, or no bytes at the end. After an error other than `Refused`, which
-        is raised once and ends the lines, they can be asked for again."""
-        if self.is_over:
-            return b""
-        offset, number = (c_size_t(value) for value in self._position)
+def lines(name: str, **given: Any) -> Iterator[bytes]:
+    """The lines that `entries` or `events` of the library give for an input, which come in pieces.
+    Until the end the input's memory stays where it is."""
+    for argument in given.keys() - TYPES.keys():
+        given[argument] = _pinned(given[argument])
+    offset, number, status = c_size_t(0), c_size_t(0), MORE
+    while status == MORE:
         position = {"offset": byref(offset), "number": byref(number)}
-        try:
-            status, text = call(self._name, PIECE_CAPACITY, **self._given, **position)
-        except Refused:
-            self._end()
-            raise
-        if status == DIFFERS or not (text.endswith(b"\n") or self._may_be_empty):
+        status, text = call(name, PIECE_CAPACITY, **given, **position)
+        if status == DIFFERS or not text.endswith(b"\n"):
             unexpected(status, text)
-        self._position = offset.value, number.value
-        if status == DONE:
-            self._end()
-        return text
-
-    def _end(self) -> None:
-        self.is_over = True
-        self._given.clear()
+        yield from text.splitlines(keepends=True)
 
 
 def _pinned(data: Buffer) -> bytes | memoryview:

@@ -21,10 +21,9 @@ class Row:
     """An expected PCR, compared, or a required one that is missing.
 
     Attributes:
-        expected: The expected value, or None if the state is "missing".
         state: "match"; "differ"; "absent": the log has no such bank; or "missing": the PCR is
             required, and not expected.
-        value: The value that log and list make, if the state is "differ".
+        value: The value that log and list make, if it differs.
     """
 
     bank: str
@@ -39,7 +38,6 @@ class PlaceRow:
     """Where an expected PCR first has its value.
 
     Attributes:
-        expected: The expected value, or None if the place is "missing".
         place: "reset": before the events; "event"; "entry"; "nowhere"; "absent": the log has no
             such bank; or "missing": the PCR is required, and not expected.
         number: The number of the event, from 1, or of the entry, from 0.
@@ -54,13 +52,8 @@ class PlaceRow:
 
 @dataclass(frozen=True, slots=True, kw_only=True)
 class Stray:
-    """An event of the log that extends PCR 10, or an entry of the list that extends another.
-
-    Attributes:
-        event: The event's number, from 1, or None for an entry.
-        entry: The entry's number, from 0, or None for an event.
-        register: The PCR that it extends.
-    """
+    """An event of the log, from 1, that extends PCR 10, or an entry of the list, from 0, that
+    extends another."""
 
     event: int | None = None
     entry: int | None = None
@@ -69,13 +62,8 @@ class Stray:
 
 @dataclass(frozen=True, slots=True, kw_only=True)
 class Fault:
-    """An error in a list after its confirmed entries, for which the list is not refused.
-
-    Attributes:
-        kind, number: As of `Refused`.
-        event, entry: Where it is.
-        message: The line that `ima-agent` prints.
-    """
+    """An error in a list after its confirmed entries, for which the list is not refused. Kind,
+    number and message are as of `Refused`."""
 
     kind: str
     number: int | None = None
@@ -112,12 +100,17 @@ class Clock:
     safe: bool
 
 
+@dataclass(frozen=True, slots=True, kw_only=True, repr=False)
 class _Judged:
-    """What a verdict has. As a condition, it is true exactly if it is a match."""
+    """What all verdicts have. As a condition, one is true exactly if it is a match."""
 
-    __slots__ = ()
     matches: bool
+    json: str
     entries: int
+    extends: tuple[Stray, ...] = ()
+    known_from: int | None = None
+    unknown: tuple[int, ...] = ()
+    verdict: str
 
     def __bool__(self) -> bool:
         return self.matches
@@ -132,7 +125,7 @@ class Verdict(_Judged):
     """The verdict on a log, a list and expected PCRs.
 
     Attributes:
-        matches: Whether the library says that it is a match, on at least one PCR.
+        matches: Whether the library says that it is a match.
         json: The line of `ima-agent verify --json`.
         events, entries: How many the log and the list have.
         locality: The locality from which the TPM was started.
@@ -148,20 +141,13 @@ class Verdict(_Judged):
         verdict: The word of the line.
     """
 
-    matches: bool
-    json: str = field(repr=False)
     events: int
     locality: int
-    entries: int
     confirmed: int | None = None
     unconfirmed: Fault | None = None
     compared: int
     boot_aggregate: str
     registers: tuple[Row, ...]
-    extends: tuple[Stray, ...] = ()
-    known_from: int | None = None
-    unknown: tuple[int, ...] = ()
-    verdict: str
 
 
 @dataclass(frozen=True, slots=True, kw_only=True, repr=False)
@@ -169,15 +155,8 @@ class ListVerdict(_Judged):
     """The verdict on a list without a log, and expected PCRs. The attributes are as of `Verdict`;
     `json` is the line of `ima-agent replay --json`."""
 
-    matches: bool
-    json: str = field(repr=False)
-    entries: int
     compared: int
     registers: tuple[Row, ...]
-    extends: tuple[Stray, ...] = ()
-    known_from: int | None = None
-    unknown: tuple[int, ...] = ()
-    verdict: str
 
 
 @dataclass(frozen=True, slots=True, kw_only=True, repr=False)
@@ -189,33 +168,26 @@ class Attestation(_Judged):
         signer: The qualified name of the key that signed, as the quote states it.
         clock: The TPM's clock when it made the quote.
         firmware: The version of the TPM's firmware.
-        expected, registers: Of expected PCRs beside the quote, which no call here gives.
+        expected, registers: Of expected PCRs beside the quote, which no call takes.
         quote: "match" if log and list make the quoted values, otherwise "differ".
         signature: "valid": it is by the key; "checked" or "not checked": what the caller said.
         verdict: The word of the line; "signature not checked" if nobody verified the signature.
         matches, json, ...: As of `Verdict`; `json` is the line of `ima-agent attest --json`.
     """
 
-    matches: bool
-    json: str = field(repr=False)
     quoted: tuple[QuotedBank, ...]
     signer: bytes
     clock: Clock
     firmware: int
     events: int
     locality: int
-    entries: int
     confirmed: int | None = None
     unconfirmed: Fault | None = None
     boot_aggregate: str
     expected: str | None = None
     registers: tuple[Row, ...] = ()
-    extends: tuple[Stray, ...] = ()
-    known_from: int | None = None
-    unknown: tuple[int, ...] = ()
     quote: str
     signature: str
-    verdict: str
 
 
 @dataclass(frozen=True, slots=True, kw_only=True)
@@ -244,8 +216,7 @@ class Key:
             hash of the area. (The `signer` of a quote is the qualified name, which is another.)
         type: "rsa" or "ecc".
         bits: The size of the modulus, or 256, 384 or 521 for a curve.
-        scheme: "none", "rsassa", "rsapss", "ecdsa", "rsaes", "oaep" or "ecdh".
-        hash: The scheme's hash, or None if it has none.
+        scheme, hash: Such as "rsassa" and "sha256", or "none" and None.
         pem: The public key as `openssl pkey -pubin` writes it, which `attest` takes.
     """
 
@@ -329,8 +300,8 @@ class Event:
 
 @dataclass(frozen=True, slots=True, kw_only=True)
 class LogAlgorithm:
-    """An algorithm that a log's header declares: its name, if the library knows it, its number
-    as the TCG assigns it, and the size of its digests in bytes."""
+    """An algorithm that a log's header declares: its name, if it is known, its number as the TCG
+    assigns it, and the size of its digests in bytes."""
 
     name: str | None = None
     id: int
@@ -360,14 +331,8 @@ class Header:
 
 @dataclass(frozen=True, slots=True, kw_only=True)
 class Image:
-    """A program that the firmware started.
-
-    Attributes:
-        image: The event's number; or "unknown", if no bank answers for PCR 4, or no event extends
-            it.
-        digests: Its digest in each bank that answers.
-        claimed: What the event's data claims.
-    """
+    """A program that the firmware started: the number of the event, or "unknown", its digest in
+    each bank that answers, and what the event's data claims."""
 
     image: int | str
     digests: dict[str, bytes] | None = None
@@ -380,7 +345,6 @@ class Command:
 
     Attributes:
         command: The event's number; or "unknown", if texts of the PCR are not reported.
-        register: The PCR.
         text, text_hex: The text; its bytes if it is not valid in its encoding.
         claimed: What the data claims of a command of GRUB.
         event: The first event that is not reported.
@@ -396,12 +360,8 @@ class Command:
 
 @dataclass(frozen=True, slots=True, kw_only=True)
 class ImaPolicy:
-    """Whether a command asked Linux to measure files.
-
-    Attributes:
-        ima_policy: "asked"; "possible": a command may set a policy; or "unknown".
-        event: The first event whose text did.
-    """
+    """Whether a command asked Linux to measure files: "asked", "possible" (a command may set a
+    policy) or "unknown", and the first event whose text did."""
 
     ima_policy: str
     event: int | None = None
@@ -409,13 +369,8 @@ class ImaPolicy:
 
 @dataclass(frozen=True, slots=True, kw_only=True)
 class BootVariable:
-    """A variable of UEFI that says what to start.
-
-    Attributes:
-        boot_variable: The event's number; or "unknown", if no bank answers for PCR 1, or no event
-            extends it.
-        content: What its data says (docs/event-data.md).
-    """
+    """A variable of UEFI that says what to start: the number of the event, or "unknown", and what
+    its data says."""
 
     boot_variable: int | str
     content: dict[str, Any] | None = None
@@ -438,13 +393,8 @@ class Alike:
 
 @dataclass(frozen=True, slots=True, kw_only=True)
 class Changed:
-    """An event that one of two boots has.
-
-    Attributes:
-        now, before: The event's number in the log, or in the earlier log.
-        digest: Its digest in the bank in which the logs differ, if it has one.
-        claimed: What its data claims.
-    """
+    """An event that one of two boots has: its number in the log or in the earlier log, its digest
+    in the bank in which the logs differ, and what its data claims."""
 
     register: int
     now: int | None = None

@@ -52,12 +52,8 @@ class Session:
         cls, log: Buffer, *, prefix: bool = False, state: Buffer | None = None,
         known: Known | None = None,
     ) -> "Session":
-        """A session for `attest` alone: no PCRs are expected, and `more` raises `Misuse`.
-
-        Args:
-            log, prefix, state, known: As for the class. The state must be that of a session that
-                used `attest` last.
-        """
+        """A session for `attest` alone: no PCRs are expected, and `more` raises `Misuse`. The state
+        must be that of a session that used `attest` last."""
         session = cls(log, b"", require=NOTHING, prefix=prefix, state=state, known=known)
         session._judged["require"] = b""  # (which the library refuses)
         return session
@@ -69,11 +65,8 @@ class Session:
         list. After any other verdict, and after an error, the session is as it was: give these
         bytes again, with those that come next.
 
-        Numbers of entries, also of an error, are those in the whole list.
-
-        Raises:
-            Refused: As `verify` does, or the state is damaged, or of another boot.
-            Misuse: As `verify` does.
+        Numbers of entries, also of an error, are those in the whole list. Errors are as of
+        `verify`; a state that is damaged, or of another boot, is refused.
         """
         return self._ask("more", Verdict, more=bytes_of("data", data), **self._judged)
 
@@ -96,19 +89,13 @@ class Session:
         nonce: Buffer | None = None, nonce_hex: str | None = None, require: str,
         allow_sha1: bool = False, signature_checked: bool | None = None,
     ) -> Attestation:
-        """The verdict by a quote on the list that the state covers, followed by these bytes.
+        """The verdict by a quote on the list that the state covers, followed by these bytes. The
+        arguments and errors are as of the function `attest`.
 
         After a match the state covers what the verdict is on. The next quote must be of the same
-        boot: its `clock.resets` and `clock.restarts` are those of the last one. (A suspend counts
-        as a restart: then begin a new session with the whole list.)
-
-        Args:
-            key, quote, signature, nonce, nonce_hex, require, allow_sha1, signature_checked: As for
-                the function `attest`.
-
-        Raises:
-            Refused: As `attest` does; or the state is damaged, of another boot, or of no quote.
-            Misuse: As `attest` does.
+        boot: its `clock.resets` and `clock.restarts` are those of the last one, otherwise the
+        state is refused. (A suspend counts as a restart: then begin a new session with the whole
+        list.)
 
         >>> names = "AK.pem", "quote.msg", "quote.sig"
         >>> quoted = [Path("../quoted", name).read_bytes() for name in names]
@@ -117,9 +104,6 @@ class Session:
         >>> found = session.attest(*quoted, measurements + measurements[-95:], **given)
         >>> found.matches, found.confirmed, found.entries, session.offset == len(measurements)
         (True, 99, 100, True)
-        >>> later = ima_verify.Session.by_quotes(log, state=session.state)
-        >>> later.attest(*quoted, measurements[later.offset:], **given).matches
-        True
         """
         bytes_of("data", data)
         return self._attest(Quote(

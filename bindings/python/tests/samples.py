@@ -3,7 +3,6 @@
 import hashlib
 import json
 import sys
-import threading
 from pathlib import Path
 
 ROOT = Path(__file__).resolve().parents[3]
@@ -74,12 +73,3 @@ def tenth_after(count):
 def state_after(count):
     """The state after so many entries, by the reference."""
     return before_a_list(read_log(LOG).registers()).following(ENTRIES[:count]).text()
-
-
-def at_once(count, run):
-    """Runs in so many threads."""
-    threads = [threading.Thread(target=run) for _ in range(count)]
-    for thread in threads:
-        thread.start()
-    for thread in threads:
-        thread.join()

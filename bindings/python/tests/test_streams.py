@@ -1,121 +1,127 @@
 """Entries and events, which come by pieces, and texts that are longer than their buffer."""
 
 import array
+import ctypes
 import dataclasses
 import tracemalloc
+import types
 import unittest
+from unittest.mock import patch
 
 from samples import (
-    ASCII, CHANGED, ENTRIES, EXPECTED, LIST, LOG, REGISTERS, REQUIRED, VIOLATIONS, line_of,
+    ASCII, CHANGED, EXPECTED, LIST, LOG, REGISTERS, REQUIRED, VIOLATIONS, line_of,
 )
 
-import fake
 import ima_verify
-from ima_verify import _library
+from ima_verify import Kind, _library
 
-DONE, DIFFERS, REFUSED, OUT_OF_MEMORY, TOO_SHORT, MORE, MISUSED = range(7)
-MANY, HEADER_SIZE = 150, 65
-ENTRY, HEADER, EVENT = (line_of(kind) for kind in ("entry", "header", "event"))
+DONE, DIFFERS, TOO_SHORT, MORE = 0, 1, 4, 5
+MANY, HEADER_SIZE, PIECE = 150, 65, _library.PIECE_CAPACITY
+ENTRY, HEADER = line_of("entry"), line_of("header")
 COUNT = b'{"entries":2}\n'
-MEMORY = OUT_OF_MEMORY, b"", (7, 0, _library.NO_PLACE)
-REFUSAL = REFUSED, b"", (3, 1, 2)
+REFUSAL = ima_verify.Refused("It is damaged.", Kind.LIST, 1, 2)
 
 
 def with_length(data):
     return len(data).to_bytes(4, "little") + data
 
 
-def listed_entry(name, payload, template=b"ima-ng", digest=20 * b"x"):
-    """An entry of PCR 10 for a file."""
-    fields = with_length(b"sha1:\0" + payload) + with_length(name + b"\0")
-    return b"\x0a\0\0\0" + digest + with_length(template) + with_length(fields)
+def entry(template, payload):
+    """An entry of PCR 10."""
+    return b"\x0a\0\0\0" + 20 * b"x" + with_length(template) + with_length(payload)
+
+
+def giving(*answers):
+    """A library that gives these answers, one at each call."""
+    return patch.object(_library, "call", side_effect=answers)
 
 
 class Pieces(unittest.TestCase):
     """What a library may answer, one piece after another."""
 
     def test_piece_is_asked_for_when_it_is_needed(self):
-        with fake.giving("entries", (MORE, ENTRY), (DONE, ENTRY + COUNT)) as calls:
+        with giving((MORE, ENTRY), (DONE, ENTRY + COUNT)) as call:
             listing = ima_verify.entries(b"x")
             for count in (0, 1, 2):
-                self.assertEqual([call.capacity for call in calls], count * [_library.PIECE_CAPACITY])
+                self.assertEqual(call.call_count, count)
                 next(listing, None)
-            self.assertEqual((list(listing), list(listing), len(calls)), ([], [], 2))
+            self.assertEqual((list(listing), list(listing), call.call_count), ([], [], 2))
 
     def test_what_comes_before_an_error_is_given_first(self):
         for pieces in ([], [ENTRY], [ENTRY + ENTRY], [ENTRY, ENTRY]):
-            with fake.giving("entries", *((MORE, piece) for piece in pieces), REFUSAL):
-                listing, found = ima_verify.entries(b"x"), []
-                with self.assertRaises(ima_verify.Refused):
-                    found.extend(iter(listing.__next__, None))
-                self.assertEqual((list(listing), listing._count), ([], b"".join(pieces).count(b"\n")))
-        with fake.giving("events", (MORE, HEADER), REFUSAL):
+            with giving(*((MORE, piece) for piece in pieces), REFUSAL):
+                listing = ima_verify.entries(b"x")
+                for _ in range(b"".join(pieces).count(b"\n")):
+                    next(listing)
+                self.assertRaises(ima_verify.Refused, next, listing)
+                self.assertEqual(list(listing), [])
+        with giving((MORE, HEADER), REFUSAL):
             self.assertRaises(ima_verify.Refused, list, ima_verify.events(b"x"))
-        with fake.giving("events", REFUSAL):
-            self.assertRaises(ima_verify.Refused, ima_verify.events, b"x")
 
-    def test_memory_that_ran_out_may_be_there_the_next_time(self):
-        with fake.giving("entries", MEMORY, (MORE, ENTRY), MEMORY, (DONE, ENTRY + COUNT)):
-            listing = ima_verify.entries(b"x")
-            for _ in range(2):
-                self.assertRaises(ima_verify.OutOfMemory, next, listing)
-                next(listing)
-            self.assertEqual(list(listing), [])
+    def test_what_matches_is_asked_for_before_events(self):
+        """Each piece is asked for with the PCRs that match."""
+        for status, text in ((DONE, b"sha256:0"), (DIFFERS, b"")):
+            with giving((status, text), (MORE, HEADER), (DONE, line_of("event"))) as call:
+                found = ima_verify.events(b"a", expected="c")
+                self.assertEqual((found.matches, len(list(found))), (status == DONE, 1))
+            for asked in call.call_args_list[1:]:
+                given = asked.kwargs["matching"], asked.kwargs["matching_given"]
+                self.assertEqual(given, (text, True))
 
-    def test_entries_without_their_number_are_cut(self):
+    def test_what_is_cut_is_an_error(self):
+        """The last line says how many entries there are."""
         both = ENTRY + ENTRY
         for answers in (
-            [(DONE, both)], [(DONE, both + COUNT + COUNT)], [(DONE, b'{"entries":1}\n')],
-            [(DONE, both + b'{"entries":3}\n')], [(DONE, both + b'{"entries":"2"}\n')],
-            [(DONE, both + b"{}\n")], [(DONE, both + b"\n")], [(DONE, both + COUNT[:-1])],
-            [(MORE, both), (DONE, b'{"entries":1}\n')], [(MORE, COUNT)], [(DONE, b"")],
-            [(MORE, b"")], [(DIFFERS, both + COUNT)], [(MISUSED, both + COUNT)],
+            [(DONE, both)], [(DONE, both + COUNT + COUNT)], [(DONE, both + b'{"entries":3}\n')],
+            [(DONE, both + b"{}\n")], [(DONE, both + COUNT[:-1])], [(MORE, b"")], [(DONE, b"")],
+            [(MORE, both), (DONE, b'{"entries":1}\n')], [(DIFFERS, both + COUNT)],
         ):
-            with fake.giving("entries", *answers):
+            with giving(*answers):
                 with self.assertRaises(ima_verify.LibraryError, msg=answers):
                     list(ima_verify.entries(b"x"))
-        for answer in ((DONE, b""), (MORE, b""), (MORE, b"x"), (DONE, ENTRY[:-1])):
-            for name, called in (("entries", ima_verify.show), ("events", ima_verify.events)):
-                with fake.answering(name, *answer):
+        for answer in ((DONE, b""), (MORE, b"x"), (DONE, ENTRY[:-1])):
+            for called in (ima_verify.show, ima_verify.events):
+                with giving(answer):
                     self.assertRaises(ima_verify.LibraryError, called, b"x")
 
-    def test_text_longer_than_the_buffer_takes_a_second_call(self):
-        size = len(REGISTERS)
-        for capacity, wanted in ((1, [1, size]), (size - 1, [size - 1, size]), (size, [size])):
-            with fake.counted("registers") as capacities:
-                answer = _library.call("registers", capacity, bytes=LOG)
-            self.assertEqual((answer, capacities), ((DONE, REGISTERS), wanted))
+    def test_text_longer_than_the_buffer_takes_another_call(self):
+        def answer(*words):
+            *_, out, capacity, info = words
+            capacities.append(capacity)
+            info._obj.size = size
+            if capacity < size <= len(REGISTERS):
+                return TOO_SHORT
+            ctypes.memmove(out, REGISTERS, min(size, capacity))
+            return DONE
 
-    def test_sizes_that_cannot_be_are_errors(self):
-        unset = 2**64 - 1
-        for status, size in ((DONE, _library.REPORT_CAPACITY + 1), (DONE, unset), (TOO_SHORT, 50),
-                             (TOO_SHORT, unset), (TOO_SHORT, 1 << 63)):
-            with fake.answering("registers", status, size=size):
-                self.assertRaises(ima_verify.LibraryError, ima_verify.registers, b"")
-        with fake.answering("registers", TOO_SHORT, size=1 << 62):
-            self.assertRaises(MemoryError, ima_verify.registers, b"")
+        library = types.SimpleNamespace(ima_verify_raw_registers=answer)
+        with patch.object(_library, "loaded", lambda: library):
+            capacities, size = [], len(REGISTERS)
+            self.assertEqual(_library.call("registers", 1), (DONE, REGISTERS))
+            self.assertEqual(capacities, [1, size])
+            size = 2**64 - 1
+            self.assertRaises(ima_verify.LibraryError, _library.call, "registers")
 
 
 class Inputs(unittest.TestCase):
     """Real lists and logs."""
 
-    def test_entries_are_those_of_the_reference(self):
-        lines = b""
-        for count, (found, wanted) in enumerate(zip(ima_verify.entries(LIST), ENTRIES, strict=True)):
-            fields = wanted.fields()
-            self.assertEqual((found.entry, found.digest), (count, fields.digest))
-            self.assertEqual((found.genuine, found.violation), (True, count in VIOLATIONS))
+    def test_entries_are_the_kernels_text(self):
+        lines, violations = b"", []
+        for found in ima_verify.entries(LIST):
             words = (b"%2d" % found.register, found.template_digest.hex().encode(),
                      found.template.encode(), f"{found.algorithm}:{found.digest.hex()}".encode())
             lines += b" ".join((*words, found.path_bytes)) + b"\n"
-        self.assertEqual(lines, ASCII)
+            violations += [found.entry] if found.violation else []
+        self.assertEqual((lines, tuple(violations)), (ASCII, VIOLATIONS))
         changed = [found.entry for found in ima_verify.entries(CHANGED) if not found.genuine]
         self.assertEqual(changed, [5])
 
     def test_paths_are_their_bytes(self):
-        names = b"/a\nb", b'/"\\\x1b[2J', b"/\xc3\xa9", b"/\xff", b"", b"/}\n{", b"/" + 5000 * b"\1"
-        data = b"".join(listed_entry(name, bytes(20)) for name in names)
-        found = list(ima_verify.entries(data))
+        names = b"/a\nb", b'/"\\\x1b[2J', b"/\xc3\xa9", b"/\xff", b"", b"/}{", PIECE * b"\1"
+        digest = with_length(b"sha1:\0" + bytes(20))
+        data = (entry(b"ima-ng", digest + with_length(name + b"\0")) for name in names)
+        found = list(ima_verify.entries(b"".join(data)))
         self.assertEqual(tuple(each.path_bytes for each in found), names)
         self.assertEqual([each.entry for each in found if each.path is None], [3])
 
@@ -125,25 +131,15 @@ class Inputs(unittest.TestCase):
             (ima_verify.entries, "entry", 0, LIST, LIST),
             (ima_verify.events, "event", 1, LOG, LOG[HEADER_SIZE:]),
         ):
-            once, many = list(read(data)), data + MANY * more
-            for count, found in enumerate(read(many)):
-                place = {name: count + first, "json": found.json}
-                self.assertEqual(found, dataclasses.replace(once[count % len(once)], **place))
-            self.assertEqual(count + 1, len(once) * (1 + MANY))
+            once, many = list(read(data)), data + MANY * more + b"x"
             tracemalloc.start()
             with self.assertRaises(ima_verify.Refused) as caught:
-                for _ in read(many + b"x"):
-                    pass
-            self.assertEqual(caught.exception.place, count + 1 + first)
-            self.assertLess(tracemalloc.get_traced_memory()[1], len(many) + 6 * _library.PIECE_CAPACITY)
+                for count, found in enumerate(read(many)):
+                    place = {name: count + first, "json": found.json}
+                    self.assertEqual(found, dataclasses.replace(once[count % len(once)], **place))
+            self.assertEqual(caught.exception.place, len(once) * (1 + MANY) + first)
+            self.assertLess(tracemalloc.get_traced_memory()[1], 6 * PIECE)
             tracemalloc.stop()
-        self.assertEqual(ima_verify.show(MANY * LIST), MANY * ASCII)
-
-    def test_line_may_be_longer_than_a_piece(self):
-        payload = _library.PIECE_CAPACITY * b"\x5a"
-        long = b"\x0a\0\0\0" + 20 * b"x" + with_length(b"x") + with_length(payload)
-        found = list(ima_verify.entries(LIST + long + LIST))
-        self.assertEqual((len(found), found[99].payload), (199, payload))
 
     def test_memory_of_an_input_stays_while_it_is_gone_through(self):
         listed = bytearray(10 * LIST)
@@ -160,6 +156,5 @@ class Inputs(unittest.TestCase):
         for form in (bytearray(LIST), memoryview(padded)[1:-1], memoryview(bytearray(padded))[1:-1],
                      memoryview(LIST[::-1])[::-1], memoryview(LIST).cast("B", (1, len(LIST)))):
             self.assertEqual(ima_verify.verify(LOG, form, EXPECTED, **REQUIRED), wanted)
-        # (36 zero bytes: an entry of PCR 0 with an empty name and payload, and 4 more)
-        self.assertRaises(ima_verify.Refused, ima_verify.show, array.array("I", 9 * [0]))
+        # (32 zero bytes are an entry of PCR 0 with an empty name and payload)
         self.assertEqual(ima_verify.show(array.array("I", 8 * [0])), b" 0 " + 40 * b"0" + b"  \n")
