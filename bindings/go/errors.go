@@ -45,17 +45,14 @@ func (r *RefusedError) Error() string {
 }
 
 // refusedBy is the error of this kind, number and place, with the library's text for it.
-func refusedBy(info textInfo, kind Kind, line string) error {
-	described, failed := repeated(nil, make([]byte, firstCapacity), func(_, out []byte) (int32, uint64, textInfo) {
-		status, written := callErrorText(info, out)
-		return status, 0, written
-	})
-	err := &RefusedError{Kind: kind, Number: info.number, Line: line}
-	if failed == nil && described.status == done {
-		err.Text = string(bytes.TrimSpace(described.text))
+func refusedBy(found reply, kind Kind, line string) error {
+	err := &RefusedError{Kind: kind, Number: found.number, Line: line, HasPlace: found.place != noPlace}
+	if err.HasPlace {
+		err.Place = found.place
 	}
-	if info.place != noPlace {
-		err.Place, err.HasPlace = info.place, true
+	call := func(_, out []byte) reply { return callErrorText(found, out) }
+	if described, failed := repeated(nil, make([]byte, firstCapacity), call); failed == nil && described.status == done {
+		err.Text = string(bytes.TrimSpace(described.text))
 	}
 	return err
 }
