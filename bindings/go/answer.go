@@ -7,10 +7,7 @@ import (
 	"reflect"
 )
 
-const (
-	firstCapacity   = 64 * 1024 // of the first buffer for a text
-	largestCapacity = 1 << 40
-)
+const firstCapacity = 64 * 1024 // of the first buffer for a text
 
 // answer is what the library gives to a call: a reply, a text and a next checkpoint.
 type answer struct {
@@ -60,7 +57,7 @@ func repeated(next, out []byte, call func(next, out []byte) reply) (answer, erro
 
 // lengthened is a buffer for a text of this size, and whether it is a new one.
 func lengthened(buffer []byte, size uint64) ([]byte, bool) {
-	if size <= uint64(len(buffer)) || size > largestCapacity {
+	if size <= uint64(len(buffer)) {
 		return buffer, false
 	}
 	return make([]byte, size), true
@@ -72,35 +69,14 @@ func (a answer) failure() error {
 	case done, differs, moreLines:
 		return nil
 	case refused:
-		return a.refusal()
+		return refusedBy(a.reply)
 	case misused: // (the arguments do not belong together: no pointer is null, and all else is of the package)
-		return refusedBy(reply{kind: argumentNumber, place: noPlace}, KindArgument, "refused: command line")
+		return refusedBy(reply{kind: argumentNumber, place: noPlace})
 	case outOfMemory:
 		return ErrOutOfMemory
 	default:
 		return a.unexpected()
 	}
-}
-
-// errorLine is a line of JSON that reports an error.
-type errorLine struct {
-	Error ErrorInfo `json:"fault"`
-}
-
-// refusal is the error of a refused input, whose text is a line, or JSON that has it.
-func (a answer) refusal() error {
-	kind, line := kinds[a.kind], string(bytes.TrimSuffix(a.text, []byte("\n")))
-	var found errorLine
-	if json.Unmarshal(a.text, &found) == nil {
-		line = found.Error.Message
-		if kind == "" {
-			kind = found.Error.Kind // (of a later library)
-		}
-	}
-	if line == "" {
-		return a.unexpected()
-	}
-	return refusedBy(a.reply, kind, line)
 }
 
 func (a answer) unexpected() error {

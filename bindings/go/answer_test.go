@@ -65,20 +65,27 @@ func (c *comparison) compare(name string, found reflect.Type, s *schema) {
 	}
 }
 
+// Lines that are no results by themselves.
+type (
+	endLine struct {
+		Entries uint64 `json:"entries"`
+	}
+	errorLine struct {
+		Error ErrorInfo `json:"fault"`
+	}
+	secureBootLine struct {
+		State SecureBoot `json:"secure_boot"`
+	}
+	versionLine struct {
+		Version any `json:"firmware_version"`
+	}
+)
+
 // lineTypes have the type of the lines of each kind.
 var lineTypes = map[string]any{
 	"verify": Verdict{}, "attest": Attestation{}, "replay": ListVerdict{}, "places": Places{}, "pcrs": PCRs{}, "key": Key{},
-	"header": LogHeader{}, "event": Event{}, "entry": Entry{}, "error": errorLine{},
-	"end": struct {
-		Entries uint64 `json:"entries"`
-	}{}, // (the last three kinds are no results by themselves)
-	"secure_boot": struct {
-		State SecureBoot `json:"secure_boot"`
-	}{},
-	"firmware_version": struct {
-		Version any `json:"firmware_version"`
-	}{},
-	"image": BootImage{}, "command": BootCommand{},
+	"header": LogHeader{}, "event": Event{}, "entry": Entry{}, "end": endLine{}, "error": errorLine{},
+	"secure_boot": secureBootLine{}, "firmware_version": versionLine{}, "image": BootImage{}, "command": BootCommand{},
 	"ima_policy": IMAPolicy{}, "boot_variable": BootVariable{}, "alike": ComparedRegister{}, "changed": ChangedEvent{},
 }
 
@@ -176,20 +183,18 @@ func TestAnswersOfLaterLibrariesAreRead(t *testing.T) {
 	equal(t, of(differs, `{"boot_aggregate":"later","registers":[{"bank":"sm3","state":"later"}],"verdict":"later"}`+"\n").read(&v), nil)
 	equal(t, each(v.Matches, v.BootAggregate, v.Conclusion), each(false, BootAggregate("later"), Conclusion("later")))
 	equal(t, v.Registers, []Row{{Bank: "sm3", State: "later"}})
-	later := of(refused, `{"fault":{"kind":"later","number":3,"message":"refused: later fault 3"}}`+"\n")
-	later.kind, later.number, later.place = 99, 3, 4
-	equal(t, later.failure(), &RefusedError{Kind: "later", Number: 3, Place: 4, HasPlace: true, Line: "refused: later fault 3"})
+	var e Event
+	equal(t, of(done, `{"digests":{"novel":{"a":[1]},"sm3":"01"},"measured":{"novel":{"a":[1]}},"content":{"novel":{"a":[1]}}}`+"\n").read(&e), nil)
+	equal(t, each(e.Digests, e.Measured, e.Content), each(PerBank[Hex]{"sm3": {1}}, PerBank[Part]{}, Content{}))
+	later := refusedBy(reply{kind: 99, number: 3, place: 4})
+	equal(t, later, &RefusedError{Number: 3, Place: 4, HasPlace: true, Text: later.Error()})
 }
 
 func TestErrorsAreThoseOfTheStatus(t *testing.T) {
-	for _, text := range []string{"refused: list fault 1 at entry 2\n", `{"fault":{"kind":"x","message":"refused: list fault 1"}}` + "\n"} {
-		list := of(refused, text)
-		list.kind, list.number, list.place = 3, 1, 2
-		checkRefused(t, KindList, 1, 2)(0, list.failure())
-	}
+	checkRefused(t, KindList, 1, 2)(0, answer{reply: reply{refused, 0, 5, 3, 1, 2}, text: []byte("text\n")}.failure())
 	checkRefused(t, KindArgument, 0)(0, of(misused, "").failure())
 	equal(t, of(outOfMemory, "failed: memory\n").failure(), ErrOutOfMemory)
-	for _, wrong := range []answer{of(refused, ""), of(tooShort, "x"), of(9, "x\n"), of(-1, "")} {
+	for _, wrong := range []answer{of(tooShort, "x"), of(9, "x\n"), of(-1, "")} {
 		checkUnexpected(t, wrong.failure(), wrong)
 	}
 	equal(t, of(9, "text\n").failure().Error(), `libima_verify returned the status 9 and the size 5, with a text that begins "text\n"`)
@@ -210,7 +215,7 @@ func TestCallIsMadeAgainWithAsMuchCapacityAsItNeeds(t *testing.T) {
 		checkUnexpected(t, err, size)
 	}
 	given, err = askForBoth(make([]byte, 1), make([]byte, 1), func(next, out []byte) reply {
-		return callMore(bootLog, nil, earlierList, earlierTPM, []byte("sha256:10"), knownFiles{}, false, next, out)
+		return callMore(bootLog, nil, earlierList(), earlierTPM, []byte("sha256:10"), knownFiles{}, false, next, out)
 	})
 	equal(t, each(err, given.next), each(nil, earlierSession().State()))
 }

@@ -74,9 +74,9 @@ func (n *Number) UnmarshalJSON(text []byte) error {
 
 // BootImage is a program that the firmware started: the digests of its event confirm the image, and its path is claimed.
 type BootImage struct {
-	Event   Number            `json:"image"`
-	Digests map[Algorithm]Hex `json:"digests,omitempty"`
-	Claimed *Content          `json:"claimed,omitempty"`
+	Event   Number       `json:"image"`
+	Digests PerBank[Hex] `json:"digests,omitempty"`
+	Claimed *Content     `json:"claimed,omitempty"`
 }
 
 // BootCommand is a text that a boot loader measured into PCR 8 or 12, such as the command line of a kernel. If the Event

@@ -103,10 +103,9 @@ func Replay(list, expected []byte, require string, options ...Option) (ListVerdi
 	return resultFor[ListVerdict](func(out []byte) reply { return callReplay(list, expected, []byte(require), known, out) })
 }
 
-// ExpectedFrom gives the lines of expected PCRs, as Verify takes them, that a text which tpm2_pcrread or tpm2_checkquote printed
-// states: of the PCRs that a selection has, such as "sha256:0-10" or "0-7,10", or of all, if that is empty. A text with none of them
-// is refused. Nothing says who wrote the text, nor whether a quote holds: take the values of a quote that was checked, or of a trusted
-// machine.
+// ExpectedFrom gives the lines of expected PCRs, as Verify takes them, that a text which tpm2_pcrread or tpm2_checkquote printed states:
+// of the PCRs that a selection has, such as "sha256:0-10" or "0-7,10", or of all, if that is empty. A text with none of them is refused.
+// Nothing says who wrote the text, nor whether a quote holds: take the values of a quote that was checked, or of a trusted machine.
 func ExpectedFrom(printed []byte, registers string) ([]byte, error) {
 	given, err := ask(make([]byte, firstCapacity), func(out []byte) reply { return callExpected(printed, []byte(registers), out) })
 	return clone(given.text), err
@@ -117,8 +116,7 @@ func Registers(log []byte) (PCRs, error) {
 	return resultFor[PCRs](func(out []byte) reply { return callRegisters(log, false, out) })
 }
 
-// ListRegisters gives the PCRs, in banks of all algorithms, that differ from their reset values after a measurement list without
-// a log.
+// ListRegisters gives the PCRs, in banks of all algorithms, that differ from their reset values after a measurement list without a log.
 func ListRegisters(list []byte) (PCRs, error) {
 	return resultFor[PCRs](func(out []byte) reply { return callRegisters(list, true, out) })
 }
@@ -133,8 +131,7 @@ func ReadKey(area []byte) (Key, error) {
 	return resultFor[Key](func(out []byte) reply { return callKey(area, false, out) })
 }
 
-// ReadEndorsementKey gives the endorsement key of a public area, to which credentials are made: the file that `tpm2_createek -u`
-// writes.
+// ReadEndorsementKey gives the endorsement key of a public area, to which credentials are made: the file that `tpm2_createek -u` writes.
 //
 // The key is restricted, never leaves the TPM that made it, decrypts, and does not sign; any other is refused with KindKey. Nor does
 // its area say whose it is: compare the PEM with the key of a certificate by the TPM's manufacturer.

