@@ -7,29 +7,22 @@ import (
 	"reflect"
 )
 
-const (
-	firstCapacity   = 64 * 1024 // of the first buffer for a text
-	largestCapacity = 1 << 40
-)
+const firstCapacity = 64 * 1024 // of the first buffer for a text
 
-// answer is what the library gives to a call: its status, a text, what it reports of an error, and a next checkpoint.
+// answer is what the library gives to a call: a reply, a text and a next checkpoint.
 type answer struct {
-	status     int32
-	info       textInfo
+	reply
 	next, text []byte
 }
 
 // ask calls the library with a buffer for a text, and with a longer one while that is too short.
-func ask(out []byte, call func(out []byte) (int32, textInfo)) (answer, error) {
-	return askForBoth(nil, out, func(_, out []byte) (int32, uint64, textInfo) {
-		status, info := call(out)
-		return status, 0, info
-	})
+func ask(out []byte, call func(out []byte) reply) (answer, error) {
+	return askForBoth(nil, out, func(_, out []byte) reply { return call(out) })
 }
 
-// askForBoth calls the library with buffers for a next checkpoint, whose size the call gives, and for a text.
-func askForBoth(next, out []byte, call func(next, out []byte) (int32, uint64, textInfo)) (answer, error) {
-	if found := libraryVersion(); found < headerVersion {
+// askForBoth calls the library with buffers for a next checkpoint and for a text.
+func askForBoth(next, out []byte, call func(next, out []byte) reply) (answer, error) {
+	if found := Version(); found < headerVersion {
 		err := fmt.Errorf("libima_verify has version %d of the interface, and %d or later is needed", found, headerVersion)
 		return answer{}, err
 	}
@@ -37,31 +30,34 @@ func askForBoth(next, out []byte, call func(next, out []byte) (int32, uint64, te
 	if err == nil {
 		err = given.failure()
 	}
-	return given, err
+	if err != nil {
+		return answer{}, err
+	}
+	return given, nil
 }
 
 // repeated makes a call with longer buffers while they are too short.
-func repeated(next, out []byte, call func(next, out []byte) (int32, uint64, textInfo)) (answer, error) {
+func repeated(next, out []byte, call func(next, out []byte) reply) (answer, error) {
 	for {
-		status, nextSize, info := call(next, out)
-		if status == tooShort {
-			longerNext, isNextLonger := lengthened(next, nextSize)
-			longerOut, isOutLonger := lengthened(out, info.size)
+		r := call(next, out)
+		if r.status == tooShort {
+			longerNext, isNextLonger := lengthened(next, r.nextSize)
+			longerOut, isOutLonger := lengthened(out, r.size)
 			if isNextLonger || isOutLonger {
 				next, out = longerNext, longerOut
 				continue
 			}
 		}
-		if info.size > uint64(len(out)) || nextSize > uint64(len(next)) {
-			return answer{}, &UnexpectedError{Status: status, Size: info.size}
+		if r.size > uint64(len(out)) || r.nextSize > uint64(len(next)) {
+			return answer{}, &UnexpectedError{Status: r.status, Size: r.size}
 		}
-		return answer{status, info, next[:nextSize], out[:info.size]}, nil
+		return answer{r, next[:r.nextSize], out[:r.size]}, nil
 	}
 }
 
 // lengthened is a buffer for a text of this size, and whether it is a new one.
 func lengthened(buffer []byte, size uint64) ([]byte, bool) {
-	if size <= uint64(len(buffer)) || size > largestCapacity {
+	if size <= uint64(len(buffer)) {
 		return buffer, false
 	}
 	return make([]byte, size), true
@@ -73,9 +69,9 @@ func (a answer) failure() error {
 	case done, differs, moreLines:
 		return nil
 	case refused:
-		return a.refusal()
+		return refusedBy(a.reply)
 	case misused: // (the arguments do not belong together: no pointer is null, and all else is of the package)
-		return refusedBy(textInfo{kind: argumentNumber, place: noPlace}, KindArgument, "refused: command line")
+		return refusedBy(reply{kind: argumentNumber, place: noPlace})
 	case outOfMemory:
 		return ErrOutOfMemory
 	default:
@@ -83,73 +79,49 @@ func (a answer) failure() error {
 	}
 }
 
-// errorLine is a line of JSON that reports an error.
-type errorLine struct {
-	Error ErrorInfo `json:"fault"`
-}
-
-// refusal is the error of a refused input, whose text is a line, or JSON that has it.
-func (a answer) refusal() error {
-	kind, line := kinds[a.info.kind], string(bytes.TrimSuffix(a.text, []byte("\n")))
-	var found errorLine
-	if json.Unmarshal(a.text, &found) == nil {
-		line = found.Error.Message
-		if kind == "" {
-			kind = found.Error.Kind // (of a later library)
-		}
-	}
-	if line == "" {
-		return a.unexpected()
-	}
-	return refusedBy(a.info, kind, line)
-}
-
 func (a answer) unexpected() error {
-	return &UnexpectedError{a.status, a.info.size, a.text}
+	return &UnexpectedError{a.status, a.size, a.text}
 }
 
-// report is a result that claims something, which has to be what the library's status says.
-type report interface {
+// settled is a result that claims something, which has to be what the library's status says.
+type settled interface {
 	settle(isDone bool) (claim bool)
 }
 
-// resultOf reads a result from an answer of one line.
-func resultOf[T any](a answer) (T, error) {
-	var read, none T
-	isDone, claim := a.status == done, true
-	isRead := (isDone || a.status == differs) && decode(a.text, &read)
-	if report, isReport := any(&read).(report); isReport {
-		claim = report.settle(isDone)
+// read reads a result from an answer of one line.
+func (a answer) read(result any) error {
+	isRead := (a.status == done || a.status == differs) && decode(a.text, result)
+	if claiming, isClaiming := result.(settled); isRead && isClaiming {
+		isRead = claiming.settle(a.status == done) == (a.status == done)
 	}
-	if !isRead || claim != isDone {
-		return none, a.unexpected()
+	if !isRead {
+		return a.unexpected()
 	}
-	return read, nil
+	return nil
 }
 
 // resultFor reads a result from the answer to a call.
-func resultFor[T any](call func(out []byte) (int32, textInfo)) (T, error) {
-	given, err := ask(make([]byte, firstCapacity), call)
-	if err != nil {
-		var none T
-		return none, err
+func resultFor[T any](call func(out []byte) reply) (T, error) {
+	result, _, err := resultAndNext[T](nil, func(_, out []byte) reply { return call(out) })
+	return result, err
+}
+
+// resultAndNext reads a result from the answer to a call, and the next checkpoint, which only a match has.
+func resultAndNext[T any](next []byte, call func(next, out []byte) reply) (T, []byte, error) {
+	var result, none T
+	given, err := askForBoth(next, make([]byte, firstCapacity), call)
+	if err == nil {
+		err = given.read(&result)
 	}
-	return resultOf[T](given)
+	if err != nil {
+		return none, nil, err
+	}
+	return result, clone(given.next), nil
 }
 
-func (v *Verdict) settle(isDone bool) bool {
-	v.Matches = isDone
-	return v.Conclusion == ConclusionMatch
-}
-
-func (v *ListVerdict) settle(isDone bool) bool {
-	v.Matches = isDone
-	return v.Conclusion == ConclusionMatch
-}
-
-func (a *Attestation) settle(isDone bool) bool {
-	a.Matches = isDone
-	return a.Conclusion == ConclusionMatch
+func (r *Report) settle(isDone bool) bool {
+	r.Matches = isDone
+	return r.Conclusion == ConclusionMatch
 }
 
 func (p *Places) settle(bool) bool {

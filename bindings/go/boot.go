@@ -26,8 +26,8 @@ func ByQuote(list []byte, quote Quote) Evidence {
 // BootReport is what a machine booted, as docs/event-data.md says: what evidence confirms of the events of a log, and what they claim.
 // In each field Claimed is what an event's data says without being confirmed.
 //
-// Of Images, Commands and BootVariables an item with the Event 0 says that what follows is unknown. Registers and Changes compare the
-// log with an earlier one, and are absent in a report on one log. QuoteDiffers says that a quote is no match for log and list: nothing is
+// Of Images, Commands and BootVariables an item whose Event is Unknown says that nothing confirms more. Registers and Changes compare
+// the log with an earlier one, and are absent in a report on one log. QuoteDiffers says that a quote is no match for log and list: nothing is
 // confirmed then. JSON has the lines that `ima-agent boot --json` prints.
 type BootReport struct {
 	SecureBoot      SecureBoot
@@ -51,37 +51,38 @@ const (
 	SecureBootUnknown SecureBoot = "unknown"
 )
 
-// EventNumber is the number of an event, from 1, or 0 if what is asked for is unknown.
-type EventNumber uint64
+// Number is the number of an event, or a number of events, or one of the words below.
+type Number uint64
 
-// UnmarshalJSON reads a number, or a word such as "unknown".
-func (n *EventNumber) UnmarshalJSON(text []byte) error {
-	*n = 0
-	if bytes.HasPrefix(text, []byte(`"`)) {
-		return nil
-	}
-	return json.Unmarshal(text, (*uint64)(n))
-}
+const (
+	All     Number = math.MaxUint64
+	Unknown Number = math.MaxUint64 - 1 // nothing confirms more
+)
 
-// MarshalJSON writes what UnmarshalJSON reads.
-func (n EventNumber) MarshalJSON() ([]byte, error) {
-	if n == 0 {
-		return []byte(`"unknown"`), nil
+// UnmarshalJSON reads a number, or a word of JSON. One of a later library is Unknown.
+func (n *Number) UnmarshalJSON(text []byte) error {
+	switch {
+	case string(text) == `"all"`:
+		*n = All
+	case bytes.HasPrefix(text, []byte(`"`)):
+		*n = Unknown
+	default:
+		return json.Unmarshal(text, (*uint64)(n))
 	}
-	return json.Marshal(uint64(n))
+	return nil
 }
 
 // BootImage is a program that the firmware started: the digests of its event confirm the image, and its path is claimed.
 type BootImage struct {
-	Event   EventNumber       `json:"image"`
-	Digests map[Algorithm]Hex `json:"digests,omitempty"`
-	Claimed *Content          `json:"claimed,omitempty"`
+	Event   Number       `json:"image"`
+	Digests PerBank[Hex] `json:"digests,omitempty"`
+	Claimed *Content     `json:"claimed,omitempty"`
 }
 
-// BootCommand is a text that a boot loader measured into PCR 8 or 12, such as the command line of a kernel. If the Event is 0, texts of
-// the PCR from the event From on are not reported; if From is 0, none is.
+// BootCommand is a text that a boot loader measured into PCR 8 or 12, such as the command line of a kernel. If the Event
+// is Unknown, texts of the PCR from the event From on are not reported; if From is 0, none is.
 type BootCommand struct {
-	Event    EventNumber     `json:"command"`
+	Event    Number          `json:"command"`
 	Register int             `json:"register"`
 	Text     string          `json:"text,omitempty"`
 	TextHex  Hex             `json:"text_hex,omitempty"` // in place of Text, if that is not valid in its encoding
@@ -91,68 +92,28 @@ type BootCommand struct {
 
 // ClaimedCommand is what an event claims of a command of GRUB.
 type ClaimedCommand struct {
-	Kind CommandKind `json:"kind"`
+	Kind string `json:"kind"`
 }
 
-// PolicyState says whether a command asked Linux to measure files.
-type PolicyState string
-
-const (
-	PolicyAsked    PolicyState = "asked"
-	PolicyPossible PolicyState = "possible" // none did, but one may set a policy
-	PolicyUnknown  PolicyState = "unknown"
-)
-
-// IMAPolicy is what the commands say of a policy of IMA. Event is the first whose text does, or 0.
+// IMAPolicy says whether a command asked Linux to measure files: State is "asked", "possible" if only one may set a policy, or "unknown".
+// Event is the first whose text does, or 0.
 type IMAPolicy struct {
-	State PolicyState `json:"ima_policy"`
-	Event uint64      `json:"event,omitempty"`
+	State string `json:"ima_policy"`
+	Event uint64 `json:"event,omitempty"`
 }
 
 // BootVariable is a variable of UEFI that says what to start: the value is confirmed, and which variable has it is claimed.
 type BootVariable struct {
-	Event   EventNumber `json:"boot_variable"`
-	Content *Content    `json:"content,omitempty"`
+	Event   Number   `json:"boot_variable"`
+	Content *Content `json:"content,omitempty"`
 }
 
-// Alike is how many first events of a PCR have the same digests in two logs.
-type Alike uint64
-
-const (
-	AlikeAll     Alike = math.MaxUint64
-	AlikeUnknown Alike = math.MaxUint64 - 1 // no evidence covers the PCR
-)
-
-// UnmarshalJSON reads a number, "all" or "unknown".
-func (a *Alike) UnmarshalJSON(text []byte) error {
-	switch {
-	case string(text) == `"all"`:
-		*a = AlikeAll
-	case bytes.HasPrefix(text, []byte(`"`)):
-		*a = AlikeUnknown
-	default:
-		return json.Unmarshal(text, (*uint64)(a))
-	}
-	return nil
-}
-
-// MarshalJSON writes what UnmarshalJSON reads.
-func (a Alike) MarshalJSON() ([]byte, error) {
-	switch a {
-	case AlikeAll:
-		return []byte(`"all"`), nil
-	case AlikeUnknown:
-		return []byte(`"unknown"`), nil
-	default:
-		return json.Marshal(uint64(a))
-	}
-}
-
-// ComparedRegister is a PCR that one of two logs extends. Bank is the first in which they differ, or empty.
+// ComparedRegister is a PCR that one of two logs extends. Alike is how many first events have the same digests in both, or All, or Unknown.
+// Bank is the first in which the logs differ, or empty.
 type ComparedRegister struct {
 	Register int       `json:"register"`
 	Bank     Algorithm `json:"bank,omitempty"`
-	Alike    Alike     `json:"alike"`
+	Alike    Number    `json:"alike"`
 }
 
 // ChangedEvent is an event that only one of two logs has: Now is its number in the log, or Before that in the earlier log. Digest is that
@@ -169,16 +130,15 @@ type ChangedEvent struct {
 //
 // Errors are those of the log, and of what the evidence has, as Verify and Attest give them.
 func Boot(log []byte, evidence Evidence) (BootReport, error) {
-	return bootOf(func(out []byte) (int32, textInfo) { return callBoot(log, nil, false, evidence, out) })
+	return bootIn(ask(make([]byte, firstCapacity), func(out []byte) reply { return callBoot(log, nil, false, evidence, out) }))
 }
 
 // CompareBoots also says how the log differs from that of an earlier boot, which nothing confirms.
 func CompareBoots(log, before []byte, evidence Evidence) (BootReport, error) {
-	return bootOf(func(out []byte) (int32, textInfo) { return callBoot(log, before, true, evidence, out) })
+	return bootIn(ask(make([]byte, firstCapacity), func(out []byte) reply { return callBoot(log, before, true, evidence, out) }))
 }
 
-func bootOf(call func(out []byte) (int32, textInfo)) (BootReport, error) {
-	given, err := ask(make([]byte, firstCapacity), call)
+func bootIn(given answer, err error) (BootReport, error) {
 	if err != nil {
 		return BootReport{}, err
 	}

@@ -1,7 +1,6 @@
 package imaverify
 
 import (
-	"bytes"
 	"errors"
 	"fmt"
 )
@@ -10,10 +9,7 @@ import (
 type Kind string
 
 const (
-	// An argument: a selection of PCRs is not of its form, or does not suit a quote or known files; a nonce is too short or not
-	// hexadecimal; or members of a Quote do not belong together. It has no number.
-	KindArgument Kind = "command_line"
-
+	KindArgument   Kind = "command_line" // a selection of PCRs, a nonce, or members of a Quote that do not belong together
 	KindLog        Kind = "log"
 	KindList       Kind = "list"
 	KindReplay     Kind = "replay" // the template digest of an entry is not valid
@@ -27,35 +23,30 @@ const (
 
 // RefusedError is the error of an input that is refused.
 //
-// Kind, Number and Place are as the library reports them: docs/errors.txt has the numbers, and Place is that of the event, the entry
-// or the line, if HasPlace. Text says in words what is wrong and what to do. Line is what `ima-agent` prints, such as
-// "refused: replay fault 1 at entry 5".
+// Kind and Number say what is wrong (docs/errors.txt); a later library may have kinds that are empty here. Place is the number of the
+// event, the entry or the line where it is, if HasPlace. Text says in words what is wrong and what to do.
 type RefusedError struct {
 	Kind     Kind
 	Number   uint32
 	Place    uint64
 	HasPlace bool
 	Text     string
-	Line     string
 }
 
-// Error gives Line and Text.
+// Error gives Text.
 func (r *RefusedError) Error() string {
-	return r.Line + ": " + r.Text
+	return r.Text
 }
 
-// refusedBy is the error of this kind, number and place, with the library's text for it.
-func refusedBy(info textInfo, kind Kind, line string) error {
-	described, failed := repeated(nil, make([]byte, firstCapacity), func(_, out []byte) (int32, uint64, textInfo) {
-		status, written := callErrorText(info, out)
-		return status, 0, written
-	})
-	err := &RefusedError{Kind: kind, Number: info.number, Line: line}
-	if failed == nil && described.status == done {
-		err.Text = string(bytes.TrimSpace(described.text))
+// refusedBy is the error that a reply reports, with the library's text for it.
+func refusedBy(r reply) error {
+	err := &RefusedError{Kind: kinds[r.kind], Number: r.number, HasPlace: r.place != noPlace}
+	if err.HasPlace {
+		err.Place = r.place
 	}
-	if info.place != noPlace {
-		err.Place, err.HasPlace = info.place, true
+	described, failed := repeated(nil, make([]byte, firstCapacity), func(_, out []byte) reply { return callErrorText(r, out) })
+	if err.Text = string(described.text); failed != nil || described.status != done {
+		err.Text = fmt.Sprintf("libima_verify refused an input: %s fault %d", err.Kind, err.Number) // (there is no memory for the text)
 	}
 	return err
 }

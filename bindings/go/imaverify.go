@@ -22,8 +22,6 @@
 // Any number of goroutines may call at once. No input may change during a call.
 package imaverify
 
-import "bytes"
-
 // Quote is a quote with its signature, and what a verdict by it needs.
 //
 // Key is the machine's attestation key: the public area for which a credential was activated, as ReadKey reads it, or the PEM that ReadKey
@@ -62,11 +60,6 @@ func notEmpty(file []byte) []byte {
 // that is nothing.
 const NothingRequired = "none"
 
-// Version is the version of the library's interface.
-func Version() uint32 {
-	return libraryVersion()
-}
-
 // Verify gives the verdict on a firmware event log, a measurement list and the expected PCRs that a text states.
 //
 // require names the PCRs that must be among the expected ones, such as "sha256:0-10" or "sha256:0-7,sha1:10". Each that is not has
@@ -77,9 +70,7 @@ func Verify(log, list, expected []byte, require string, options ...Option) (Verd
 	if err != nil {
 		return Verdict{}, err
 	}
-	return resultFor[Verdict](func(out []byte) (int32, textInfo) {
-		return callVerdict(log, list, expected, []byte(require), known, out)
-	})
+	return resultFor[Verdict](func(out []byte) reply { return callVerdict(log, list, expected, []byte(require), known, out) })
 }
 
 // Attest gives the verdict on a firmware event log and a measurement list by a quote with its signature. No file of PCR values is needed.
@@ -99,7 +90,7 @@ func Attest(log, list []byte, quote Quote, options ...Option) (Attestation, erro
 
 // Locate says where each expected PCR first has its value. The arguments and the errors are those of Verify, without options.
 func Locate(log, list, expected []byte, require string) (Places, error) {
-	return resultFor[Places](func(out []byte) (int32, textInfo) { return callLocate(log, list, expected, []byte(require), out) })
+	return resultFor[Places](func(out []byte) reply { return callLocate(log, list, expected, []byte(require), out) })
 }
 
 // Replay gives the verdict on a measurement list without a log. The list is replayed from the PCRs' reset values, so a PCR that the
@@ -109,42 +100,25 @@ func Replay(list, expected []byte, require string, options ...Option) (ListVerdi
 	if err != nil {
 		return ListVerdict{}, err
 	}
-	return resultFor[ListVerdict](func(out []byte) (int32, textInfo) {
-		return callReplay(list, expected, []byte(require), known, out)
-	})
+	return resultFor[ListVerdict](func(out []byte) reply { return callReplay(list, expected, []byte(require), known, out) })
 }
 
-// ExpectedFrom gives the lines of expected PCRs, as Verify takes them, that a text which tpm2_pcrread or tpm2_checkquote printed
-// states: of the PCRs that a selection has, such as "sha256:0-10" or "0-7,10", or of all, if that is empty. A text with none of them
-// is refused. Nothing says who wrote the text, nor whether a quote holds: take the values of a quote that was checked, or of a trusted
-// machine.
+// ExpectedFrom gives the lines of expected PCRs, as Verify takes them, that a text which tpm2_pcrread or tpm2_checkquote printed states:
+// of the PCRs that a selection has, such as "sha256:0-10" or "0-7,10", or of all, if that is empty. A text with none of them is refused.
+// Nothing says who wrote the text, nor whether a quote holds: take the values of a quote that was checked, or of a trusted machine.
 func ExpectedFrom(printed []byte, registers string) ([]byte, error) {
-	given, err := ask(make([]byte, firstCapacity), func(out []byte) (int32, textInfo) {
-		return callExpected(printed, []byte(registers), out)
-	})
-	if err != nil {
-		return nil, err
-	}
-	return given.lines()
-}
-
-// lines gives the lines of expected PCRs, with no more memory than they need.
-func (a answer) lines() ([]byte, error) {
-	if a.status != done || !bytes.HasSuffix(a.text, []byte("\n")) {
-		return nil, a.unexpected()
-	}
-	return clone(a.text), nil
+	given, err := ask(make([]byte, firstCapacity), func(out []byte) reply { return callExpected(printed, []byte(registers), out) })
+	return clone(given.text), err
 }
 
 // Registers gives the PCRs that differ from their reset values after a firmware event log.
 func Registers(log []byte) (PCRs, error) {
-	return resultFor[PCRs](func(out []byte) (int32, textInfo) { return callRegisters(log, false, out) })
+	return resultFor[PCRs](func(out []byte) reply { return callRegisters(log, false, out) })
 }
 
-// ListRegisters gives the PCRs, in banks of all algorithms, that differ from their reset values after a measurement list without
-// a log.
+// ListRegisters gives the PCRs, in banks of all algorithms, that differ from their reset values after a measurement list without a log.
 func ListRegisters(list []byte) (PCRs, error) {
-	return resultFor[PCRs](func(out []byte) (int32, textInfo) { return callRegisters(list, true, out) })
+	return resultFor[PCRs](func(out []byte) reply { return callRegisters(list, true, out) })
 }
 
 // ReadKey gives the attestation key of a public area, a TPM2B_PUBLIC: the file that `tpm2_createak -u` writes.
@@ -154,18 +128,13 @@ func ListRegisters(list []byte) (PCRs, error) {
 // area does not say, and anyone can write one. Take the area, or its PEM, for Attest only after a credential was activated that was made to
 // the Name and to the machine's endorsement key. `ima-enroll` does that, and keeps both.
 func ReadKey(area []byte) (Key, error) {
-	return readKey(area, false)
+	return resultFor[Key](func(out []byte) reply { return callKey(area, false, out) })
 }
 
-// ReadEndorsementKey gives the endorsement key of a public area, to which credentials are made: the file that `tpm2_createek -u`
-// writes.
+// ReadEndorsementKey gives the endorsement key of a public area, to which credentials are made: the file that `tpm2_createek -u` writes.
 //
 // The key is restricted, never leaves the TPM that made it, decrypts, and does not sign; any other is refused with KindKey. Nor does
 // its area say whose it is: compare the PEM with the key of a certificate by the TPM's manufacturer.
 func ReadEndorsementKey(area []byte) (Key, error) {
-	return readKey(area, true)
-}
-
-func readKey(area []byte, isEndorsement bool) (Key, error) {
-	return resultFor[Key](func(out []byte) (int32, textInfo) { return callKey(area, isEndorsement, out) })
+	return resultFor[Key](func(out []byte) reply { return callKey(area, true, out) })
 }

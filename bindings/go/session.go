@@ -100,7 +100,7 @@ func NewQuoteSession(log []byte, options ...Option) *Session {
 // Numbers of entries, even in an error, are those of the whole list. After an error, and after a verdict that is no match, the
 // session is as it was before: give these bytes again.
 func (s *Session) More(data []byte) (Verdict, error) {
-	verdict, next, err := nextResult[Verdict](func(next, out []byte) (int32, uint64, textInfo) {
+	verdict, next, err := resultAndNext[Verdict](make([]byte, checkpointCapacity), func(next, out []byte) reply {
 		return callMore(s.log, s.settings.state, data, s.expected, []byte(s.require), s.settings.known, s.settings.prefix, next, out)
 	})
 	if verdict.Matches {
@@ -125,20 +125,9 @@ func (s *Session) Attest(data []byte, quote Quote) (Attestation, error) {
 
 // attestFrom gives the verdict by a quote on the list of a state followed by these bytes, and the next state.
 func attestFrom(log, data []byte, quote Quote, from settings) (Attestation, []byte, error) {
-	return nextResult[Attestation](func(next, out []byte) (int32, uint64, textInfo) {
+	return resultAndNext[Attestation](make([]byte, checkpointCapacity), func(next, out []byte) reply {
 		return callAttest(log, from.state, data, quote, from.known, from.prefix, next, out)
 	})
-}
-
-// nextResult reads a verdict from the answer to a call, and the next state, which only a match has.
-func nextResult[T any](call func(next, out []byte) (int32, uint64, textInfo)) (T, []byte, error) {
-	given, err := askForBoth(make([]byte, checkpointCapacity), make([]byte, firstCapacity), call)
-	if err != nil {
-		var none T
-		return none, nil, err
-	}
-	read, err := resultOf[T](given)
-	return read, clone(given.next), err
 }
 
 // State is what to keep, and to Resume another session from. It is nil before the first match on a list from its start.
