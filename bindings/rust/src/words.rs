@@ -130,14 +130,27 @@ words! {
         Data = "data", "All of it.";
         Value = "value", "The value of a variable, in PCR 1. Its name and its vendor are only claimed.";
         Command = "command", "The text of a command of GRUB, in PCR 8. Its kind is only claimed.";
+        None = "none", "PCRs confirm no part.";
     }
 
-    /// The part of an event's data that PCRs confirm.
-    ConfirmedPart {
-        Data = "data", "All of it.";
-        Value = "value", "The value of a variable.";
-        Command = "command", "The text of a command.";
-        None = "none", "None.";
+    /// A word in place of what PCRs confirm.
+    AnswerWord {
+        Unknown = "unknown", "They confirm nothing of this.";
+        All = "all", "All events are alike.";
+    }
+
+    /// Whether Secure Boot was on.
+    SecureBoot {
+        On = "on", "It was.";
+        Off = "off", "It was not.";
+        Unknown = "unknown", "Nothing confirms either.";
+    }
+
+    /// Whether a command asked Linux to measure files.
+    PolicyState {
+        Asked = "asked", "One did.";
+        Possible = "possible", "None did, but one may set a policy.";
+        Unknown = "unknown", "There is no such command.";
     }
 
     /// The kind of a command of GRUB, by what precedes its text.
@@ -156,8 +169,8 @@ words! {
     /// What is refused.
     Kind {
         Argument = "command_line",
-            "The selection of PCRs, required or asked for, is not of its form, or does not suit a quote or known files; or a nonce is \
-             too short, or not hexadecimal. It has no number.";
+            "The selection of PCRs, required or asked for, is not of its form, or does not suit a quote or known files; a nonce is \
+             too short, or not hexadecimal; or known files are given where they have no part. It has no number.";
         Log = "log", "The firmware event log.";
         List = "list", "The measurement list.";
         Replay = "replay", "The template digest of an entry is not valid.";
