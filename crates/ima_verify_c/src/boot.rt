@@ -76,9 +76,19 @@ pub extern "C" fn ima_verify_raw_matching<'a>(
     out: &mut [u8],
     info: &mut TextInfo,
 ) -> i32
-    ensures { AnswersTo (asked_of_matching (record { by = by; expected = expected.now; list = list.now; message = message.now; key = key.now;
-        signature = signature.now; nonce = nonce.now; nonce_hex = nonce_hex.now; require = require.now; allow_sha1 = allow_sha1;
-        signature_checked = signature_checked })) Text (IsMatchingAnswer log.now) result info.new out.old out.new }
+    ensures { AnswersTo (asked_of_matching (record {
+      by = by;
+      expected = expected.now;
+      list = list.now;
+      message = message.now;
+      key = key.now;
+      signature = signature.now;
+      nonce = nonce.now;
+      nonce_hex = nonce_hex.now;
+      require = require.now;
+      allow_sha1 = allow_sha1;
+      signature_checked = signature_checked;
+    })) Text (IsMatchingAnswer log.now) result info.new out.old out.new }
 {
     let given = Evidence {
         by,
@@ -131,9 +141,19 @@ pub extern "C" fn ima_verify_raw_boot<'a>(
     out: &mut [u8],
     info: &mut TextInfo,
 ) -> i32
-    ensures { AnswersTo (asked_of_boot (record { by = by; expected = expected.now; list = list.now; message = message.now; key = key.now;
-        signature = signature.now; nonce = nonce.now; nonce_hex = nonce_hex.now; require = require.now; allow_sha1 = allow_sha1;
-        signature_checked = signature_checked })) (form_of json) (IsBootAnswer (form_of json) (earlier_in compares before.now) log.now)
+    ensures { AnswersTo (asked_of_boot (record {
+      by = by;
+      expected = expected.now;
+      list = list.now;
+      message = message.now;
+      key = key.now;
+      signature = signature.now;
+      nonce = nonce.now;
+      nonce_hex = nonce_hex.now;
+      require = require.now;
+      allow_sha1 = allow_sha1;
+      signature_checked = signature_checked;
+    })) (form_of json) (IsBootAnswer (form_of json) (earlier_in compares before.now) log.now)
         result info.new out.old out.new }
 {
     let given = Evidence {
