@@ -9,8 +9,10 @@ member of docs/schema.json that no line before them has. A line of answers.jsonl
     kind       which definition of docs/schema.json the answer has: `verify`, `attest`, `replay`, `places`, `pcrs`, `key`, `header`, `event`, `entry`,
                `end`, or `error`
     status     what the library returns with it: 0 (IMA_VERIFY_DONE) or 1 (IMA_VERIFY_DIFFERS); an `error` has 2 (IMA_VERIFY_REFUSED)
-    matches    for a verdict and for places: whether a package says that all match; false for a verdict on no PCR, whose status may be 0
+    matches    for a verdict and for places: whether a package says that all match, which is the status alone
     line       the answer, without its line feed
+
+A verdict `match` on no PCR is the program's alone, and not in the table.
 """
 
 import json
@@ -48,8 +50,10 @@ def object_in(line):
 
 
 def is_of_library(value, kind):
-    """Whether a library gives such a line: its errors are refused inputs."""
-    return kind in (*VERDICTS, *LINES) and (kind != "error" or value["fault"]["kind"] in REFUSED_KINDS)
+    """Whether a library gives such a line: its errors are refused inputs, and its verdicts match only if a PCR was compared."""
+    if kind == "error":
+        return value["fault"]["kind"] in REFUSED_KINDS
+    return kind in (*VERDICTS, *LINES) and (value.get("compared"), value.get("verdict")) != (0, "match")
 
 
 def features_of(value, kind):
@@ -63,15 +67,13 @@ def features_of(value, kind):
             yield from ((kind, name, member, member in inner) for member in part.get("properties", {}))
 
 
-def answer_of(kind, status, value, line):
+def answer_of(kind, status, line):
     """The line of the table for an answer."""
     if kind == "error":
         return {"kind": kind, "status": REFUSED, "line": line}
     if kind not in VERDICTS:
         return {"kind": kind, "status": DONE, "line": line}
-    compared = value["quoted"] if kind == "attest" else value["registers"]
-    result = DIFFERS if status else DONE
-    return {"kind": kind, "status": result, "matches": result == DONE and bool(compared), "line": line}
+    return {"kind": kind, "status": DIFFERS if status else DONE, "matches": not status, "line": line}
 
 
 def answers():
@@ -83,15 +85,10 @@ def answers():
             features = {*features_of(value, kind)}
             if is_of_library(value, kind) and not features <= shown:
                 shown |= features
-                chosen.append(answer_of(kind, status, value, line))
+                chosen.append(answer_of(kind, status, line))
     order = [*VERDICTS, *LINES]
     return sorted(chosen, key=lambda answer: order.index(answer["kind"]))
 
 
-def table():
-    """A line for each answer."""
-    return (json.dumps(answer, separators=(",", ":"), ensure_ascii=False) + "\n" for answer in answers())
-
-
 if __name__ == "__main__":
-    sys.stdout.writelines(table())
+    sys.stdout.writelines(json.dumps(answer, separators=(",", ":"), ensure_ascii=False) + "\n" for answer in answers())

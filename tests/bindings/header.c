@@ -599,7 +599,7 @@ static void quotes(const char *changes, const struct ima_verify_summary *numbers
     unchecked.verdict = IMA_VERIFY_VERDICT_NONE;
     unchecked.reason = IMA_VERIFY_REASON_SIGNATURE;
     const char *quote = is_quoted ? "match" : "differ", *verdict = is_match ? "match" : "differ";
-    snprintf(lines, sizeof lines, "\nquote %s\nsignature checked\nverdict %s\n", quote, verdict);
+    snprintf(lines, sizeof lines, "\nquote %s\nverdict %s\n", quote, verdict);
     snprintf(members, sizeof members, ",\"quote\":\"%s\",\"signature\":\"checked\",\"verdict\":\"%s\"}\n", quote, verdict);
     gives(ATTESTING, changes, wanted, lines, members, numbers);
     gives(CONFIRMING, changes, wanted, "secure_boot ", "", NULL);
@@ -675,7 +675,8 @@ static void check_signatures(void) {
         gives(ATTESTING, by, DONE, "\nquote match\nsignature valid\nverdict match\n", "\"signature\":\"valid\",\"verdict\":\"match\"}\n",
               SUM(1, 0, 11, 11, 0, NONE, 0, 99, 99, 0));
         check(!has_text("checked"), ATTEST_MORE, "no word of the caller");
-        gives(CONFIRMING, by, DONE, "secure_boot off\n", "\"confirmed\":\"data\"", NULL);
+        gives(ONE(BOOT_BY_QUOTE), by, DONE, "secure_boot off\n", "\"secure_boot\":\"off\"", NULL);
+        gives(ONE(EVENTS_BY_QUOTE), by, DONE, "", "\"confirmed\":\"data\"", NULL);
         gives(ATTESTING, signed_by(name, key, end, "list-95"), DIFFERS, "\nquote differ\nsignature valid\nverdict differ\n",
               "\"differ\",\"signature\":\"valid\",\"verdict\":\"differ\"}\n", SUM(2, 4, 11, 0, 0, NONE, 0, 98, 98, 0));
     }
