@@ -22,10 +22,10 @@ class Kind(str, enum.Enum):
 
 
 class Error(Exception):
-    """The base of all errors of this package. Its `str` is `text`.
+    """The base of all errors of this package.
 
     Attributes:
-        text: What is wrong, and what to do.
+        text: What is wrong, and what to do. This is also the `str` of the error.
         kind: What the error is about. A kind that only a later library has is its number. None if
             the library does not report the error.
         number: The error's number among those of its kind, by docs/errors.txt; 0 without one.

@@ -82,17 +82,12 @@ class QuotedBank:
 
 @dataclass(frozen=True, slots=True, kw_only=True)
 class Clock:
-    """The clock of a TPM when it made a quote.
+    """The clock of a TPM when it made a quote: how long it has had power since it was cleared, how
+    often it was reset since then (by each boot), how often restarted or resumed since its last
+    reset, and whether its clock never had a later value.
 
     For a key outside the endorsement and platform hierarchies the TPM adds a constant to `resets`
-    and `restarts`, and to the version of its firmware: only differences mean something.
-
-    Attributes:
-        milliseconds: How long the TPM has had power since it was last cleared.
-        resets: How often it was reset since then: each boot is one reset.
-        restarts: How often it was restarted or resumed since its last reset.
-        safe: Whether its clock never had a later value.
-    """
+    and `restarts`, and to the version of its firmware: only differences mean something."""
 
     milliseconds: int
     resets: int
@@ -164,15 +159,13 @@ class Attestation(_Judged):
     """The verdict on a log and a list by a quote. It covers the PCRs in `quoted`, and no others.
 
     Attributes:
-        quoted: The PCRs that the quote selects.
         signer: The qualified name of the key that signed, as the quote states it.
-        clock: The TPM's clock when it made the quote.
         firmware: The version of the TPM's firmware.
         expected, registers: Of expected PCRs beside the quote, which no call takes.
         quote: "match" if log and list make the quoted values, otherwise "differ".
         signature: "valid": it is by the key; "checked" or "not checked": what the caller said.
         verdict: The word of the line; "signature not checked" if nobody verified the signature.
-        matches, json, ...: As of `Verdict`; `json` is the line of `ima-agent attest --json`.
+        matches, json, ...: As of `Verdict`, for `ima-agent attest --json`.
     """
 
     quoted: tuple[QuotedBank, ...]
@@ -192,12 +185,8 @@ class Attestation(_Judged):
 
 @dataclass(frozen=True, slots=True, kw_only=True)
 class Places:
-    """Where each expected PCR first has its value. As a condition, it is true if `located` is.
-
-    Attributes:
-        located: Whether a PCR is expected, and each has a place.
-        json: The line of `ima-agent locate --json`.
-    """
+    """Where each expected PCR first has its value; `located` is whether a PCR is expected, and each
+    has a place. As a condition, it is true if `located` is."""
 
     json: str = field(repr=False)
     registers: tuple[PlaceRow, ...]
@@ -214,8 +203,7 @@ class Key:
     Attributes:
         name: The name by which TPMs know the key: the number of a hash, in two bytes, and that
             hash of the area. (The `signer` of a quote is the qualified name, which is another.)
-        type: "rsa" or "ecc".
-        bits: The size of the modulus, or 256, 384 or 521 for a curve.
+        type, bits: "rsa" and the size of the modulus, or "ecc" and 256, 384 or 521.
         scheme, hash: Such as "rsassa" and "sha256", or "none" and None.
         pem: The public key as `openssl pkey -pubin` writes it, which `attest` takes.
     """
@@ -378,13 +366,8 @@ class BootVariable:
 
 @dataclass(frozen=True, slots=True, kw_only=True)
 class Alike:
-    """A PCR of two boots.
-
-    Attributes:
-        bank: The first bank in which the logs differ.
-        alike: How many first events have the same digests in that bank; "all": the logs extend the
-            PCR alike in each bank that answers; or "unknown": no bank answers.
-    """
+    """A PCR of two boots: the first bank in which the logs differ, and how many first events have
+    the same digests there; or "all", if each bank that answers has; or "unknown", if none does."""
 
     register: int
     bank: str | None = None
@@ -409,12 +392,8 @@ class Boot:
 
     Attributes:
         matches: False if the verdict by the quote is no match: then all is unknown.
-        json: The lines.
         secure_boot: "on", "off" or "unknown".
         firmware_version: The content that states the version, or "unknown".
-        images: The programs that the firmware started.
-        commands: What boot loaders measured in the PCRs 8 and 12.
-        ima_policy: Whether Linux was asked to measure files.
         boot_variables: BootOrder and each Boot####.
         alike: With an earlier log, each PCR that one of the logs extends.
         changed: With an earlier log, the events that one of both has.

@@ -58,16 +58,6 @@ class Pieces(unittest.TestCase):
         with giving((MORE, HEADER), REFUSAL):
             self.assertRaises(ima_verify.Refused, list, ima_verify.events(b"x"))
 
-    def test_what_matches_is_asked_for_before_events(self):
-        """Each piece is asked for with the PCRs that match."""
-        for status, text in ((DONE, b"sha256:0"), (DIFFERS, b"")):
-            with giving((status, text), (MORE, HEADER), (DONE, line_of("event"))) as call:
-                found = ima_verify.events(b"a", expected="c")
-                self.assertEqual((found.matches, len(list(found))), (status == DONE, 1))
-            for asked in call.call_args_list[1:]:
-                given = asked.kwargs["matching"], asked.kwargs["matching_given"]
-                self.assertEqual(given, (text, True))
-
     def test_what_is_cut_is_an_error(self):
         """The last line says how many entries there are."""
         both = ENTRY + ENTRY
