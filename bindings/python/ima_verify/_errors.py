@@ -37,10 +37,7 @@ class Error(Exception):
         self, text: str, kind: Kind | int | None = None, number: int = 0, place: int | None = None
     ) -> None:
         super().__init__(text, kind, number, place)
-        self.text = text
-        self.kind = kind
-        self.number = number
-        self.place = place
+        self.text, self.kind, self.number, self.place = text, kind, number, place
 
     def __str__(self) -> str:
         return self.text

@@ -20,10 +20,8 @@ if TYPE_CHECKING:
 else:
 
     class Buffer(Protocol):
-        """Bytes: `bytes`, or anything that has memory, such as `bytearray`, `memoryview` or `mmap`
-        (as `collections.abc.Buffer`, which is there from Python 3.12 on)."""
-
-        def __buffer__(self, flags, /): ...
+        """Bytes, or what has memory, such as a bytearray or mmap (`collections.abc.Buffer`, which
+        Python has from 3.12 on)."""
 
 
 VERSION = 1
@@ -123,14 +121,13 @@ def load() -> ctypes.CDLL:
         library.ima_verify_version.restype = c_uint32
         found = library.ima_verify_version()
         if found < VERSION:
-            raise VersionError(f"{file} has version {found} of the interface, not {VERSION}")
+            raise VersionError(f"{file} has version {found} of the interface: {VERSION} is needed")
         for name in FUNCTIONS:
             function = getattr(library, f"ima_verify_raw_{name}")
             function.argtypes, function.restype = types_of(name), c_int32
     except (OSError, AttributeError) as error:
-        raise LoadError(
-            f"{file} is not there, or not the library (name it in {VARIABLE}): {error}"
-        ) from error
+        hint = f"is not there, or not the library (name it in {VARIABLE})"
+        raise LoadError(f"{file} {hint}: {error}") from error
     return library
 
 

@@ -18,12 +18,8 @@ class Pcr:
 
 @dataclass(frozen=True, slots=True, kw_only=True)
 class Row:
-    """An expected PCR, compared, or a required one that is missing.
-
-    Attributes:
-        state: "match"; "differ"; "absent": the log has no such bank; or "missing": the PCR is
-            required, and not expected.
-        value: The value that log and list make, if it differs.
+    """An expected PCR, compared. The state is "match"; "differ", with the value that log and list
+    make; "absent": the log has no such bank; or "missing": the PCR is required, and not expected.
     """
 
     bank: str
@@ -35,13 +31,9 @@ class Row:
 
 @dataclass(frozen=True, slots=True, kw_only=True)
 class PlaceRow:
-    """Where an expected PCR first has its value.
-
-    Attributes:
-        place: "reset": before the events; "event"; "entry"; "nowhere"; "absent": the log has no
-            such bank; or "missing": the PCR is required, and not expected.
-        number: The number of the event, from 1, or of the entry, from 0.
-    """
+    """Where an expected PCR first has its value: "reset", before the events; at the "event" of this
+    number, from 1; at the "entry" of this number, from 0; "nowhere"; "absent": the log has no such
+    bank; or "missing": the PCR is required, and not expected."""
 
     bank: str
     register: int
@@ -123,7 +115,7 @@ class Verdict(_Judged):
         matches: Whether the library says that it is a match.
         json: The line of `ima-agent verify --json`.
         events, entries: How many the log and the list have.
-        locality: The locality from which the TPM was started.
+        locality: That from which the TPM was started.
         confirmed: How many first entries the verdict covers, from a session with `prefix`.
         unconfirmed: The first error after these.
         compared: How many expected PCRs were compared. Without one there is no match.
@@ -160,7 +152,6 @@ class Attestation(_Judged):
 
     Attributes:
         signer: The qualified name of the key that signed, as the quote states it.
-        firmware: The version of the TPM's firmware.
         expected, registers: Of expected PCRs beside the quote, which no call takes.
         quote: "match" if log and list make the quoted values, otherwise "differ".
         signature: "valid": it is by the key; "checked" or "not checked": what the caller said.
@@ -223,7 +214,6 @@ class Entry:
 
     Attributes:
         entry: Its number, from 0.
-        register: The PCR that it extends.
         template, template_hex: The template's name; its bytes if they are not UTF-8.
         template_digest: The SHA-1 that the list states, all zero for a violation.
         violation: Whether a file was open for writing while it was measured. No PCR confirms what
@@ -329,14 +319,9 @@ class Image:
 
 @dataclass(frozen=True, slots=True, kw_only=True)
 class Command:
-    """A command that a boot loader measured.
-
-    Attributes:
-        command: The event's number; or "unknown", if texts of the PCR are not reported.
-        text, text_hex: The text; its bytes if it is not valid in its encoding.
-        claimed: What the data claims of a command of GRUB.
-        event: The first event that is not reported.
-    """
+    """A command that a boot loader measured: the number of the event, or "unknown" if texts of the
+    PCR are not reported, from `event` on; the text, or its bytes if it is not valid in its
+    encoding; and what the data claims of a command of GRUB."""
 
     command: int | str
     register: int

@@ -1,6 +1,5 @@
 """The examples of the docstrings and of README.md, and how the library is found and packed."""
 
-import contextlib
 import doctest
 import inspect
 import io
@@ -13,6 +12,7 @@ import sys
 import tempfile
 import types
 import unittest
+from contextlib import nullcontext, redirect_stdout
 from pathlib import Path
 from unittest.mock import patch
 
@@ -66,7 +66,7 @@ class Examples(Temporary):
         (self.folder / "known.txt").write_bytes(SUMS)
         page = (PACKAGE / "README.md").read_text()
         program, said = {}, io.StringIO()
-        with contextlib.redirect_stdout(said):
+        with redirect_stdout(said):
             for example in re.findall("^```python\n(.*?)^```", page, re.M | re.S):
                 exec(example, program)
             program["booted"]()
@@ -125,9 +125,8 @@ class Hook(Temporary):
             file.write_bytes(text)
             with patch.dict(os.environ, {"IMA_VERIFY_LIBRARY": str(named)}):
                 hook.initialize("editable", data)  # (which packs none)
-                if wanted:
-                    self.assertRaisesRegex(SystemExit, wanted, hook.initialize, "standard", data)
-                else:
+                refused = self.assertRaisesRegex(SystemExit, wanted) if wanted else nullcontext()
+                with refused:
                     hook.initialize("standard", data)
         self.assertEqual(data["force_include"], {str(file): "ima_verify/libima_verify.so"})
         self.assertEqual(data["tag"], "py3-none-linux_x86_64")
