@@ -154,10 +154,9 @@ def attest(
     """The verdict on a firmware event log and a measurement list by a quote with its signature.
 
     Args:
-        key: The machine's attestation key: the public area for which a credential was activated,
-            or the `pem` that `read_key` gives for it. It is of RSA with 2048 to 4096 bits, or of
-            P-256 or P-384. A PEM does not say whether the key also signs messages that no TPM
-            made, so keep one only of an area that `read_key` took.
+        key: The machine's attestation key, of RSA with 2048 to 4096 bits, or of P-256 or P-384:
+            the public area for which a credential was activated, or the `pem` of `read_key`. (A
+            PEM does not say whether the key also signs messages that no TPM made.)
         quote: What the TPM signed: the file that `tpm2_quote -m` writes.
         signature: The file that `tpm2_quote -s` writes, with `-f plain` or without.
         nonce: The verifier's own nonce for this quote, used once: 16 bytes or more.
@@ -165,14 +164,13 @@ def attest(
         require: The PCRs that must be quoted, at least 0 to 10, such as `sha256:0-10`.
         allow_sha1: Whether a PCR may be required in the SHA-1 bank alone.
         known: As for `verify`.
-        signature_checked: For a key that is not taken, such as one of P-521, in place of key and
-            signature, which are then None: whether the caller has verified the signature of this
-            message by the machine's key. If it is False, there is no match.
+        signature_checked: For another key, such as one of P-521, in place of key and signature,
+            which are then None: whether the caller has verified the signature of this message by
+            the machine's key. If it is False, there is no match.
 
     Raises:
-        Refused: The key, the signature, the quote, a text of `known`, the log or the list.
-        Misuse: `require` is not of its form, leaves out one of the PCRs 0 to 10, or names one of
-            the SHA-1 bank alone; or the nonce is too short, or not hexadecimal.
+        Refused: An input is not valid, the key did not sign the quote, or its nonce is another.
+        Misuse: `require` is not as above; or the nonce is too short, or not hexadecimal.
 
     >>> names = "AK.pem", "quote.msg", "quote.sig"
     >>> key, quote, signature = (Path("../quoted", name).read_bytes() for name in names)
@@ -247,11 +245,9 @@ def read_key(area: Buffer) -> Key:
 def read_endorsement_key(area: Buffer) -> Key:
     """The endorsement key of a public area, to which credentials are made.
 
-    It is restricted, never leaves the TPM that made it, decrypts, and does not sign. Its area does
-    not say whose it is: compare its `pem` with the key of a certificate by the TPM's manufacturer.
-
-    The area is a TPM2B_PUBLIC, the file that `tpm2_createek -u` writes. `Refused` says if it is
-    none, or what the key lacks.
+    It is restricted, never leaves the TPM that made it, decrypts, and does not sign. Its area, the
+    file that `tpm2_createek -u` writes, does not say whose it is: compare its `pem` with the key of
+    a certificate by the TPM's manufacturer. `Refused` says if it is none, or what the key lacks.
 
     >>> key = ima_verify.read_endorsement_key(Path("../keys/ek-p256.pub").read_bytes())
     >>> key.type, key.bits, key.scheme, key.hash
@@ -265,9 +261,7 @@ def expected(printed: Text, registers: str | None = None) -> bytes:
     """The lines of expected PCRs that a text states which tpm2_pcrread or tpm2_checkquote printed.
 
     `registers` is a selection such as `sha256:0-10` or `0-7,10`; None selects all. The text does
-    not say who wrote it, nor whether a quote holds.
-
-    A text that is not of its form, or states no PCR of the selection, is refused.
+    not say who wrote it, nor whether a quote holds. One that states no selected PCR is refused.
 
     >>> printed = Path("tpm2_pcrread.txt").read_bytes()
     >>> ima_verify.expected(printed, "0-10") == b"".join(expected.splitlines(True)[:11])
@@ -275,10 +269,8 @@ def expected(printed: Text, registers: str | None = None) -> bytes:
     """
     if not isinstance(registers, (str, type(None))):
         raise TypeError(f"registers takes a str or None, and not {registers!r:.80}")
-    selected = text_of("registers", registers or "")
-    status, text = _library.call(
-        "expected", printed=text_of("printed", printed), registers=selected
-    )
+    given, selected = text_of("printed", printed), text_of("registers", registers or "")
+    status, text = _library.call("expected", printed=given, registers=selected)
     if status != _library.DONE or not text.endswith(b"\n"):
         _library.unexpected(status, text)
     return text

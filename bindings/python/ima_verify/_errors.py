@@ -22,10 +22,10 @@ class Kind(str, enum.Enum):
 
 
 class Error(Exception):
-    """The base of all errors of this package. Its `str` is `text`.
+    """The base of all errors of this package.
 
     Attributes:
-        text: What is wrong, and what to do.
+        text: What is wrong, and what to do. This is also the `str` of the error.
         kind: What the error is about. A kind that only a later library has is its number. None if
             the library does not report the error.
         number: The error's number among those of its kind, by docs/errors.txt; 0 without one.
@@ -37,10 +37,7 @@ class Error(Exception):
         self, text: str, kind: Kind | int | None = None, number: int = 0, place: int | None = None
     ) -> None:
         super().__init__(text, kind, number, place)
-        self.text = text
-        self.kind = kind
-        self.number = number
-        self.place = place
+        self.text, self.kind, self.number, self.place = text, kind, number, place
 
     def __str__(self) -> str:
         return self.text

@@ -125,14 +125,9 @@ def _signing(quote: Quote) -> dict[str, Any]:
     if key is None and signature is None and isinstance(checked, bool):
         return {"signature_checked": checked}
     if key is None or signature is None or checked is not None:
-        raise TypeError(
-            "a quote takes a key and a signature, or None for both and signature_checked, which is "
-            "True or False"
-        )
-    return {
-        "key": some_bytes(text_of("key", key)),
-        "signature": some_bytes(bytes_of("signature", signature)),
-    }
+        raise TypeError("key and signature are given, or None for both and signature_checked")
+    signed = some_bytes(bytes_of("signature", signature))
+    return {"key": some_bytes(text_of("key", key)), "signature": signed}
 
 
 def _nonce(quote: Quote) -> dict[str, Any]:

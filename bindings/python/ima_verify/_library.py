@@ -20,10 +20,8 @@ if TYPE_CHECKING:
 else:
 
     class Buffer(Protocol):
-        """Bytes: `bytes`, or anything that has memory, such as `bytearray`, `memoryview` or `mmap`
-        (as `collections.abc.Buffer`, which is there from Python 3.12 on)."""
-
-        def __buffer__(self, flags, /): ...
+        """Bytes, or what has memory, such as a bytearray or mmap (`collections.abc.Buffer`, which
+        Python has from 3.12 on)."""
 
 
 VERSION = 1
@@ -123,16 +121,13 @@ def load() -> ctypes.CDLL:
         library.ima_verify_version.restype = c_uint32
         found = library.ima_verify_version()
         if found < VERSION:
-            raise VersionError(
-                f"{file} has version {found} of the interface, and {VERSION} or later is needed"
-            )
+            raise VersionError(f"{file} has version {found} of the interface: {VERSION} is needed")
         for name in FUNCTIONS:
             function = getattr(library, f"ima_verify_raw_{name}")
             function.argtypes, function.restype = types_of(name), c_int32
     except (OSError, AttributeError) as error:
-        raise LoadError(
-            f"{file} is not there, or not the library (name it in {VARIABLE}): {error}"
-        ) from error
+        hint = f"is not there, or not the library (name it in {VARIABLE})"
+        raise LoadError(f"{file} {hint}: {error}") from error
     return library
 
 
@@ -147,23 +142,19 @@ def call(name: str, capacity: int = REPORT_CAPACITY, **given: Any) -> tuple[int,
     False. A text that is longer than `capacity` gets as much as it needs."""
     status, info, out = _answered(name, given, capacity)
     if info.size > len(out):
-        raise LibraryError(
-            f"libima_verify returned {status} and size {info.size} for {len(out)} bytes"
-        )
+        raise LibraryError(f"libima_verify returned {status}, with {info.size} of {len(out)} bytes")
     if status not in (DONE, DIFFERS, MORE) or info.error_kind != NO_ERROR:
         raise _error_of(status, info)
     with memoryview(out) as whole:
         return status, bytes(whole[:info.size])
 
 
-def _answered(
-    name: str, given: dict[str, Any], capacity: int
-) -> tuple[int, ErrorInfo, bytearray]:
+def _answered(name: str, given: dict[str, Any], size: int) -> tuple[int, ErrorInfo, bytearray]:
     """What a raw function returns, and what it wrote. (This raises no error of the library: a
     traceback would keep the inputs' memory.)"""
     function = getattr(loaded(), f"ima_verify_raw_{name}")
     words = [word for argument in FUNCTIONS[name] for word in _words(argument, given)]
-    info, out = ErrorInfo(), bytearray(capacity)
+    info, out = ErrorInfo(), bytearray(size)
     status = function(*words, byref(c_char.from_buffer(out)), len(out), byref(info))
     while status == TOO_SHORT and len(out) < info.size <= sys.maxsize:
         out = bytearray(info.size)
@@ -200,9 +191,7 @@ def _error_of(status: int, info: ErrorInfo) -> Error:
     word = KINDS.get(kind, kind)
     is_memory = word is Kind.MEMORY
     if kind == NO_ERROR or status != (OUT_OF_MEMORY if is_memory else REFUSED):
-        return LibraryError(
-            f"libima_verify returned {status} and error {number} of kind {kind} at {place}"
-        )
+        return LibraryError(f"libima_verify returned {status} and error {number} of kind {kind}")
     error = OutOfMemory if is_memory else Misuse if word is Kind.ARGUMENT else Refused
     text = _text_of(kind, number, place)
     return error(text, word, number, None if place == NO_PLACE else place)
@@ -219,9 +208,7 @@ def _text_of(kind: int, number: int, place: int) -> str:
 
 def unexpected(status: int, text: bytes) -> NoReturn:
     """Raises the LibraryError for a text that is not as the header says."""
-    raise LibraryError(
-        f"libima_verify returned {status} and {len(text)} bytes that begin {text[:200]!r}"
-    )
+    raise LibraryError(f"libima_verify returned {status} and {len(text)} bytes: {text[:200]!r}")
 
 
 def lines(name: str, **given: Any) -> Iterator[bytes]:

@@ -18,12 +18,8 @@ class Pcr:
 
 @dataclass(frozen=True, slots=True, kw_only=True)
 class Row:
-    """An expected PCR, compared, or a required one that is missing.
-
-    Attributes:
-        state: "match"; "differ"; "absent": the log has no such bank; or "missing": the PCR is
-            required, and not expected.
-        value: The value that log and list make, if it differs.
+    """An expected PCR, compared. The state is "match"; "differ", with the value that log and list
+    make; "absent": the log has no such bank; or "missing": the PCR is required, and not expected.
     """
 
     bank: str
@@ -35,13 +31,9 @@ class Row:
 
 @dataclass(frozen=True, slots=True, kw_only=True)
 class PlaceRow:
-    """Where an expected PCR first has its value.
-
-    Attributes:
-        place: "reset": before the events; "event"; "entry"; "nowhere"; "absent": the log has no
-            such bank; or "missing": the PCR is required, and not expected.
-        number: The number of the event, from 1, or of the entry, from 0.
-    """
+    """Where an expected PCR first has its value: "reset", before the events; at the "event" of this
+    number, from 1; at the "entry" of this number, from 0; "nowhere"; "absent": the log has no such
+    bank; or "missing": the PCR is required, and not expected."""
 
     bank: str
     register: int
@@ -82,17 +74,12 @@ class QuotedBank:
 
 @dataclass(frozen=True, slots=True, kw_only=True)
 class Clock:
-    """The clock of a TPM when it made a quote.
+    """The clock of a TPM when it made a quote: how long it has had power since it was cleared, how
+    often it was reset since then (by each boot), how often restarted or resumed since its last
+    reset, and whether its clock never had a later value.
 
     For a key outside the endorsement and platform hierarchies the TPM adds a constant to `resets`
-    and `restarts`, and to the version of its firmware: only differences mean something.
-
-    Attributes:
-        milliseconds: How long the TPM has had power since it was last cleared.
-        resets: How often it was reset since then: each boot is one reset.
-        restarts: How often it was restarted or resumed since its last reset.
-        safe: Whether its clock never had a later value.
-    """
+    and `restarts`, and to the version of its firmware: only differences mean something."""
 
     milliseconds: int
     resets: int
@@ -128,7 +115,7 @@ class Verdict(_Judged):
         matches: Whether the library says that it is a match.
         json: The line of `ima-agent verify --json`.
         events, entries: How many the log and the list have.
-        locality: The locality from which the TPM was started.
+        locality: That from which the TPM was started.
         confirmed: How many first entries the verdict covers, from a session with `prefix`.
         unconfirmed: The first error after these.
         compared: How many expected PCRs were compared. Without one there is no match.
@@ -164,15 +151,12 @@ class Attestation(_Judged):
     """The verdict on a log and a list by a quote. It covers the PCRs in `quoted`, and no others.
 
     Attributes:
-        quoted: The PCRs that the quote selects.
         signer: The qualified name of the key that signed, as the quote states it.
-        clock: The TPM's clock when it made the quote.
-        firmware: The version of the TPM's firmware.
         expected, registers: Of expected PCRs beside the quote, which no call takes.
         quote: "match" if log and list make the quoted values, otherwise "differ".
         signature: "valid": it is by the key; "checked" or "not checked": what the caller said.
         verdict: The word of the line; "signature not checked" if nobody verified the signature.
-        matches, json, ...: As of `Verdict`; `json` is the line of `ima-agent attest --json`.
+        matches, json, ...: As of `Verdict`, for `ima-agent attest --json`.
     """
 
     quoted: tuple[QuotedBank, ...]
@@ -192,12 +176,8 @@ class Attestation(_Judged):
 
 @dataclass(frozen=True, slots=True, kw_only=True)
 class Places:
-    """Where each expected PCR first has its value. As a condition, it is true if `located` is.
-
-    Attributes:
-        located: Whether a PCR is expected, and each has a place.
-        json: The line of `ima-agent locate --json`.
-    """
+    """Where each expected PCR first has its value; `located` is whether a PCR is expected, and each
+    has a place. As a condition, it is true if `located` is."""
 
     json: str = field(repr=False)
     registers: tuple[PlaceRow, ...]
@@ -214,8 +194,7 @@ class Key:
     Attributes:
         name: The name by which TPMs know the key: the number of a hash, in two bytes, and that
             hash of the area. (The `signer` of a quote is the qualified name, which is another.)
-        type: "rsa" or "ecc".
-        bits: The size of the modulus, or 256, 384 or 521 for a curve.
+        type, bits: "rsa" and the size of the modulus, or "ecc" and 256, 384 or 521.
         scheme, hash: Such as "rsassa" and "sha256", or "none" and None.
         pem: The public key as `openssl pkey -pubin` writes it, which `attest` takes.
     """
@@ -235,7 +214,6 @@ class Entry:
 
     Attributes:
         entry: Its number, from 0.
-        register: The PCR that it extends.
         template, template_hex: The template's name; its bytes if they are not UTF-8.
         template_digest: The SHA-1 that the list states, all zero for a violation.
         violation: Whether a file was open for writing while it was measured. No PCR confirms what
@@ -341,14 +319,9 @@ class Image:
 
 @dataclass(frozen=True, slots=True, kw_only=True)
 class Command:
-    """A command that a boot loader measured.
-
-    Attributes:
-        command: The event's number; or "unknown", if texts of the PCR are not reported.
-        text, text_hex: The text; its bytes if it is not valid in its encoding.
-        claimed: What the data claims of a command of GRUB.
-        event: The first event that is not reported.
-    """
+    """A command that a boot loader measured: the number of the event, or "unknown" if texts of the
+    PCR are not reported, from `event` on; the text, or its bytes if it is not valid in its
+    encoding; and what the data claims of a command of GRUB."""
 
     command: int | str
     register: int
@@ -378,13 +351,8 @@ class BootVariable:
 
 @dataclass(frozen=True, slots=True, kw_only=True)
 class Alike:
-    """A PCR of two boots.
-
-    Attributes:
-        bank: The first bank in which the logs differ.
-        alike: How many first events have the same digests in that bank; "all": the logs extend the
-            PCR alike in each bank that answers; or "unknown": no bank answers.
-    """
+    """A PCR of two boots: the first bank in which the logs differ, and how many first events have
+    the same digests there; or "all", if each bank that answers has; or "unknown", if none does."""
 
     register: int
     bank: str | None = None
@@ -409,12 +377,8 @@ class Boot:
 
     Attributes:
         matches: False if the verdict by the quote is no match: then all is unknown.
-        json: The lines.
         secure_boot: "on", "off" or "unknown".
         firmware_version: The content that states the version, or "unknown".
-        images: The programs that the firmware started.
-        commands: What boot loaders measured in the PCRs 8 and 12.
-        ima_policy: Whether Linux was asked to measure files.
         boot_variables: BootOrder and each Boot####.
         alike: With an earlier log, each PCR that one of the logs extends.
         changed: With an earlier log, the events that one of both has.

@@ -92,10 +92,9 @@ class Session:
         """The verdict by a quote on the list that the state covers, followed by these bytes. The
         arguments and errors are as of the function `attest`.
 
-        After a match the state covers what the verdict is on. The next quote must be of the same
-        boot: its `clock.resets` and `clock.restarts` are those of the last one, otherwise the
-        state is refused. (A suspend counts as a restart: then begin a new session with the whole
-        list.)
+        The next quote must be of the same boot, with the same `clock.resets` and `clock.restarts`,
+        otherwise the state is refused. (A suspend counts as a restart: then begin a new session
+        with the whole list.)
 
         >>> names = "AK.pem", "quote.msg", "quote.sig"
         >>> quoted = [Path("../quoted", name).read_bytes() for name in names]

@@ -8,12 +8,11 @@ from pathlib import Path
 ROOT = Path(__file__).resolve().parents[3]
 sys.path[:0] = [str(ROOT / "bindings/python"), str(ROOT / "tests")]
 
-from reference.checkpoint import before_a_list
-from reference.log import read_log
-from reference.measurement_list import list_spelling, read_list
-from reference.registers import SHA256
-
-from ima_verify import Quote
+from ima_verify import Quote  # noqa: E402
+from reference.checkpoint import before_a_list  # noqa: E402
+from reference.log import read_log  # noqa: E402
+from reference.measurement_list import list_spelling, read_list  # noqa: E402
+from reference.registers import SHA256  # noqa: E402
 
 
 def sample(name):

@@ -7,18 +7,16 @@ import shutil
 import tempfile
 import unittest
 from concurrent.futures import ThreadPoolExecutor
-from unittest.mock import patch
 
 from samples import (
     AREA, ASCII, BY_KEY, CHANGED, EXPECTED, KEY, LIST, LOG, LONGER, MESSAGE, NONCE, PRINTED,
-    QUOTED, REQUIRED, ROOT, SIGNATURE, SUMS, line_of, sample, state_after,
+    QUOTED, REQUIRED, ROOT, SIGNATURE, SUMS, VIOLATIONS, sample, state_after,
 )
 
 import ima_verify
 from ima_verify import NOTHING, Kind, Quote, Session, _library
 from reference import answer
 
-DONE = _library.DONE
 NOW, BEFORE, PCRS, ENDORSEMENT = (
     sample(name) for name in ("ovmf-boot/systemd-boot.log", "ovmf-boot/secure-boot.log",
                               "ovmf-boot/systemd-boot.expected", "keys/ek-p256.pub")
@@ -59,14 +57,21 @@ CALLS = (
      lambda: ima_verify.boot(NOW, expected=PCRS, before=BEFORE)),
     (f"boot {BESIDE} list log", lambda: ima_verify.boot(LOG, quote=QUOTE)),
     (f"boot {BESIDE} longer log", lambda: ima_verify.boot(LOG, quote=DIFFERING)),
-)
-LISTINGS = (
     ("events log", lambda: ima_verify.events(LOG)),
     ("events --expected expected log", lambda: ima_verify.events(LOG, expected=EXPECTED)),
     (f"events {BESIDE} list log", lambda: ima_verify.events(LOG, quote=QUOTE)),
     (f"events {BESIDE} longer log", lambda: ima_verify.events(LOG, quote=DIFFERING)),
     ("show list", lambda: ima_verify.entries(LIST)),
 )
+
+
+def lines_of(found):
+    """The lines of an answer, or of all items of a listing."""
+    if hasattr(found, "json"):
+        return found.json.splitlines()
+    head = [found.header.json] if isinstance(found, ima_verify.Events) else []
+    items = [item.json for item in found]
+    return [*head, *items, *([] if head else [f'{{"entries":{len(items)}}}'])]
 
 
 class Reference(unittest.TestCase):
@@ -89,19 +94,8 @@ class Reference(unittest.TestCase):
         for words, called in CALLS:
             status, lines = self.answer(words)
             found = called()
-            self.assertEqual(found.json.splitlines(), lines, words)
-            if hasattr(found, "matches"):
-                self.assertEqual(found.matches, status == 0, words)
-
-    def test_listings_are_those_of_the_program(self):
-        for words, called in LISTINGS:
-            status, lines = self.answer(words)
-            found = called()
-            head = [found.header.json] if words.startswith("events") else []
-            end = ['{"entries":99}'] if words.startswith("show") else []
-            self.assertEqual([*head, *(item.json for item in found), *end], lines, words)
-            if head:
-                self.assertEqual(found.matches, status == 0)
+            self.assertEqual(lines_of(found), lines, words)
+            self.assertEqual(getattr(found, "matches", status == 0), status == 0, words)
 
     def test_pcrs_are_those_of_the_program(self):
         for words, found in (("registers log", ima_verify.registers(LOG)),
@@ -110,8 +104,13 @@ class Reference(unittest.TestCase):
                             f'"value":"{pcr.value.hex()}"}}' for pcr in found)
             self.assertEqual([f'{{"registers":[{pcrs}]}}'], self.answer(words)[1])
         self.assertEqual((ima_verify.show(LIST), ima_verify.expected(PRINTED)), (ASCII, EXPECTED))
-        tenth = ima_verify.expected(PRINTED, "sha256:10")
-        self.assertEqual(tenth, EXPECTED.splitlines(True)[10])
+        self.assertEqual(ima_verify.expected(PRINTED, "10"), EXPECTED.splitlines(True)[10])
+
+    def test_known_files_are_read_as_one_text(self):
+        first, _, rest = SUMS.partition(b"\n")
+        wanted, found = (ima_verify.replay(LIST, EXPECTED, require="sha256:10", known=known)
+                         for known in ([SUMS], iter([first.decode(), b"", bytearray(rest)])))
+        self.assertEqual((found, found.unknown), (wanted, VIOLATIONS))
 
     def test_calls_at_once_give_what_they_give_alone(self):
         def ask(_):
@@ -133,12 +132,12 @@ class Verdicts(unittest.TestCase):
         self.assertTrue(ima_verify.verify(LOG, LIST, EXPECTED, require=NOTHING))
 
     def test_quotes_are_signed_by_a_key(self):
-        attest = ima_verify.attest
-        for key in (KEY, KEY.decode(), memoryview(KEY)):
-            for nonce in (NONCE, bytearray(NONCE), memoryview(NONCE).cast("I")):
-                found = attest(key, MESSAGE, SIGNATURE, LOG, LIST, **REQUIRED, nonce=nonce)
-                self.assertEqual((found.matches, found.signature), (True, "valid"))
-        found = attest(log=LOG, measurements=LIST, **{**BY_CALLER, "signature_checked": False})
+        for key, nonce in ((KEY, bytearray(NONCE)), (KEY.decode(), memoryview(NONCE).cast("I"))):
+            given = {**REQUIRED, "nonce": nonce}
+            found = ima_verify.attest(key, MESSAGE, SIGNATURE, LOG, LIST, **given)
+            self.assertEqual((found.matches, found.signature), (True, "valid"))
+        given = {**BY_CALLER, "signature_checked": False}
+        found = ima_verify.attest(log=LOG, measurements=LIST, **given)
         self.assertEqual((found.matches, found.signature), (False, "not checked"))
 
 
@@ -154,6 +153,7 @@ class Refusals(unittest.TestCase):
             (verify, (*two, EXPECTED), {**REQUIRED, "known": [SUMS, "x"]}, Kind.KNOWN, 2, 94),
             (ima_verify.read_key, (ENDORSEMENT,), {}, Kind.KEY, 17, None),
             (attest, (KEY, MESSAGE, SIGNATURE[::-1], *two), QUOTED, Kind.SIGNATURE, 7, None),
+            (attest, ("", MESSAGE, b"", *two), QUOTED, Kind.KEY, 1, None),
             (attest, (*BY_KEY, *two), {**REQUIRED, "nonce": bytes(16)}, Kind.QUOTE, 11, None),
             (ima_verify.boot, (LOG[:-1],), {"expected": EXPECTED}, Kind.LOG, 1, 24),
             (ima_verify.events, (b"",), {"quote": QUOTE}, Kind.LOG, 1, 0),
@@ -179,26 +179,7 @@ class Refusals(unittest.TestCase):
                 called(*given, **more)
 
 
-class Crossing(unittest.TestCase):
-    """What crosses to the library."""
-
-    def test_no_bytes_of_a_key_or_a_state_are_not_none(self):
-        """To the library no bytes say that there is none."""
-        answer = DONE, line_of("attest", verdict="match"), b"x"
-        with patch.object(_library, "call_more", return_value=answer) as call:
-            Session(b"a", "", require="x", state=b"").attest("", b"", b"", b"", **QUOTED)
-        given = call.call_args.kwargs
-        self.assertEqual([given[name] for name in ("key", "signature", "state")], 3 * [b"\0"])
-
-    def test_known_files_cross_as_one_text(self):
-        answer = DONE, line_of("verify", verdict="match")
-        for known, crosses in (([], b""), (["\u00e9"], b"\xc3\xa9\n"), ([b"\n", b"x"], b"\nx\n"),
-                               ([b"", bytearray(b"a"), memoryview(b"b\nc")], b"a\nb\nc\n")):
-            with patch.object(_library, "call", return_value=answer) as call:
-                ima_verify.verify(b"a", b"b", b"", require="x", known=iter(known))
-            given = call.call_args.kwargs
-            self.assertEqual((given["known"], given["checks_known"]), (crosses, True))
-
+class Header(unittest.TestCase):
     def test_interface_is_that_of_the_header(self):
         header = (ROOT / "bindings/c/ima_verify.h").read_text()
         form = r"^(?:#define|   ) IMA_VERIFY_(\w+)(?: =)? ([^,\n]+)"

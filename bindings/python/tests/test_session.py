@@ -95,29 +95,23 @@ class Answers(unittest.TestCase):
     """What a library may answer to a session."""
 
     REPORT, DIFFERING = line_of("verify", verdict="match"), line_of("verify", verdict="differ")
-    STATE = b"a later checkpoint\nbytes 7\n"
 
     def test_only_a_match_has_a_state(self):
-        def answer(name, given, capacity):
-            """Without a state, or with one."""
-            out, _, size = given["next"]
-            size._obj.value = len(state)
+        def answer(name, given, size):
+            given["next"][2]._obj.value = size_of_state
             info = _library.ErrorInfo()
             info.size = len(text)
             return status, info, bytearray(text)
 
-        for earlier in (None, self.STATE):
-            for status, text, state, is_right in (
-                (DONE, self.REPORT, b"x", True), (DIFFERS, self.DIFFERING, b"", True),
-                (DONE, self.REPORT, b"", False), (DONE, self.DIFFERING, b"x", False),
-                (DIFFERS, self.REPORT, b"", False), (DONE, self.REPORT[:-1], b"x", False),
-            ):
-                session = Session(b"", b"", **REQUIRED, state=earlier)
-                with patch.object(_library, "_answered", answer):
-                    if is_right:
-                        session.more(b"")
-                    else:
-                        self.assertRaises(ima_verify.LibraryError, session.more, b"")
-                moves = is_right and status == DONE
-                self.assertEqual(session.state, b"\0" if moves else earlier)
-        self.assertEqual(Session(b"", b"", **REQUIRED, state=self.STATE).offset, 7)
+        for status, text, size_of_state, wanted in (
+            (DONE, self.REPORT, 1, b"\0"), (DIFFERS, self.DIFFERING, 0, b"earlier"),
+            (DONE, self.REPORT, 0, None), (DONE, self.REPORT, 20_001, None),
+            (DONE, self.DIFFERING, 1, None), (DONE, self.REPORT[:-1], 1, None),
+        ):
+            session = Session(b"", b"", **REQUIRED, state=b"earlier")
+            with patch.object(_library, "_answered", answer):
+                if wanted is None:
+                    self.assertRaises(ima_verify.LibraryError, session.more, b"")
+                else:
+                    session.more(b"")
+            self.assertEqual(session.state, wanted or b"earlier")

@@ -17,8 +17,7 @@ from ima_verify import Kind, _library
 
 DONE, DIFFERS, TOO_SHORT, MORE = 0, 1, 4, 5
 MANY, HEADER_SIZE, PIECE = 150, 65, _library.PIECE_CAPACITY
-ENTRY, HEADER = line_of("entry"), line_of("header")
-COUNT = b'{"entries":2}\n'
+ENTRY, COUNT = line_of("entry"), b'{"entries":2}\n'
 REFUSAL = ima_verify.Refused("It is damaged.", Kind.LIST, 1, 2)
 
 
@@ -55,18 +54,6 @@ class Pieces(unittest.TestCase):
                     next(listing)
                 self.assertRaises(ima_verify.Refused, next, listing)
                 self.assertEqual(list(listing), [])
-        with giving((MORE, HEADER), REFUSAL):
-            self.assertRaises(ima_verify.Refused, list, ima_verify.events(b"x"))
-
-    def test_what_matches_is_asked_for_before_events(self):
-        """Each piece is asked for with the PCRs that match."""
-        for status, text in ((DONE, b"sha256:0"), (DIFFERS, b"")):
-            with giving((status, text), (MORE, HEADER), (DONE, line_of("event"))) as call:
-                found = ima_verify.events(b"a", expected="c")
-                self.assertEqual((found.matches, len(list(found))), (status == DONE, 1))
-            for asked in call.call_args_list[1:]:
-                given = asked.kwargs["matching"], asked.kwargs["matching_given"]
-                self.assertEqual(given, (text, True))
 
     def test_what_is_cut_is_an_error(self):
         """The last line says how many entries there are."""
@@ -79,10 +66,9 @@ class Pieces(unittest.TestCase):
             with giving(*answers):
                 with self.assertRaises(ima_verify.LibraryError, msg=answers):
                     list(ima_verify.entries(b"x"))
-        for answer in ((DONE, b""), (MORE, b"x"), (DONE, ENTRY[:-1])):
-            for called in (ima_verify.show, ima_verify.events):
-                with giving(answer):
-                    self.assertRaises(ima_verify.LibraryError, called, b"x")
+        for called in (ima_verify.show, ima_verify.events):
+            with giving((DONE, ENTRY[:-1])):
+                self.assertRaises(ima_verify.LibraryError, called, b"x")
 
     def test_text_longer_than_the_buffer_takes_another_call(self):
         def answer(*words):
@@ -144,11 +130,12 @@ class Inputs(unittest.TestCase):
     def test_memory_of_an_input_stays_while_it_is_gone_through(self):
         listed = bytearray(10 * LIST)
         found = ima_verify.entries(listed)
-        first = next(found)
+        next(found)
         self.assertRaises(BufferError, listed.extend, b"x")
-        self.assertEqual([first, *found], list(ima_verify.entries(10 * LIST)))
-        listed.extend(b"x")  # (at the end nothing is kept)
-        self.assertRaises(ima_verify.Refused, ima_verify.list_registers, listed)
+        self.assertEqual(len(list(found)), 989)
+        for called in (ima_verify.list_registers, ima_verify.show):  # (at the end nothing is kept)
+            listed.extend(b"x")
+            self.assertRaises(ima_verify.Refused, called, listed)
         listed.extend(b"x")
 
     def test_all_types_of_bytes_give_the_same(self):
