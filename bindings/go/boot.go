@@ -13,7 +13,7 @@ type Evidence struct {
 	quote          Quote
 }
 
-// ByExpected has events be confirmed by expected PCRs, as Verify takes them. Who wrote the text can choose what it confirms.
+// ByExpected has events be confirmed by expected PCRs, as Verify takes them. Whoever writes the text chooses what it confirms.
 func ByExpected(expected []byte) Evidence {
 	return Evidence{by: byExpected, expected: expected}
 }
@@ -51,12 +51,12 @@ const (
 	SecureBootUnknown SecureBoot = "unknown"
 )
 
-// Number is the number of an event, or a number of events, or one of the words below.
+// Number is the number of an event, from 1, or a count of events, or one of the constants below.
 type Number uint64
 
 const (
 	All     Number = math.MaxUint64
-	Unknown Number = math.MaxUint64 - 1 // nothing confirms more
+	Unknown Number = math.MaxUint64 - 1 // nothing confirms a number
 )
 
 // UnmarshalJSON reads a number, or a word of JSON. One of a later library is Unknown.

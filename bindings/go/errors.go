@@ -46,7 +46,7 @@ func refusedBy(r reply) error {
 	}
 	described, failed := repeated(nil, make([]byte, firstCapacity), func(_, out []byte) reply { return callErrorText(r, out) })
 	if err.Text = string(described.text); failed != nil || described.status != done {
-		err.Text = fmt.Sprintf("libima_verify refused an input: %s fault %d", err.Kind, err.Number) // (there is no memory for the text)
+		err.Text = fmt.Sprintf("libima_verify refused an input: %s error %d", err.Kind, err.Number) // (there is no memory for the text)
 	}
 	return err
 }

@@ -1,4 +1,4 @@
-// Package imaverify tells whether a machine's boot log and measurement list account for the PCRs of its TPM 2.0.
+// Package imaverify says whether a machine's boot log and measurement list account for the PCRs of its TPM 2.0.
 //
 // A firmware event log (TCG, crypto-agile) and a binary measurement list of Linux IMA are replayed, and the resulting PCRs are
 // compared with expected ones. On the machine the files are /sys/kernel/security/tpm0/binary_bios_measurements and
@@ -63,7 +63,7 @@ const NothingRequired = "none"
 // Verify gives the verdict on a firmware event log, a measurement list and the expected PCRs that a text states.
 //
 // require names the PCRs that must be among the expected ones, such as "sha256:0-10" or "sha256:0-7,sha1:10". Each that is not has
-// a row whose state is StateMissing, and then the verdict is no match. NothingRequired requires none; a text without PCR 10, or an
+// a row whose state is StateMissing, and then the verdict is no match. NothingRequired requires no PCR; a text without PCR 10, or an
 // empty one, is refused. The one option is Known.
 func Verify(log, list, expected []byte, require string, options ...Option) (Verdict, error) {
 	known, err := knownIn(options)
@@ -76,9 +76,9 @@ func Verify(log, list, expected []byte, require string, options ...Option) (Verd
 // Attest gives the verdict on a firmware event log and a measurement list by a quote with its signature. No file of PCR values is needed.
 //
 // A signature that is not by the key and on the message is refused with KindSignature, and what is no key with KindKey, or if it begins as PEM
-// does with KindSignature. A message that is no quote, has another nonce, or does not select a required PCR is refused with KindQuote; a
-// requirement that is not of its form or leaves out one of the PCRs 0 to 10, and a nonce that is too short, with KindArgument. The one option
-// is Known.
+// does with KindSignature. A message that is no quote, has another nonce, or does not select a required PCR is refused with KindQuote. A
+// requirement that leaves out one of the PCRs 0 to 10, a nonce that is too short or not hexadecimal, and members of the Quote that do not
+// belong together are refused with KindArgument. The one option is Known.
 func Attest(log, list []byte, quote Quote, options ...Option) (Attestation, error) {
 	known, err := knownIn(options)
 	if err != nil {

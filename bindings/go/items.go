@@ -209,7 +209,7 @@ type Blob struct {
 	Length         string `json:"length"`
 }
 
-// Tagged is a tagged event: its text, or its data if that is none.
+// Tagged is a tagged event: its text, or its data if that is not text.
 type Tagged struct {
 	ID   uint32 `json:"id"`
 	Text string `json:"text,omitempty"`

@@ -40,7 +40,7 @@ var kinds = map[uint32]Kind{
 	C.IMA_VERIFY_SIGNATURE:  KindSignature,
 }
 
-// What tells which PCRs match after a log.
+// What says which PCRs match after a log.
 const (
 	byExpected = C.IMA_VERIFY_BY_EXPECTED
 	byQuote    = C.IMA_VERIFY_BY_QUOTE

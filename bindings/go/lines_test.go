@@ -49,7 +49,7 @@ func TestEventsOfTheSample(t *testing.T) {
 	// (the first event of the file is after the header of 65 bytes)
 	equal(t, found[0], Event{1, 0, "EV_S_CRTM_VERSION", 8, PerBank[Hex]{"sha256": bootLog[79:111]}, bootLog[115:117],
 		PerBank[Part]{"sha256": PartData}, "", Content{Text: &text}, found[0].JSON})
-	// (the state of Secure Boot: tpm2_eventlog tells the same)
+	// (the state of Secure Boot, as tpm2_eventlog prints it)
 	equal(t, *found[3].Content.Variable, Variable{GUID: "8be4df61-93ca-11d2-aa0d-00e098032b8c", Name: "SecureBoot", Value: Hex{0}, Flag: &flag})
 	equal(t, len(found), 24)
 }

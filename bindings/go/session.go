@@ -61,7 +61,7 @@ func Prefix() Option {
 // Resume has the session continue from the State of an earlier one, with a log of the same boot. The expected PCRs may be
 // others. More and Attest refuse a state that is not whole, even an empty one or nil, with KindCheckpoint.
 //
-// A state is trusted: who can write it can choose the verdict. Never take it from the machine that is judged.
+// A state is trusted: whoever can write it chooses the verdict. Never take it from the machine that is judged.
 func Resume(state []byte) Option {
 	return func(s *settings) { s.state = notEmpty(append([]byte{}, state...)) }
 }
