@@ -114,9 +114,8 @@ fn real_answers_are_read() {
         for more in ["{", r#"{"later":1,"#, r#"{"later":{"fault":[null]},"fault":{},"json":"","matches":true,"#] {
             assert_eq!(read(&kind, status, &line.replacen('{', more, 1)), Ok(status == DONE), "{line}");
         }
-        for text in [&line[1..], &line[..line.len() - 1], &format!("{line}x"), &format!("[{line}]")] {
-            assert!(read(&kind, status, text).is_err(), "{text}");
-        }
+        let others = [&line[1..], &line[..line.len() - 1], &format!("{line}x"), &format!("[{line}]")];
+        assert!(others.iter().all(|text| read(&kind, status, text).is_err()), "{line}");
         if ["verify", "attest", "replay", "places"].contains(&&kind[..]) {
             assert!([DONE + DIFFERS - status, MORE, 7].iter().all(|result| read(&kind, *result, &line).is_err()), "{line}");
             for name in schema["$defs"][&kind]["required"].as_array().unwrap() {
