@@ -72,7 +72,7 @@ pub fn version() -> u32 {
 ///
 /// # Errors
 ///
-/// [`Error::Refused`] if the requirement is not of its form, or an input not of its.
+/// [`Error::Refused`] if the requirement or an input is malformed.
 pub fn verify<'a>(log: &[u8], list: &[u8], expected: &[u8], require: impl Into<Required<'a>>) -> Result<Verdict, Error> {
     let Required { registers, known } = require.into();
     let known = known.map(lines_of);
@@ -83,10 +83,10 @@ pub fn verify<'a>(log: &[u8], list: &[u8], expected: &[u8], require: impl Into<R
 ///
 /// # Errors
 ///
-/// [`Error::Refused`] with [`Kind::Signature`] if the signature is not by the key and on the message; with [`Kind::Key`] if the key is none,
-/// or if it begins as PEM does with [`Kind::Signature`]; with [`Kind::Quote`] if the message is no quote, has another nonce, or does not select
-/// a required PCR; with [`Kind::Argument`] if the requirement is not of its form, leaves out one of the PCRs 0 to 10, or names one of the SHA-1
-/// bank alone, or if the nonce is too short or no hexadecimal digits; otherwise as for [`verify`].
+/// [`Error::Refused`] with [`Kind::Signature`] if the signature is not by the key and on the message, or the PEM is not one of a key that is
+/// taken; with [`Kind::Key`] if the public area is refused; with [`Kind::Quote`] if the message is not a quote, has another nonce, or does not
+/// select a required PCR; with [`Kind::Argument`] if the requirement is malformed, leaves out one of the PCRs 0 to 10, or names one in the SHA-1
+/// bank alone, or if the nonce is too short or not hexadecimal; otherwise as for [`verify`].
 pub fn attest(log: &[u8], list: &[u8], quote: &Quote<'_>) -> Result<Attestation, Error> {
     let known = quote.known.map(lines_of);
     let inputs = Grown { log, state: &[], more: list, known: known.as_deref(), prefix: false };
@@ -111,7 +111,7 @@ pub fn replay<'a>(list: &[u8], expected: &[u8], require: impl Into<Required<'a>>
 /// The lines of expected PCRs, as [`verify`] takes them, that a text which tpm2_pcrread or tpm2_checkquote printed states: of the PCRs
 /// that a selection has, such as `sha256:0-10` or `0-7,10`, or of all.
 ///
-/// Nothing says who wrote the text, nor whether a quote holds: take the values of a quote that was checked, or of a trusted machine.
+/// Anyone can write such a text, and it does not say whether a quote holds: take the values of a quote that was checked, or of a trusted machine.
 pub fn expected(printed: &[u8], registers: Option<&str>) -> Result<Vec<u8>, Error> {
     ask(Out::for_text()?, |out| library::expected(printed, registers.unwrap_or_default(), out))?.lines()
 }

@@ -32,7 +32,7 @@ impl<'a> Lines<'a> {
         Self { listed, piece, at: Position::default(), buffer: Vec::new(), rest: 0..0, result: MORE, count: 0, is_over: false }
     }
 
-    /// Gets the lines of the next call, which are none only after the last ones.
+    /// Gets the lines of the next call. There are no more only after the last ones.
     fn fill(&mut self) -> Result<(), Error> {
         self.rest = 0..0;
         if self.result == DONE {

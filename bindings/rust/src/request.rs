@@ -124,7 +124,7 @@ pub enum Signing<'a> {
         /// The file that `tpm2_quote -s` writes, with `-f plain` or without: RSASSA, RSAPSS or ECDSA, by SHA-256, SHA-384 or SHA-512.
         signature: &'a [u8],
     },
-    /// By the word of the caller, who has verified the signature of this same message: for a key that is not taken, such as one of the curve P-521.
+    /// By the word of the caller, which has verified the signature of this message: for a key that is not taken, such as one on P-521.
     ByCaller,
     /// Nobody has verified its signature. There is no match.
     NotChecked,

@@ -412,7 +412,7 @@ results! {
     }
 
     /// A signature of UEFI.
-    UefiSignature { owner: String, "The GUID of who put it there."; data: Bytes, "The certificate, or the hash."; }
+    UefiSignature { owner: String, "The GUID of its owner."; data: Bytes, "The certificate, or the hash."; }
 
     /// A list of signatures.
     UefiSignatureList {
@@ -421,8 +421,8 @@ results! {
         owners: Vec<String>, "The owner of each signature whose owner differs from that of the signature before it.";
     }
 
-    /// What the fields of `ima-ngv2`, `ima-sigv2`, `ima-buf`, `ima-modsig` and `evm-sig` say (docs/formats.md). A field that a template
-    /// lacks, or that is empty where it says so, is none.
+    /// What the fields of `ima-ngv2`, `ima-sigv2`, `ima-buf`, `ima-modsig` and `evm-sig` say (docs/formats.md). A template has only some of
+    /// them, and some are absent if they are empty.
     Fields {
         digest_type: Option<DigestType>, "What the digest is of.";
         algorithm: Algorithm, "The algorithm of `digest`.";

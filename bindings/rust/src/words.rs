@@ -84,7 +84,7 @@ words! {
     /// What is known of a quote's signature.
     SignatureState {
         NotChecked = "not checked", "Nobody verified it.";
-        Checked = "checked", "The caller says that he verified it.";
+        Checked = "checked", "The caller states that it was verified.";
         Valid = "valid", "It is by the key that was given.";
     }
 
@@ -106,7 +106,7 @@ words! {
 
     /// The scheme by which a TPM's key signs or decrypts.
     Scheme {
-        None = "none", "Whichever is asked for.";
+        None = "none", "Any that is asked for.";
         Rsassa = "rsassa", "RSASSA, which signs.";
         Rsapss = "rsapss", "RSAPSS, which signs.";
         Ecdsa = "ecdsa", "ECDSA, which signs.";
@@ -155,9 +155,9 @@ words! {
         Replay = "replay", "The template digest of an entry is not valid.";
         Expected = "expected", "The text of expected PCRs, or what tpm2-tools printed.";
         Checkpoint = "checkpoint", "The state of a session: it is damaged (1), of another version (2), or of another boot (3 by the log, 4 by a quote).";
-        Quote = "quote", "The message of a quote: it is none (1 to 10), has another nonce (11), or does not select a required PCR (12).";
-        Key = "key", "The public area of a key: it is none (1 to 10), or the key lacks what its purpose needs (11 to 22).";
+        Quote = "quote", "The message of a quote: it is not one (1 to 10), has another nonce (11), or does not select a required PCR (12).";
+        Key = "key", "The public area of a key: it is not one (1 to 10), or the key lacks what its purpose needs (11 to 22).";
         Known = "known", "A line of the known files has a digest by SHA-1 (1), or is no digest and name (2).";
-        Signature = "signature", "The signature of a quote: it is none (1 to 4), or not the key's (5 to 7), or the key is not taken (8, 9).";
+        Signature = "signature", "The signature of a quote: it is not one (1 to 4), or not the key's (5 to 7), or the key is not taken (8, 9).";
     }
 }
