@@ -2,9 +2,8 @@
 
 use crate::results::{Alike, Answer, BootVariable, Changed, Command, Content, ImaPolicy, Image};
 use crate::words::SecureBoot;
-use serde::de::{DeserializeOwned, IgnoredAny};
 use serde::Deserialize;
-use std::collections::BTreeMap;
+use serde_json::Value;
 
 /// What a machine booted, as far as PCRs confirm it (docs/event-data.md, 'What a machine booted').
 #[derive(Debug, Clone, PartialEq, Eq)]
@@ -33,56 +32,35 @@ pub struct Boot {
     pub changed: Vec<Changed>,
 }
 
-#[derive(Deserialize)]
-struct SecureBootLine {
-    secure_boot: SecureBoot,
-}
-
-#[derive(Deserialize)]
-struct FirmwareVersionLine {
-    firmware_version: Answer<Content>,
-}
-
 /// A member for each kind of line, which no kind before it has.
 const KINDS: [&str; 8] = ["secure_boot", "firmware_version", "image", "command", "ima_policy", "boot_variable", "alike", "claimed"];
 
 impl Boot {
     /// What lines say, or none if a line is damaged, or one that each boot has is missing.
     pub(crate) fn read(text: &[u8], quote_differs: bool) -> Option<Self> {
-        let json = std::str::from_utf8(text).ok().filter(|text| text.ends_with('\n'))?;
+        let json = std::str::from_utf8(text).ok().filter(|text| text.ends_with('\n'))?.to_owned();
         let (mut secure_boot, mut firmware_version, mut ima_policy) = (None, None, None);
         let (mut images, mut commands, mut boot_variables) = (Vec::new(), Vec::new(), Vec::new());
         let (mut alike, mut changed) = (Vec::new(), Vec::new());
         for line in json.lines() {
-            let members: BTreeMap<String, IgnoredAny> = of(line)?;
-            match KINDS.into_iter().find(|kind| members.contains_key(*kind)) {
-                Some("secure_boot") => secure_boot = Some(of::<SecureBootLine>(line)?.secure_boot),
-                Some("firmware_version") => firmware_version = Some(of::<FirmwareVersionLine>(line)?.firmware_version),
-                Some("image") => images.push(of(line)?),
-                Some("command") => commands.push(of(line)?),
-                Some("ima_policy") => ima_policy = Some(of(line)?),
-                Some("boot_variable") => boot_variables.push(of(line)?),
-                Some("alike") => alike.push(of(line)?),
-                Some(_) => changed.push(of(line)?),
+            let line: Value = serde_json::from_str(line).ok().filter(Value::is_object)?;
+            match KINDS.into_iter().find(|kind| line.get(kind).is_some()) {
+                Some("secure_boot") => secure_boot = Some(of(&line["secure_boot"])?),
+                Some("firmware_version") => firmware_version = Some(of(&line["firmware_version"])?),
+                Some("image") => images.push(of(&line)?),
+                Some("command") => commands.push(of(&line)?),
+                Some("ima_policy") => ima_policy = Some(of(&line)?),
+                Some("boot_variable") => boot_variables.push(of(&line)?),
+                Some("alike") => alike.push(of(&line)?),
+                Some(_) => changed.push(of(&line)?),
                 None => {}
             }
         }
         let (secure_boot, firmware_version, ima_policy) = (secure_boot?, firmware_version?, ima_policy?);
-        Some(Self {
-            quote_differs,
-            json: json.to_owned(),
-            secure_boot,
-            firmware_version,
-            images,
-            commands,
-            ima_policy,
-            boot_variables,
-            alike,
-            changed,
-        })
+        Some(Self { quote_differs, json, secure_boot, firmware_version, images, commands, ima_policy, boot_variables, alike, changed })
     }
 }
 
-fn of<T: DeserializeOwned>(line: &str) -> Option<T> {
-    serde_json::from_str(line).ok()
+fn of<'a, T: Deserialize<'a>>(value: &'a Value) -> Option<T> {
+    T::deserialize(value).ok()
 }

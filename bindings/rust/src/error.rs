@@ -41,6 +41,10 @@ pub enum Error {
 }
 
 impl Error {
+    pub(crate) fn unexpected(result: i32, text: &[u8]) -> Self {
+        Self::Unexpected { result, size: text.len(), text: text.to_vec() }
+    }
+
     /// The error of arguments that do not suit each other.
     pub(crate) fn argument() -> Self {
         reply::refused(&Info { error_kind: c::IMA_VERIFY_ARGUMENT, ..NO_ERROR }, "refused: command line".to_owned())

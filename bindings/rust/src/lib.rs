@@ -15,11 +15,9 @@
 //! ```
 //!
 //! A verdict covers only the boot aggregate and the PCRs in the expected text. So each call says which PCRs it must cover, as here. With such a
-//! requirement a verdict is a match only if no event of the log extends PCR 10 and each entry of the list names it. With [`Required::known`] each
-//! entry but the boot aggregate must also be of a known file. [`entries`] and [`events`] go through the inputs themselves. A [`Session`] is for a
-//! list that grows, and for one that grew after the expected PCRs were read. [`attest`] compares a log and a list with a quote in place of expected
-//! PCRs, and verifies its signature by the machine's attestation key. [`read_key`] says what a key is. [`boot`] says what the machine booted, and
-//! [`confirmed_events`] what PCRs confirm of each event.
+//! requirement a verdict is a match only if no event of the log extends PCR 10 and each entry of the list names it. [`attest`] judges by a quote in
+//! place of expected PCRs. A [`Session`] is for a list that grows, and for one that grew after the expected PCRs were read. [`boot`] says what the
+//! machine booted. [`entries`] and [`events`] go through the inputs themselves.
 //!
 //! # Errors
 //!
@@ -72,21 +70,9 @@ pub fn version() -> u32 {
 /// a row whose state is [`State::Missing`], and then the verdict is no match. [`NOTHING_REQUIRED`] requires only that some PCR is compared; a
 /// text without PCR 10, or an empty one, is refused. It is a text, or a [`Required`] with known files.
 ///
-/// ```
-/// # fn main() -> Result<(), Box<dyn std::error::Error>> {
-/// # let sample = |name| std::fs::read(format!("samples/{name}"));
-/// # let (log, mut list, expected) = (sample("firmware.log")?, sample("ima.list")?, sample("expected.txt")?);
-/// assert!(!ima_verify::verify(&log, &list, b"", "sha256:0-10")?.matches);
-/// list[0] = 9; // (the first entry's PCR)
-/// let found = ima_verify::verify(&log, &list, &expected, "sha256:0-10")?.extends;
-/// assert_eq!((found[0].entry, found[0].register), (Some(0), 9));
-/// # Ok(())
-/// # }
-/// ```
-///
 /// # Errors
 ///
-/// [`Error::Refused`] if the requirement is not of its form, or an input not of its.
+/// [`Error::Refused`] if the requirement or an input is malformed.
 pub fn verify<'a>(log: &[u8], list: &[u8], expected: &[u8], require: impl Into<Required<'a>>) -> Result<Verdict, Error> {
     let Required { registers, known } = require.into();
     let known = known.map(lines_of);
@@ -97,10 +83,10 @@ pub fn verify<'a>(log: &[u8], list: &[u8], expected: &[u8], require: impl Into<R
 ///
 /// # Errors
 ///
-/// [`Error::Refused`] with [`Kind::Signature`] if the signature is not by the key and on the message; with [`Kind::Key`] if the key is none,
-/// or if it begins as PEM does with [`Kind::Signature`]; with [`Kind::Quote`] if the message is no quote, has another nonce, or does not select
-/// a required PCR; with [`Kind::Argument`] if the requirement is not of its form, leaves out one of the PCRs 0 to 10, or names one of the SHA-1
-/// bank alone, or if the nonce is too short or no hexadecimal digits; otherwise as for [`verify`].
+/// [`Error::Refused`] with [`Kind::Signature`] if the signature is not by the key and on the message, or the PEM is not one of a key that is
+/// taken; with [`Kind::Key`] if the public area is refused; with [`Kind::Quote`] if the message is not a quote, has another nonce, or does not
+/// select a required PCR; with [`Kind::Argument`] if the requirement is malformed, leaves out one of the PCRs 0 to 10, or names one in the SHA-1
+/// bank alone, or if the nonce is too short or not hexadecimal; otherwise as for [`verify`].
 pub fn attest(log: &[u8], list: &[u8], quote: &Quote<'_>) -> Result<Attestation, Error> {
     let known = quote.known.map(lines_of);
     let inputs = Grown { log, state: &[], more: list, known: known.as_deref(), prefix: false };
@@ -125,7 +111,7 @@ pub fn replay<'a>(list: &[u8], expected: &[u8], require: impl Into<Required<'a>>
 /// The lines of expected PCRs, as [`verify`] takes them, that a text which tpm2_pcrread or tpm2_checkquote printed states: of the PCRs
 /// that a selection has, such as `sha256:0-10` or `0-7,10`, or of all.
 ///
-/// Nothing says who wrote the text, nor whether a quote holds: take the values of a quote that was checked, or of a trusted machine.
+/// Anyone can write such a text, and it does not say whether a quote holds: take the values of a quote that was checked, or of a trusted machine.
 pub fn expected(printed: &[u8], registers: Option<&str>) -> Result<Vec<u8>, Error> {
     ask(Out::for_text()?, |out| library::expected(printed, registers.unwrap_or_default(), out))?.lines()
 }
@@ -146,6 +132,14 @@ pub fn list_registers(list: &[u8]) -> Result<Registers, Error> {
 /// is of RSA with 2048 bits or more, or of the curve P-256, P-384 or P-521. Whose TPM it is in, the area does not say, and anyone can
 /// write one. Take the area, or its PEM, for [`attest`] only after a credential was activated that was made to the name and to the
 /// machine's endorsement key. `ima-enroll` does that, and keeps both.
+///
+/// ```
+/// # fn main() -> Result<(), Box<dyn std::error::Error>> {
+/// let key = ima_verify::read_key(&std::fs::read("samples/AK.pub")?)?;
+/// assert_eq!((key.key_type, key.bits, key.scheme), (ima_verify::KeyType::Ecc, 256, ima_verify::Scheme::Ecdsa));
+/// # Ok(())
+/// # }
+/// ```
 pub fn read_key(area: &[u8]) -> Result<Key, Error> {
     ask(Out::for_text()?, |out| library::key(area, false, out))?.line()
 }
@@ -163,17 +157,6 @@ pub fn read_endorsement_key(area: &[u8]) -> Result<Key, Error> {
 ///
 /// For a damaged list the iterator gives the entries before the error, then the [`Error::Refused`] that says where it is, and then
 /// nothing. A loop that ends early does not come to the error.
-///
-/// ```
-/// # fn main() -> Result<(), Box<dyn std::error::Error>> {
-/// # let list = std::fs::read("samples/ima.list")?;
-/// for entry in ima_verify::entries(&list) {
-///     let entry = entry?;
-///     println!("{} {:?}", entry.entry, entry.path_bytes().map(|path| path.escape_ascii().to_string()));
-/// }
-/// # Ok(())
-/// # }
-/// ```
 pub fn entries(list: &[u8]) -> Entries<'_> {
     Entries(lines::Lines::of(list, None, library::entries))
 }
@@ -183,7 +166,7 @@ pub fn entries(list: &[u8]) -> Entries<'_> {
 /// For a log that is damaged after its header the iterator gives the events before the error, then the [`Error::Refused`] that says
 /// where it is, and then nothing. A loop that ends early does not come to the error.
 pub fn events(log: &[u8]) -> Result<Events<'_>, Error> {
-    Events::of(log)
+    Events::of(log, None)
 }
 
 /// The events of a firmware event log as from [`events`], each with the part of its data that PCRs confirm, by this evidence.
@@ -192,7 +175,9 @@ pub fn events(log: &[u8]) -> Result<Events<'_>, Error> {
 ///
 /// [`Error::Refused`] if the log is, even before the first event, or the evidence, as for [`verify`] and [`attest`].
 pub fn confirmed_events<'a>(log: &'a [u8], evidence: Evidence<'_>) -> Result<Events<'a>, Error> {
-    Events::confirmed(log, evidence)
+    let shown = evidence.shown()?;
+    let matching = ask(Out::for_text()?, |out| library::matching(log, &shown, out))?;
+    Events::of(log, Some(matching))
 }
 
 /// What a machine booted, by its firmware event log and as far as PCRs confirm it, and what differs from the log of an earlier boot.

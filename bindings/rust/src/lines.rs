@@ -1,9 +1,9 @@
 //! Lines of entries and of events, which the library gives by pieces.
 
-use crate::library::{ask, events, matching, Listed, Out, Position, DIFFERS, DONE, MORE};
+use crate::library::{ask, events, Listed, Out, Position, DONE, MORE};
 use crate::reply::{line, object, Reply};
 use crate::results::{End, Line};
-use crate::{Entry, Error, Event, Evidence, Header};
+use crate::{Entry, Error, Event, Header};
 use std::iter::FusedIterator;
 use std::ops::Range;
 
@@ -32,7 +32,7 @@ impl<'a> Lines<'a> {
         Self { listed, piece, at: Position::default(), buffer: Vec::new(), rest: 0..0, result: MORE, count: 0, is_over: false }
     }
 
-    /// Gets the lines of the next call, which are none only after the last ones.
+    /// Gets the lines of the next call. There are no more only after the last ones.
     fn fill(&mut self) -> Result<(), Error> {
         self.rest = 0..0;
         if self.result == DONE {
@@ -67,20 +67,20 @@ impl<'a> Lines<'a> {
     pub(crate) fn next_of<T: Line>(&mut self) -> Result<Option<T>, Error> {
         let result = self.result;
         let Some(text) = self.next_line()? else { return Ok(None) };
-        line(text, false).map(Some).ok_or_else(|| unexpected(result, text))
+        line(text, false).map(Some).ok_or_else(|| Error::unexpected(result, text))
     }
 
     /// The next entry, or none after the line that says how many there are. Without this line the list was cut.
     pub(crate) fn next_entry(&mut self) -> Result<Option<Entry>, Error> {
         let result = self.result;
-        let Some(text) = self.next_line()? else { return Err(unexpected(result, b"")) };
+        let Some(text) = self.next_line()? else { return Err(Error::unexpected(result, b"")) };
         if let Some(entry) = line(text, false) {
             self.count += 1;
             return Ok(Some(entry));
         }
         let (end, text) = (object::<End>(text), text.to_vec());
         let is_end = end.map(|end| end.entries) == Some(self.count) && self.result == DONE && self.rest.is_empty();
-        is_end.then_some(None).ok_or_else(|| unexpected(result, &text))
+        is_end.then_some(None).ok_or_else(|| Error::unexpected(result, &text))
     }
 
     /// An item of an iterator, after which there may be none.
@@ -105,10 +105,6 @@ impl<'a> Lines<'a> {
             text.extend_from_slice(&self.buffer[self.rest.clone()]);
         }
     }
-}
-
-fn unexpected(result: i32, line: &[u8]) -> Error {
-    Error::Unexpected { result, size: line.len(), text: line.to_vec() }
 }
 
 /// The entries of a measurement list, by [`entries`](crate::entries).
@@ -136,22 +132,11 @@ pub struct Events<'a> {
 }
 
 impl<'a> Events<'a> {
-    pub(crate) fn of(log: &'a [u8]) -> Result<Self, Error> {
-        Self::begun(Lines::of(log, None, events), false)
-    }
-
-    pub(crate) fn confirmed(log: &'a [u8], evidence: Evidence<'_>) -> Result<Self, Error> {
-        let shown = evidence.shown()?;
-        let reply = ask(Out::for_text()?, |out| matching(log, &shown, out))?;
-        if !matches!(reply.result, DONE | DIFFERS) {
-            return Err(reply.unexpected());
-        }
-        let quote_differs = reply.result == DIFFERS;
-        Self::begun(Lines::of(log, Some(reply.text), events), quote_differs)
-    }
-
-    fn begun(mut lines: Lines<'a>, quote_differs: bool) -> Result<Self, Error> {
-        let header = lines.next_of()?.ok_or_else(|| unexpected(lines.result, b""))?;
+    /// The events of a log, with the library's reply on the PCRs that match, if these are asked for.
+    pub(crate) fn of(log: &'a [u8], matching: Option<Reply>) -> Result<Self, Error> {
+        let quote_differs = matching.as_ref().map_or(Ok(false), Reply::quote_differs)?;
+        let mut lines = Lines::of(log, matching.map(|reply| reply.text), events);
+        let header = lines.next_of()?.ok_or_else(|| Error::unexpected(lines.result, b""))?;
         Ok(Self { lines, header, quote_differs })
     }
 

@@ -2,7 +2,7 @@
 
 use crate::library::{error_text, Info, DIFFERS, DONE, MORE, OUT_OF_MEMORY, REFUSED};
 use crate::results::{Judgement, Line, Refusal};
-use crate::{Boot, Error, Kind};
+use crate::{Boot, Error, Kind, Outcome};
 use ima_verify_sys as c;
 use serde::de::DeserializeOwned;
 
@@ -38,7 +38,7 @@ impl Reply {
 
     /// What the reply's line says of inputs, with the library's verdict: its status, which the line has to agree with.
     pub(crate) fn judged<T: Line>(&self) -> Result<T, Error> {
-        let says_match = object(&self.text).map(|says: Judgement| says.says_match());
+        let says_match = object(&self.text).map(|says: Judgement| says.located.unwrap_or(says.verdict == Some(Outcome::Match)));
         match (self.result, says_match) {
             (DONE, Some(true)) | (DIFFERS, Some(false)) => line(&self.text, self.result == DONE).ok_or_else(|| self.unexpected()),
             _ => Err(self.unexpected()),
@@ -51,25 +51,26 @@ impl Reply {
     }
 
     /// The lines of expected PCRs, with no more memory than they need.
-    pub(crate) fn lines(mut self) -> Result<Vec<u8>, Error> {
-        if self.result != DONE || !self.text.ends_with(b"\n") {
-            return Err(self.unexpected());
-        }
-        self.text.shrink_to_fit();
-        Ok(self.text)
+    pub(crate) fn lines(&self) -> Result<Vec<u8>, Error> {
+        let is_whole = self.result == DONE && self.text.ends_with(b"\n");
+        is_whole.then(|| self.text.clone()).ok_or_else(|| self.unexpected())
     }
 
-    /// What the reply's lines say of a boot. The status is that of a quote's verdict.
+    /// Whether the evidence is a quote whose verdict is no match.
+    pub(crate) fn quote_differs(&self) -> Result<bool, Error> {
+        match self.result {
+            DONE | DIFFERS => Ok(self.result == DIFFERS),
+            _ => Err(self.unexpected()),
+        }
+    }
+
+    /// What the reply's lines say of a boot.
     pub(crate) fn boot(&self) -> Result<Boot, Error> {
-        let quote_differs = match self.result {
-            DONE | DIFFERS => self.result == DIFFERS,
-            _ => return Err(self.unexpected()),
-        };
-        Boot::read(&self.text, quote_differs).ok_or_else(|| self.unexpected())
+        Boot::read(&self.text, self.quote_differs()?).ok_or_else(|| self.unexpected())
     }
 
     pub(crate) fn unexpected(&self) -> Error {
-        Error::Unexpected { result: self.result, size: self.text.len(), text: self.text.clone() }
+        Error::unexpected(self.result, &self.text)
     }
 }
 

@@ -16,10 +16,7 @@ pub struct Required<'a> {
 impl<'a> Required<'a> {
     /// These PCRs, and that each entry but the boot aggregate, with which a list begins, is of a known file: one whose digest these
     /// texts have, a line for each file, as sha256sum, sha384sum and sha512sum print them. The verdict has the others in `unknown`, and
-    /// is then no match. Without a text no file is known.
-    ///
-    /// A text with another line, or with a digest by SHA-1, is refused with [`Kind::Known`](crate::Kind::Known); lines count on from one
-    /// text to the next. With [`NOTHING_REQUIRED`] the error has [`Kind::Argument`](crate::Kind::Argument).
+    /// is then no match. Without a text no file is known. The place of an error counts the lines of all texts.
     pub fn known(registers: &'a str, texts: &'a [&'a [u8]]) -> Self {
         Self { registers, known: Some(texts) }
     }
@@ -121,13 +118,13 @@ pub enum Signing<'a> {
     /// By a signature, which is verified.
     ByKey {
         /// The public area for which a credential was activated, as [`read_key`](crate::read_key) reads it, or the PEM that it gives for
-        /// it. The key is of RSA with 2048 to 4096 bits, or of the curve P-256 or P-384. A PEM does not tell a key that also signs
-        /// messages that no TPM made from another, so keep one only of an area that `read_key` took.
+        /// it. The key is of RSA with 2048 to 4096 bits, or of the curve P-256 or P-384. A PEM does not say whether the key also signs
+        /// messages that no TPM made, so keep one only of an area that `read_key` took.
         key: &'a [u8],
         /// The file that `tpm2_quote -s` writes, with `-f plain` or without: RSASSA, RSAPSS or ECDSA, by SHA-256, SHA-384 or SHA-512.
         signature: &'a [u8],
     },
-    /// By the word of the caller, who has verified the signature of this same message: for a key that is not taken, such as one of the curve P-521.
+    /// By the word of the caller, which has verified the signature of this message: for a key that is not taken, such as one on P-521.
     ByCaller,
     /// Nobody has verified its signature. There is no match.
     NotChecked,

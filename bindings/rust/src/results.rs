@@ -15,7 +15,9 @@ impl TryFrom<String> for Bytes {
     type Error = &'static str;
 
     fn try_from(digits: String) -> Result<Self, Self::Error> {
-        bytes_of(&digits).map(Self).ok_or("no hexadecimal digits of bytes")
+        let digit = |byte: &u8| char::from(*byte).to_digit(16);
+        let pairs = digits.as_bytes().chunks(2).map(|pair| u8::try_from(16 * digit(&pair[0])? + digit(pair.get(1)?)?).ok());
+        pairs.collect::<Option<_>>().map(Self).ok_or("no hexadecimal digits of bytes")
     }
 }
 
@@ -39,13 +41,6 @@ impl fmt::Debug for Bytes {
     }
 }
 
-/// The bytes that hexadecimal digits spell.
-pub(crate) fn bytes_of(digits: &str) -> Option<Vec<u8>> {
-    let digit = |byte: &u8| char::from(*byte).to_digit(16);
-    let pairs = digits.as_bytes().chunks(2).map(|pair| u8::try_from(16 * digit(&pair[0])? + digit(pair.get(1)?)?).ok());
-    pairs.collect()
-}
-
 /// A line of JSON that a caller gets.
 pub(crate) trait Line: DeserializeOwned {
     /// Keeps the line, and if it judges whether all is well.
@@ -64,28 +59,15 @@ macro_rules! lines {
 }
 
 lines! {
-    Verdict matches;
-    ListVerdict matches;
-    Attestation matches;
-    Places located;
-    Registers;
-    Key;
-    Header;
-    Entry;
-    Event;
+    Verdict matches; ListVerdict matches; Attestation matches; Places located;
+    Registers; Key; Header; Entry; Event;
 }
 
 /// What a line that judges says.
 #[derive(Deserialize)]
 pub(crate) struct Judgement {
-    verdict: Option<Outcome>,
-    located: Option<bool>,
-}
-
-impl Judgement {
-    pub(crate) fn says_match(&self) -> bool {
-        self.located.unwrap_or(self.verdict == Some(Outcome::Match))
-    }
+    pub(crate) verdict: Option<Outcome>,
+    pub(crate) located: Option<bool>,
 }
 
 /// Defines what lines have: a field for each member, with its name there if that is another, and with what it is. A line that a caller gets
@@ -173,9 +155,7 @@ results! {
     }
 
     /// PCRs and their values.
-    Registers json {
-        registers: Vec<Register>, "The PCRs that differ from their reset values.";
-    }
+    Registers json { registers: Vec<Register>, "The PCRs that differ from their reset values."; }
 
     /// What the public area of a key states. Whose TPM the key is in, it does not say.
     Key json {
@@ -207,10 +187,7 @@ results! {
     }
 
     /// The header of a firmware event log.
-    Header json {
-        algorithms: Vec<DeclaredAlgorithm>, "The algorithms that it declares.";
-        specification: Specification, "What else it says.";
-    }
+    Header json { algorithms: Vec<DeclaredAlgorithm>, "The algorithms that it declares."; specification: Specification, "What else it says."; }
 
     /// An event of a firmware event log; events count from 1.
     Event json {
@@ -243,16 +220,10 @@ results! {
     }
 
     /// Whether a command asked Linux to measure files.
-    ImaPolicy {
-        ima_policy: PolicyState, "Whether one did.";
-        event: Option<u64>, "The first event whose text did.";
-    }
+    ImaPolicy { ima_policy: PolicyState, "Whether one did."; event: Option<u64>, "The first event whose text did."; }
 
     /// A variable that says what the firmware boots, `BootOrder` or a `Boot####`.
-    BootVariable {
-        boot_variable: Answer<u64>, "The event's number.";
-        content: Option<Content>, "What its data says.";
-    }
+    BootVariable { boot_variable: Answer<u64>, "The event's number."; content: Option<Content>, "What its data says."; }
 
     /// How two logs extend a PCR.
     Alike {
@@ -329,10 +300,7 @@ results! {
     }
 
     /// The PCRs that a quote selects of a bank.
-    QuotedBank {
-        bank: Algorithm, "The bank's algorithm.";
-        registers: Vec<u8>, "The numbers of the PCRs.";
-    }
+    QuotedBank { bank: Algorithm, "The bank's algorithm."; registers: Vec<u8>, "The numbers of the PCRs."; }
 
     /// A TPM's clock and its counts when it made a quote.
     ///
@@ -409,10 +377,7 @@ results! {
     }
 
     /// A partition table.
-    Gpt {
-        disk: String, "The disk's GUID.";
-        partitions: Vec<Partition>, "Its partitions.";
-    }
+    Gpt { disk: String, "The disk's GUID."; partitions: Vec<Partition>, "Its partitions."; }
 
     /// A partition.
     Partition {
@@ -434,11 +399,7 @@ results! {
     }
 
     /// A tagged event.
-    Tagged {
-        id: u32, "The tag.";
-        text: Option<String>, "The data, if it is text.";
-        data: Option<Bytes>, "The data, if it is not.";
-    }
+    Tagged { id: u32, "The tag."; text: Option<String>, "The data, if it is text."; data: Option<Bytes>, "The data, if it is not."; }
 
     /// A load option.
     LoadOption {
@@ -451,10 +412,7 @@ results! {
     }
 
     /// A signature of UEFI.
-    UefiSignature {
-        owner: String, "The GUID of who put it there.";
-        data: Bytes, "The certificate, or the hash.";
-    }
+    UefiSignature { owner: String, "The GUID of its owner."; data: Bytes, "The certificate, or the hash."; }
 
     /// A list of signatures.
     UefiSignatureList {
@@ -463,8 +421,8 @@ results! {
         owners: Vec<String>, "The owner of each signature whose owner differs from that of the signature before it.";
     }
 
-    /// What the fields of `ima-ngv2`, `ima-sigv2`, `ima-buf`, `ima-modsig` and `evm-sig` say (docs/formats.md). A field that a template
-    /// lacks, or that is empty where it says so, is none.
+    /// What the fields of `ima-ngv2`, `ima-sigv2`, `ima-buf`, `ima-modsig` and `evm-sig` say (docs/formats.md). A template has only some of
+    /// them, and some are absent if they are empty.
     Fields {
         digest_type: Option<DigestType>, "What the digest is of.";
         algorithm: Algorithm, "The algorithm of `digest`.";

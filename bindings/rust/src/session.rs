@@ -13,15 +13,11 @@ use crate::{Attestation, Error, Quote, Required, Verdict};
 /// # let sample = |name| std::fs::read(format!("samples/{name}"));
 /// # let (log, list, expected) = (sample("firmware.log")?, sample("ima.list")?, sample("expected.txt")?);
 /// use ima_verify::Session;
-///
 /// let mut session = Session::new(&log, &expected, "sha256:0-10").prefix();
 /// let verdict = session.more(&[&list[..], b"cut"].concat())?; // more than the PCRs confirm
 /// assert_eq!((verdict.matches, verdict.confirmed, session.offset()), (true, Some(4), list.len() as u64));
-/// assert_eq!(verdict.unconfirmed.unwrap().message, "unconfirmed: list fault 1 at entry 4");
-///
 /// let mut later = Session::new(&log, &expected, "sha256:0-10").resume(session.state().unwrap());
-/// let verdict = later.more(&list[later.offset() as usize..])?;
-/// assert_eq!((verdict.matches, verdict.entries), (true, 4));
+/// assert!(later.more(&list[later.offset() as usize..])?.matches);
 /// # Ok(())
 /// # }
 /// ```
@@ -37,11 +33,8 @@ pub struct Session {
 }
 
 impl Session {
-    /// A session on a list from its start. The arguments are as in [`verify`](crate::verify), and are copied; one that is refused is
-    /// refused by [`more`](Self::more).
-    ///
-    /// Entries that the state covers are not looked up again among known files: if other files are known than were then, begin a new
-    /// session with the whole list.
+    /// A session on a list from its start. The arguments are as in [`verify`](crate::verify), and are copied. Entries that the state
+    /// covers are not looked up again among known files: if other files are known now, begin a new session with the whole list.
     pub fn new<'a>(log: &[u8], expected: &[u8], require: impl Into<Required<'a>>) -> Self {
         let Required { registers, known } = require.into();
         let (log, expected, require) = (log.to_vec(), expected.to_vec(), registers.to_owned());
@@ -62,8 +55,8 @@ impl Session {
 
     /// A session that continues from the state of an earlier one, with a log of the same boot. The expected PCRs may be others.
     ///
-    /// A state is trusted: whoever can write it can choose the verdict. Never take it from the machine that is judged. One that is not
-    /// whole, even an empty one, is refused by [`more`](Self::more) and [`attest`](Self::attest).
+    /// A state is trusted: whoever can write it can choose the verdict. Never take it from the machine that is judged. A damaged one,
+    /// even an empty one, is refused by [`more`](Self::more) and [`attest`](Self::attest).
     pub fn resume(self, state: &[u8]) -> Self {
         Self { state: Some(state.to_vec()), ..self }
     }

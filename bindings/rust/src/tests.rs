@@ -53,11 +53,7 @@ impl Sample {
 
     /// The list, with its last entry once more.
     fn longer(&self) -> Vec<u8> {
-        [&self.list, self.last()].concat()
-    }
-
-    fn last(&self) -> &[u8] {
-        &self.list[self.list.len() - LAST..]
+        [&self.list, &self.list[self.list.len() - LAST..]].concat()
     }
 
     /// The list without its last byte.

@@ -1,4 +1,4 @@
-//! How replies are read: the real ones of `tests/bindings/answers.jsonl`, those of a later library, and those that are none.
+//! How replies are read: the real ones of `tests/bindings/answers.jsonl`, those of a later library, and wrong ones.
 
 use super::text_of;
 use crate::library::{ask, Info, Out, DIFFERS, DONE, MORE, NO_ERROR, OUT_OF_MEMORY, REFUSED, TOO_SHORT};
@@ -101,7 +101,7 @@ fn members_and_words_are_those_of_the_schema() {
     assert!(Kind::WORDS.iter().all(|word| kinds.contains(&(*word).into()))); // (others are no library's)
 }
 
-/// Real answers are read, with more members too. Cut, without a member of a verdict, or with another status they are none.
+/// Real answers are read, with more members too. They are not if they are cut, lack a member of a verdict, or have another status.
 #[test]
 fn real_answers_are_read() {
     let schema: Value = serde_json::from_str(&text_of("docs/schema.json")).unwrap();
@@ -114,9 +114,8 @@ fn real_answers_are_read() {
         for more in ["{", r#"{"later":1,"#, r#"{"later":{"fault":[null]},"fault":{},"json":"","matches":true,"#] {
             assert_eq!(read(&kind, status, &line.replacen('{', more, 1)), Ok(status == DONE), "{line}");
         }
-        for text in [&line[1..], &line[..line.len() - 1], &format!("{line}x"), &format!("[{line}]")] {
-            assert!(read(&kind, status, text).is_err(), "{text}");
-        }
+        let others = [&line[1..], &line[..line.len() - 1], &format!("{line}x"), &format!("[{line}]")];
+        assert!(others.iter().all(|text| read(&kind, status, text).is_err()), "{line}");
         if ["verify", "attest", "replay", "places"].contains(&&kind[..]) {
             assert!([DONE + DIFFERS - status, MORE, 7].iter().all(|result| read(&kind, *result, &line).is_err()), "{line}");
             for name in schema["$defs"][&kind]["required"].as_array().unwrap() {
@@ -148,7 +147,7 @@ fn words_numbers_and_errors_of_a_later_library_are_taken() {
 }
 
 #[test]
-fn replies_that_are_not_as_the_header_says_are_none() {
+fn replies_against_the_header_are_errors() {
     assert_eq!(reply(OUT_OF_MEMORY, "").accepted().unwrap_err(), Error::OutOfMemory);
     for (result, text) in [(c::IMA_VERIFY_MISUSED, ""), (9, ""), (REFUSED, "refused: list fault 1"), (REFUSED, "{\"fault\":{}}\n")] {
         assert!(matches!(reply(result, text).accepted(), Err(Error::Unexpected { .. })), "{result} {text}");

@@ -39,10 +39,9 @@ fn functions_are_those_of_the_header() {
         format!("{}{name}({})", in_c(result), if parameters.is_empty() { "void" } else { &parameters })
     });
     let header = header();
-    let exported = header.split(';').map(|part| part.trim().rsplit("} ").next().unwrap());
-    let exported = exported.filter(|part| part.starts_with("int32_t ima_verify_raw_") || part.ends_with("ima_verify_version(void)"));
-    let exported: BTreeSet<_> = exported.map(String::from).collect();
-    assert_eq!((exported.len(), functions.collect::<BTreeSet<_>>()), (14, exported));
+    let parts = header.split(';').map(|part| String::from(part.trim().rsplit("} ").next().unwrap()));
+    let exported = parts.filter(|part| part.starts_with("int32_t ima_verify_raw_") || part.ends_with("ima_verify_version(void)"));
+    assert_eq!(functions.collect::<BTreeSet<_>>(), exported.collect());
     let fields = SOURCE.split_once("pub struct ima_verify_info {\n").unwrap().1.split_once('}').unwrap().0;
     let fields: String = fields.lines().filter(|line| !line.contains("///")).collect();
     let wanted = format!("struct ima_verify_info {{ {} }};", declared(&fields.replace("pub ", ""), ";").join(" "));
