@@ -1,3 +1,4 @@
+mod ComparedLaws
 mod GivingLaws
 mod LineLaws
 mod ErrorLaws

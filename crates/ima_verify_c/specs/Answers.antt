@@ -1,125 +1,29 @@
--- What a call with these bytes requests, and what it gives.
-use Rattle.std.specs.Prelude.{ℕ, ◌==◌, if◌then◌else◌, Bool, List, ◌∷◌, bytes_eq, codes, length, Option, None, Some, option_map, ◌≡◌, ℤ, pos, ◌<◌, ◌≤◌, ◌⊎◌, false, true, [], ◌++◌, drop, Result, Ok, Err, unwrap_or}
-use Rattle.agent_plans.specs.declared.plan.Scope.{Scope}
-use Rattle.agent_plans.specs.declared.plan.Scope.TheVariants.{Prefix, Whole}
+-- What a call gives.
+use Rattle.std.specs.Prelude.{ℕ, ◌==◌, if◌then◌else◌, Bool, ◌&&◌, nat_le, List, length, Option, None, Some, ◌≡◌, ℤ, pos, ◌<◌, ◌≤◌, ◌⊎◌, false, [], ◌++◌, drop, Result, Ok, Err, unwrap_or}
 use Rattle.cells.specs.declared.writer.Form.{Form}
 use Rattle.cells.specs.declared.writer.Form.TheVariants.{Json, Text}
-use Rattle.judging.specs.Requests.{Any, Attests, ByCaller, ByKey, Requested, Compares, Judgement, KeyOf, ListRegistersOf, ListVerdictOf, LogRegistersOf, NotChecked, Nothing, PositionsOf, Requires, Signing, These, VerdictOf}
-use Rattle.judging.specs.Inputs.{BytesOf, Where}
+use Rattle.judging.specs.Requests.{Requested}
 use Rattle.agent_inputs.specs.declared.fault.FaultKind.{FaultKind}
 use Rattle.agent_inputs.specs.declared.fault.FaultKind.TheVariants as kinds
 use Rattle.agent_inputs.specs.declared.fault.RunFault.{RunFault}
-use Rattle.agent_inputs.specs.declared.fault.RunFault.TheVariants.{Memory}
+use Rattle.agent_inputs.specs.declared.fault.RunFault.TheVariants.{Memory, Usage}
 use Rattle.agent_inputs.specs.Faults.{fault_head}
 use Rattle.agent_inputs.specs.Loading.{unknown}
 use Rattle.rendering.specs.Rendering.{GivesAnswer, IsRefusalOn}
+use Rattle.rendering.specs.Summaries.{no_summary}
+use Rattle.rendering.specs.declared.summary.Summary.{Summary}
 use Rattle.line_chunks.specs.declared.piece.PieceEnd.{PieceEnd}
 use Rattle.line_chunks.specs.declared.piece.PieceEnd.TheVariants.{Last, Longer, More}
 use Rattle.line_chunks.specs.declared.piece.Piece.{Piece}
 use Rattle.line_chunks.specs.declared.piece.LineOffset.{LineOffset}
 use Rattle.line_chunks.specs.Pieces.{AreEntriesBefore, FailsAfterEntries, IsEntryPiece, AreEventsBefore, FailsAfterEvents, IsEventPiece, end_in, is_within}
 use Rattle.rendering.specs.FaultTexts.{fault_line, json_fault_line, said_of}
-use Rattle.tpm_keys.specs.declared.kinds.KeyPart.TheVariants.{All}
-use Rattle.tpm_keys.specs.declared.kinds.Purpose.{Purpose}
-use Rattle.tpm_keys.specs.declared.kinds.Purpose.TheVariants.{Attestation, Endorsement}
+use Rattle.ima_verify_c.specs.Numbers.{numbers_if}
+use Rattle.ima_verify_c.specs.Requests.{Asked, AsksFor, Misused, NotHexadecimal}
 use Rattle.ima_verify_c.specs.declared.text_info.TextInfo.{TextInfo}
 
 abbrev pub interface_version : ℕ
 interface_version = 1
-
-abbrev pub form_of : Bool → Form
-form_of json = if json then Json else Text
-
--- These bytes, if there are any.
-abbrev pub given_bytes : List ℕ → Option (List ℕ)
-given_bytes bytes = if length bytes == 0 then None else Some bytes
-
--- What has to be among the expected registers: this, if the text is the word `none`; else those that it spells. Without bytes it spells none,
--- and is refused.
-abbrev pub required_by : Requires → List ℕ → Requires
-required_by none text = if bytes_eq text (codes "none") then none else These text
-
--- The text of known files, if it is given.
-abbrev pub known_in : Bool → List ℕ → List Where
-known_in given text = if given then BytesOf text ∷ [] else []
-
--- What a list is worth against expected registers, with these texts of known files; the word `none` requires this.
-abbrev pub requested_by : Requires → Judgement → List ℕ → List ℕ → List ℕ → List Where → Requested
-requested_by none judgement list expected require known = Compares (record {
-  judgement = judgement;
-  list = BytesOf list;
-  expected = BytesOf expected;
-  required = required_by none require;
-  known = known;
-})
-
--- The whole list, or its confirmed prefix.
-abbrev pub scope_of : Bool → Scope
-scope_of prefix = if prefix then Prefix else Whole
-
--- Where the checkpoint is that is gone on from, if it has bytes.
-abbrev pub resume_of : List ℕ → Option Where
-resume_of state = option_map BytesOf (given_bytes state)
-
--- The verdict on a log and a list, or on its confirmed prefix, from a checkpoint on, if there is one.
-abbrev pub verdict_of : List ℕ → List ℕ → Bool → Judgement
-verdict_of log state prefix = VerdictOf (BytesOf log) (scope_of prefix) (resume_of state)
-
--- The verdict on a log and a list; where the registers have their values; and the verdict on a list alone. `none` requires nothing.
-abbrev pub requested_of_verdict : List ℕ → List ℕ → List ℕ → List ℕ → List Where → Requested
-requested_of_verdict log list expected require known = requested_by Nothing (VerdictOf (BytesOf log) Whole None) list expected require known
-
-abbrev pub requested_of_positions : List ℕ → List ℕ → List ℕ → List ℕ → Requested
-requested_of_positions log list expected require = requested_by Nothing (PositionsOf (BytesOf log)) list expected require []
-
-abbrev pub requested_of_list : List ℕ → List ℕ → List ℕ → List Where → Requested
-requested_of_list list expected require known = requested_by Nothing ListVerdictOf list expected require known
-
--- The verdict on a list that grows; `none` requires that some register is expected.
-abbrev pub requested_of_more : List ℕ → List ℕ → List ℕ → List ℕ → List ℕ → List Where → Bool → Requested
-requested_of_more log state more expected require known prefix = requested_by Any (verdict_of log state prefix) more expected require known
-
--- By what a message is known to be signed: by the key and the signature, if both have bytes; else by the word of the caller, if he gives it; else
--- by nothing. There is no such thing where one of both has bytes alone, or the caller gives his word beside them: so he asks for nothing.
-abbrev pub signing_by : Option (List ℕ) → Option (List ℕ) → Bool → Option Signing
-signing_by None None false = Some NotChecked
-signing_by None None true = Some ByCaller
-signing_by (Some key) (Some signature) false = Some (ByKey (BytesOf key) (BytesOf signature))
-signing_by (Some key) (Some signature) true = None
-signing_by (Some key) None signature_checked = None
-signing_by None (Some signature) signature_checked = None
-
-abbrev pub signing_in : List ℕ → List ℕ → Bool → Option Signing
-signing_in key signature signature_checked = signing_by (given_bytes key) (given_bytes signature) signature_checked
-
--- Whether a quote is of a log and a list, or of its confirmed prefix, from a checkpoint on, if there is one; if something is asked for.
-abbrev pub requested_of_attestation : List ℕ → List ℕ → List ℕ → List ℕ → List ℕ → List ℕ → List ℕ → List ℕ → List Where → Bool → Bool → Bool
-    → Option Requested
-requested_of_attestation log state more message key signature nonce require known allow_sha1 signature_checked prefix = option_map (λ signing. Attests (record {
-  log = BytesOf log;
-  list = BytesOf more;
-  message = BytesOf message;
-  nonce = nonce;
-  required = require;
-  takes_sha1 = allow_sha1;
-  signing = signing;
-  expected = None;
-  scope = scope_of prefix;
-  resume = resume_of state;
-  known = known;
-})) (signing_in key signature signature_checked)
-
--- The registers after a list alone, or after a log.
-abbrev pub requested_of_registers : Bool → List ℕ → Requested
-requested_of_registers of_list bytes = if of_list then ListRegistersOf (BytesOf bytes) else LogRegistersOf (BytesOf bytes)
-
--- What the key must be for.
-abbrev pub purpose_of : Bool → Purpose
-purpose_of endorsement = if endorsement then Endorsement else Attestation
-
--- All that is reported of the key of this public area, if it is an endorsement key, or an attestation key.
-abbrev pub requested_of_key : List ℕ → Bool → Requested
-requested_of_key area endorsement = KeyOf (BytesOf area) (purpose_of endorsement) All
 
 -- ---- what is reported of a text
 
@@ -180,6 +84,17 @@ pub record Answers (IsAnswer : List ℕ → ℕ → Option RunFault → Type 0) 
   pub is_answer : IsAnswer text status fault
   pub given : IsGiven text status fault answer info old new
 
+-- So was a text, with the numbers of what it says.
+pub record AnswersCounted (IsAnswer : List ℕ → ℕ → Option RunFault → Summary → Type 0) (answer : ℤ) (info : TextInfo) (old new : List ℕ)
+    (numbers_old numbers_new : List ℕ) : Type 0 where
+  pub text : List ℕ
+  pub status : ℕ
+  pub fault : Option RunFault
+  pub summary : Summary
+  pub is_answer : IsAnswer text status fault summary
+  pub given : IsGiven text status fault answer info old new
+  pub numbers_are : numbers_new ≡ numbers_if (nat_le (length text) (length old)) summary numbers_old
+
 -- A text and that of a checkpoint were given, each in a buffer of its own: both are written if both fit, else neither is. Both sizes are reported.
 pub record AreGiven (text : List ℕ) (status : ℕ) (fault : Option RunFault) (state : List ℕ) (answer : ℤ) (info : TextInfo) (old new : List ℕ)
     (next_size : ℕ) (next_old next_new : List ℕ) : Type 0 where
@@ -189,14 +104,17 @@ pub record AreGiven (text : List ℕ) (status : ℕ) (fault : Option RunFault) (
   pub short : (length old < length text) ⊎ (length next_old < length state)
       → IsTooShort (length text) answer info old new × (next_new ≡ next_old)
 
-pub record AnswersMore (IsAnswer : List ℕ → ℕ → Option RunFault → List ℕ → Type 0) (answer : ℤ) (info : TextInfo) (old new : List ℕ)
-    (next_size : ℕ) (next_old next_new : List ℕ) : Type 0 where
+-- So they were, with the numbers of what the text says.
+pub record AnswersMore (IsAnswer : List ℕ → ℕ → Option RunFault → List ℕ → Summary → Type 0) (answer : ℤ) (info : TextInfo) (old new : List ℕ)
+    (numbers_old numbers_new : List ℕ) (next_size : ℕ) (next_old next_new : List ℕ) : Type 0 where
   pub text : List ℕ
   pub status : ℕ
   pub fault : Option RunFault
   pub state : List ℕ
-  pub is_answer : IsAnswer text status fault state
+  pub summary : Summary
+  pub is_answer : IsAnswer text status fault state summary
   pub given : AreGiven text status fault state answer info old new next_size next_old next_new
+  pub numbers_are : numbers_new ≡ numbers_if (nat_le (length text) (length old) && nat_le (length state) (length next_old)) summary numbers_old
 
 -- ---- answers
 
@@ -227,30 +145,53 @@ HasNoAnswerOn request fault = IsRefusalOn unknown request fault ⊎ (fault ≡ M
 abbrev pub answer_of_status : ℕ → ℕ
 answer_of_status status = if status == 0 then 0 else 1
 
--- The answer to what is asked, in this form, with what a call returns for it, and the text of the checkpoint of what it is on, which has no bytes unless all
--- is well; or why there is no answer, and no text of a checkpoint.
-abbrev pub IsAnswerAndNext : Requested → Form → List ℕ → ℕ → Option RunFault → List ℕ → Type 0
-IsAnswerAndNext request form text status fault state =
-    ((fault ≡ None) × ((exit : ℕ) × GivesAnswer unknown request form text exit state × (status ≡ answer_of_status exit)))
-    ⊎ (IsRefusal (HasNoAnswerOn request) form text status fault × (state ≡ []))
+-- It is the line of a fault with this reason: there is no checkpoint, and no verdict.
+abbrev pub IsNoReport : (RunFault → Type 0) → Form → List ℕ → ℕ → Option RunFault → List ℕ → Summary → Type 0
+IsNoReport HasReason form text status fault state summary =
+    IsRefusal HasReason form text status fault × (state ≡ []) × (summary ≡ no_summary)
 
--- The answer, whatever checkpoint there is.
+-- The answer to what is asked, in this form, with what a call returns for it, the text of the checkpoint of what it is on, which has no bytes unless
+-- all is well, and its summary; or why there is no answer.
+abbrev pub IsAnswerAndNext : Requested → Form → List ℕ → ℕ → Option RunFault → List ℕ → Summary → Type 0
+IsAnswerAndNext request form text status fault state summary =
+    ((fault ≡ None) × ((exit : ℕ) × GivesAnswer unknown request form text exit state summary × (status ≡ answer_of_status exit)))
+    ⊎ IsNoReport (HasNoAnswerOn request) form text status fault state summary
+
+-- The answer and its summary, whatever checkpoint there is.
+abbrev pub IsAnswerWith : Requested → Form → List ℕ → ℕ → Option RunFault → Summary → Type 0
+IsAnswerWith request form text status fault summary = (state : List ℕ) × IsAnswerAndNext request form text status fault state summary
+
+-- The answer, whatever its summary.
 abbrev pub IsAnswerTo : Requested → Form → List ℕ → ℕ → Option RunFault → Type 0
-IsAnswerTo request form text status fault = (state : List ℕ) × IsAnswerAndNext request form text status fault state
+IsAnswerTo request form text status fault = (summary : Summary) × IsAnswerWith request form text status fault summary
 
 -- Nothing can be asked for so: nothing was read or written, and there is no checkpoint.
-pub record IsUnasked (answer : ℤ) (info : TextInfo) (old new : List ℕ) (next_size : ℕ) (next_old next_new : List ℕ) : Type 0 where
+pub record IsUnasked (answer : ℤ) (info : TextInfo) (old new numbers_old numbers_new : List ℕ) (next_size : ℕ) (next_old next_new : List ℕ) : Type 0 where
   pub answer_is : answer ≡ pos 6
   pub info_is : info ≡ info_of 0 None
   pub same : new ≡ old
+  pub numbers_same : numbers_new ≡ numbers_old
   pub next_size_is : next_size ≡ 0
   pub next_same : next_new ≡ next_old
 
+-- Why there is no nonce: its text is not hexadecimal, or memory ran out.
+abbrev pub HasNoNonce : RunFault → Type 0
+HasNoNonce fault = (fault ≡ Usage) ⊎ (fault ≡ Memory)
+
+-- Why what is given is no nonce.
+abbrev pub IsNoNonce : Asked (List ℕ) → RunFault → Type 0
+IsNoNonce Misused fault = ⊥
+IsNoNonce NotHexadecimal fault = HasNoNonce fault
+IsNoNonce (AsksFor nonce) fault = fault ≡ Memory
+
 -- The answer to what is asked for, if something is.
-abbrev pub AnswersAsked : Option Requested → Form → ℤ → TextInfo → List ℕ → List ℕ → ℕ → List ℕ → List ℕ → Type 0
-AnswersAsked (Some request) form answer info old new next_size next_old next_new =
-    AnswersMore (IsAnswerAndNext request form) answer info old new next_size next_old next_new
-AnswersAsked None form answer info old new next_size next_old next_new = IsUnasked answer info old new next_size next_old next_new
+abbrev pub AnswersAsked : Asked Requested → Form → ℤ → TextInfo → List ℕ → List ℕ → List ℕ → List ℕ → ℕ → List ℕ → List ℕ → Type 0
+AnswersAsked Misused form answer info old new numbers_old numbers_new next_size next_old next_new =
+    IsUnasked answer info old new numbers_old numbers_new next_size next_old next_new
+AnswersAsked NotHexadecimal form answer info old new numbers_old numbers_new next_size next_old next_new =
+    AnswersMore (IsNoReport HasNoNonce form) answer info old new numbers_old numbers_new next_size next_old next_new
+AnswersAsked (AsksFor request) form answer info old new numbers_old numbers_new next_size next_old next_new =
+    AnswersMore (IsAnswerAndNext request form) answer info old new numbers_old numbers_new next_size next_old next_new
 
 -- ---- lines
 

@@ -1,2 +1,4 @@
 pub mod Answers
 pub mod ErrorTexts
+pub mod Numbers
+pub mod Requests

@@ -4,12 +4,18 @@
 //! Each call returns a number: 0 or 1 as the command of the same name exits, with its output in the buffer; 2 if an input is refused, or 3 if
 //! memory ran out, with the line of the error in the buffer; 4 if its capacity is too small, and the buffer is then as it was; for lines 5 if there
 //! are more; and 6 if the position is none, or nothing can be asked for so. In any case `info` has the size of the text, and the error if the text is
-//! the line of one. With `json` the text is that of the command with `--json`. `require` names registers that must be among the expected ones, such as
-//! `sha256:0-10`; the word `none` names none. `known` lists known files, as a FILE of `--known`; a caller joins the texts of several, each of whole
-//! lines. It counts if `checks_known`, even without bytes: then no file is known. It is given only where `require` names registers.
+//! the line of one. With `json` the text is that of the command with `--json`.
+//!
+//! `require` names PCRs that must be among the expected ones, such as `sha256:0-10`; the word `none` names none, but where nothing is compared the
+//! verdict is `differ`. `known` lists known files, as a FILE of `--known`; a caller joins the texts of several, each of whole lines. It counts if
+//! `checks_known`, even without bytes: then no file is known. It is given only where `require` names PCRs. `numbers` are what the text says of the
+//! verdict, as [`numbers`] has them: the first is left as it is; after 2, 3 and 4 they are those of no verdict, and after 6 all are as they were.
 #![tactic(auto)]
 
 pub mod error_text;
+pub mod laws;
+mod nonce;
+mod numbers;
 mod replies;
 mod requests;
 mod text_info;
@@ -17,15 +23,17 @@ mod text_info;
 ghost use Rattle.std.specs.Prelude.{◌≡◌};
 ghost use Rattle.judging.specs.Requests.{ExpectedOf};
 ghost use Rattle.judging.specs.Inputs.{BytesOf};
-ghost use Rattle.ima_verify_c.specs.Answers.{Answers, AnswersAsked, AnswersMore, GivesEntries, GivesEvents, IsAnswerAndNext, IsAnswerTo, requested_of_attestation, requested_of_key, requested_of_list, requested_of_more, requested_of_positions, requested_of_registers, requested_of_verdict, form_of, given_bytes, interface_version, known_in};
+ghost use Rattle.ima_verify_c.specs.Answers.{Answers, AnswersAsked, AnswersCounted, AnswersMore, GivesEntries, GivesEvents, IsAnswerAndNext, IsAnswerTo, IsAnswerWith, interface_version};
+ghost use Rattle.ima_verify_c.specs.Requests.{requested_of_attestation, requested_of_key, requested_of_list, requested_of_more, requested_of_positions, requested_of_registers, requested_of_verdict, form_of, given_bytes, known_in};
 
-use crate::replies::{give, give_both, give_lines, give_nothing};
+use crate::nonce::nonce_in;
+use crate::replies::{give, give_both, give_counted, give_lines, give_no_report, give_nothing};
 use crate::requests::{
     form_of, given_bytes, key_in, known_in, registers_on, requested_by, resume_of, scope_of,
     signing_in, verdict_of,
 };
 use agent_plans::Form;
-use judging::{AttestRequest, Input, ReportKind, Request, Required};
+use judging::{AttestRequest, Input, ReportKind, Request};
 use line_chunks::{LineOffset, entry_lines, event_lines};
 use std::alloc::Global;
 pub use text_info::TextInfo;
@@ -50,17 +58,19 @@ pub extern "C" fn ima_verify_raw_verdict<'a>(
     known: &'a [u8],
     checks_known: bool,
     json: bool,
+    numbers: &mut [u64],
     out: &mut [u8],
     info: &mut TextInfo,
 ) -> i32
-    ensures { Answers (IsAnswerTo (requested_of_verdict log.now list.now expected.now require.now (known_in checks_known known.now)) (form_of json)) result
-        info.new out.old out.new }
+    ensures { AnswersCounted (IsAnswerWith
+        (requested_of_verdict log.now list.now expected.now require.now (known_in checks_known known.now)) (form_of json)) result
+        info.new out.old out.new numbers.old numbers.new }
 {
     let verdict = verdict_of(log, b"", false);
     let texts = [Input::Bytes(known)];
     let known = known_in(checks_known, &texts);
-    let request = requested_by(Required::Nothing, verdict, list, expected, require, known);
-    give(alloc, request, form_of(json), out, info)
+    let request = requested_by(verdict, list, expected, require, known);
+    give_counted(alloc, request, form_of(json), numbers, out, info)
 }
 
 /// Where expected registers first have their values in a firmware event log and a measurement list, as `locate` writes it: 0 if some
@@ -80,7 +90,7 @@ pub extern "C" fn ima_verify_raw_locate<'a>(
 {
     let log = Input::Bytes(log);
     let positions = ReportKind::Positions { log };
-    let request = requested_by(Required::Nothing, positions, list, expected, require, &[]);
+    let request = requested_by(positions, list, expected, require, &[]);
     give(alloc, request, form_of(json), out, info)
 }
 
@@ -94,22 +104,24 @@ pub extern "C" fn ima_verify_raw_replay<'a>(
     known: &'a [u8],
     checks_known: bool,
     json: bool,
+    numbers: &mut [u64],
     out: &mut [u8],
     info: &mut TextInfo,
 ) -> i32
-    ensures { Answers (IsAnswerTo (requested_of_list list.now expected.now require.now (known_in checks_known known.now)) (form_of json)) result
-        info.new out.old out.new }
+    ensures { AnswersCounted (IsAnswerWith
+        (requested_of_list list.now expected.now require.now (known_in checks_known known.now)) (form_of json)) result
+        info.new out.old out.new numbers.old numbers.new }
 {
     let alone = ReportKind::ListVerdict;
     let texts = [Input::Bytes(known)];
     let known = known_in(checks_known, &texts);
-    let request = requested_by(Required::Nothing, alone, list, expected, require, known);
-    give(alloc, request, form_of(json), out, info)
+    let request = requested_by(alone, list, expected, require, known);
+    give_counted(alloc, request, form_of(json), numbers, out, info)
 }
 
 /// The verdict on a list that grows, as `verify` writes it with `--prefix` and `--resume`, and in `next` the checkpoint that it saves with
 /// `--save`. `state` is the text of the checkpoint to go on from, and `more` are the list's bytes from there on; without `state`, all of
-/// them. `require` is `none` if it is enough that some register is expected. With `prefix` the report is on the confirmed prefix, if there is
+/// them. With `prefix` the report is on the confirmed prefix, if there is
 /// one. There is a checkpoint with a verdict `match` alone: else `next_size` is 0.
 #[unsafe(no_mangle)]
 pub extern "C" fn ima_verify_raw_more<'a>(
@@ -123,6 +135,7 @@ pub extern "C" fn ima_verify_raw_more<'a>(
     checks_known: bool,
     prefix: bool,
     json: bool,
+    numbers: &mut [u64],
     next: &mut [u8],
     next_size: &mut usize,
     out: &mut [u8],
@@ -130,24 +143,34 @@ pub extern "C" fn ima_verify_raw_more<'a>(
 ) -> i32
     ensures { AnswersMore (IsAnswerAndNext
         (requested_of_more log.now state.now more.now expected.now require.now (known_in checks_known known.now) prefix) (form_of json)) result
-        info.new out.old out.new next_size.new next.old next.new }
+        info.new out.old out.new numbers.old numbers.new next_size.new next.old next.new }
 {
     let verdict = verdict_of(log, state, prefix);
     let texts = [Input::Bytes(known)];
     let known = known_in(checks_known, &texts);
-    let request = requested_by(Required::Any, verdict, more, expected, require, known);
-    give_both(alloc, request, form_of(json), next, next_size, out, info)
+    let request = requested_by(verdict, more, expected, require, known);
+    give_both(
+        alloc,
+        request,
+        form_of(json),
+        numbers,
+        next,
+        next_size,
+        out,
+        info,
+    )
 }
 
 /// Whether the message of a quote is of a firmware event log and a measurement list that grows: 0 if they are attested by it, else 1. `state`,
 /// `more`, `prefix` and `next` are as those of [`ima_verify_raw_more`]; the checkpoint that is gone on from must be of the quote's boot, by the
-/// TPM's counts of resets and restarts. The message must have this nonce, of at least 16 bytes, and select each register that `require` names:
-/// in any case 0 to 10, and none in the SHA-1 bank alone unless `allow_sha1`.
+/// TPM's counts of resets and restarts. The message must have this nonce, of at least 16 bytes, and select each PCR that `require` names: in any
+/// case 0 to 10, and none in the SHA-1 bank alone unless `allow_sha1`. The nonce is given as bytes, or in `nonce_hex` as hexadecimal digits of either
+/// case, with at most one line feed at their end.
 ///
 /// `key` is the machine's attestation key, its public area or the PEM that [`ima_verify_raw_key`] gives of it, and `signature` the signature of the
 /// message, which must be by this key. Without bytes in both nothing is attested unless `signature_checked` says that the caller has verified the
-/// signature by the machine's attestation key, which must be a restricted one. 6 if one of both has bytes alone, or if `signature_checked` is said beside
-/// them: nothing is then read or written.
+/// signature by the machine's attestation key, which must be a restricted one. 6 if one of both has bytes alone, if `signature_checked` is set beside
+/// them, or if both `nonce` and `nonce_hex` have bytes: nothing is then read or written.
 #[unsafe(no_mangle)]
 pub extern "C" fn ima_verify_raw_attest<'a>(
     alloc: Global,
@@ -158,6 +181,7 @@ pub extern "C" fn ima_verify_raw_attest<'a>(
     key: &'a [u8],
     signature: &'a [u8],
     nonce: &'a [u8],
+    nonce_hex: &'a [u8],
     require: &'a [u8],
     known: &'a [u8],
     checks_known: bool,
@@ -165,23 +189,31 @@ pub extern "C" fn ima_verify_raw_attest<'a>(
     signature_checked: bool,
     prefix: bool,
     json: bool,
+    numbers: &mut [u64],
     next: &mut [u8],
     next_size: &mut usize,
     out: &mut [u8],
     info: &mut TextInfo,
 ) -> i32
-    ensures { AnswersAsked (requested_of_attestation log.now state.now more.now message.now key.now signature.now nonce.now require.now
-        (known_in checks_known known.now) allow_sha1 signature_checked prefix) (form_of json) result info.new out.old out.new next_size.new next.old next.new }
+    ensures { AnswersAsked (requested_of_attestation log.now state.now more.now message.now key.now signature.now nonce.now nonce_hex.now require.now
+        (known_in checks_known known.now) allow_sha1 signature_checked prefix) (form_of json) result info.new out.old out.new numbers.old numbers.new
+        next_size.new next.old next.new }
 {
     let Some(signing) = signing_in(key, signature, signature_checked) else {
         return give_nothing(next_size, info);
+    };
+    let form = form_of(json);
+    let nonce = match nonce_in(alloc, nonce, nonce_hex) {
+        Ok(Some(nonce)) => nonce,
+        Ok(None) => return give_nothing(next_size, info),
+        Err(fault) => return give_no_report(alloc, form, &fault, numbers, next_size, out, info),
     };
     let texts = [Input::Bytes(known)];
     let request = Request::Attestation(AttestRequest {
         log: Input::Bytes(log),
         list: Input::Bytes(more),
         message: Input::Bytes(message),
-        nonce,
+        nonce: nonce.bytes(),
         required: require,
         known: known_in(checks_known, &texts),
         takes_sha1: allow_sha1,
@@ -190,7 +222,7 @@ pub extern "C" fn ima_verify_raw_attest<'a>(
         scope: scope_of(prefix),
         resume: resume_of(state),
     });
-    give_both(alloc, request, form_of(json), next, next_size, out, info)
+    give_both(alloc, request, form, numbers, next, next_size, out, info)
 }
 
 /// The expected registers that a text which tpm2_pcrread or tpm2_checkquote printed states, of those that a selection such as `sha256:0-10`

@@ -1,10 +1,12 @@
 //! Gives an answer to the caller: a text in the caller's buffer, what is reported of it, and a number.
 
-ghost use Rattle.std.specs.Prelude.{◌≡◌, ◌≤◌, ◌⊎◌, None, length, option_map, pos, IfOk, IfSome};
+ghost use Rattle.std.specs.Prelude.{◌≡◌, ◌≤◌, ◌⊎◌, ◌&&◌, ℕ, List, None, length, nat_le, option_map, pos, IfOk, IfSome};
 ghost use Rattle.agent_inputs.specs.declared.fault.RunFault.TheVariants.{Memory};
 ghost use Rattle.judging.specs.Requests.{requested_of};
-ghost use Rattle.ima_verify_c.specs.Answers.{Answers, AnswersMore, AreGiven, answer_of_status, fault_answer, GivesFound, GivesPiece, IsAnswerAndNext, IsAnswerTo, IsGiven, IsLineOf, IsRefusal, info_of};
+ghost use Rattle.ima_verify_c.specs.Answers.{Answers, AnswersCounted, AnswersMore, AreGiven, answer_of_status, fault_answer, GivesFound, GivesPiece, IsAnswerAndNext, IsAnswerTo, IsAnswerWith, IsGiven, IsLineOf, IsNoReport, IsRefusal, info_of};
+ghost use Rattle.ima_verify_c.specs.Numbers.{numbers_if};
 
+use crate::numbers::fill_if;
 use crate::text_info::TextInfo;
 use agent_inputs::{FaultKind, RunFault};
 use agent_plans::Form;
@@ -12,7 +14,8 @@ use byte_streams::{Failed, VecSink};
 use judging::Request;
 use line_chunks::{LineOffset, Piece, PieceEnd};
 use rendering::{
-    Rendered, json_fault_line, json_memory_line, memory_line, output_on, status_of, write_fault,
+    Rendered, Summary, json_fault_line, json_memory_line, memory_line, output_on, status_of,
+    write_fault,
 };
 use std::alloc::{AllocError, Global};
 
@@ -66,25 +69,62 @@ fn answer_of_status(status: u8) -> u8
     if status == 0 { DONE } else { DIFFERS }
 }
 
-/// Gives the answer and the text of the checkpoint of what it is on; or the line of a fault, and no checkpoint.
+/// Gives the answer and its numbers; or the line of a fault, and no verdict's numbers.
+pub(crate) fn give_counted(
+    alloc: Global,
+    request: Request<'_>,
+    form: Form,
+    numbers: &mut [u64],
+    out: &mut [u8],
+    info: &mut TextInfo,
+) -> i32
+    ensures { AnswersCounted (IsAnswerWith (requested_of request.entry) form) result info.new out.old out.new numbers.old numbers.new }
+{
+    match output_on(alloc, request, form) {
+        Ok(given) => put_counted(&given, numbers, out, info),
+        Err(fault) => {
+            fill_if(false, Summary::none(), numbers);
+            give_fault(alloc, form, &fault, out, info)
+        }
+    }
+}
+
+/// Gives the answer, its numbers, and the text of the checkpoint of what it is on; or the line of a fault, no verdict's numbers, and no checkpoint.
 pub(crate) fn give_both(
     alloc: Global,
     request: Request<'_>,
     form: Form,
+    numbers: &mut [u64],
     next: &mut [u8],
     next_size: &mut usize,
     out: &mut [u8],
     info: &mut TextInfo,
 ) -> i32
-    ensures { AnswersMore (IsAnswerAndNext (requested_of request.entry) form) result info.new out.old out.new next_size.new next.old next.new }
+    ensures { AnswersMore (IsAnswerAndNext (requested_of request.entry) form) result info.new out.old out.new numbers.old numbers.new next_size.new
+        next.old next.new }
 {
     match output_on(alloc, request, form) {
-        Ok(given) => put_both(&given, next, next_size, out, info),
-        Err(fault) => {
-            *next_size = 0;
-            give_fault(alloc, form, &fault, out, info)
-        }
+        Ok(given) => put_both(&given, numbers, next, next_size, out, info),
+        Err(fault) => give_no_report(alloc, form, &fault, numbers, next_size, out, info),
     }
+}
+
+/// Gives the line of a fault, no verdict's numbers, and no checkpoint.
+pub(crate) fn give_no_report(
+    alloc: Global,
+    form: Form,
+    fault: &RunFault,
+    numbers: &mut [u64],
+    next_size: &mut usize,
+    out: &mut [u8],
+    info: &mut TextInfo,
+) -> i32
+    ensures { (next : List ℕ) → AnswersMore (IsNoReport (λ reason. (reason ≡ fault.now) ⊎ (reason ≡ Memory)) form) result info.new out.old out.new
+        numbers.old numbers.new next_size.new next next }
+{
+    *next_size = 0;
+    fill_if(false, Summary::none(), numbers);
+    give_fault(alloc, form, fault, out, info)
 }
 
 /// Gives nothing, and no checkpoint, where nothing can be asked for so.
@@ -220,21 +260,37 @@ pub(crate) fn put(
     i32::from(status)
 }
 
-// Writes an answer and the text of a checkpoint each at the start of its buffer, if both fit.
+// Writes an answer at the start of the caller's buffer, and its numbers, if it fits.
+fn put_counted(given: &Rendered, numbers: &mut [u64], out: &mut [u8], info: &mut TextInfo) -> i32
+    ensures given { IsGiven given.now.output.text.items (answer_of_status given.now.output.status) None result info.new out.old out.new }
+    ensures numbers { numbers.new ≡ numbers_if (nat_le (length given.now.output.text.items) (length out.old)) given.now.summary numbers.old }
+{
+    let text = &given.output.text;
+    fill_if(text.len() <= out.len(), given.summary, numbers);
+    let answer = answer_of_status(given.output.status);
+    put(text, answer, None, out, info)
+}
+
+// Writes an answer and the text of a checkpoint each at the start of its buffer, and the numbers, if both fit.
 fn put_both(
     given: &Rendered,
+    numbers: &mut [u64],
     next: &mut [u8],
     next_size: &mut usize,
     out: &mut [u8],
     info: &mut TextInfo,
 ) -> i32
-    ensures { AreGiven given.now.output.text.items (answer_of_status given.now.output.status) None given.now.checkpoint.items result info.new out.old out.new
-        next_size.new next.old next.new }
+    ensures given { AreGiven given.now.output.text.items (answer_of_status given.now.output.status) None given.now.checkpoint.items result info.new
+        out.old out.new next_size.new next.old next.new }
+    ensures numbers { numbers.new ≡ numbers_if (nat_le (length given.now.output.text.items) (length out.old)
+        && nat_le (length given.now.checkpoint.items) (length next.old)) given.now.summary numbers.old }
 {
     let text = &given.output.text;
     let state = &given.checkpoint;
+    let fits = text.len() <= out.len() && state.len() <= next.len();
     *next_size = state.len();
-    if state.len() <= next.len() && text.len() <= out.len() {
+    fill_if(fits, given.summary, numbers);
+    if fits {
         next[..state.len()].copy_from_slice(state);
         let answer = answer_of_status(given.output.status);
         return put(text, answer, None, out, info);
