@@ -1,8 +1,7 @@
 //! The text of an error, for callers in C.
 
-ghost use Rattle.std.specs.Prelude.{◌≡◌, ℕ, None, Some, true, pos, is_some, option_map, string_bytes, IfErr, IfOk};
-ghost use Rattle.ima_verify_c.specs.ErrorTexts.{GivesErrorText, HasText, kind_of, place_of, text_by};
-ghost use Rattle.agent_inputs.specs.declared.fault.RunFault.{RunFault};
+ghost use Rattle.std.specs.Prelude.{◌≡◌, None, true, pos, is_some, option_map, string_bytes, IfErr, IfOk};
+ghost use Rattle.ima_verify_c.specs.ErrorTexts.{GivesErrorText, kind_of, place_of, text_by};
 ghost use Rattle.ima_verify_c.specs.Answers.{info_of};
 
 use crate::replies::{DONE, MISUSED, OUT_OF_MEMORY, put};
@@ -37,11 +36,6 @@ pub extern "C" fn ima_verify_raw_error_text(
         ),
     }
 }
-
-/// Each error that a call reports has a text.
-pub fn each_error_has_a_text()
-    ensures { (size : ℕ) (fault : RunFault) → HasText (info_of size (Some fault)) }
-{}
 
 fn text_in(alloc: Global, kind: u32, number: u32, place: u64) -> Result<Option<String>, AllocError>
     ensures text { IfOk result (λ text. option_map string_bytes text ≡ text_by kind number place) }
