@@ -11,7 +11,6 @@
 #include <pthread.h>
 #include <stdio.h>
 #include <stdlib.h>
-#include <sys/mman.h>
 #include <unistd.h>
 
 enum { SPACE = 1 << 16, FILL = 0xa7, STACK = 512 * 1024, GUARD = 1 << 24, UNSET = 77, SHOWN = 60, WORDS = 300, LONG = 17000 };
@@ -32,7 +31,7 @@ struct given {
     enum ima_verify_purpose purpose;
     struct ima_verify_position position;
     struct ima_verify_error error;
-    bool checks_known, prefix, allow_sha1, signature_checked;
+    bool checks_known, prefix, allow_sha1, signature_checked, is_absent;
 };
 
 static struct given sample;
@@ -81,6 +80,7 @@ static void change(struct given *given, char *word) {
     long count = strtol(value, &value, 10);
     if (strcmp(word, "checked") == 0) given->checks_known = true;
     else if (strcmp(word, "prefix") == 0) given->prefix = true;
+    else if (strcmp(word, "absent") == 0) given->is_absent = true;
     else if (strcmp(word, "sha1") == 0) given->allow_sha1 = true;
     else if (strcmp(word, "unsigned") == 0) given->signature_checked = false;
     else if (strcmp(word, "endorsement") == 0) given->purpose = IMA_VERIFY_ENDORSEMENT;
@@ -155,34 +155,34 @@ enum {
 };
 
 /* Each function: its number and name, which inputs it looks at, and its call with what it needs of them. */
-#define ALL_FUNCTIONS(F)                                                                                                       \
-    F(VERDICT, "verdict", COMPARED, ima_verify_verdict(&evidence, form, summed, to))                                           \
-    F(LOCATE, "locate", COMPARED, ima_verify_locate(&evidence, form, to))                                                      \
-    F(REPLAY, "replay", COMPARED, ima_verify_replay(&evidence, form, summed, to))                                              \
-    F(MORE, "more", COMPARED | ONE(STATE), ima_verify_more(&evidence, in[STATE], given->prefix, form, summed, to_next, to))    \
-    F(ATTEST, "attest", QUOTED, ima_verify_attest(&quoted, form, summed, to))                                                  \
-    F(ATTEST_MORE, "attest_more", QUOTED | ONE(STATE),                                                                         \
-      ima_verify_attest_more(&quoted, in[STATE], given->prefix, form, summed, to_next, to))                                    \
-    F(READ_EXPECTED, "expected", ONE(PRINTED) | ONE(SELECTION), ima_verify_expected(in[PRINTED], in[SELECTION], form, to))     \
-    F(REGISTERS, "registers", ONE(LOG), ima_verify_registers(given->origin, in[given->origin ? LIST : LOG], form, to))         \
-    F(READ_KEY, "key", ONE(AREA), ima_verify_key(in[AREA], given->purpose, form, to))                                          \
-    F(ERROR_TEXT, "error_text", 0, ima_verify_error_text(&given->error, to))                                                   \
-    F(BOOT, "boot", ONE(LOG), ima_verify_boot(in[LOG], before, NULL, NULL, form, to))                                          \
-    F(BOOT_BY_PCRS, "boot by PCRs", BY_PCRS, ima_verify_boot(in[LOG], before, &in[EXPECTED], NULL, form, to))                  \
-    F(BOOT_BY_QUOTE, "boot by a quote", QUOTED, ima_verify_boot(in[LOG], before, NULL, &quoted, form, to))                     \
-    F(ENTRIES, "entries", ONE(LIST), ima_verify_entries(in[LIST], at, form, to))                                               \
-    F(EVENTS, "events", ONE(LOG), ima_verify_events(in[LOG], NULL, NULL, at, to))                                              \
-    F(EVENTS_BY_PCRS, "events by PCRs", BY_PCRS, ima_verify_events(in[LOG], &in[EXPECTED], NULL, at, to))                      \
+#define ALL_FUNCTIONS(F)                                                                                                    \
+    F(VERDICT, "verdict", COMPARED, ima_verify_verdict(evidence, form, summed, to))                                         \
+    F(LOCATE, "locate", COMPARED, ima_verify_locate(evidence, form, to))                                                    \
+    F(REPLAY, "replay", COMPARED, ima_verify_replay(evidence, form, summed, to))                                            \
+    F(MORE, "more", COMPARED | ONE(STATE), ima_verify_more(evidence, in[STATE], given->prefix, form, summed, to_next, to))  \
+    F(ATTEST, "attest", QUOTED, ima_verify_attest(attested, form, summed, to))                                        \
+    F(ATTEST_MORE, "attest_more", QUOTED | ONE(STATE),                                                                      \
+      ima_verify_attest_more(attested, in[STATE], given->prefix, form, summed, to_next, to))                          \
+    F(READ_EXPECTED, "expected", ONE(PRINTED) | ONE(SELECTION), ima_verify_expected(in[PRINTED], in[SELECTION], form, to))  \
+    F(REGISTERS, "registers", ONE(LOG), ima_verify_registers(given->origin, in[given->origin ? LIST : LOG], form, to))      \
+    F(READ_KEY, "key", ONE(AREA), ima_verify_key(in[AREA], given->purpose, form, to))                                       \
+    F(ERROR_TEXT, "error_text", 0, ima_verify_error_text(given->is_absent ? NULL : &given->error, to))                      \
+    F(BOOT, "boot", ONE(LOG), ima_verify_boot(in[LOG], before, NULL, NULL, form, to))                                       \
+    F(BOOT_BY_PCRS, "boot by PCRs", BY_PCRS, ima_verify_boot(in[LOG], before, &in[EXPECTED], NULL, form, to))               \
+    F(BOOT_BY_QUOTE, "boot by a quote", QUOTED, ima_verify_boot(in[LOG], before, NULL, &quoted, form, to))                  \
+    F(ENTRIES, "entries", ONE(LIST), ima_verify_entries(in[LIST], at, form, to))                                            \
+    F(EVENTS, "events", ONE(LOG), ima_verify_events(in[LOG], NULL, NULL, at, to))                                           \
+    F(EVENTS_BY_PCRS, "events by PCRs", BY_PCRS, ima_verify_events(in[LOG], &in[EXPECTED], NULL, at, to))                   \
     F(EVENTS_BY_QUOTE, "events by a quote", QUOTED, ima_verify_events(in[LOG], NULL, &quoted, at, to))
 
 #define NUMBER(number, name, inputs, call) number,
 #define ROW(number, name, inputs, call) {name, inputs, call_##number},
-#define CALL(number, name, inputs, call)                                                                   \
-    static enum ima_verify_result call_##number(const struct given *given, enum ima_verify_form form) {    \
-        struct ima_verify_evidence evidence = evidence_of(given);                                          \
-        struct ima_verify_quoted quoted = quoted_of(given);                                                \
-        const struct ima_verify_bytes *in = given->in, *before = in[BEFORE].data ? &in[BEFORE] : NULL;     \
-        return (void)form, (void)evidence, (void)quoted, (void)before, call;                               \
+#define CALL(number, name, inputs, call)                                                                                     \
+    static enum ima_verify_result call_##number(const struct given *given, enum ima_verify_form form) {                      \
+        struct ima_verify_evidence compared = evidence_of(given), *evidence = given->is_absent ? NULL : &compared;           \
+        struct ima_verify_quoted quoted = quoted_of(given), *attested = given->is_absent ? NULL : &quoted;                   \
+        const struct ima_verify_bytes *in = given->in, *before = in[BEFORE].data ? &in[BEFORE] : NULL;                       \
+        return (void)form, (void)evidence, (void)attested, (void)before, call;                                               \
     }
 
 enum { ALL_FUNCTIONS(NUMBER) FUNCTIONS };
@@ -203,7 +203,6 @@ enum {
 };
 
 static bool is_in(int which, unsigned set) { return set >> which & 1; }
-
 #define EACH(which, set) for (int which = 0; which < FUNCTIONS; which++) if (is_in(which, set))
 
 /* Counts a check of the last call. */
@@ -253,9 +252,7 @@ static bool is_left(void) { return is_filled(text, 0) && is_filled(checkpoint, 0
 
 /* The numbers of a summary, after the first. */
 #define SUM(...) (&(const struct ima_verify_summary){sizeof summary, __VA_ARGS__})
-
 static bool is_sum(const struct ima_verify_summary *wanted) { return memcmp(&summary, wanted, sizeof summary) == 0; }
-
 static const struct ima_verify_summary no_verdict = {sizeof summary, 0, 0, 0, 0, 0, NONE, 0, 0, 0, 0};
 
 static bool has_no_checkpoint(int which) {
@@ -307,6 +304,7 @@ static void check_wrong_calls(void) {
     EACH(which, ONE(REGISTERS) | ONE(READ_KEY)) misused(which, ask(which, &given, TEXT, SPACE), "an origin or a purpose that is none");
     misuse(ONE(LOCATE) | CONFIRMING, "checked");
     misuse(COMPARING | BY_A_QUOTE, "known@files");
+    misuse(COMPARING | ATTESTING | ONE(ERROR_TEXT), "absent");
     misuse(BY_A_QUOTE, "nonce_hex=00");
     misuse(BY_A_QUOTE, "key@rsassa.pub signature@rsassa.sig");
     misuse(BY_A_QUOTE, "key@rsassa.pub");
@@ -347,13 +345,6 @@ static void check_wrong_outputs(void) {
     EACH(which, PIECES) misused(which, ask(which, &sample, TEXT, SPACE), "no position");
     at = &position;
     prepare(&sample, SPACE);
-    misused(VERDICT, ima_verify_verdict(NULL, TEXT, summed, to), "no evidence");
-    misused(LOCATE, ima_verify_locate(NULL, TEXT, to), "no evidence");
-    misused(REPLAY, ima_verify_replay(NULL, TEXT, summed, to), "no evidence");
-    misused(MORE, ima_verify_more(NULL, none, false, TEXT, summed, to_next, to), "no evidence");
-    misused(ATTEST, ima_verify_attest(NULL, TEXT, summed, to), "no evidence");
-    misused(ATTEST_MORE, ima_verify_attest_more(NULL, none, false, TEXT, summed, to_next, to), "no evidence");
-    misused(ERROR_TEXT, ima_verify_error_text(NULL, to), "no error");
     misused(BOOT, ima_verify_boot(*log, NULL, expected, &quoted, TEXT, to), "expected PCRs and a quote");
     misused(BOOT, ima_verify_boot(*log, &(struct ima_verify_bytes){NULL, 1}, NULL, NULL, TEXT, to), "an earlier boot at NULL");
     misused(EVENTS, ima_verify_events(*log, expected, &quoted, at, to), "expected PCRs and a quote");
@@ -413,8 +404,7 @@ static void check_capacities(void) {
         prepare(&sample, i & 1 ? SPACE : size - 1);
         next.capacity = i & 1 ? next_size - 1 : SPACE;
         result = functions[which].call(&sample, TEXT);
-        bool are_sizes = out.size == size && next.size == next_size;
-        check(result == IMA_VERIFY_TOO_SHORT && is_left() && are_sizes && is_sum(&no_verdict), which, "one output of two is too short");
+        check(result == IMA_VERIFY_TOO_SHORT && is_left() && out.size == size && next.size == next_size && is_sum(&no_verdict), which, "one of two");
     }
 }
 
@@ -429,8 +419,7 @@ static struct ima_verify_error error_in(const char *line) {
     return error;
 }
 
-/* Each of these functions refuses an input, with this line, in both forms; there is neither a checkpoint nor a verdict. Sentences say what is wrong,
- * and where. */
+/* Each of these functions refuses an input, with this line, in both forms, and sentences; there is neither a checkpoint nor a verdict. */
 static void refuses(unsigned set, const char *changes, const char *line) {
     struct ima_verify_error error = error_in(line);
     struct given given = changed(changes);
@@ -451,8 +440,7 @@ static void refuses(unsigned set, const char *changes, const char *line) {
     }
 }
 
-/* Each of these functions gives a complete text, which has these lines, or as JSON these members; a verdict has these numbers, if they are not
- * NULL, and no checkpoint unless it is a match. */
+/* Each of these functions gives a text with these lines, or as JSON these members, and these numbers; a checkpoint only with a match. */
 static void gives(unsigned set, const char *changes, enum ima_verify_result wanted, const char *lines, const char *members,
                   const struct ima_verify_summary *numbers) {
     struct given given = changed(changes);
@@ -514,7 +502,6 @@ static void check_verdicts(void) {
     gives(ONE(LOCATE), "", DONE, place, place_json, NULL);
     gives(WHOLE, "require=sha1:0-23,sha256:0-23,sha384:0-23,sha512:0-23", DIFFERS, "\nsha512 23 missing\n", differ_json, NULL);
     gives(WHOLE, "require=none", DONE, match, match_json, SUM(1, 0, 24, 24, 0, NONE, 0, 99, 99, 0));
-    gives(ONE(REPLAY), "require=none", DIFFERS, differ, differ_json, SUM(2, 2, 24, 15, SHA256, 0, 0, 99, 99, 0));
     gives(ONE(LOCATE), "require=none", DONE, place, place_json, NULL);
     gives(WHOLE, "require=sha512:10", DIFFERS, "\nsha512 10 missing\n", differ_json, SUM(2, 3, 24, 24, SHA512, 10, 1, 99, 99, 0));
     gives(ONE(LOCATE) | ONE(REPLAY), "require=sha512:10", DIFFERS, "sha512 10 missing\n", "\"sha512\"", NULL);
@@ -535,16 +522,19 @@ static void check_verdicts(void) {
     gives(ONE(REPLAY), "checked known@files", DIFFERS, unknown, json, SUM(2, 2, 24, 15, SHA256, 0, 0, 99, 99, 3));
     gives(ATTESTING, "checked known@files", DIFFERS, unknown, json, SUM(2, 7, 11, 11, 0, NONE, 0, 99, 99, 3));
     gives(JUDGING, "checked", DIFFERS, "\nknown_from 0\nunknown entry 1\nunknown entry 2\n", "\"known_from\":0,\"unknown\":[1,2,3,4,", NULL);
-    EACH(which, JUDGING) {
-        ask_text(which, "");
-        check(!has_text("known"), which, "no known files");
-    }
+    EACH(which, JUDGING) check(ask_text(which, "") <= DIFFERS && !has_text("known"), which, "no known files");
+}
+
+/* A match with this checkpoint, which is kept if it is the first by its name. */
+static void continues(int which, const char *changes, const char *name) {
+    ask_text(which, changes);
+    if (access(name, F_OK) != 0) keep(name, checkpoint, next.size);
+    check(result == DONE && next.size > 0 && is_same(checkpoint, next.size, kept(name)) && has_text("\nverdict match\n"), which, changes);
 }
 
 /* A match of the entries before the first violation, and the entries after them, from its checkpoint on. */
 static void check_known_prefix(void) {
-    ask_text(MORE, "checked known@files expected@earlier prefix");
-    keep("by_prefix", checkpoint, next.size);
+    continues(MORE, "checked known@files expected@earlier prefix", "by_prefix");
     const uint8_t *bytes = memmem(checkpoint, next.size, "\nbytes ", 7);
     size_t covered = bytes ? strtoul((const char *)bytes + 7, NULL, 10) : 0, size = sample.in[LIST].size;
     check(0 < covered && covered < size && has_text("\nconfirmed 93 of 99 entries\n"), MORE, "the bytes of a checkpoint");
@@ -595,13 +585,6 @@ static void check_quotes(void) {
     ask_text(ATTEST_MORE, "log@banks_log list@banks_list message@banks_message");
     check(result == DONE && next.size > LONG && next.size < IMA_VERIFY_CHECKPOINT_CAPACITY, ATTEST_MORE, "banks of all algorithms");
     quotes("log@banks_log list@banks_list message@banks_message", SUM(1, 0, 11, 11, 0, NONE, 0, summary.entries, summary.entries, 0));
-}
-
-/* A match with this checkpoint, which is kept if it is the first by its name. */
-static void continues(int which, const char *changes, const char *name) {
-    ask_text(which, changes);
-    if (access(name, F_OK) != 0) keep(name, checkpoint, next.size);
-    check(result == DONE && next.size > 0 && is_same(checkpoint, next.size, kept(name)) && has_text("\nverdict match\n"), which, changes);
 }
 
 /* Sessions by a quote continue from what a quote confirmed, in its boot, and from nothing else. */
@@ -762,6 +745,7 @@ static void check_pieces(void) {
     }
 }
 
+/* Runs the checks in a thread with the stack of the header: if a call took more, the program would end. */
 static void *run(void *nothing) {
     static void (*const checks[])(void) = {
         check_wrong_calls, check_wrong_outputs, check_summaries, check_capacities, check_refusals, check_verdicts, check_known_prefix, check_quotes,
@@ -771,29 +755,19 @@ static void *run(void *nothing) {
     return nothing;
 }
 
-/* Runs the checks in a thread with the stack of the header, and says how many bytes of it they took. More of them would end the program. */
-static size_t run_with(size_t size) {
-    uint8_t *low = mmap(NULL, GUARD + size, PROT_NONE, MAP_PRIVATE | MAP_ANONYMOUS | MAP_NORESERVE, -1, 0), *stack = low + GUARD;
+int main(int count, char **names) {
     pthread_attr_t attributes;
     pthread_t thread;
-    if (low == MAP_FAILED || mprotect(stack, size, PROT_READ | PROT_WRITE) != 0) abort();
-    memset(stack, FILL, size);
-    pthread_attr_init(&attributes);
-    if (pthread_attr_setstack(&attributes, stack, size) != 0 || pthread_create(&thread, &attributes, run, NULL) != 0) abort();
-    pthread_join(thread, NULL);
-    size_t unused = 0;
-    while (unused < size && stack[unused] == FILL) unused++;
-    return size - unused;
-}
-
-int main(int count, char **names) {
     if (count != 2 || chdir(names[1]) != 0) return 2;
     for (int i = 0; i <= AREA; i++) sample.in[i] = kept(input_names[i]);
     sample.in[REQUIRE] = ima_verify_text("sha256:0-10");
     sample.in[SELECTION] = ima_verify_text("0-10");
     sample.error = (struct ima_verify_error){IMA_VERIFY_QUOTE, 11, NONE};
     sample.signature_checked = true;
-    printf("%zu bytes of stack at most\n", run_with(STACK));
+    pthread_attr_init(&attributes);
+    pthread_attr_setguardsize(&attributes, GUARD);
+    if (pthread_attr_setstacksize(&attributes, STACK) != 0 || pthread_create(&thread, &attributes, run, NULL) != 0) return 2;
+    pthread_join(thread, NULL);
     printf("%ld passed, %ld failed\n", passed, failed);
     return failed != 0;
 }
