@@ -1,18 +1,16 @@
-/* Holds the library to what ima_verify.h promises of wrong calls, capacity, errors, requirements, known files, numbers, quotes, their signatures,
- * sessions, keys, boots, pieces and the stack.
+/* Holds the library to what ima_verify.h promises of wrong calls, capacity, errors, verdicts, numbers, quotes, signatures, sessions, keys, boots and
+ * pieces, with the stack that it promises to need.
  *
  *     header FOLDER
  *
- * FOLDER has the sample boot and what its inputs are changed to, in files whose names are those below (`header_files` of pages.py). Checkpoints are
- * kept there too. Prints a line for each check that fails, how much stack was used at most, and last 'N passed, M failed'. The status is 1 if one
- * failed. */
+ * FOLDER has the sample boot and what its inputs are changed to, in files with the names below (`header_files` of pages.py). Checkpoints are kept there
+ * too. Prints a line for each check that fails, and last 'N passed, M failed'. The status is 1 if one failed. */
 #define _GNU_SOURCE
 #include <ima_verify.h>
 
 #include <pthread.h>
 #include <stdio.h>
 #include <stdlib.h>
-#include <sys/mman.h>
 #include <unistd.h>
 
 enum { SPACE = 1 << 16, FILL = 0xa7, STACK = 512 * 1024, GUARD = 1 << 24, UNSET = 77, SHOWN = 60, WORDS = 300, LONG = 17000 };
@@ -33,7 +31,7 @@ struct given {
     enum ima_verify_purpose purpose;
     struct ima_verify_position position;
     struct ima_verify_error error;
-    bool checks_known, prefix, allow_sha1, signature_checked;
+    bool checks_known, prefix, allow_sha1, signature_checked, is_absent;
 };
 
 static struct given sample;
@@ -46,11 +44,7 @@ static struct ima_verify_bytes kept(const char *name) {
     uint8_t *bytes = malloc(SPACE);
     FILE *stream = fopen(name, "rb");
     size_t size = stream && bytes ? fread(bytes, 1, SPACE, stream) : SPACE;
-    if (size == SPACE) {
-        perror(name);
-        exit(2);
-    }
-    fclose(stream);
+    if (size == SPACE || fclose(stream) != 0) exit(2);
     return (struct ima_verify_bytes){bytes, size};
 }
 
@@ -86,10 +80,10 @@ static void change(struct given *given, char *word) {
     long count = strtol(value, &value, 10);
     if (strcmp(word, "checked") == 0) given->checks_known = true;
     else if (strcmp(word, "prefix") == 0) given->prefix = true;
+    else if (strcmp(word, "absent") == 0) given->is_absent = true;
     else if (strcmp(word, "sha1") == 0) given->allow_sha1 = true;
     else if (strcmp(word, "unsigned") == 0) given->signature_checked = false;
     else if (strcmp(word, "endorsement") == 0) given->purpose = IMA_VERIFY_ENDORSEMENT;
-    else if (strcmp(word, "of_list") == 0) given->origin = IMA_VERIFY_OF_LIST;
     else if (number == INPUTS) exit(2);
     else if (how == '@') *input = kept(word + length + 1);
     else if (how == '+') *input = joined(*input, kept(word + length + 1));
@@ -161,34 +155,34 @@ enum {
 };
 
 /* Each function: its number and name, which inputs it looks at, and its call with what it needs of them. */
-#define ALL_FUNCTIONS(F)                                                                                                       \
-    F(VERDICT, "verdict", COMPARED, ima_verify_verdict(&evidence, form, summed, to))                                           \
-    F(LOCATE, "locate", COMPARED, ima_verify_locate(&evidence, form, to))                                                      \
-    F(REPLAY, "replay", COMPARED, ima_verify_replay(&evidence, form, summed, to))                                              \
-    F(MORE, "more", COMPARED | ONE(STATE), ima_verify_more(&evidence, in[STATE], given->prefix, form, summed, to_next, to))    \
-    F(ATTEST, "attest", QUOTED, ima_verify_attest(&quoted, form, summed, to))                                                  \
-    F(ATTEST_MORE, "attest_more", QUOTED | ONE(STATE),                                                                         \
-      ima_verify_attest_more(&quoted, in[STATE], given->prefix, form, summed, to_next, to))                                    \
-    F(READ_EXPECTED, "expected", ONE(PRINTED) | ONE(SELECTION), ima_verify_expected(in[PRINTED], in[SELECTION], form, to))     \
-    F(REGISTERS, "registers", ONE(LOG), ima_verify_registers(given->origin, in[given->origin ? LIST : LOG], form, to))         \
-    F(READ_KEY, "key", ONE(AREA), ima_verify_key(in[AREA], given->purpose, form, to))                                          \
-    F(ERROR_TEXT, "error_text", 0, ima_verify_error_text(&given->error, to))                                                   \
-    F(BOOT, "boot", ONE(LOG), ima_verify_boot(in[LOG], before, NULL, NULL, form, to))                                          \
-    F(BOOT_BY_PCRS, "boot by PCRs", BY_PCRS, ima_verify_boot(in[LOG], before, &in[EXPECTED], NULL, form, to))                  \
-    F(BOOT_BY_QUOTE, "boot by a quote", QUOTED, ima_verify_boot(in[LOG], before, NULL, &quoted, form, to))                     \
-    F(ENTRIES, "entries", ONE(LIST), ima_verify_entries(in[LIST], at, form, to))                                               \
-    F(EVENTS, "events", ONE(LOG), ima_verify_events(in[LOG], NULL, NULL, at, to))                                              \
-    F(EVENTS_BY_PCRS, "events by PCRs", BY_PCRS, ima_verify_events(in[LOG], &in[EXPECTED], NULL, at, to))                      \
+#define ALL_FUNCTIONS(F)                                                                                                    \
+    F(VERDICT, "verdict", COMPARED, ima_verify_verdict(evidence, form, summed, to))                                         \
+    F(LOCATE, "locate", COMPARED, ima_verify_locate(evidence, form, to))                                                    \
+    F(REPLAY, "replay", COMPARED, ima_verify_replay(evidence, form, summed, to))                                            \
+    F(MORE, "more", COMPARED | ONE(STATE), ima_verify_more(evidence, in[STATE], given->prefix, form, summed, to_next, to))  \
+    F(ATTEST, "attest", QUOTED, ima_verify_attest(attested, form, summed, to))                                        \
+    F(ATTEST_MORE, "attest_more", QUOTED | ONE(STATE),                                                                      \
+      ima_verify_attest_more(attested, in[STATE], given->prefix, form, summed, to_next, to))                          \
+    F(READ_EXPECTED, "expected", ONE(PRINTED) | ONE(SELECTION), ima_verify_expected(in[PRINTED], in[SELECTION], form, to))  \
+    F(REGISTERS, "registers", ONE(LOG), ima_verify_registers(given->origin, in[given->origin ? LIST : LOG], form, to))      \
+    F(READ_KEY, "key", ONE(AREA), ima_verify_key(in[AREA], given->purpose, form, to))                                       \
+    F(ERROR_TEXT, "error_text", 0, ima_verify_error_text(given->is_absent ? NULL : &given->error, to))                      \
+    F(BOOT, "boot", ONE(LOG), ima_verify_boot(in[LOG], before, NULL, NULL, form, to))                                       \
+    F(BOOT_BY_PCRS, "boot by PCRs", BY_PCRS, ima_verify_boot(in[LOG], before, &in[EXPECTED], NULL, form, to))               \
+    F(BOOT_BY_QUOTE, "boot by a quote", QUOTED, ima_verify_boot(in[LOG], before, NULL, &quoted, form, to))                  \
+    F(ENTRIES, "entries", ONE(LIST), ima_verify_entries(in[LIST], at, form, to))                                            \
+    F(EVENTS, "events", ONE(LOG), ima_verify_events(in[LOG], NULL, NULL, at, to))                                           \
+    F(EVENTS_BY_PCRS, "events by PCRs", BY_PCRS, ima_verify_events(in[LOG], &in[EXPECTED], NULL, at, to))                   \
     F(EVENTS_BY_QUOTE, "events by a quote", QUOTED, ima_verify_events(in[LOG], NULL, &quoted, at, to))
 
 #define NUMBER(number, name, inputs, call) number,
 #define ROW(number, name, inputs, call) {name, inputs, call_##number},
-#define CALL(number, name, inputs, call)                                                                   \
-    static enum ima_verify_result call_##number(const struct given *given, enum ima_verify_form form) {    \
-        struct ima_verify_evidence evidence = evidence_of(given);                                          \
-        struct ima_verify_quoted quoted = quoted_of(given);                                                \
-        const struct ima_verify_bytes *in = given->in, *before = in[BEFORE].data ? &in[BEFORE] : NULL;     \
-        return (void)form, (void)evidence, (void)quoted, (void)before, call;                               \
+#define CALL(number, name, inputs, call)                                                                                     \
+    static enum ima_verify_result call_##number(const struct given *given, enum ima_verify_form form) {                      \
+        struct ima_verify_evidence compared = evidence_of(given), *evidence = given->is_absent ? NULL : &compared;           \
+        struct ima_verify_quoted quoted = quoted_of(given), *attested = given->is_absent ? NULL : &quoted;                   \
+        const struct ima_verify_bytes *in = given->in, *before = in[BEFORE].data ? &in[BEFORE] : NULL;                       \
+        return (void)form, (void)evidence, (void)attested, (void)before, call;                                               \
     }
 
 enum { ALL_FUNCTIONS(NUMBER) FUNCTIONS };
@@ -202,24 +196,14 @@ static const struct {
 enum {
     ALL = ONE(FUNCTIONS) - 1,
     WHOLE = ONE(VERDICT) | ONE(MORE),
-    COMPARING = WHOLE | ONE(LOCATE) | ONE(REPLAY),
-    ATTESTING = ONE(ATTEST) | ONE(ATTEST_MORE),
-    SESSIONS = ONE(MORE) | ONE(ATTEST_MORE),
-    JUDGING = WHOLE | ONE(REPLAY) | ATTESTING,
-    BOOTS = ONE(BOOT) | ONE(BOOT_BY_PCRS) | ONE(BOOT_BY_QUOTE),
-    EVENTS_ALL = ONE(EVENTS) | ONE(EVENTS_BY_PCRS) | ONE(EVENTS_BY_QUOTE),
-    CONFIRMING = ONE(BOOT_BY_QUOTE) | ONE(EVENTS_BY_QUOTE),
-    BY_A_QUOTE = ATTESTING | CONFIRMING,
-    PIECES = ONE(ENTRIES) | EVENTS_ALL
+    COMPARING = WHOLE | ONE(LOCATE) | ONE(REPLAY), ATTESTING = ONE(ATTEST) | ONE(ATTEST_MORE),
+    SESSIONS = ONE(MORE) | ONE(ATTEST_MORE), JUDGING = WHOLE | ONE(REPLAY) | ATTESTING,
+    BOOTS = ONE(BOOT) | ONE(BOOT_BY_PCRS) | ONE(BOOT_BY_QUOTE), EVENTS_ALL = ONE(EVENTS) | ONE(EVENTS_BY_PCRS) | ONE(EVENTS_BY_QUOTE),
+    CONFIRMING = ONE(BOOT_BY_QUOTE) | ONE(EVENTS_BY_QUOTE), BY_A_QUOTE = ATTESTING | CONFIRMING, PIECES = ONE(ENTRIES) | EVENTS_ALL
 };
 
-static bool is_in(int which, unsigned set) {
-    return set >> which & 1;
-}
-
-#define EACH(which, set)                            \
-    for (int which = 0; which < FUNCTIONS; which++) \
-        if (is_in(which, set))
+static bool is_in(int which, unsigned set) { return set >> which & 1; }
+#define EACH(which, set) for (int which = 0; which < FUNCTIONS; which++) if (is_in(which, set))
 
 /* Counts a check of the last call. */
 static void check(bool holds, int which, const char *what) {
@@ -263,30 +247,19 @@ static bool is_error(const struct ima_verify_output *output, struct ima_verify_e
 }
 
 /* Whether an output is as it was, or both texts. */
-static bool is_unset(const struct ima_verify_output *output) {
-    return output->size == UNSET && is_error(output, unset);
-}
-
-static bool is_left(void) {
-    return is_filled(text, 0) && is_filled(checkpoint, 0);
-}
+static bool is_unset(const struct ima_verify_output *output) { return output->size == UNSET && is_error(output, unset); }
+static bool is_left(void) { return is_filled(text, 0) && is_filled(checkpoint, 0); }
 
 /* The numbers of a summary, after the first. */
 #define SUM(...) (&(const struct ima_verify_summary){sizeof summary, __VA_ARGS__})
-
-static bool is_sum(const struct ima_verify_summary *wanted) {
-    return memcmp(&summary, wanted, sizeof summary) == 0;
-}
-
+static bool is_sum(const struct ima_verify_summary *wanted) { return memcmp(&summary, wanted, sizeof summary) == 0; }
 static const struct ima_verify_summary no_verdict = {sizeof summary, 0, 0, 0, 0, 0, NONE, 0, 0, 0, 0};
 
 static bool has_no_checkpoint(int which) {
     return is_filled(checkpoint, 0) && (is_in(which, SESSIONS) ? next.size == 0 && is_error(&next, no_error) : is_unset(&next));
 }
 
-static bool has_text(const char *part) {
-    return memmem(text, out.size, part, strlen(part)) != NULL;
-}
+static bool has_text(const char *part) { return memmem(text, out.size, part, strlen(part)) != NULL; }
 
 static bool is_same(const uint8_t *bytes, size_t size, struct ima_verify_bytes wanted) {
     return size == wanted.size && memcmp(bytes, wanted.data, size) == 0;
@@ -300,8 +273,7 @@ static void misused(int which, enum ima_verify_result of, const char *what) {
 }
 
 static void misuse(unsigned set, const char *changes) {
-    EACH(which, set)
-        misused(which, ask_text(which, changes), changes);
+    EACH(which, set) misused(which, ask_text(which, changes), changes);
 }
 
 static void check_inputs(int which) {
@@ -329,10 +301,10 @@ static void check_wrong_calls(void) {
     }
     given.origin = (enum ima_verify_origin)no_form;
     given.purpose = (enum ima_verify_purpose)no_form;
-    EACH(which, ONE(REGISTERS) | ONE(READ_KEY))
-        misused(which, ask(which, &given, TEXT, SPACE), "an origin or a purpose that is none");
+    EACH(which, ONE(REGISTERS) | ONE(READ_KEY)) misused(which, ask(which, &given, TEXT, SPACE), "an origin or a purpose that is none");
     misuse(ONE(LOCATE) | CONFIRMING, "checked");
     misuse(COMPARING | BY_A_QUOTE, "known@files");
+    misuse(COMPARING | ATTESTING | ONE(ERROR_TEXT), "absent");
     misuse(BY_A_QUOTE, "nonce_hex=00");
     misuse(BY_A_QUOTE, "key@rsassa.pub signature@rsassa.sig");
     misuse(BY_A_QUOTE, "key@rsassa.pub");
@@ -367,22 +339,12 @@ static void check_output(int which, struct ima_verify_output **pointer, struct i
 static void check_wrong_outputs(void) {
     struct ima_verify_quoted quoted = quoted_of(&sample);
     const struct ima_verify_bytes *log = &sample.in[LOG], *expected = &sample.in[EXPECTED];
-    EACH(which, ALL)
-        check_output(which, &to, &out);
-    EACH(which, SESSIONS)
-        check_output(which, &to_next, &next);
+    EACH(which, ALL) check_output(which, &to, &out);
+    EACH(which, SESSIONS) check_output(which, &to_next, &next);
     at = NULL;
-    EACH(which, PIECES)
-        misused(which, ask(which, &sample, TEXT, SPACE), "no position");
+    EACH(which, PIECES) misused(which, ask(which, &sample, TEXT, SPACE), "no position");
     at = &position;
     prepare(&sample, SPACE);
-    misused(VERDICT, ima_verify_verdict(NULL, TEXT, summed, to), "no evidence");
-    misused(LOCATE, ima_verify_locate(NULL, TEXT, to), "no evidence");
-    misused(REPLAY, ima_verify_replay(NULL, TEXT, summed, to), "no evidence");
-    misused(MORE, ima_verify_more(NULL, none, false, TEXT, summed, to_next, to), "no evidence");
-    misused(ATTEST, ima_verify_attest(NULL, TEXT, summed, to), "no evidence");
-    misused(ATTEST_MORE, ima_verify_attest_more(NULL, none, false, TEXT, summed, to_next, to), "no evidence");
-    misused(ERROR_TEXT, ima_verify_error_text(NULL, to), "no error");
     misused(BOOT, ima_verify_boot(*log, NULL, expected, &quoted, TEXT, to), "expected PCRs and a quote");
     misused(BOOT, ima_verify_boot(*log, &(struct ima_verify_bytes){NULL, 1}, NULL, NULL, TEXT, to), "an earlier boot at NULL");
     misused(EVENTS, ima_verify_events(*log, expected, &quoted, at, to), "expected PCRs and a quote");
@@ -442,8 +404,7 @@ static void check_capacities(void) {
         prepare(&sample, i & 1 ? SPACE : size - 1);
         next.capacity = i & 1 ? next_size - 1 : SPACE;
         result = functions[which].call(&sample, TEXT);
-        bool are_sizes = out.size == size && next.size == next_size;
-        check(result == IMA_VERIFY_TOO_SHORT && is_left() && are_sizes && is_sum(&no_verdict), which, "one output of two is too short");
+        check(result == IMA_VERIFY_TOO_SHORT && is_left() && out.size == size && next.size == next_size && is_sum(&no_verdict), which, "one of two");
     }
 }
 
@@ -458,21 +419,11 @@ static struct ima_verify_error error_in(const char *line) {
     return error;
 }
 
-/* What an error is in words: sentences, which name its place. */
-static void check_words(int which, struct ima_verify_error error, const char *line) {
-    char place[SHOWN];
-    prepare(&sample, SPACE);
-    snprintf(place, sizeof place, " %llu", (unsigned long long)error.place);
-    result = ima_verify_error_text(&error, to);
-    check(result == DONE && is_error(&out, no_error) && out.size > 10 && text[out.size - 1] == '.', which, line);
-    check(error.place == NONE || has_text(place), which, line);
-}
-
-/* Each of these functions refuses an input, with this line, in both forms; there is neither a checkpoint nor a verdict. */
+/* Each of these functions refuses an input, with this line, in both forms, and sentences; there is neither a checkpoint nor a verdict. */
 static void refuses(unsigned set, const char *changes, const char *line) {
     struct ima_verify_error error = error_in(line);
     struct given given = changed(changes);
-    char whole[2 * SHOWN];
+    char whole[2 * SHOWN], place[SHOWN];
     snprintf(whole, sizeof whole, "refused: %s\n", line);
     EACH(which, set) {
         ask(which, &given, TEXT, SPACE);
@@ -482,12 +433,14 @@ static void refuses(unsigned set, const char *changes, const char *line) {
         ask(which, &given, IMA_VERIFY_JSON, SPACE);
         bool is_json = out.size > 10 && memcmp(text, "{\"fault\":{", 10) == 0 && text[out.size - 1] == '\n';
         check(result == IMA_VERIFY_REFUSED && is_json && is_error(&out, error), which, "an error as JSON");
-        check_words(which, error, line);
+        prepare(&given, SPACE);
+        result = ima_verify_error_text(&error, to);
+        snprintf(place, sizeof place, error.place == NONE ? "." : " %llu", (unsigned long long)error.place);
+        check(result == DONE && is_error(&out, no_error) && out.size > 10 && text[out.size - 1] == '.' && has_text(place), which, "words");
     }
 }
 
-/* Each of these functions gives a complete text, which has these lines, or as JSON these members; a verdict has these numbers, if they are not
- * NULL, and no checkpoint unless it is a match. */
+/* Each of these functions gives a text with these lines, or as JSON these members, and these numbers; a checkpoint only with a match. */
 static void gives(unsigned set, const char *changes, enum ima_verify_result wanted, const char *lines, const char *members,
                   const struct ima_verify_summary *numbers) {
     struct given given = changed(changes);
@@ -518,8 +471,7 @@ static void check_refusals(void) {
     refuses(ONE(MORE), "state=x", "checkpoint fault 1");
     for (size_t i = 0; i < sizeof quote_requirements / sizeof quote_requirements[0]; i++)
         refuses(BY_A_QUOTE, with("require=", quote_requirements[i]), "command line");
-    for (size_t i = 0; i < sizeof no_digits / sizeof no_digits[0]; i++)
-        refuses(BY_A_QUOTE, with("nonce= nonce_hex=", no_digits[i]), "command line");
+    for (size_t i = 0; i < sizeof no_digits / sizeof no_digits[0]; i++) refuses(BY_A_QUOTE, with("nonce= nonce_hex=", no_digits[i]), "command line");
     refuses(BY_A_QUOTE, "nonce:15", "command line");
     refuses(BY_A_QUOTE, "nonce:16", "quote fault 11");
     refuses(BY_A_QUOTE, "nonce~0", "quote fault 11");
@@ -548,8 +500,8 @@ static void check_verdicts(void) {
     gives(WHOLE, "", DONE, match, match_json, SUM(1, 0, 24, 24, 0, NONE, 0, 99, 99, 0));
     gives(ONE(REPLAY), "", DIFFERS, differ, differ_json, SUM(2, 2, 24, 15, SHA256, 0, 0, 99, 99, 0));
     gives(ONE(LOCATE), "", DONE, place, place_json, NULL);
+    gives(WHOLE, "require=sha1:0-23,sha256:0-23,sha384:0-23,sha512:0-23", DIFFERS, "\nsha512 23 missing\n", differ_json, NULL);
     gives(WHOLE, "require=none", DONE, match, match_json, SUM(1, 0, 24, 24, 0, NONE, 0, 99, 99, 0));
-    gives(ONE(REPLAY), "require=none", DIFFERS, differ, differ_json, SUM(2, 2, 24, 15, SHA256, 0, 0, 99, 99, 0));
     gives(ONE(LOCATE), "require=none", DONE, place, place_json, NULL);
     gives(WHOLE, "require=sha512:10", DIFFERS, "\nsha512 10 missing\n", differ_json, SUM(2, 3, 24, 24, SHA512, 10, 1, 99, 99, 0));
     gives(ONE(LOCATE) | ONE(REPLAY), "require=sha512:10", DIFFERS, "sha512 10 missing\n", "\"sha512\"", NULL);
@@ -570,16 +522,19 @@ static void check_verdicts(void) {
     gives(ONE(REPLAY), "checked known@files", DIFFERS, unknown, json, SUM(2, 2, 24, 15, SHA256, 0, 0, 99, 99, 3));
     gives(ATTESTING, "checked known@files", DIFFERS, unknown, json, SUM(2, 7, 11, 11, 0, NONE, 0, 99, 99, 3));
     gives(JUDGING, "checked", DIFFERS, "\nknown_from 0\nunknown entry 1\nunknown entry 2\n", "\"known_from\":0,\"unknown\":[1,2,3,4,", NULL);
-    EACH(which, JUDGING) {
-        ask_text(which, "");
-        check(!has_text("known"), which, "no known files");
-    }
+    EACH(which, JUDGING) check(ask_text(which, "") <= DIFFERS && !has_text("known"), which, "no known files");
+}
+
+/* A match with this checkpoint, which is kept if it is the first by its name. */
+static void continues(int which, const char *changes, const char *name) {
+    ask_text(which, changes);
+    if (access(name, F_OK) != 0) keep(name, checkpoint, next.size);
+    check(result == DONE && next.size > 0 && is_same(checkpoint, next.size, kept(name)) && has_text("\nverdict match\n"), which, changes);
 }
 
 /* A match of the entries before the first violation, and the entries after them, from its checkpoint on. */
 static void check_known_prefix(void) {
-    ask_text(MORE, "checked known@files expected@earlier prefix");
-    keep("by_prefix", checkpoint, next.size);
+    continues(MORE, "checked known@files expected@earlier prefix", "by_prefix");
     const uint8_t *bytes = memmem(checkpoint, next.size, "\nbytes ", 7);
     size_t covered = bytes ? strtoul((const char *)bytes + 7, NULL, 10) : 0, size = sample.in[LIST].size;
     check(0 < covered && covered < size && has_text("\nconfirmed 93 of 99 entries\n"), MORE, "the bytes of a checkpoint");
@@ -630,13 +585,6 @@ static void check_quotes(void) {
     ask_text(ATTEST_MORE, "log@banks_log list@banks_list message@banks_message");
     check(result == DONE && next.size > LONG && next.size < IMA_VERIFY_CHECKPOINT_CAPACITY, ATTEST_MORE, "banks of all algorithms");
     quotes("log@banks_log list@banks_list message@banks_message", SUM(1, 0, 11, 11, 0, NONE, 0, summary.entries, summary.entries, 0));
-}
-
-/* A match with this checkpoint, which is kept if it is the first by its name. */
-static void continues(int which, const char *changes, const char *name) {
-    ask_text(which, changes);
-    if (access(name, F_OK) != 0) keep(name, checkpoint, next.size);
-    check(result == DONE && next.size > 0 && is_same(checkpoint, next.size, kept(name)) && has_text("\nverdict match\n"), which, changes);
 }
 
 /* Sessions by a quote continue from what a quote confirmed, in its boot, and from nothing else. */
@@ -710,15 +658,12 @@ static void check_refused_signatures(void) {
 /* The function that the library exports reads and writes nothing, and tells of no text. */
 static void check_misused_raw(void) {
     static const char *const wrong[] = {"unsigned key@rsassa.pub", "unsigned signature@rsassa.sig", "key@rsassa.pub signature@rsassa.sig", "nonce_hex=00"};
+#define IN(number) ima_verify_data(given.in[number]), given.in[number].size
     for (int i = 0; i < 4; i++) {
         struct given given = changed(wrong[i]);
-        const uint8_t *at_input[INPUTS];
-        size_t size[INPUTS], next_size = UNSET;
-        for (int number = 0; number < INPUTS; number++)
-            at_input[number] = ima_verify_data(given.in[number]), size[number] = given.in[number].size;
         struct ima_verify_info info = {UNSET, UNSET, UNSET, UNSET};
+        size_t next_size = UNSET;
         prepare(&given, SPACE);
-#define IN(number) at_input[number], size[number]
         result = (enum ima_verify_result)ima_verify_raw_attest(
             IN(LOG), IN(STATE), IN(LIST), IN(MESSAGE), IN(KEY), IN(SIGNATURE), IN(NONCE), IN(NONCE_HEX), IN(REQUIRE), IN(KNOWN), false, false,
             given.signature_checked, false, false, &summary.size, sizeof summary / 8, checkpoint, SPACE, &next_size, text, SPACE, &info);
@@ -800,80 +745,29 @@ static void check_pieces(void) {
     }
 }
 
-/* A call in a thread of its own. */
-static struct {
-    int which;
-    const struct given *given;
-    enum ima_verify_form form;
-    enum ima_verify_result result;
-} deep;
-
-static void *call_deep(void *nothing) {
-    deep.result = functions[deep.which].call(deep.given, deep.form);
+/* Runs the checks in a thread with the stack of the header: if a call took more, the program would end. */
+static void *run(void *nothing) {
+    static void (*const checks[])(void) = {
+        check_wrong_calls, check_wrong_outputs, check_summaries, check_capacities, check_refusals, check_verdicts, check_known_prefix, check_quotes,
+        check_sessions, check_signatures, check_refused_signatures, check_misused_raw, check_keys, check_boots, check_pieces};
+    check(ima_verify_version() >= IMA_VERIFY_VERSION, VERDICT, "a version older than the header");
+    for (size_t i = 0; i < sizeof checks / sizeof checks[0]; i++) checks[i]();
     return nothing;
 }
 
-/* How many bytes of so large a stack a call takes, with what a thread itself takes. One that takes more ends the program. */
-static size_t stack_of(size_t size) {
-    uint8_t *low = mmap(NULL, GUARD + size, PROT_NONE, MAP_PRIVATE | MAP_ANONYMOUS | MAP_NORESERVE, -1, 0), *stack = low + GUARD;
+int main(int count, char **names) {
     pthread_attr_t attributes;
     pthread_t thread;
-    if (low == MAP_FAILED || mprotect(stack, size, PROT_READ | PROT_WRITE) != 0) abort();
-    memset(stack, FILL, size);
-    pthread_attr_init(&attributes);
-    if (pthread_attr_setstack(&attributes, stack, size) != 0 || pthread_create(&thread, &attributes, call_deep, NULL) != 0) abort();
-    pthread_join(thread, NULL);
-    pthread_attr_destroy(&attributes);
-    size_t unused = 0;
-    while (unused < size && stack[unused] == FILL) unused++;
-    munmap(low, GUARD + size);
-    return size - unused;
-}
-
-/* What each function is given in a thread with the header's stack. */
-static void check_stack(void) {
-    static const char *const given_so[] = {
-        "", "require=sha1:0-23,sha256:0-23,sha384:0-23,sha512:0-23", "prefix", "checked known@files", "endorsement of_list", "list@other_list", "log=none",
-        "before@log", "log@banks_log list@banks_list message@banks_message", "state@by_pcrs list=", "state@by_pcrs list= prefix",
-        "state@by_pcrs list@last", "state@by_pcrs list@last prefix", "state@by_quote list=", "state@by_quote list= prefix", "state@by_quote list@last",
-        "state@by_quote list@last prefix"};
-    enum { GIVEN = sizeof given_so / sizeof given_so[0] };
-    static char name[WORDS];
-    size_t deepest = 0;
-    for (int i = 0; i < (GIVEN + SIGNERS * 2) * FUNCTIONS * 2; i++) {
-        int which = i / 2 % FUNCTIONS, number = i / 2 / FUNCTIONS, signer = (number - GIVEN) / 2;
-        bool is_pem = (number - GIVEN) % 2;
-        const char *changes = number < GIVEN ? given_so[number] : signed_by(signers[signer], is_pem ? "pem" : "pub", is_pem ? "tpmt" : "sig", "");
-        struct given given = changed(changes);
-        deep.which = which, deep.given = &given, deep.form = i % 2 ? IMA_VERIFY_JSON : TEXT;
-        enum ima_verify_result wanted = ask(which, &given, deep.form, SPACE);
-        position = given.position;
-        size_t used = stack_of(STACK);
-        result = deep.result;
-        check(result == wanted, which, "in a thread");
-        if (used <= deepest) continue;
-        deepest = used;
-        snprintf(name, sizeof name, "%s%s, %s", functions[which].name, i % 2 ? " as JSON" : "", changes);
-    }
-    check(deepest > 0 && deepest < STACK, VERDICT, "the stack");
-    printf("%zu bytes of stack at most: %s\n", deepest, name);
-}
-
-int main(int count, char **names) {
-    static void (*const checks[])(void) = {
-        check_wrong_calls, check_wrong_outputs, check_summaries, check_capacities, check_refusals, check_verdicts, check_known_prefix, check_quotes,
-        check_sessions, check_signatures, check_refused_signatures, check_misused_raw, check_keys, check_boots, check_pieces, check_stack};
     if (count != 2 || chdir(names[1]) != 0) return 2;
     for (int i = 0; i <= AREA; i++) sample.in[i] = kept(input_names[i]);
     sample.in[REQUIRE] = ima_verify_text("sha256:0-10");
     sample.in[SELECTION] = ima_verify_text("0-10");
     sample.error = (struct ima_verify_error){IMA_VERIFY_QUOTE, 11, NONE};
     sample.signature_checked = true;
-    check(ima_verify_version() >= IMA_VERIFY_VERSION, VERDICT, "a version older than the header");
-    for (size_t i = 0; i < sizeof checks / sizeof checks[0]; i++) {
-        checks[i]();
-        fflush(stdout);
-    }
+    pthread_attr_init(&attributes);
+    pthread_attr_setguardsize(&attributes, GUARD);
+    if (pthread_attr_setstacksize(&attributes, STACK) != 0 || pthread_create(&thread, &attributes, run, NULL) != 0) return 2;
+    pthread_join(thread, NULL);
     printf("%ld passed, %ld failed\n", passed, failed);
     return failed != 0;
 }
