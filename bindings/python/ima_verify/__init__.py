@@ -30,7 +30,6 @@ header says. `str` of an error says what is wrong, and what to do. An argument o
 raises TypeError.
 
 Calls from several threads run at once. Do not call in the forked child of a process with threads.
-
 The library is the file that the environment variable IMA_VERIFY_LIBRARY names by a path, otherwise
 `libima_verify.so` in this package's folder, otherwise the system's `libima_verify.so.1`. The first
 call loads it, or raises `LoadError`."""
@@ -317,7 +316,7 @@ def events(
 
     With expected PCRs or a quote, as for `boot`, each event has `confirmed`. If the log's header is
     damaged, the call raises `Refused`; if another event is, the iterator does, after the events
-    before it. With expected PCRs or a quote, errors are as of `boot`.
+    before it (but with expected PCRs or a quote the call, as `boot`).
 
     >>> events = ima_verify.events(log)
     >>> [algorithm.name for algorithm in events.header.algorithms], next(events).type

@@ -3,14 +3,14 @@
 from collections.abc import Iterable
 from dataclasses import KW_ONLY, dataclass
 from enum import Enum
-from typing import Any, TypeAlias, cast
+from typing import Any, TypeAlias
 
 from ._errors import Misuse
 from ._library import BY_EXPECTED, BY_QUOTE, Buffer
 
 
 class Nothing(Enum):
-    """The type of `NOTHING`."""
+    """The type of `NOTHING`, which `require` is if no PCR has to be among the expected ones."""
 
     NOTHING = "none"
 
@@ -19,7 +19,6 @@ class Nothing(Enum):
 
 
 NOTHING = Nothing.NOTHING
-"""What `require` is if no PCR has to be among the expected ones."""
 
 Text: TypeAlias = Buffer | str
 Required: TypeAlias = str | Nothing
@@ -78,7 +77,7 @@ def some_bytes(data: Buffer) -> Buffer:
 
 
 def required(require: Required) -> Buffer:
-    """The text of what is required. (The library's word for nothing is no text of a caller's.)"""
+    """The text of what is required. (A caller does not give the library's word for nothing.)"""
     if require is NOTHING:
         return Nothing.NOTHING.value.encode()
     if not isinstance(require, str):
@@ -115,7 +114,8 @@ def quoted(quote: Quote) -> dict[str, Any]:
         raise TypeError(f"require takes a str, and not {quote.require!r:.80}")
     return {
         "message": bytes_of("quote", quote.quote), **_signing(quote), **_nonce(quote),
-        "require": required(quote.require), "allow_sha1": flag_of("allow_sha1", quote.allow_sha1),
+        "require": text_of("require", quote.require),
+        "allow_sha1": flag_of("allow_sha1", quote.allow_sha1),
     }
 
 
@@ -133,7 +133,7 @@ def _signing(quote: Quote) -> dict[str, Any]:
 def _nonce(quote: Quote) -> dict[str, Any]:
     """The argument of a nonce, which is given as bytes or by its hexadecimal digits."""
     if (quote.nonce is None) == (quote.nonce_hex is None):
-        raise TypeError("a quote takes nonce or nonce_hex, and not both")
+        raise TypeError("nonce or nonce_hex is given, and not both")
     if quote.nonce is not None:
         return {"nonce": bytes_of("nonce", quote.nonce)}
     if not isinstance(quote.nonce_hex, str):
@@ -144,9 +144,9 @@ def _nonce(quote: Quote) -> dict[str, Any]:
 def confirming(expected: Text | None, quote: Quote | None) -> dict[str, Any]:
     """The arguments of what tells which PCRs match: the expected ones, a quote, or nothing."""
     if expected is not None and quote is not None:
-        raise TypeError("expected PCRs or a quote confirm, and not both")
+        raise TypeError("expected or quote is given, and not both")
     if quote is not None:
-        if not isinstance(cast(object, quote), Quote):
+        if not isinstance(quote, Quote):
             raise TypeError(f"quote takes an ima_verify.Quote, and not {quote!r:.80}")
         measurements = bytes_of("measurements", quote.measurements)
         return {"by": BY_QUOTE, "list": measurements, **quoted(quote)}

@@ -25,8 +25,7 @@ else:
 
 
 VERSION = 1
-FILE_NAME = "libima_verify.so"
-SYSTEM_NAME = "libima_verify.so.1"
+FILE_NAME, SYSTEM_NAME = "libima_verify.so", "libima_verify.so.1"
 VARIABLE = "IMA_VERIFY_LIBRARY"
 
 DONE, DIFFERS, REFUSED, OUT_OF_MEMORY, TOO_SHORT, MORE = range(6)

@@ -125,7 +125,6 @@ class Verdict(_Judged):
         extends: The first event of PCR 10, and the first entry of another, if PCRs are required.
         known_from: The first entry that was looked up among known files, if some were given.
         unknown: The entries from there on that are of no known file.
-        verdict: The word of the line.
     """
 
     events: int
@@ -216,8 +215,7 @@ class Entry:
         entry: Its number, from 0.
         template, template_hex: The template's name; its bytes if they are not UTF-8.
         template_digest: The SHA-1 that the list states, all zero for a violation.
-        violation: Whether a file was open for writing while it was measured. No PCR confirms what
-            a violation says.
+        violation: Whether a file was open for writing while it was measured. No PCR confirms it.
         genuine: Whether the template digest is valid, or the entry is a violation.
         algorithm, digest, path, path_hex, signature: Those of the file, if the payload has the
             fields of ima, ima-ng or ima-sig. A path that is not UTF-8 is in `path_hex`.

@@ -1,8 +1,5 @@
-"""The package reads a newer library, whose objects have one more member, and in whose verdicts
-there may be one more reason to differ.
-
-tests/bindings/test runs this with such a library. IMA_VERIFY_SHIM says which: `member` or `differ`.
-"""
+"""The package reads a newer library, whose objects have one more member, or whose verdicts have one
+more reason to differ. tests/bindings/test runs this; IMA_VERIFY_SHIM is `member` or `differ`."""
 
 import os
 import unittest

@@ -32,9 +32,7 @@ AREA = sample("keys/ak-p256.pub")
 # The files of the list, but for its violations.
 SUMS, VIOLATIONS = sample("known/SHA256SUMS"), (93, 94, 97)
 REQUIRED = {"require": "sha256:0-10"}
-# A key and a signature with the message, or the word of the caller.
-QUOTED = {**REQUIRED, "nonce": NONCE}
-BY_KEY, BY_CALLER = (KEY, MESSAGE, SIGNATURE), (None, MESSAGE, None)
+QUOTED, BY_KEY = {**REQUIRED, "nonce": NONCE}, (KEY, MESSAGE, SIGNATURE)
 QUOTE = Quote(*BY_KEY, LIST, **QUOTED)
 
 ENTRIES = read_list(LIST)

@@ -32,7 +32,7 @@ PARTS = {
 }
 VERDICTS = "verify", "attest", "replay"
 DONE, DIFFERS, REFUSED, OUT_OF_MEMORY, TOO_SHORT, MORE, MISUSED = range(7)
-NO_PLACE = _library.NO_PLACE
+NO_PLACE = 2**64 - 1
 # A line of each kind of a boot.
 BOOT = [
     '{"secure_boot":"off"}', '{"firmware_version":{"text":""}}', '{"image":"unknown"}',
@@ -152,9 +152,9 @@ class Later(unittest.TestCase):
 class Damaged(unittest.TestCase):
     """A damaged answer is a LibraryError, and never a match."""
 
-    def check_wrong(self, answer, line=None, status=None):
-        with self.assertRaises(ima_verify.LibraryError, msg=f"{status} {line or answer}"):
-            read(answer, line, status)
+    def check_wrong(self, *answer, **more):
+        with self.assertRaises(ima_verify.LibraryError, msg=f"{answer} {more}"):
+            read(*answer, **more)
 
     def test_status_and_word_agree(self):
         for answer in of_kind(*VERDICTS, "places"):
@@ -212,8 +212,6 @@ class Errors(unittest.TestCase):
             self.assertEqual((found.kind, found.number, found.place), (kind, number, place))
             self.assertEqual((found.message, str(found)), (message, "W\u00f6rter."))
             self.assertEqual(pickle.loads(pickle.dumps(found)).args, found.args)
-        kinds = {json.loads(answer["line"])["fault"]["kind"] for answer in of_kind("error")}
-        self.assertEqual(kinds | {"argument", "memory"}, {kind.value for kind in Kind})
 
     def test_errors_have_words_or_numbers(self):
         for status, error, kind in ((REFUSED, self.ARGUMENT, ima_verify.Misuse),

@@ -6,7 +6,7 @@ import unittest
 from unittest.mock import patch
 
 from samples import (
-    BY_CALLER, BY_KEY, ENDS, EXPECTED, LIST, LOG, LONGER, MESSAGE, NONCE, QUOTED, REQUIRED, SUMS,
+    BY_KEY, ENDS, EXPECTED, LIST, LOG, LONGER, MESSAGE, NONCE, QUOTED, REQUIRED, SUMS,
     line_of, state_after, tenth_after,
 )
 
@@ -76,11 +76,12 @@ class Growing(unittest.TestCase):
         later = Session.by_quotes(LOG, state=session.state)
         whole = ima_verify.attest(*BY_KEY, LOG, LIST, **QUOTED)
         self.assertEqual(later.attest(*BY_KEY, LIST[later.offset:], **QUOTED), whole)
-        self.assertFalse(later.attest(*BY_CALLER, b"", **QUOTED, signature_checked=False))
+        given = {**QUOTED, "signature_checked": False}
+        self.assertFalse(later.attest(None, MESSAGE, None, b"", **given))
         self.assertEqual((later.state, later.offset), (session.state, len(LIST)))
         message = bytearray(MESSAGE)
         message[MESSAGE.index(NONCE) + len(NONCE) + 11] ^= 1  # (another count of resets)
-        given = {**QUOTED, "signature_checked": True}
+        given["signature_checked"] = True
         self.check_refused(later, lambda: later.attest(None, message, None, b"", **given),
                            Kind.CHECKPOINT, 4, None)
 

@@ -25,11 +25,6 @@ def with_length(data):
     return len(data).to_bytes(4, "little") + data
 
 
-def entry(template, payload):
-    """An entry of PCR 10."""
-    return b"\x0a\0\0\0" + 20 * b"x" + with_length(template) + with_length(payload)
-
-
 def giving(*answers):
     """A library that gives these answers, one at each call."""
     return patch.object(_library, "call", side_effect=answers)
@@ -93,20 +88,21 @@ class Inputs(unittest.TestCase):
     """Real lists and logs."""
 
     def test_entries_are_the_kernels_text(self):
-        lines, violations = b"", []
-        for found in ima_verify.entries(LIST):
-            words = (b"%2d" % found.register, found.template_digest.hex().encode(),
-                     found.template.encode(), f"{found.algorithm}:{found.digest.hex()}".encode())
-            lines += b" ".join((*words, found.path_bytes)) + b"\n"
-            violations += [found.entry] if found.violation else []
-        self.assertEqual((lines, tuple(violations)), (ASCII, VIOLATIONS))
-        changed = [found.entry for found in ima_verify.entries(CHANGED) if not found.genuine]
+        lines, found = b"", list(ima_verify.entries(LIST))
+        for entry in found:
+            words = (f"{entry.register:2d}", entry.template_digest.hex(), entry.template,
+                     f"{entry.algorithm}:{entry.digest.hex()}")
+            lines += " ".join(words).encode() + b" " + entry.path_bytes + b"\n"
+        self.assertEqual(lines, ASCII)
+        self.assertEqual([entry.entry for entry in found if entry.violation], [*VIOLATIONS])
+        changed = [entry.entry for entry in ima_verify.entries(CHANGED) if not entry.genuine]
         self.assertEqual(changed, [5])
 
     def test_paths_are_their_bytes(self):
         names = b"/a\nb", b'/"\\\x1b[2J', b"/\xc3\xa9", b"/\xff", b"", b"/}{", PIECE * b"\1"
+        head = b"\x0a\0\0\0" + 20 * b"x" + with_length(b"ima-ng")  # (of PCR 10)
         digest = with_length(b"sha1:\0" + bytes(20))
-        data = (entry(b"ima-ng", digest + with_length(name + b"\0")) for name in names)
+        data = (head + with_length(digest + with_length(name + b"\0")) for name in names)
         found = list(ima_verify.entries(b"".join(data)))
         self.assertEqual(tuple(each.path_bytes for each in found), names)
         self.assertEqual([each.entry for each in found if each.path is None], [3])
