@@ -124,7 +124,6 @@ static const char *signed_by(const char *name, const char *key, const char *sign
     return words;
 }
 
-/* What the last call gave, and where it gives it. */
 static uint8_t text[SPACE], checkpoint[SPACE];
 static struct ima_verify_output out, next, *to = &out, *to_next = &next;
 static struct ima_verify_position position, *at = &position;
@@ -171,7 +170,6 @@ enum {
     F(EVENTS, "events", ONE(LOG), ima_verify_events(in[LOG], NULL, NULL, at, to))                                           \
     F(EVENTS_BY_PCRS, "events by PCRs", BY_PCRS, ima_verify_events(in[LOG], &in[EXPECTED], NULL, at, to))                   \
     F(EVENTS_BY_QUOTE, "events by a quote", QUOTED, ima_verify_events(in[LOG], NULL, &quoted, at, to))
-
 #define NUMBER(number, name, inputs, call) number,
 #define ROW(number, name, inputs, call) {name, inputs, call_##number},
 #define CALL(number, name, inputs, call)                                                                                     \
