@@ -37,7 +37,7 @@ struct given {
 static struct given sample;
 static const struct ima_verify_bytes none = {NULL, 0};
 static const char *const signers[] = {"rsassa", "rsapss", "rsa3072", "p256", "p384"};
-enum { SIGNERS = 5 };
+#define COUNT(array) (sizeof(array) / sizeof(array)[0])
 
 /* The bytes of a file of the folder, and a file with these bytes. */
 static struct ima_verify_bytes kept(const char *name) {
@@ -47,7 +47,6 @@ static struct ima_verify_bytes kept(const char *name) {
     if (size == SPACE || fclose(stream) != 0) exit(2);
     return (struct ima_verify_bytes){bytes, size};
 }
-
 static void keep(const char *name, const uint8_t *bytes, size_t size) {
     FILE *stream = fopen(name, "wb");
     if (!stream || fwrite(bytes, 1, size, stream) != size || fclose(stream) != 0) exit(2);
@@ -60,16 +59,14 @@ static struct ima_verify_bytes joined(struct ima_verify_bytes bytes, struct ima_
     if (others.size) memcpy(both + bytes.size, others.data, others.size);
     return (struct ima_verify_bytes){both, bytes.size + others.size};
 }
-
 static struct ima_verify_bytes turned(struct ima_verify_bytes bytes, size_t place, int bits) {
     struct ima_verify_bytes changed = joined(bytes, none);
     ((uint8_t *)changed.data)[place] ^= (uint8_t)bits;
     return changed;
 }
 
-/* Changes an input, by `NAME=TEXT`, in which `_` is a space, or `NAME@FILE`, or to its first bytes (`NAME:COUNT`), without its last ones
- * (`NAME-COUNT`), with a file after it (`NAME+FILE`), or with a bit turned (`NAME~PLACE`, or `NAME~PLACE^BITS`; the last byte's place is -1); or sets
- * a flag. */
+/* Sets a flag, or changes an input: `NAME=TEXT`, in which `_` is a space, `NAME@FILE`, `NAME+FILE` after it, its first bytes (`NAME:COUNT`), all but
+ * the last (`NAME-COUNT`), or a bit turned (`NAME~PLACE`, `NAME~PLACE^BITS`; the last byte's place is -1). */
 static void change(struct given *given, char *word) {
     size_t length = strcspn(word, "=@:-+~");
     char how = word[length], *value = word + length + (how != 0);
@@ -84,6 +81,7 @@ static void change(struct given *given, char *word) {
     else if (strcmp(word, "sha1") == 0) given->allow_sha1 = true;
     else if (strcmp(word, "unsigned") == 0) given->signature_checked = false;
     else if (strcmp(word, "endorsement") == 0) given->purpose = IMA_VERIFY_ENDORSEMENT;
+    else if (strcmp(word, "of_list") == 0) given->origin = IMA_VERIFY_OF_LIST;
     else if (number == INPUTS) exit(2);
     else if (how == '@') *input = kept(word + length + 1);
     else if (how == '+') *input = joined(*input, kept(word + length + 1));
@@ -113,7 +111,6 @@ static const char *with(const char *changes, const char *word) {
     snprintf(words, sizeof words, "%s%s", changes, word);
     return words;
 }
-
 static const char *sized(const char *changes, size_t size) {
     char digits[SHOWN];
     snprintf(digits, sizeof digits, "%zu", size);
@@ -138,7 +135,6 @@ static struct ima_verify_evidence evidence_of(const struct given *given) {
     return (struct ima_verify_evidence){.log = given->in[LOG], .list = given->in[LIST], .expected = given->in[EXPECTED],
                                         .require = given->in[REQUIRE], .known = given->in[KNOWN], .checks_known = given->checks_known};
 }
-
 static struct ima_verify_quoted quoted_of(const struct given *given) {
     return (struct ima_verify_quoted){
         .log = given->in[LOG], .list = given->in[LIST], .message = given->in[MESSAGE], .key = given->in[KEY], .signature = given->in[SIGNATURE],
@@ -174,7 +170,6 @@ enum {
     F(EVENTS, "events", ONE(LOG), ima_verify_events(in[LOG], NULL, NULL, at, to))                                           \
     F(EVENTS_BY_PCRS, "events by PCRs", BY_PCRS, ima_verify_events(in[LOG], &in[EXPECTED], NULL, at, to))                   \
     F(EVENTS_BY_QUOTE, "events by a quote", QUOTED, ima_verify_events(in[LOG], NULL, &quoted, at, to))
-
 #define NUMBER(number, name, inputs, call) number,
 #define ROW(number, name, inputs, call) {name, inputs, call_##number},
 #define CALL(number, name, inputs, call)                                                                                     \
@@ -187,15 +182,11 @@ enum {
 
 enum { ALL_FUNCTIONS(NUMBER) FUNCTIONS };
 ALL_FUNCTIONS(CALL)
-static const struct {
-    const char *name;
-    unsigned inputs;
-    enum ima_verify_result (*call)(const struct given *given, enum ima_verify_form form);
-} functions[FUNCTIONS] = {ALL_FUNCTIONS(ROW)};
+typedef enum ima_verify_result called(const struct given *given, enum ima_verify_form form);
+static const struct { const char *name; unsigned inputs; called *call; } functions[FUNCTIONS] = {ALL_FUNCTIONS(ROW)};
 
 enum {
-    ALL = ONE(FUNCTIONS) - 1,
-    WHOLE = ONE(VERDICT) | ONE(MORE),
+    ALL = ONE(FUNCTIONS) - 1, WHOLE = ONE(VERDICT) | ONE(MORE),
     COMPARING = WHOLE | ONE(LOCATE) | ONE(REPLAY), ATTESTING = ONE(ATTEST) | ONE(ATTEST_MORE),
     SESSIONS = ONE(MORE) | ONE(ATTEST_MORE), JUDGING = WHOLE | ONE(REPLAY) | ATTESTING,
     BOOTS = ONE(BOOT) | ONE(BOOT_BY_PCRS) | ONE(BOOT_BY_QUOTE), EVENTS_ALL = ONE(EVENTS) | ONE(EVENTS_BY_PCRS) | ONE(EVENTS_BY_QUOTE),
@@ -231,7 +222,6 @@ static enum ima_verify_result ask(int which, const struct given *given, enum ima
     prepare(given, capacity);
     return result = functions[which].call(given, form);
 }
-
 static enum ima_verify_result ask_text(int which, const char *changes) {
     struct given given = changed(changes);
     return ask(which, &given, TEXT, SPACE);
@@ -241,7 +231,6 @@ static bool is_filled(const uint8_t *bytes, size_t from) {
     while (from < SPACE && bytes[from] == FILL) from++;
     return from == SPACE;
 }
-
 static bool is_error(const struct ima_verify_output *output, struct ima_verify_error error) {
     return output->error.kind == error.kind && output->error.number == error.number && output->error.place == error.place;
 }
@@ -260,10 +249,7 @@ static bool has_no_checkpoint(int which) {
 }
 
 static bool has_text(const char *part) { return memmem(text, out.size, part, strlen(part)) != NULL; }
-
-static bool is_same(const uint8_t *bytes, size_t size, struct ima_verify_bytes wanted) {
-    return size == wanted.size && memcmp(bytes, wanted.data, size) == 0;
-}
+static bool is_same(const uint8_t *at, size_t size, struct ima_verify_bytes as) { return size == as.size && memcmp(at, as.data, size) == 0; }
 
 /* Nothing was read or written. */
 static void misused(int which, enum ima_verify_result of, const char *what) {
@@ -271,7 +257,6 @@ static void misused(int which, enum ima_verify_result of, const char *what) {
     bool is_summary_left = summary.verdict == UNSET && summary.unknown == UNSET;
     check(result == IMA_VERIFY_MISUSED && is_unset(&out) && is_unset(&next) && is_left() && is_summary_left, which, what);
 }
-
 static void misuse(unsigned set, const char *changes) {
     EACH(which, set) misused(which, ask_text(which, changes), changes);
 }
@@ -317,10 +302,7 @@ static void check_wrong_calls(void) {
             misused(which, ask(which, &given, more == 1 ? TEXT : IMA_VERIFY_JSON, SPACE), "a position behind the input");
         }
     const struct ima_verify_error errors[] = {no_error, {99, 1, NONE}, {IMA_VERIFY_LOG, 99, NONE}};
-    for (int i = 0; i < 3; i++) {
-        given.error = errors[i];
-        misused(ERROR_TEXT, ask(ERROR_TEXT, &given, TEXT, SPACE), "no error");
-    }
+    for (int i = 0; i < 3; i++) given.error = errors[i], misused(ERROR_TEXT, ask(ERROR_TEXT, &given, TEXT, SPACE), "no error");
 }
 
 /* An output is none, or has its capacity at NULL, or none at all. */
@@ -338,24 +320,21 @@ static void check_output(int which, struct ima_verify_output **pointer, struct i
 
 static void check_wrong_outputs(void) {
     struct ima_verify_quoted quoted = quoted_of(&sample);
-    const struct ima_verify_bytes *log = &sample.in[LOG], *expected = &sample.in[EXPECTED];
+    const struct ima_verify_bytes log = sample.in[LOG], *expected = &sample.in[EXPECTED];
     EACH(which, ALL) check_output(which, &to, &out);
     EACH(which, SESSIONS) check_output(which, &to_next, &next);
     at = NULL;
     EACH(which, PIECES) misused(which, ask(which, &sample, TEXT, SPACE), "no position");
     at = &position;
     prepare(&sample, SPACE);
-    misused(BOOT, ima_verify_boot(*log, NULL, expected, &quoted, TEXT, to), "expected PCRs and a quote");
-    misused(BOOT, ima_verify_boot(*log, &(struct ima_verify_bytes){NULL, 1}, NULL, NULL, TEXT, to), "an earlier boot at NULL");
-    misused(EVENTS, ima_verify_events(*log, expected, &quoted, at, to), "expected PCRs and a quote");
+    misused(BOOT, ima_verify_boot(log, NULL, expected, &quoted, TEXT, to), "expected PCRs and a quote");
+    misused(BOOT, ima_verify_boot(log, &(struct ima_verify_bytes){NULL, 1}, NULL, NULL, TEXT, to), "an earlier boot at NULL");
+    misused(EVENTS, ima_verify_events(log, expected, &quoted, at, to), "expected PCRs and a quote");
 }
 
 /* A summary may be left out, be that of a newer header, or have less numbers. */
 static void check_summaries(void) {
-    struct {
-        struct ima_verify_summary summary;
-        uint64_t more[2];
-    } newer;
+    struct { struct ima_verify_summary summary; uint64_t more[2]; } newer;
     EACH(which, JUDGING) {
         summed = NULL;
         enum ima_verify_result of = ask(which, &sample, TEXT, SPACE);
@@ -388,14 +367,12 @@ static void check_capacities(void) {
         ask(which, &sample, form, size - 1);
         check(result == IMA_VERIFY_TOO_SHORT && is_left() && is_error(&out, no_error) && out.size == size, which, "a byte too few");
         if (is_session) {
-            bool has_size = next_size > 0 && next_size < IMA_VERIFY_CHECKPOINT_CAPACITY;
-            check(has_size && is_error(&next, no_error), which, "the size of a checkpoint");
+            check(next_size > 0 && next_size < IMA_VERIFY_CHECKPOINT_CAPACITY && is_error(&next, no_error), which, "the size of a checkpoint");
             size = size > next_size ? size : next_size;
         }
         ask(which, &sample, form, size);
         check(result <= DIFFERS || result == IMA_VERIFY_MORE, which, "enough capacity");
-        check(is_filled(text, out.size) && is_filled(checkpoint, is_session ? next.size : 0), which, "after the text");
-        check(is_error(&out, no_error), which, "no error");
+        check(is_error(&out, no_error) && is_filled(text, out.size) && is_filled(checkpoint, is_session ? next.size : 0), which, "after the text");
     }
     for (int i = 0; i < 4; i++) {
         int which = i & 2 ? ATTEST_MORE : MORE;
@@ -412,8 +389,8 @@ static void check_capacities(void) {
 static struct ima_verify_error error_in(const char *line) {
     static const char *const kinds[] = {"", "command", "log", "list", "replay", "expected", "checkpoint", "", "quote", "key", "known", "signature"};
     struct ima_verify_error error = no_error;
-    char kind[SHOWN];
     unsigned long long place;
+    char kind[SHOWN];
     if (sscanf(line, "%s fault %u at %*s %llu", kind, &error.number, &place) == 3) error.place = place;
     while (strcmp(kinds[error.kind], kind) != 0) error.kind++;
     return error;
@@ -427,12 +404,11 @@ static void refuses(unsigned set, const char *changes, const char *line) {
     snprintf(whole, sizeof whole, "refused: %s\n", line);
     EACH(which, set) {
         ask(which, &given, TEXT, SPACE);
-        bool is_line = is_in(which, EVENTS_ALL) || is_same(text, out.size, ima_verify_text(whole));
-        check(result == IMA_VERIFY_REFUSED && is_line && is_error(&out, error), which, line);
+        check(is_in(which, EVENTS_ALL) || is_same(text, out.size, ima_verify_text(whole)), which, line);
+        check(result == IMA_VERIFY_REFUSED && is_error(&out, error), which, line);
         check(has_no_checkpoint(which) && (!is_in(which, JUDGING) || is_sum(&no_verdict)), which, "no checkpoint and no verdict");
         ask(which, &given, IMA_VERIFY_JSON, SPACE);
-        bool is_json = out.size > 10 && memcmp(text, "{\"fault\":{", 10) == 0 && text[out.size - 1] == '\n';
-        check(result == IMA_VERIFY_REFUSED && is_json && is_error(&out, error), which, "an error as JSON");
+        check(result == IMA_VERIFY_REFUSED && is_error(&out, error) && memcmp(text, "{\"fault\":{", 10) == 0, which, "an error as JSON");
         prepare(&given, SPACE);
         result = ima_verify_error_text(&error, to);
         snprintf(place, sizeof place, error.place == NONE ? "." : " %llu", (unsigned long long)error.place);
@@ -454,7 +430,7 @@ static void gives(unsigned set, const char *changes, enum ima_verify_result want
 }
 
 static void check_refusals(void) {
-    static const char *const quote_requirements[] = {"sha256:0-9", "sha256:1-10", "sha1:0-10", "sha256:0-9,sha1:10", "none", "", "sha256:0-24"};
+    static const char *const unquoted[] = {"sha256:0-9", "sha256:1-10", "sha1:0-10", "sha256:0-9,sha1:10", "none", "", "sha256:0-24"};
     static const char *const no_digits[] = {"", "\n", "5a0f1", "5a0f1d3c7b2e48690123456789abcdefg0", "5a0f1d3c7b2e48690123456789abcdef\n\n",
                                             "_5a0f1d3c7b2e48690123456789abcdef", "5a0f1d3c7b2e48690123456789abcd", "0x5a0f1d3c7b2e48690123456789abcdef"};
     unsigned lists = COMPARING | BY_A_QUOTE, logs = (COMPARING & ~ONE(REPLAY)) | ATTESTING | ONE(REGISTERS) | BOOTS | EVENTS_ALL;
@@ -469,9 +445,8 @@ static void check_refusals(void) {
     refuses(logs, "log~32", "log fault 2"); /* (the signature of the header) */
     refuses(ONE(BOOT) | ONE(BOOT_BY_PCRS), "before=none", "log fault 1 at event 0");
     refuses(ONE(MORE), "state=x", "checkpoint fault 1");
-    for (size_t i = 0; i < sizeof quote_requirements / sizeof quote_requirements[0]; i++)
-        refuses(BY_A_QUOTE, with("require=", quote_requirements[i]), "command line");
-    for (size_t i = 0; i < sizeof no_digits / sizeof no_digits[0]; i++) refuses(BY_A_QUOTE, with("nonce= nonce_hex=", no_digits[i]), "command line");
+    for (size_t i = 0; i < COUNT(unquoted); i++) refuses(BY_A_QUOTE, with("require=", unquoted[i]), "command line");
+    for (size_t i = 0; i < COUNT(no_digits); i++) refuses(BY_A_QUOTE, with("nonce= nonce_hex=", no_digits[i]), "command line");
     refuses(BY_A_QUOTE, "nonce:15", "command line");
     refuses(BY_A_QUOTE, "nonce:16", "quote fault 11");
     refuses(BY_A_QUOTE, "nonce~0", "quote fault 11");
@@ -500,6 +475,9 @@ static void check_verdicts(void) {
     gives(WHOLE, "", DONE, match, match_json, SUM(1, 0, 24, 24, 0, NONE, 0, 99, 99, 0));
     gives(ONE(REPLAY), "", DIFFERS, differ, differ_json, SUM(2, 2, 24, 15, SHA256, 0, 0, 99, 99, 0));
     gives(ONE(LOCATE), "", DONE, place, place_json, NULL);
+    gives(ONE(REGISTERS), "", DONE, "sha256 9 fa3fce78", "\"register\":9,\"value\":\"fa3fce78", NULL);
+    gives(ONE(REGISTERS), "of_list", DONE, "sha256 10 e8ed95b9", "\"register\":10,\"value\":\"e8ed95b9", NULL);
+    gives(ONE(READ_EXPECTED), "", DONE, "sha256 10 e8ed95b9", "\"register\":10,\"value\":\"e8ed95b9", NULL);
     gives(WHOLE, "require=sha1:0-23,sha256:0-23,sha384:0-23,sha512:0-23", DIFFERS, "\nsha512 23 missing\n", differ_json, NULL);
     gives(WHOLE, "require=none", DONE, match, match_json, SUM(1, 0, 24, 24, 0, NONE, 0, 99, 99, 0));
     gives(ONE(LOCATE), "require=none", DONE, place, place_json, NULL);
@@ -548,7 +526,6 @@ static void check_known_prefix(void) {
 /* The verdict by a quote whose signature the caller checked, and that there is none without its signature; and that it confirms only if it matches. */
 static void quotes(const char *changes, const struct ima_verify_summary *numbers) {
     bool is_match = numbers->verdict == IMA_VERIFY_VERDICT_MATCH, is_quoted = numbers->matching > 0;
-    enum ima_verify_result wanted = is_match ? DONE : DIFFERS;
     char lines[3 * SHOWN], members[3 * SHOWN], unsigned_one[4 * SHOWN];
     struct ima_verify_summary unchecked = *numbers;
     unchecked.verdict = IMA_VERIFY_VERDICT_NONE;
@@ -556,10 +533,10 @@ static void quotes(const char *changes, const struct ima_verify_summary *numbers
     const char *quote = is_quoted ? "match" : "differ", *verdict = is_match ? "match" : "differ";
     snprintf(lines, sizeof lines, "\nquote %s\nverdict %s\n", quote, verdict);
     snprintf(members, sizeof members, ",\"quote\":\"%s\",\"signature\":\"checked\",\"verdict\":\"%s\"}\n", quote, verdict);
-    gives(ATTESTING, changes, wanted, lines, members, numbers);
-    gives(CONFIRMING, changes, wanted, "secure_boot ", "", NULL);
+    gives(ATTESTING, changes, is_match ? DONE : DIFFERS, lines, members, numbers);
+    gives(CONFIRMING, changes, is_match ? DONE : DIFFERS, "secure_boot ", "", NULL);
     snprintf(unsigned_one, sizeof unsigned_one, "%s unsigned", changes);
-    snprintf(lines, sizeof lines, "\nquote %s\nsignature not checked\n", quote);
+    snprintf(lines, sizeof lines, "\nquote %s\nsignature not checked\n", is_quoted ? "match" : "differ");
     gives(ATTESTING, unsigned_one, DIFFERS, lines, "\"signature\":\"not checked\",\"verdict\":\"signature not checked\"}\n", &unchecked);
     check(!has_text("\"verdict\":\"match\""), ATTEST, unsigned_one);
     gives(CONFIRMING, unsigned_one, DIFFERS, "secure_boot unknown\n", "", NULL);
@@ -618,7 +595,7 @@ static void check_sessions(void) {
 /* A signature by a key of each kind is valid, by the key's area and its PEM, in both forms; the verdict is that on log and list. */
 static void check_signatures(void) {
     static const char *const keys[] = {"pub", "pem"}, *const ends[] = {"sig", "tpmt"};
-    for (int i = 0; i < SIGNERS * 4; i++) {
+    for (size_t i = 0; i < COUNT(signers) * 4; i++) {
         const char *name = signers[i / 4], *key = keys[i % 2], *end = ends[i / 2 % 2], *by = signed_by(name, key, end, "");
         gives(ATTESTING, by, DONE, "\nquote match\nsignature valid\nverdict match\n", "\"signature\":\"valid\",\"verdict\":\"match\"}\n",
               SUM(1, 0, 11, 11, 0, NONE, 0, 99, 99, 0));
@@ -632,13 +609,13 @@ static void check_signatures(void) {
 
 /* A signature is refused by each number of its errors. */
 static void check_refused_signatures(void) {
-    for (int i = 0; i < SIGNERS; i++) {
+    for (size_t i = 0; i < COUNT(signers); i++) {
         refuses(ATTESTING, signed_by(signers[i], "pub", "tpmt", "signature~-1"), "signature fault 7");
         refuses(ATTESTING, signed_by(signers[i], "pub", "sig", "message~-1"), "signature fault 7");
         refuses(ATTESTING, signed_by(signers[i], "pem", "sig", "signature~-1"), "signature fault 7");
         refuses(ATTESTING, signed_by(signers[i], "pub", "sig", i == 1 ? "signature@rsassa.tpmt" : "signature@rsapss.tpmt"), "signature fault 5");
     }
-    for (size_t size = 1; size < kept("rsassa.tpmt").size; size += size == 255 ? 2 : 1)
+    for (size_t size = 1; size < kept("rsassa.tpmt").size; size += size == 255 ? 2 : 1) /* (with 256 bytes it is a plain one) */
         refuses(ATTESTING, signed_by("rsassa", "pem", "tpmt", sized("signature:", size)), "signature fault 1");
     for (size_t size = 10; size < kept("rsassa.pem").size; size++)
         refuses(ATTESTING, signed_by("rsassa", "pem", "sig", sized("key:", size)), "signature fault 9");
@@ -651,7 +628,7 @@ static void check_refused_signatures(void) {
                                            {"key~7 signature=x message=", "key fault 15"},     {"signature=x message=", "signature fault 1"},
                                            {"message=", "signature fault 7"},                  {"nonce-1", "quote fault 11"},
                                            {"", "checkpoint fault 1"},                         {"state=", "log fault 1 at event 0"}};
-    for (size_t i = 0; i < sizeof order / sizeof order[0]; i++)
+    for (size_t i = 0; i < COUNT(order); i++)
         refuses(ONE(ATTEST_MORE), signed_by("rsassa", "pub", "sig", with("log= list= state=x ", order[i][0])), order[i][1]);
 }
 
@@ -689,7 +666,7 @@ static void check_keys(void) {
              (char *)text + NAME);
     gives(ONE(READ_KEY), "", DONE, second, member, NULL);
     gives(ONE(READ_KEY), "", DONE, "-----END PUBLIC KEY-----\n", "-----END PUBLIC KEY-----\\n\"}\n", NULL);
-    for (size_t i = 0; i < sizeof refused / sizeof refused[0]; i++) refuses(ONE(READ_KEY), refused[i][0], refused[i][1]);
+    for (size_t i = 0; i < COUNT(refused); i++) refuses(ONE(READ_KEY), refused[i][0], refused[i][1]);
     for (size = 0; size < sample.in[AREA].size; size++) refuses(ONE(READ_KEY), sized("area:", size), "key fault 1");
 }
 
@@ -751,7 +728,7 @@ static void *run(void *nothing) {
         check_wrong_calls, check_wrong_outputs, check_summaries, check_capacities, check_refusals, check_verdicts, check_known_prefix, check_quotes,
         check_sessions, check_signatures, check_refused_signatures, check_misused_raw, check_keys, check_boots, check_pieces};
     check(ima_verify_version() >= IMA_VERIFY_VERSION, VERDICT, "a version older than the header");
-    for (size_t i = 0; i < sizeof checks / sizeof checks[0]; i++) checks[i]();
+    for (size_t i = 0; i < COUNT(checks); i++) checks[i]();
     return nothing;
 }
 
