@@ -1,4 +1,3 @@
 pub mod EntryLineLaws
 pub mod FaultCellLaws
 pub mod SummaryLaws
-pub mod ReasonLaws

@@ -144,6 +144,7 @@ fn of_list(given: &Answered, report: &ListReport) -> Summary
 }
 
 // What rows tell.
+#[tactic(auto, using(crate::proofs::SummaryLaws::first_of_both))]
 fn of_rows(given: &Answered, rows: &[Row]) -> Summary
     ensures { result ≡ summary_of_rows given.now.is_success given.now.requirement given.now.unknown rows.now }
 {
@@ -151,7 +152,7 @@ fn of_rows(given: &Answered, rows: &[Row]) -> Summary
     Summary {
         verdict: outcome_of(given.is_success),
         compared: rows.len(),
-        matching: rows.iter().filter(|row| is_match(row)).count(),
+        matching: count_matching(rows),
         first: first_differing(rows).or(first_missing),
         missing,
         unknown: count_of(given.unknown.as_ref()),
@@ -223,7 +224,7 @@ fn reasons_on(
 {
     let required = given.requirement.as_ref();
     [
-        (!rows.iter().all(|row| is_match(row)), Reason::OtherValue),
+        (!all_match(rows), Reason::OtherValue),
         (missing_of(required, rows).1 != 0, Reason::NotExpected),
         (is_unbound, Reason::BootAggregate),
         (required.is_some() && !strays.are_none(), Reason::NotApart),
@@ -252,6 +253,20 @@ fn is_match(row: &Row) -> bool
     ensures { result ≡ is_match row.now }
 {
     matches!(row.state, State::Match)
+}
+
+// Whether each register matches.
+fn all_match(rows: &[Row]) -> bool
+    ensures { result ≡ list_all is_match rows.now }
+{
+    rows.iter().all(|row| is_match(row))
+}
+
+// How many registers match.
+fn count_matching(rows: &[Row]) -> usize
+    ensures { result ≡ length (filter is_match rows.now) }
+{
+    rows.iter().filter(|row| is_match(row)).count()
 }
 
 // The first register that does not match.
