@@ -1,5 +1,5 @@
 -- A verdict that is a match compared some PCR.
-use Rattle.std.proofs.Common.{◌≡◌, ℕ, zero, suc, ◌<◌, Bool, true, false, ◌&&◌, ◌==◌, List, [], ◌∷◌, length, get_or, Option, None, Some, refl, sym, ◌∙◌, inl, inr, arith}
+use Rattle.std.proofs.Common.{◌≡◌, ℕ, zero, suc, ◌<◌, Bool, true, false, ◌&&◌, ◌==◌, List, [], ◌∷◌, length, get_or, Option, None, Some, refl, sym, ◌∙◌, ap, subst, inl, inr, arith}
 use Rattle.std.specs.Prelude.{not, if◌then◌else◌, bytes_eq, codes}
 use Rattle.std.specs.List.{list_all}
 use Rattle.std.proofs.lemmas.Bool.{and_parts, both_ways, cases_Bool}
@@ -19,13 +19,16 @@ use Rattle.boot_verdict.specs.declared.list_verifier.ListReport.{ListReport}
 use Rattle.boot_verdict.specs.declared.report.PrefixReport.{PrefixReport}
 use Rattle.boot_verdict.specs.declared.report.Report.{Report}
 use Rattle.boot_verdict.specs.declared.report.Row.{Row}
-use Rattle.boot_verdict.specs.Names.{IsRequirementText, bind_list, expected_of_rows, is_complete, is_complete_in, is_missing, list_register, list_verdict_of, matches, row_on, verdict_of}
+use Rattle.boot_verdict.specs.Names.{IsRequirementText, bind_list, expected_of_rows, is_complete, is_complete_in, is_missing, list_register, list_verdict_of, matches, row_on, verdict_of, Verdict}
 use Rattle.known_files.specs.Unknown.{has_no_unknown}
 use Rattle.agent_inputs.specs.declared.fault.FaultKind.{FaultKind}
 use Rattle.agent_inputs.specs.declared.fault.FaultKind.TheVariants as kinds
 use Rattle.agent_inputs.specs.declared.fault.RunFault.{RunFault}
 use Rattle.agent_inputs.specs.Faults.{fault_head}
 use Rattle.agent_inputs.specs.Loading.{unknown}
+use Rattle.attestations.specs.declared.expected.ExpectedValues.{ExpectedValues}
+use Rattle.attestations.specs.declared.signature.SignatureState.{SignatureState}
+use Rattle.tpm_quotes.specs.Spelling.{TpmQuote}
 use Rattle.agent_plans.specs.declared.plan.Scope.{Scope}
 use Rattle.agent_plans.specs.declared.plan.Scope.TheVariants.{Prefix, Whole}
 use Rattle.cells.specs.declared.writer.Form.{Form}
@@ -33,8 +36,7 @@ use Rattle.cells.specs.declared.writer.Form.TheVariants.{Json, Text}
 use Rattle.judging.specs.declared.request.Answer.{Answer}
 use Rattle.judging.specs.declared.request.Answer.TheVariants as answers
 use Rattle.judging.specs.declared.request.Answered.{Answered}
-use Rattle.judging.specs.declared.request.ScopedReport.TheVariants as judged
-use Rattle.judging.specs.Answering.{Evidence, IsComparison, IsJudged, IsPrefixOf, IsRequired, OfList, is_good, seeks_prefix}
+use Rattle.judging.specs.Answering.{Evidence, IsAnswerOn, IsComparison, IsJudged, IsPrefixOf, IsRequired, IsVerdictOn, OfList, TellsUnknown, entries_taken, is_good, seeks_prefix}
 use Rattle.judging.specs.Inputs.{BytesOf, Where}
 use Rattle.judging.specs.Requests.{Any, Compared, Compares, ListVerdictOf, Nothing, Requires, These, VerdictOf}
 use Rattle.rendering.specs.Rendering.{answer_status}
@@ -142,8 +144,8 @@ answer_good false (answers.Key report part) e = absurd cc
 given_good : (request : Compared) (form : Form) (text : List ℕ) (fault : Option RunFault) (state : List ℕ) (summary : Summary)
     → IsAnswerAndNext (Compares request) form text 0 fault state summary
     → (given : Answered) × IsComparison unknown request given × (given.is_success ≡ true) × (summary ≡ summary_of given)
-given_good request form text fault state summary (inl (none, (exit, ((next, (is, (saved, sums))), status)))) =
-    (is.given, (is.answer, (answer_good is.given.is_success is.given.answer (sym is.status_is ∙ exit_zero exit status), sums)))
+given_good request form text fault state summary (inl (none, exit, (next, is, saved, sums), status)) =
+    (is.given, is.answer, answer_good is.given.is_success is.given.answer (sym is.status_is ∙ exit_zero exit status), sums)
 given_good request form text fault state summary (inr (refusal, rest)) = absurd (line_some form refusal.0 text refusal.3)
 
 -- ---- what was compared
@@ -182,6 +184,15 @@ some_expected Prefix evidence quote none sought = not_empty evidence.expected (r
   not_empty [] e = absurd cc
   not_empty (first ∷ expected) e = omega arith
 
+-- What follows from a report on the whole list, and from one on its prefix, follows from an answer that has one. (What was judged has a type
+-- that its own crate alone can name.)
+of_each : (scope : Scope) (list : Where) (evidence : Evidence) (Tells : List ListEntry → Type 0) (next : Checkpoint) (signature : SignatureState)
+    (values : ExpectedValues) (on : _) (answer : Answer) (Q : Type 0) → ((report : Report) → answer ≡ answers.Report report → Q)
+    → ((prefix : PrefixReport) → seeks_prefix scope evidence ≡ true
+    → OfList unknown list evidence.checkpoint (λ all. IsPrefixOf evidence Tells all prefix next) → answer ≡ answers.Prefix prefix → Q)
+    → IsVerdictOn unknown scope list evidence Tells on next → IsAnswerOn None signature values on next answer → Q
+of_each scope list evidence Tells next signature values on answer Q whole part is answered = grind (arith, whole, part)
+
 -- A verdict on a log and a list, or on its confirmed prefix.
 module _ (place : Where) (scope : Scope) (resume : Option Where) (list expected require : List ℕ) (known : List Where) (before : IsOfSomeList resume) where
   abbrev asked : Compared
@@ -196,16 +207,22 @@ module _ (place : Where) (scope : Scope) (resume : Option Where) (list expected 
       let of_list = of taken.0 (rw is.evidence_is.checkpoint_is taken.1) in
       let some = some_expected scope is.evidence is.evidence_is.none_quoted none sought in
       let on = of_list.2 in
-      rw on.verdict_is (omega (arith, some, length-map is.evidence.expected (row_on (algs_in on.table) on.events on.prefix)))
+      let rows : length (verdict_of prefix.report).rows ≡ length is.evidence.expected =
+      ap (λ (v : Verdict). length v.rows) on.verdict_is ∙ length-map is.evidence.expected (row_on (algs_in on.table) on.events on.prefix) in
+      omega (arith, some, rows)
 
   judged_compares : (given : Answered) (is : IsComparison unknown asked given) → given.is_success ≡ true → (next : Option Checkpoint)
       → IsJudged unknown (VerdictOf place scope resume) (BytesOf list) is.evidence given.answer next given.unknown → 0 < (summary_of given).compared
   judged_compares given is success None on = absurd on
-  judged_compares given is success (Some next) (judged.Whole report, (verdict, answer)) =
-      by_report asked (some_required require) given is success report (rw is.evidence_is.none_quoted at answer)
-  judged_compares given is success (Some next) (judged.Prefix prefix, (verdict, answer)) =
-      by_prefix asked (some_required require) given is success prefix (rw is.evidence_is.none_quoted at answer)
-      (prefix_rows given is prefix next _ verdict.1 verdict.2)
+  judged_compares given is success (Some next) on =
+      let plain = subst (λ (quote : Option TpmQuote). IsAnswerOn quote is.evidence.signature is.evidence.values on.0 next given.answer)
+      is.evidence_is.none_quoted on.2 in
+      of_each scope (BytesOf list) is.evidence (TellsUnknown is.evidence.known_files (entries_taken is.evidence.checkpoint) given.unknown) next
+      is.evidence.signature is.evidence.values on.0 given.answer (0 < (summary_of given).compared)
+      (λ report answer. by_report asked (some_required require) given is success report answer)
+      (λ prefix sought of answer.
+      by_prefix asked (some_required require) given is success prefix answer (prefix_rows given is prefix next _ sought of))
+      on.1 plain
 
   pub verdict_compares : (form : Form) (text : List ℕ) (fault : Option RunFault) (state : List ℕ) (summary : Summary)
       → IsAnswerAndNext (Compares asked) form text 0 fault state summary → 0 < summary.compared
