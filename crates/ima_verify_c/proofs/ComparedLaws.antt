@@ -1,8 +1,8 @@
 -- A verdict that is a match compared some PCR.
-use Rattle.std.proofs.Common.{◌≡◌, ℕ, zero, suc, ◌<◌, Bool, true, false, ◌&&◌, ◌==◌, List, [], ◌∷◌, length, get_or, Option, None, Some, refl, sym, ◌∙◌, ap, subst, inl, inr, arith}
+use Rattle.std.proofs.Common.{◌≡◌, ℕ, ◌<◌, Bool, true, false, ◌&&◌, ◌==◌, List, [], ◌∷◌, length, get_or, Option, None, Some, refl, sym, ◌∙◌, ap, subst, inl, inr, arith}
 use Rattle.std.specs.Prelude.{not, if◌then◌else◌, bytes_eq, codes}
 use Rattle.std.specs.List.{list_all}
-use Rattle.std.proofs.lemmas.Bool.{and_parts, both_ways, cases_Bool}
+use Rattle.std.proofs.lemmas.Bool.{and_parts, both_ways, cases_Bool, eqb-true}
 use Rattle.std.proofs.lemmas.List.{length-map}
 use Rattle.std.proofs.lemmas.List.Folds.{list_all_at}
 use Rattle.pcr_banks.specs.declared.alg.Alg.{Alg}
@@ -28,6 +28,7 @@ use Rattle.agent_inputs.specs.Faults.{fault_head}
 use Rattle.agent_inputs.specs.Loading.{unknown}
 use Rattle.attestations.specs.declared.expected.ExpectedValues.{ExpectedValues}
 use Rattle.attestations.specs.declared.signature.SignatureState.{SignatureState}
+use Rattle.attestations.specs.Reports.{attest_verdict_of, is_signed}
 use Rattle.tpm_quotes.specs.Spelling.{TpmQuote}
 use Rattle.agent_plans.specs.declared.plan.Scope.{Scope}
 use Rattle.agent_plans.specs.declared.plan.Scope.TheVariants.{Prefix, Whole}
@@ -54,7 +55,7 @@ unnamed ranges alg complete =
           let within : list_register < length all_registers = omega (arith, register_count) in
           let here : test (get_or all_registers list_register 0) ≡ false = rw (register_at list_register (omega arith), named) refl in
           absurd (both_ways (list_all test all_registers) (list_all_at test all_registers list_register 0 within here) complete)
-      | inr unnamed ↦ unnamed
+      | inr other ↦ other
     ]
 
 complete_some : (text : List ℕ) (ranges : List BankRange) (rows : List Row) → IsRequirementText text ranges
@@ -74,7 +75,7 @@ report_some Nothing ranges report some required good = absurd (some refl)
 report_some Any None report some required good = some_rows _ (and_parts (matches (verdict_of report)) _ good).1
 report_some Any (Some ranges) report some required good = absurd cc
 report_some (These text) None report some required good = absurd required
-report_some (These text) (Some ranges) report some required good = complete_some text ranges _ required (and_parts _ (is_complete ranges _) good).1
+report_some (These text) (Some ranges) report some required good = complete_some text ranges (verdict_of report).rows required (and_parts _ (is_complete ranges (expected_of_rows (verdict_of report).rows)) good).1
 
 -- Without a text that requires registers a prefix is confirmed only where some are expected.
 prefix_some : (requires : Requires) (ranges : Option (List BankRange)) (prefix : PrefixReport) → IsRequired requires ranges
@@ -84,7 +85,8 @@ prefix_some requires None prefix required expected good = expected refl
 prefix_some Nothing (Some ranges) prefix required expected good = absurd cc
 prefix_some Any (Some ranges) prefix required expected good = absurd cc
 prefix_some (These text) (Some ranges) prefix required expected good =
-    complete_some text ranges _ required (and_parts _ (is_complete ranges _) good).1
+    complete_some text ranges (verdict_of prefix.report).rows required
+    (and_parts _ (is_complete ranges (expected_of_rows (verdict_of prefix.report).rows)) good).1
 
 list_some : (requires : Requires) (ranges : Option (List BankRange)) (report : ListReport) → is_good requires ranges (answers.ListReport report) ≡ true
     → 0 < length (list_verdict_of report).rows
@@ -121,17 +123,19 @@ line_some Json fault text is = kind_some (fault_head fault).kind is.1
 
 -- An answer of another status than 0 is given with 1.
 exit_zero : (exit : ℕ) → 0 ≡ answer_of_status exit → exit ≡ 0
-exit_zero zero e = refl
-exit_zero (suc exit) e = absurd cc
+exit_zero exit e = elim (cases_Bool (exit == 0)) [
+  | inl same ↦ eqb-true exit 0 same
+  | inr other ↦ let one : answer_of_status exit ≡ 1 = rw other refl in absurd (omega (arith, e, one))
+]
 
-some_status : (signed : Bool) → (if signed then 1 else 4) ≡ 0 → ⊥
-some_status true e = absurd cc
-some_status false e = absurd cc
+some_status : (signed : Bool) (status : ℕ) → status ≡ (if signed then 1 else 4) → status ≡ 0 → ⊥
+some_status true status is zero = omega (arith, is, zero)
+some_status false status is zero = omega (arith, is, zero)
 
 -- All is well with an answer whose exit status is 0.
 answer_good : (success : Bool) (answer : Answer) → answer_status success answer ≡ 0 → success ≡ true
 answer_good true answer e = refl
-answer_good false (answers.Attestation report) e = absurd (some_status _ e)
+answer_good false (answers.Attestation report) e = absurd (some_status (is_signed (attest_verdict_of report).signature) _ refl e)
 answer_good false (answers.Report report) e = absurd cc
 answer_good false (answers.Prefix prefix) e = absurd cc
 answer_good false (answers.Positions positions) e = absurd cc
@@ -144,7 +148,7 @@ answer_good false (answers.Key report part) e = absurd cc
 given_good : (request : Compared) (form : Form) (text : List ℕ) (fault : Option RunFault) (state : List ℕ) (summary : Summary)
     → IsAnswerAndNext (Compares request) form text 0 fault state summary
     → (given : Answered) × IsComparison unknown request given × (given.is_success ≡ true) × (summary ≡ summary_of given)
-given_good request form text fault state summary (inl (none, exit, (next, is, saved, sums), status)) =
+given_good request form text fault state summary (inl (none, (exit, (next, is, saved, sums), status))) =
     (is.given, is.answer, answer_good is.given.is_success is.given.answer (sym is.status_is ∙ exit_zero exit status), sums)
 given_good request form text fault state summary (inr (refusal, rest)) = absurd (line_some form refusal.0 text refusal.3)
 
