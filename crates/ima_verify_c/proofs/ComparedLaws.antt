@@ -150,7 +150,7 @@ given_good : (request : Compared) (form : Form) (text : List ℕ) (fault : Optio
     → (given : Answered) × IsComparison unknown request given × (given.is_success ≡ true) × (summary ≡ summary_of given)
 given_good request form text fault state summary (inl (none, (exit, (next, is, saved, sums), status))) =
     (is.given, is.answer, answer_good is.given.is_success is.given.answer (sym is.status_is ∙ exit_zero exit status), sums)
-given_good request form text fault state summary (inr (refusal, rest)) = absurd (line_some form refusal.0 text refusal.3)
+given_good request form text fault state summary (inr (refusal, none, sums)) = absurd (line_some form refusal.0 text refusal.3)
 
 -- ---- what was compared
 
