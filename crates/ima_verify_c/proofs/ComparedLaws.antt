@@ -1,8 +1,8 @@
 -- A verdict that is a match compared some PCR.
-use Rattle.std.proofs.Common.{◌≡◌, ℕ, zero, suc, ◌<◌, Bool, true, false, ◌&&◌, ◌==◌, List, [], ◌∷◌, length, get_or, Option, None, Some, refl, sym, ◌∙◌, inl, inr, arith}
+use Rattle.std.proofs.Common.{◌≡◌, ℕ, ◌<◌, Bool, true, false, ◌==◌, List, [], ◌∷◌, length, get_or, Option, None, Some, refl, sym, ◌∙◌, ap, subst, inl, inr, arith}
 use Rattle.std.specs.Prelude.{not, if◌then◌else◌, bytes_eq, codes}
 use Rattle.std.specs.List.{list_all}
-use Rattle.std.proofs.lemmas.Bool.{and_parts, both_ways, cases_Bool}
+use Rattle.std.proofs.lemmas.Bool.{and_parts, both_ways, cases_Bool, eqb-true}
 use Rattle.std.proofs.lemmas.List.{length-map}
 use Rattle.std.proofs.lemmas.List.Folds.{list_all_at}
 use Rattle.pcr_banks.specs.declared.alg.Alg.{Alg}
@@ -19,13 +19,17 @@ use Rattle.boot_verdict.specs.declared.list_verifier.ListReport.{ListReport}
 use Rattle.boot_verdict.specs.declared.report.PrefixReport.{PrefixReport}
 use Rattle.boot_verdict.specs.declared.report.Report.{Report}
 use Rattle.boot_verdict.specs.declared.report.Row.{Row}
-use Rattle.boot_verdict.specs.Names.{IsRequirementText, bind_list, expected_of_rows, is_complete, is_complete_in, is_missing, list_register, list_verdict_of, matches, row_on, verdict_of}
+use Rattle.boot_verdict.specs.Names.{IsRequirementText, bind_list, expected_of_rows, is_complete, is_complete_in, is_missing, list_register, list_verdict_of, matches, row_on, verdict_of, Verdict}
 use Rattle.known_files.specs.Unknown.{has_no_unknown}
 use Rattle.agent_inputs.specs.declared.fault.FaultKind.{FaultKind}
 use Rattle.agent_inputs.specs.declared.fault.FaultKind.TheVariants as kinds
 use Rattle.agent_inputs.specs.declared.fault.RunFault.{RunFault}
 use Rattle.agent_inputs.specs.Faults.{fault_head}
 use Rattle.agent_inputs.specs.Loading.{unknown}
+use Rattle.attestations.specs.declared.expected.ExpectedValues.{ExpectedValues}
+use Rattle.attestations.specs.declared.signature.SignatureState.{SignatureState}
+use Rattle.attestations.specs.Reports.{attest_verdict_of, is_signed}
+use Rattle.tpm_quotes.specs.Spelling.{TpmQuote}
 use Rattle.agent_plans.specs.declared.plan.Scope.{Scope}
 use Rattle.agent_plans.specs.declared.plan.Scope.TheVariants.{Prefix, Whole}
 use Rattle.cells.specs.declared.writer.Form.{Form}
@@ -33,8 +37,7 @@ use Rattle.cells.specs.declared.writer.Form.TheVariants.{Json, Text}
 use Rattle.judging.specs.declared.request.Answer.{Answer}
 use Rattle.judging.specs.declared.request.Answer.TheVariants as answers
 use Rattle.judging.specs.declared.request.Answered.{Answered}
-use Rattle.judging.specs.declared.request.ScopedReport.TheVariants as judged
-use Rattle.judging.specs.Answering.{Evidence, IsComparison, IsJudged, IsPrefixOf, IsRequired, OfList, is_good, seeks_prefix}
+use Rattle.judging.specs.Answering.{Evidence, IsAnswerOn, IsComparison, IsJudged, IsPrefixOf, IsRequired, IsVerdictOn, OfList, TellsUnknown, entries_taken, is_good, seeks_prefix}
 use Rattle.judging.specs.Inputs.{BytesOf, Where}
 use Rattle.judging.specs.Requests.{Any, Compared, Compares, ListVerdictOf, Nothing, Requires, These, VerdictOf}
 use Rattle.rendering.specs.Rendering.{answer_status}
@@ -52,7 +55,7 @@ unnamed ranges alg complete =
           let within : list_register < length all_registers = omega (arith, register_count) in
           let here : test (get_or all_registers list_register 0) ≡ false = rw (register_at list_register (omega arith), named) refl in
           absurd (both_ways (list_all test all_registers) (list_all_at test all_registers list_register 0 within here) complete)
-      | inr unnamed ↦ unnamed
+      | inr other ↦ other
     ]
 
 complete_some : (text : List ℕ) (ranges : List BankRange) (rows : List Row) → IsRequirementText text ranges
@@ -72,7 +75,7 @@ report_some Nothing ranges report some required good = absurd (some refl)
 report_some Any None report some required good = some_rows _ (and_parts (matches (verdict_of report)) _ good).1
 report_some Any (Some ranges) report some required good = absurd cc
 report_some (These text) None report some required good = absurd required
-report_some (These text) (Some ranges) report some required good = complete_some text ranges _ required (and_parts _ (is_complete ranges _) good).1
+report_some (These text) (Some ranges) report some required good = complete_some text ranges (verdict_of report).rows required (and_parts _ (is_complete ranges (expected_of_rows (verdict_of report).rows)) good).1
 
 -- Without a text that requires registers a prefix is confirmed only where some are expected.
 prefix_some : (requires : Requires) (ranges : Option (List BankRange)) (prefix : PrefixReport) → IsRequired requires ranges
@@ -82,7 +85,8 @@ prefix_some requires None prefix required expected good = expected refl
 prefix_some Nothing (Some ranges) prefix required expected good = absurd cc
 prefix_some Any (Some ranges) prefix required expected good = absurd cc
 prefix_some (These text) (Some ranges) prefix required expected good =
-    complete_some text ranges _ required (and_parts _ (is_complete ranges _) good).1
+    complete_some text ranges (verdict_of prefix.report).rows required
+    (and_parts _ (is_complete ranges (expected_of_rows (verdict_of prefix.report).rows)) good).1
 
 list_some : (requires : Requires) (ranges : Option (List BankRange)) (report : ListReport) → is_good requires ranges (answers.ListReport report) ≡ true
     → 0 < length (list_verdict_of report).rows
@@ -119,17 +123,19 @@ line_some Json fault text is = kind_some (fault_head fault).kind is.1
 
 -- An answer of another status than 0 is given with 1.
 exit_zero : (exit : ℕ) → 0 ≡ answer_of_status exit → exit ≡ 0
-exit_zero zero e = refl
-exit_zero (suc exit) e = absurd cc
+exit_zero exit e = elim (cases_Bool (exit == 0)) [
+  | inl same ↦ eqb-true exit 0 same
+  | inr other ↦ let one : answer_of_status exit ≡ 1 = rw other refl in absurd (omega (arith, e, one))
+]
 
-some_status : (signed : Bool) → (if signed then 1 else 4) ≡ 0 → ⊥
-some_status true e = absurd cc
-some_status false e = absurd cc
+some_status : (signed : Bool) (status : ℕ) → status ≡ (if signed then 1 else 4) → status ≡ 0 → ⊥
+some_status true status is zero = omega (arith, is, zero)
+some_status false status is zero = omega (arith, is, zero)
 
 -- All is well with an answer whose exit status is 0.
 answer_good : (success : Bool) (answer : Answer) → answer_status success answer ≡ 0 → success ≡ true
 answer_good true answer e = refl
-answer_good false (answers.Attestation report) e = absurd (some_status _ e)
+answer_good false (answers.Attestation report) e = absurd (some_status (is_signed (attest_verdict_of report).signature) _ refl e)
 answer_good false (answers.Report report) e = absurd cc
 answer_good false (answers.Prefix prefix) e = absurd cc
 answer_good false (answers.Positions positions) e = absurd cc
@@ -142,9 +148,9 @@ answer_good false (answers.Key report part) e = absurd cc
 given_good : (request : Compared) (form : Form) (text : List ℕ) (fault : Option RunFault) (state : List ℕ) (summary : Summary)
     → IsAnswerAndNext (Compares request) form text 0 fault state summary
     → (given : Answered) × IsComparison unknown request given × (given.is_success ≡ true) × (summary ≡ summary_of given)
-given_good request form text fault state summary (inl (none, (exit, ((next, (is, (saved, sums))), status)))) =
-    (is.given, (is.answer, (answer_good is.given.is_success is.given.answer (sym is.status_is ∙ exit_zero exit status), sums)))
-given_good request form text fault state summary (inr (refusal, rest)) = absurd (line_some form refusal.0 text refusal.3)
+given_good request form text fault state summary (inl (none, (exit, (next, is, saved, sums), status))) =
+    (is.given, is.answer, answer_good is.given.is_success is.given.answer (sym is.status_is ∙ exit_zero exit status), sums)
+given_good request form text fault state summary (inr (refusal, none, sums)) = absurd (line_some form refusal.0 text refusal.3)
 
 -- ---- what was compared
 
@@ -182,6 +188,15 @@ some_expected Prefix evidence quote none sought = not_empty evidence.expected (r
   not_empty [] e = absurd cc
   not_empty (first ∷ expected) e = omega arith
 
+-- What follows from a report on the whole list, and from one on its prefix, follows from an answer that has one. (What was judged has a type
+-- that its own crate alone can name.)
+of_each : (scope : Scope) (list : Where) (evidence : Evidence) (Tells : List ListEntry → Type 0) (next : Checkpoint) (signature : SignatureState)
+    (values : ExpectedValues) (on : _) (answer : Answer) (Q : Type 0) → ((report : Report) → answer ≡ answers.Report report → Q)
+    → ((prefix : PrefixReport) → seeks_prefix scope evidence ≡ true
+    → OfList unknown list evidence.checkpoint (λ all. IsPrefixOf evidence Tells all prefix next) → answer ≡ answers.Prefix prefix → Q)
+    → IsVerdictOn unknown scope list evidence Tells on next → IsAnswerOn None signature values on next answer → Q
+of_each scope list evidence Tells next signature values on answer Q whole part is answered = grind (arith, whole, part)
+
 -- A verdict on a log and a list, or on its confirmed prefix.
 module _ (place : Where) (scope : Scope) (resume : Option Where) (list expected require : List ℕ) (known : List Where) (before : IsOfSomeList resume) where
   abbrev asked : Compared
@@ -196,16 +211,22 @@ module _ (place : Where) (scope : Scope) (resume : Option Where) (list expected 
       let of_list = of taken.0 (rw is.evidence_is.checkpoint_is taken.1) in
       let some = some_expected scope is.evidence is.evidence_is.none_quoted none sought in
       let on = of_list.2 in
-      rw on.verdict_is (omega (arith, some, length-map is.evidence.expected (row_on (algs_in on.table) on.events on.prefix)))
+      let rows : length (verdict_of prefix.report).rows ≡ length is.evidence.expected =
+      ap (λ (v : Verdict). length v.rows) on.verdict_is ∙ length-map is.evidence.expected (row_on (algs_in on.table) on.events on.prefix) in
+      omega (arith, some, rows)
 
   judged_compares : (given : Answered) (is : IsComparison unknown asked given) → given.is_success ≡ true → (next : Option Checkpoint)
       → IsJudged unknown (VerdictOf place scope resume) (BytesOf list) is.evidence given.answer next given.unknown → 0 < (summary_of given).compared
   judged_compares given is success None on = absurd on
-  judged_compares given is success (Some next) (judged.Whole report, (verdict, answer)) =
-      by_report asked (some_required require) given is success report (rw is.evidence_is.none_quoted at answer)
-  judged_compares given is success (Some next) (judged.Prefix prefix, (verdict, answer)) =
-      by_prefix asked (some_required require) given is success prefix (rw is.evidence_is.none_quoted at answer)
-      (prefix_rows given is prefix next _ verdict.1 verdict.2)
+  judged_compares given is success (Some next) on =
+      let plain = subst (λ (quote : Option TpmQuote). IsAnswerOn quote is.evidence.signature is.evidence.values on.0 next given.answer)
+      is.evidence_is.none_quoted on.2 in
+      of_each scope (BytesOf list) is.evidence (TellsUnknown is.evidence.known_files (entries_taken is.evidence.checkpoint) given.unknown) next
+      is.evidence.signature is.evidence.values on.0 given.answer (0 < (summary_of given).compared)
+      (λ report answer. by_report asked (some_required require) given is success report answer)
+      (λ prefix sought of answer.
+      by_prefix asked (some_required require) given is success prefix answer (prefix_rows given is prefix next _ sought of))
+      on.1 plain
 
   pub verdict_compares : (form : Form) (text : List ℕ) (fault : Option RunFault) (state : List ℕ) (summary : Summary)
       → IsAnswerAndNext (Compares asked) form text 0 fault state summary → 0 < summary.compared

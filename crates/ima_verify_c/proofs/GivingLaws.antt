@@ -48,7 +48,7 @@ module _ (request : Requested) (form : Form) (fault : RunFault) (answer : ℤ) (
     text = refusal.text;
     status = refusal.status;
     fault = refusal.fault;
-    is_answer = (no_summary, ([], inr (refusal.is_answer, (refl, refl))));
+    is_answer = (no_summary, ([], inr (refusal.is_answer, refl, refl)));
     given = refusal.given;
   }
 
@@ -60,7 +60,7 @@ module _ (request : Requested) (form : Form) (fault : RunFault) (answer : ℤ) (
     status = refusal.status;
     fault = refusal.fault;
     summary = no_summary;
-    is_answer = ([], inr (refusal.is_answer, (refl, refl)));
+    is_answer = ([], inr (refusal.is_answer, refl, refl));
     given = refusal.given;
     numbers_are = none ∙ no_numbers _ numbers_old;
   }
@@ -75,7 +75,7 @@ reports_nothing Reason form answer info old new numbers_old numbers_new next non
   fault = given.fault;
   state = [];
   summary = no_summary;
-  is_answer = (given.is_answer, (refl, refl));
+  is_answer = (given.is_answer, refl, refl);
   given = record {
     next_size_is = refl;
     fits = λ fits next-fits. (given.given.fits fits, refl);
@@ -89,7 +89,7 @@ module _ (form : Form) (fault : RunFault) (answer : ℤ) (info : TextInfo) (old 
     numbers_old numbers_new next_size next_old next_new) where
   no_report : (Reason : RunFault → Type 0) → Reason fault → Reason Memory
       → IsNoReport Reason form given.text given.status given.fault given.state given.summary
-  no_report Reason here memory = (caused Reason form fault _ _ _ here memory given.is_answer.0, given.is_answer.1)
+  no_report Reason here memory = (caused Reason form fault _ _ _ here memory given.is_answer.0, given.is_answer.1, given.is_answer.2)
 
   -- The fault is why there is no answer.
   pub gives_no_answer : (request : Requested) → HasNoAnswerOn request fault

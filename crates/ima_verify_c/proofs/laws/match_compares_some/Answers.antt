@@ -1,7 +1,6 @@
 use Rattle.std.proofs.Common.{None, [], refl}
 use Rattle.agent_plans.specs.declared.plan.Scope.TheVariants.{Whole}
 use Rattle.judging.specs.Inputs.{BytesOf}
-use Rattle.judging.specs.Requests.{VerdictOf}
 use Rattle.ima_verify_c.specs.Requests.{IsOfSomeList, resume_of, scope_of}
 use Rattle.ima_verify_c.proofs.ComparedLaws.{list_verdict_compares, verdict_compares}
 use Rattle.ima_verify_c.proofs.laws.match_compares_some.Goals as goal
