@@ -404,11 +404,11 @@ static void refuses(unsigned set, const char *changes, const char *line) {
     snprintf(whole, sizeof whole, "refused: %s\n", line);
     EACH(which, set) {
         ask(which, &given, TEXT, SPACE);
-        check(is_in(which, EVENTS_ALL) || is_same(text, out.size, ima_verify_text(whole)), which, line);
+        check(which == EVENTS || is_same(text, out.size, ima_verify_text(whole)), which, line);
         check(result == IMA_VERIFY_REFUSED && is_error(&out, error), which, line);
         check(has_no_checkpoint(which) && (!is_in(which, JUDGING) || is_sum(&no_verdict)), which, "no checkpoint and no verdict");
         ask(which, &given, IMA_VERIFY_JSON, SPACE);
-        check(result == IMA_VERIFY_REFUSED && is_error(&out, error) && memcmp(text, "{\"fault\":{", 10) == 0, which, "an error as JSON");
+        check(result == IMA_VERIFY_REFUSED && is_error(&out, error) && has_text(is_in(which, EVENTS_ALL & ~ONE(EVENTS)) ? line : "{\"fault\":{"), which, "an error as JSON");
         prepare(&given, SPACE);
         result = ima_verify_error_text(&error, to);
         snprintf(place, sizeof place, error.place == NONE ? "." : " %llu", (unsigned long long)error.place);
