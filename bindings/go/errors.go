@@ -1,75 +1,54 @@
 package imaverify
 
 import (
-	_ "embed"
 	"errors"
 	"fmt"
-	"strings"
 )
 
 // Kind says what is refused. Words are those of JSON.
 type Kind string
 
 const (
-	// The selection of PCRs, required or asked for, is not of its form, or does not suit a quote or known files; or a nonce is too short or
-	// is not hexadecimal; or a Quote has a key or a signature alone, or says beside them that its signature was checked. It has no number.
-	KindArgument Kind = "command_line"
-
-	KindLog      Kind = "log"
-	KindList     Kind = "list"
-	KindReplay   Kind = "replay" // the template digest of an entry is not valid
-	KindExpected Kind = "expected"
-
-	// The state of a session is damaged (1), of another version (2), or of another boot by the log (3) or by a quote (4).
-	KindCheckpoint Kind = "checkpoint"
-
-	// The message of a quote: it is none (1 to 10), has another nonce (11), or does not select a required PCR (12).
-	KindQuote Kind = "quote"
-
-	// The public area of a key: it is none (1 to 10), or the key lacks what its purpose needs (11 to 22).
-	KindKey Kind = "key"
-
-	// A line of the known files has a digest by SHA-1 (1), or is no digest and name (2).
-	KindKnown Kind = "known"
-
-	// The signature of a quote is none (1 to 4), or not by the key and on the message (5 to 7); or the key is one that is not taken (8), or no
-	// PEM of such a key (9).
-	KindSignature Kind = "signature"
+	KindArgument   Kind = "command_line" // a selection of PCRs, a nonce, or members of a Quote that do not belong together
+	KindLog        Kind = "log"
+	KindList       Kind = "list"
+	KindReplay     Kind = "replay" // the template digest of an entry is not valid
+	KindExpected   Kind = "expected"
+	KindCheckpoint Kind = "checkpoint" // the state of a session
+	KindQuote      Kind = "quote"      // the message of a quote
+	KindKey        Kind = "key"
+	KindKnown      Kind = "known" // the known files
+	KindSignature  Kind = "signature"
 )
 
-// RefusedError is the error of an input that is refused. Kind, Number and Place are as the library reports them; Place is the
-// number of the event, the entry or the line, if HasPlace. Line is what `ima-agent` prints, such as "refused: replay fault 1 at
-// entry 5". Error adds what the number means.
+// RefusedError is the error of an input that is refused.
+//
+// Kind and Number say what is wrong (docs/errors.txt); a later library may have kinds that are empty here. Place is the number of the
+// event, the entry or the line where it is, if HasPlace. Text says in words what is wrong and what to do.
 type RefusedError struct {
-	Line     string
 	Kind     Kind
 	Number   uint32
 	Place    uint64
 	HasPlace bool
+	Text     string
 }
 
-// The sentences of docs/errors.txt: kind, number, and what is wrong. tests/bindings/answers.py writes them.
-//
-//go:embed sentences.txt
-var sentences string
-
-const argumentSentence = "PCRs are named as in sha256:0-10, with PCR 10, or as in 0-10; known files need such a requirement; " +
-	"a quote needs PCRs 0 to 10, a nonce of at least 16 bytes, and both a key and a signature, or none"
-
+// Error gives Text.
 func (r *RefusedError) Error() string {
-	if r.Kind == KindArgument {
-		return r.Line + ": " + argumentSentence
-	}
-	_, after, isFound := strings.Cut("\n"+sentences, fmt.Sprintf("\n%s %d ", r.Kind, r.Number))
-	if !isFound {
-		return r.Line // (an error of a later library)
-	}
-	sentence, _, _ := strings.Cut(after, "\n")
-	return r.Line + ": " + sentence
+	return r.Text
 }
 
-func argumentError() error {
-	return &RefusedError{Line: "refused: command line", Kind: KindArgument}
+// refusedBy is the error that a reply reports, with the library's text for it.
+func refusedBy(r reply) error {
+	err := &RefusedError{Kind: kinds[r.kind], Number: r.number, HasPlace: r.place != noPlace}
+	if err.HasPlace {
+		err.Place = r.place
+	}
+	described, failed := repeated(nil, make([]byte, firstCapacity), func(_, out []byte) reply { return callErrorText(r, out) })
+	if err.Text = string(described.text); failed != nil || described.status != done {
+		err.Text = fmt.Sprintf("libima_verify refused an input: %s error %d", err.Kind, err.Number) // (there is no memory for the text)
+	}
+	return err
 }
 
 // ErrOutOfMemory says that the library got no memory.

@@ -1,4 +1,4 @@
-// Package imaverify tells whether a machine's boot log and measurement list account for the PCRs of its TPM 2.0.
+// Package imaverify says whether a machine's boot log and measurement list account for the PCRs of its TPM 2.0.
 //
 // A firmware event log (TCG, crypto-agile) and a binary measurement list of Linux IMA are replayed, and the resulting PCRs are
 // compared with expected ones. On the machine the files are /sys/kernel/security/tpm0/binary_bios_measurements and
@@ -7,12 +7,13 @@
 //
 // A verdict covers only the boot aggregate and the PCRs in the expected text. So each call says which PCRs it must cover:
 // Verify(log, list, expected, "sha256:0-10"). With such a requirement a verdict is a match only if no event of the log extends PCR
-// 10 and each entry of the list names it. With the option Known each entry but the boot aggregate must also be of a known file. Entries
-// and Events go through the inputs themselves. A Session is for a list that grows, and for one that grew after the expected PCRs were read.
-// Attest compares a log and a list with a quote in place of expected PCRs, and verifies its signature by the machine's attestation key.
-// ReadKey says what a key is.
+// 10 and each entry of the list names it. With the option Known each entry but the boot aggregate must also be of a known file. A Session is
+// for a list that grows, and for one that grew after the expected PCRs were read. Attest compares a log and a list with a quote in place of
+// expected PCRs, and verifies its signature by the machine's attestation key. ReadKey says what a key is.
 //
-// If an input or a selection is refused, the error is a *RefusedError. If memory runs out, it is ErrOutOfMemory. If the
+// Boot says what a machine booted. Entries and Events go through the inputs themselves; ConfirmedEvents also says what is confirmed.
+//
+// If an input or an argument is refused, the error is a *RefusedError. If memory runs out, it is ErrOutOfMemory. If the
 // library's answer is not as its header describes, it is an *UnexpectedError. With any error the result is the zero value, whose
 // Matches and Located are false.
 //
@@ -20,12 +21,6 @@
 //
 // Any number of goroutines may call at once. No input may change during a call.
 package imaverify
-
-import (
-	"bytes"
-	"encoding/hex"
-	"strings"
-)
 
 // Quote is a quote with its signature, and what a verdict by it needs.
 //
@@ -52,55 +47,38 @@ type Quote struct {
 	SignatureChecked bool
 }
 
-// prepared gives the quote as the library takes it, with the nonce as bytes. To the library no bytes are no key and no signature.
-func (q Quote) prepared() (Quote, error) {
-	isSigned := q.Key != nil && q.Signature != nil
-	if !isSigned && (q.Key != nil || q.Signature != nil) || isSigned && q.SignatureChecked || q.Nonce != nil && q.NonceHex != "" {
-		return Quote{}, argumentError()
+// notEmpty is a file as the library takes it, to which no bytes are no file: an empty one has a zero, which ends too early as well. Nil
+// stays none.
+func notEmpty(file []byte) []byte {
+	if file != nil && len(file) == 0 {
+		return []byte{0}
 	}
-	if isSigned {
-		q.Key, q.Signature = someBytes(q.Key), someBytes(q.Signature)
-	}
-	if q.NonceHex != "" {
-		nonce, err := hex.DecodeString(strings.TrimSpace(q.NonceHex))
-		if err != nil {
-			return Quote{}, argumentError()
-		}
-		q.Nonce = nonce
-	}
-	return q, nil
+	return file
 }
 
-// NothingRequired is a requirement that names no PCR: a verdict then covers only what the expected text names. A verdict on no
-// PCRs is no match, even if its JSON says so.
+// NothingRequired is a requirement that names no PCR: a verdict then covers only what the expected text names, and is no match if
+// that is nothing.
 const NothingRequired = "none"
-
-// Version is the version of the library's interface.
-func Version() uint32 {
-	return libraryVersion()
-}
 
 // Verify gives the verdict on a firmware event log, a measurement list and the expected PCRs that a text states.
 //
 // require names the PCRs that must be among the expected ones, such as "sha256:0-10" or "sha256:0-7,sha1:10". Each that is not has
-// a row whose state is StateMissing, and then the verdict is no match. NothingRequired requires none; a text without PCR 10, or an
+// a row whose state is StateMissing, and then the verdict is no match. NothingRequired requires no PCR; a text without PCR 10, or an
 // empty one, is refused. The one option is Known.
 func Verify(log, list, expected []byte, require string, options ...Option) (Verdict, error) {
 	known, err := knownIn(options)
 	if err != nil {
 		return Verdict{}, err
 	}
-	return resultFor[Verdict](func(out []byte) (int32, errorInfo) {
-		return callVerdict(log, list, expected, []byte(require), known, out)
-	})
+	return resultFor[Verdict](func(out []byte) reply { return callVerdict(log, list, expected, []byte(require), known, out) })
 }
 
 // Attest gives the verdict on a firmware event log and a measurement list by a quote with its signature. No file of PCR values is needed.
 //
 // A signature that is not by the key and on the message is refused with KindSignature, and what is no key with KindKey, or if it begins as PEM
-// does with KindSignature. A message that is no quote, has another nonce, or does not select a required PCR is refused with KindQuote; a
-// requirement that is not of its form or leaves out one of the PCRs 0 to 10, and a nonce that is too short, with KindArgument. The one option
-// is Known.
+// does with KindSignature. A message that is no quote, has another nonce, or does not select a required PCR is refused with KindQuote. A
+// requirement that leaves out one of the PCRs 0 to 10, a nonce that is too short or not hexadecimal, and members of the Quote that do not
+// belong together are refused with KindArgument. The one option is Known.
 func Attest(log, list []byte, quote Quote, options ...Option) (Attestation, error) {
 	known, err := knownIn(options)
 	if err != nil {
@@ -112,7 +90,7 @@ func Attest(log, list []byte, quote Quote, options ...Option) (Attestation, erro
 
 // Locate says where each expected PCR first has its value. The arguments and the errors are those of Verify, without options.
 func Locate(log, list, expected []byte, require string) (Places, error) {
-	return resultFor[Places](func(out []byte) (int32, errorInfo) { return callLocate(log, list, expected, []byte(require), out) })
+	return resultFor[Places](func(out []byte) reply { return callLocate(log, list, expected, []byte(require), out) })
 }
 
 // Replay gives the verdict on a measurement list without a log. The list is replayed from the PCRs' reset values, so a PCR that the
@@ -122,42 +100,25 @@ func Replay(list, expected []byte, require string, options ...Option) (ListVerdi
 	if err != nil {
 		return ListVerdict{}, err
 	}
-	return resultFor[ListVerdict](func(out []byte) (int32, errorInfo) {
-		return callReplay(list, expected, []byte(require), known, out)
-	})
+	return resultFor[ListVerdict](func(out []byte) reply { return callReplay(list, expected, []byte(require), known, out) })
 }
 
-// ExpectedFrom gives the lines of expected PCRs, as Verify takes them, that a text which tpm2_pcrread or tpm2_checkquote printed
-// states: of the PCRs that a selection has, such as "sha256:0-10" or "0-7,10", or of all, if that is empty. A text with none of them
-// is refused. Nothing says who wrote the text, nor whether a quote holds: take the values of a quote that was checked, or of a trusted
-// machine.
+// ExpectedFrom gives the lines of expected PCRs, as Verify takes them, that a text which tpm2_pcrread or tpm2_checkquote printed states:
+// of the PCRs that a selection has, such as "sha256:0-10" or "0-7,10", or of all, if that is empty. A text with none of them is refused.
+// Nothing says who wrote the text, nor whether a quote holds: take the values of a quote that was checked, or of a trusted machine.
 func ExpectedFrom(printed []byte, registers string) ([]byte, error) {
-	given, err := ask(make([]byte, firstCapacity), func(out []byte) (int32, errorInfo) {
-		return callExpected(printed, []byte(registers), out)
-	})
-	if err != nil {
-		return nil, err
-	}
-	return given.lines()
-}
-
-// lines gives the lines of expected PCRs, with no more memory than they need.
-func (a answer) lines() ([]byte, error) {
-	if a.status != done || !bytes.HasSuffix(a.text, []byte("\n")) {
-		return nil, a.unexpected()
-	}
-	return clone(a.text), nil
+	given, err := ask(make([]byte, firstCapacity), func(out []byte) reply { return callExpected(printed, []byte(registers), out) })
+	return clone(given.text), err
 }
 
 // Registers gives the PCRs that differ from their reset values after a firmware event log.
 func Registers(log []byte) (PCRs, error) {
-	return resultFor[PCRs](func(out []byte) (int32, errorInfo) { return callRegisters(log, false, out) })
+	return resultFor[PCRs](func(out []byte) reply { return callRegisters(log, false, out) })
 }
 
-// ListRegisters gives the PCRs, in banks of all algorithms, that differ from their reset values after a measurement list without
-// a log.
+// ListRegisters gives the PCRs, in banks of all algorithms, that differ from their reset values after a measurement list without a log.
 func ListRegisters(list []byte) (PCRs, error) {
-	return resultFor[PCRs](func(out []byte) (int32, errorInfo) { return callRegisters(list, true, out) })
+	return resultFor[PCRs](func(out []byte) reply { return callRegisters(list, true, out) })
 }
 
 // ReadKey gives the attestation key of a public area, a TPM2B_PUBLIC: the file that `tpm2_createak -u` writes.
@@ -167,18 +128,13 @@ func ListRegisters(list []byte) (PCRs, error) {
 // area does not say, and anyone can write one. Take the area, or its PEM, for Attest only after a credential was activated that was made to
 // the Name and to the machine's endorsement key. `ima-enroll` does that, and keeps both.
 func ReadKey(area []byte) (Key, error) {
-	return readKey(area, false)
+	return resultFor[Key](func(out []byte) reply { return callKey(area, false, out) })
 }
 
-// ReadEndorsementKey gives the endorsement key of a public area, to which credentials are made: the file that `tpm2_createek -u`
-// writes.
+// ReadEndorsementKey gives the endorsement key of a public area, to which credentials are made: the file that `tpm2_createek -u` writes.
 //
 // The key is restricted, never leaves the TPM that made it, decrypts, and does not sign; any other is refused with KindKey. Nor does
 // its area say whose it is: compare the PEM with the key of a certificate by the TPM's manufacturer.
 func ReadEndorsementKey(area []byte) (Key, error) {
-	return readKey(area, true)
-}
-
-func readKey(area []byte, isEndorsement bool) (Key, error) {
-	return resultFor[Key](func(out []byte) (int32, errorInfo) { return callKey(area, isEndorsement, out) })
+	return resultFor[Key](func(out []byte) reply { return callKey(area, true, out) })
 }

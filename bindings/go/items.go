@@ -38,35 +38,27 @@ func (e Entry) TemplateName() string {
 	return e.Template + string(e.TemplateHex)
 }
 
-// DigestType says what a digest is of.
-type DigestType string
-
-const (
-	DigestTypeIMA    DigestType = "ima"    // the file
-	DigestTypeVerity DigestType = "verity" // its hash tree, by fs-verity
-)
-
 // Fields are what the payload of ima-ngv2, ima-sigv2, ima-buf, ima-modsig or evm-sig says, as docs/formats.md has them. A field that
 // the template lacks is absent.
 type Fields struct {
-	DigestType      DigestType `json:"digest_type,omitempty"`
-	Algorithm       Algorithm  `json:"algorithm"`
-	Digest          Hex        `json:"digest"`
-	Path            string     `json:"path,omitempty"`
-	PathHex         Hex        `json:"path_hex,omitempty"`
-	Signature       Hex        `json:"signature,omitempty"`
-	ModsigAlgorithm Algorithm  `json:"modsig_algorithm,omitempty"`
-	ModsigDigest    Hex        `json:"modsig_digest,omitempty"`
-	Modsig          Hex        `json:"modsig,omitempty"`
-	Buffer          Hex        `json:"buffer,omitempty"`
-	EVMSignature    Hex        `json:"evm_signature,omitempty"`
-	XattrNames      string     `json:"xattr_names,omitempty"`
-	XattrNamesHex   Hex        `json:"xattr_names_hex,omitempty"`
-	XattrLengths    []uint32   `json:"xattr_lengths,omitempty"`
-	XattrValues     Hex        `json:"xattr_values,omitempty"`
-	UID             *uint32    `json:"uid,omitempty"`
-	GID             *uint32    `json:"gid,omitempty"`
-	Mode            *uint16    `json:"mode,omitempty"`
+	DigestType      string    `json:"digest_type,omitempty"` // of "ima", the file, or "verity", its hash tree
+	Algorithm       Algorithm `json:"algorithm"`
+	Digest          Hex       `json:"digest"`
+	Path            string    `json:"path,omitempty"`
+	PathHex         Hex       `json:"path_hex,omitempty"`
+	Signature       Hex       `json:"signature,omitempty"`
+	ModsigAlgorithm Algorithm `json:"modsig_algorithm,omitempty"`
+	ModsigDigest    Hex       `json:"modsig_digest,omitempty"`
+	Modsig          Hex       `json:"modsig,omitempty"`
+	Buffer          Hex       `json:"buffer,omitempty"`
+	EVMSignature    Hex       `json:"evm_signature,omitempty"`
+	XattrNames      string    `json:"xattr_names,omitempty"`
+	XattrNamesHex   Hex       `json:"xattr_names_hex,omitempty"`
+	XattrLengths    []uint32  `json:"xattr_lengths,omitempty"`
+	XattrValues     Hex       `json:"xattr_values,omitempty"`
+	UID             *uint32   `json:"uid,omitempty"`
+	GID             *uint32   `json:"gid,omitempty"`
+	Mode            *uint16   `json:"mode,omitempty"`
 }
 
 // LogHeader is the header of a firmware event log: the algorithms that it declares, and what else it says. JSON is its line.
@@ -97,23 +89,22 @@ type Specification struct {
 // none, whatever digests it states, so no PCR confirms it. Type is the name of the type, or empty if it has none. Digests has those of
 // the log's banks. JSON is its line.
 //
-// Measured has the part of the data whose hash is the digest, for each bank of which there is one; what is not measured is only what
-// the log claims, and so is the type. Confirmed is absent: the package confirms no events.
+// Measured has the part of the data whose hash is the digest, for each bank of which there is one. Confirmed is the part that the evidence
+// of ConfirmedEvents confirms, and otherwise empty. What is not confirmed is only what the log claims, and so is the type.
 type Event struct {
-	Number     uint64             `json:"event"`
-	Register   uint32             `json:"register"`
-	Type       string             `json:"type,omitempty"`
-	TypeNumber uint32             `json:"type_number"`
-	Digests    map[Algorithm]Hex  `json:"digests"`
-	Data       Hex                `json:"data"`
-	Measured   map[Algorithm]Part `json:"measured"`
-	Confirmed  Part               `json:"confirmed,omitempty"`
-	Content    Content            `json:"content"`
-	JSON       string             `json:"-"`
+	Number     uint64        `json:"event"`
+	Register   uint32        `json:"register"`
+	Type       string        `json:"type,omitempty"`
+	TypeNumber uint32        `json:"type_number"`
+	Digests    PerBank[Hex]  `json:"digests"`
+	Data       Hex           `json:"data"`
+	Measured   PerBank[Part] `json:"measured"`
+	Confirmed  Part          `json:"confirmed,omitempty"`
+	Content    Content       `json:"content"`
+	JSON       string        `json:"-"`
 }
 
-// Part is a part of an event's data. If a PCR has the value that the log gives it, a part that is measured was hashed at the event's
-// place in the PCR.
+// Part is a part of an event's data.
 type Part string
 
 const (
@@ -140,20 +131,12 @@ type Content struct {
 	Unknown   bool      `json:"unknown,omitempty"`
 }
 
-// CommandKind is the kind of a command of GRUB, by what precedes its text.
-type CommandKind string
-
-const (
-	CommandKindGRUB   CommandKind = "grub"
-	CommandKindKernel CommandKind = "kernel" // the command line of a kernel
-	CommandKindModule CommandKind = "module" // that of a module, such as an initrd
-)
-
-// Command is a command of GRUB.
+// Command is a command of GRUB. By what precedes its text, Kind is "grub", "kernel" for the command line of a kernel, or "module" for that
+// of a module, such as an initrd.
 type Command struct {
-	Kind    CommandKind `json:"kind"`
-	Text    string      `json:"text,omitempty"`
-	TextHex Hex         `json:"text_hex,omitempty"`
+	Kind    string `json:"kind"`
+	Text    string `json:"text,omitempty"`
+	TextHex Hex    `json:"text_hex,omitempty"`
 }
 
 // Variable is a variable of UEFI. What its value says is in one of the fields after Value, or in none.
@@ -226,7 +209,7 @@ type Blob struct {
 	Length         string `json:"length"`
 }
 
-// Tagged is a tagged event: its text, or its data if that is none.
+// Tagged is a tagged event: its text, or its data if that is not text.
 type Tagged struct {
 	ID   uint32 `json:"id"`
 	Text string `json:"text,omitempty"`

@@ -1,14 +1,5 @@
 package imaverify
 
-// The compiler finds the library by `#include <ima_verify.h>` and `-lima_verify` where both are installed for the system.
-// Otherwise say where they are:
-//
-//	CGO_CFLAGS=-I/path/of/header CGO_LDFLAGS=-L/path/of/library go build
-//	CGO_CFLAGS=$(pkg-config --cflags ima_verify) CGO_LDFLAGS=$(pkg-config --libs ima_verify) go build
-//
-// A program that is linked with libima_verify.so needs it when it runs, where the system's loader finds it or in
-// LD_LIBRARY_PATH.
-
 /*
 #cgo LDFLAGS: -lima_verify
 #include <ima_verify.h>
@@ -17,7 +8,7 @@ import "C"
 
 import "unsafe"
 
-// What a call returns. (It is never misused.)
+// What a call returns.
 const (
 	done        = C.IMA_VERIFY_DONE
 	differs     = C.IMA_VERIFY_DIFFERS
@@ -25,17 +16,19 @@ const (
 	outOfMemory = C.IMA_VERIFY_OUT_OF_MEMORY
 	tooShort    = C.IMA_VERIFY_TOO_SHORT
 	moreLines   = C.IMA_VERIFY_MORE
+	misused     = C.IMA_VERIFY_MISUSED
 )
 
 const (
 	headerVersion      = C.IMA_VERIFY_VERSION
 	noPlace            = C.IMA_VERIFY_NO_PLACE // the place of an error that names none
-	checkpointCapacity = C.IMA_VERIFY_CHECKPOINT_ROOM
+	checkpointCapacity = C.IMA_VERIFY_CHECKPOINT_CAPACITY
+	argumentNumber     = C.IMA_VERIFY_ARGUMENT
 )
 
 // The kinds of errors for which an input is refused.
 var kinds = map[uint32]Kind{
-	C.IMA_VERIFY_ARGUMENT:   KindArgument,
+	argumentNumber:          KindArgument,
 	C.IMA_VERIFY_LOG:        KindLog,
 	C.IMA_VERIFY_LIST:       KindList,
 	C.IMA_VERIFY_REPLAY:     KindReplay,
@@ -47,15 +40,22 @@ var kinds = map[uint32]Kind{
 	C.IMA_VERIFY_SIGNATURE:  KindSignature,
 }
 
-// errorInfo is what a call reports of its text: the size, and the error that the text is the line of.
-type errorInfo struct {
-	size         uint64
-	kind, number uint32
-	place        uint64
+// What says which PCRs match after a log.
+const (
+	byExpected = C.IMA_VERIFY_BY_EXPECTED
+	byQuote    = C.IMA_VERIFY_BY_QUOTE
+)
+
+// reply is what a call returns: its status, the size of a next checkpoint, and that of its text with the error that it is the line of.
+type reply struct {
+	status         int32
+	nextSize, size uint64
+	kind, number   uint32
+	place          uint64
 }
 
-func givenBy(result C.int32_t, t *C.struct_ima_verify_told) (int32, errorInfo) {
-	return int32(result), errorInfo{uint64(t.size), uint32(t.fault_kind), uint32(t.fault_number), uint64(t.fault_place)}
+func reported(status C.int32_t, nextSize C.size_t, info *C.struct_ima_verify_info) reply {
+	return reply{int32(status), uint64(nextSize), uint64(info.size), uint32(info.error_kind), uint32(info.error_number), uint64(info.error_place)}
 }
 
 // position is where the lines of entries or events continue.
@@ -78,78 +78,118 @@ func size(data []byte) C.size_t {
 	return C.size_t(len(data))
 }
 
-func libraryVersion() uint32 {
+// Version is the version of the library's interface.
+func Version() uint32 {
 	return uint32(C.ima_verify_version())
 }
 
-func callVerdict(log, list, expected, require []byte, known knownFiles, out []byte) (int32, errorInfo) {
-	var t C.struct_ima_verify_told
-	return givenBy(C.ima_verify_raw_verdict(start(log), size(log), start(list), size(list), start(expected), size(expected),
+// (The numbers of a verdict are for programs that read no JSON: none are asked for.)
+
+func callVerdict(log, list, expected, require []byte, known knownFiles, out []byte) reply {
+	var info C.struct_ima_verify_info
+	var numbers C.uint64_t
+	return reported(C.ima_verify_raw_verdict(start(log), size(log), start(list), size(list), start(expected), size(expected),
 		start(require), size(require), start(known.text), size(known.text), C.bool(known.checked), true,
-		start(out), size(out), &t), &t)
+		&numbers, 0, start(out), size(out), &info), 0, &info)
 }
 
-func callLocate(log, list, expected, require, out []byte) (int32, errorInfo) {
-	var t C.struct_ima_verify_told
-	return givenBy(C.ima_verify_raw_locate(start(log), size(log), start(list), size(list), start(expected), size(expected),
-		start(require), size(require), true, start(out), size(out), &t), &t)
+func callLocate(log, list, expected, require, out []byte) reply {
+	var info C.struct_ima_verify_info
+	return reported(C.ima_verify_raw_locate(start(log), size(log), start(list), size(list), start(expected), size(expected),
+		start(require), size(require), true, start(out), size(out), &info), 0, &info)
 }
 
-func callReplay(list, expected, require []byte, known knownFiles, out []byte) (int32, errorInfo) {
-	var t C.struct_ima_verify_told
-	return givenBy(C.ima_verify_raw_replay(start(list), size(list), start(expected), size(expected),
+func callReplay(list, expected, require []byte, known knownFiles, out []byte) reply {
+	var info C.struct_ima_verify_info
+	var numbers C.uint64_t
+	return reported(C.ima_verify_raw_replay(start(list), size(list), start(expected), size(expected),
 		start(require), size(require), start(known.text), size(known.text), C.bool(known.checked), true,
-		start(out), size(out), &t), &t)
+		&numbers, 0, start(out), size(out), &info), 0, &info)
 }
 
-// callMore also gives the size of the next checkpoint.
-func callMore(log, state, data, expected, require []byte, known knownFiles, prefix bool, next, out []byte) (int32, uint64, errorInfo) {
-	var t C.struct_ima_verify_told
+func callMore(log, state, data, expected, require []byte, known knownFiles, prefix bool, next, out []byte) reply {
+	var info C.struct_ima_verify_info
+	var numbers C.uint64_t
 	var nextSize C.size_t
-	result, info := givenBy(C.ima_verify_raw_more(start(log), size(log), start(state), size(state), start(data), size(data),
+	status := C.ima_verify_raw_more(start(log), size(log), start(state), size(state), start(data), size(data),
 		start(expected), size(expected), start(require), size(require),
 		start(known.text), size(known.text), C.bool(known.checked), C.bool(prefix), true,
-		start(next), size(next), &nextSize, start(out), size(out), &t), &t)
-	return result, uint64(nextSize), info
+		&numbers, 0, start(next), size(next), &nextSize, start(out), size(out), &info)
+	return reported(status, nextSize, &info)
 }
 
-// callAttest also gives the size of the next checkpoint.
-func callAttest(log, state, data []byte, quote Quote, known knownFiles, prefix bool, next, out []byte) (int32, uint64, errorInfo) {
-	var t C.struct_ima_verify_told
+func callAttest(log, state, data []byte, quote Quote, known knownFiles, prefix bool, next, out []byte) reply {
+	var info C.struct_ima_verify_info
+	var numbers C.uint64_t
 	var nextSize C.size_t
-	require := []byte(quote.Require)
-	result, info := givenBy(C.ima_verify_raw_attest(start(log), size(log), start(state), size(state), start(data), size(data),
-		start(quote.Message), size(quote.Message), start(quote.Key), size(quote.Key), start(quote.Signature), size(quote.Signature),
-		start(quote.Nonce), size(quote.Nonce), start(require), size(require),
+	key, signature, nonceHex, require := quote.parts()
+	status := C.ima_verify_raw_attest(start(log), size(log), start(state), size(state), start(data), size(data),
+		start(quote.Message), size(quote.Message), start(key), size(key), start(signature), size(signature),
+		start(quote.Nonce), size(quote.Nonce), start(nonceHex), size(nonceHex), start(require), size(require),
 		start(known.text), size(known.text), C.bool(known.checked),
 		C.bool(quote.AllowSHA1), C.bool(quote.SignatureChecked), C.bool(prefix), true,
-		start(next), size(next), &nextSize, start(out), size(out), &t), &t)
-	return result, uint64(nextSize), info
+		&numbers, 0, start(next), size(next), &nextSize, start(out), size(out), &info)
+	return reported(status, nextSize, &info)
 }
 
-func callExpected(printed, registers, out []byte) (int32, errorInfo) {
-	var t C.struct_ima_verify_told
-	return givenBy(C.ima_verify_raw_expected(start(printed), size(printed), start(registers), size(registers), false,
-		start(out), size(out), &t), &t)
+// parts are what the library takes in another form than a quote has.
+func (q Quote) parts() (key, signature, nonceHex, require []byte) {
+	return notEmpty(q.Key), notEmpty(q.Signature), []byte(q.NonceHex), []byte(q.Require)
 }
 
-func callRegisters(data []byte, ofList bool, out []byte) (int32, errorInfo) {
-	var t C.struct_ima_verify_told
-	return givenBy(C.ima_verify_raw_registers(start(data), size(data), C.bool(ofList), true, start(out), size(out), &t), &t)
+func callMatching(log []byte, evidence Evidence, out []byte) reply {
+	var info C.struct_ima_verify_info
+	quote := evidence.quote
+	key, signature, nonceHex, require := quote.parts()
+	return reported(C.ima_verify_raw_matching(start(log), size(log), C.uint32_t(evidence.by),
+		start(evidence.expected), size(evidence.expected), start(evidence.list), size(evidence.list),
+		start(quote.Message), size(quote.Message), start(key), size(key), start(signature), size(signature),
+		start(quote.Nonce), size(quote.Nonce), start(nonceHex), size(nonceHex), start(require), size(require),
+		C.bool(quote.AllowSHA1), C.bool(quote.SignatureChecked), start(out), size(out), &info), 0, &info)
 }
 
-func callKey(area []byte, isEndorsement bool, out []byte) (int32, errorInfo) {
-	var t C.struct_ima_verify_told
-	return givenBy(C.ima_verify_raw_key(start(area), size(area), C.bool(isEndorsement), true, start(out), size(out), &t), &t)
+func callBoot(log, before []byte, compares bool, evidence Evidence, out []byte) reply {
+	var info C.struct_ima_verify_info
+	quote := evidence.quote
+	key, signature, nonceHex, require := quote.parts()
+	return reported(C.ima_verify_raw_boot(start(log), size(log), start(before), size(before), C.bool(compares), C.uint32_t(evidence.by),
+		start(evidence.expected), size(evidence.expected), start(evidence.list), size(evidence.list),
+		start(quote.Message), size(quote.Message), start(key), size(key), start(signature), size(signature),
+		start(quote.Nonce), size(quote.Nonce), start(nonceHex), size(nonceHex), start(require), size(require),
+		C.bool(quote.AllowSHA1), C.bool(quote.SignatureChecked), true, start(out), size(out), &info), 0, &info)
 }
 
-func callEntries(list []byte, at *position, isJSON bool, out []byte) (int32, errorInfo) {
-	var t C.struct_ima_verify_told
-	return givenBy(C.ima_verify_raw_entries(start(list), size(list), &at.offset, &at.number, C.bool(isJSON),
-		start(out), size(out), &t), &t)
+func callExpected(printed, registers, out []byte) reply {
+	var info C.struct_ima_verify_info
+	return reported(C.ima_verify_raw_expected(start(printed), size(printed), start(registers), size(registers), false,
+		start(out), size(out), &info), 0, &info)
 }
 
-func callEvents(log []byte, at *position, out []byte) (int32, errorInfo) {
-	var t C.struct_ima_verify_told
-	return givenBy(C.ima_verify_raw_events(start(log), size(log), &at.offset, &at.number, start(out), size(out), &t), &t)
+func callRegisters(data []byte, ofList bool, out []byte) reply {
+	var info C.struct_ima_verify_info
+	return reported(C.ima_verify_raw_registers(start(data), size(data), C.bool(ofList), true, start(out), size(out), &info), 0, &info)
+}
+
+func callKey(area []byte, isEndorsement bool, out []byte) reply {
+	var info C.struct_ima_verify_info
+	return reported(C.ima_verify_raw_key(start(area), size(area), C.bool(isEndorsement), true, start(out), size(out), &info), 0, &info)
+}
+
+func callEntries(list []byte, at *position, isJSON bool, out []byte) reply {
+	var info C.struct_ima_verify_info
+	return reported(C.ima_verify_raw_entries(start(list), size(list), &at.offset, &at.number, C.bool(isJSON),
+		start(out), size(out), &info), 0, &info)
+}
+
+// callEvents has each event say what these PCRs confirm of it, if they are given.
+func callEvents(log, matching []byte, matchingGiven bool, at *position, out []byte) reply {
+	var info C.struct_ima_verify_info
+	return reported(C.ima_verify_raw_events(start(log), size(log), start(matching), size(matching), C.bool(matchingGiven),
+		&at.offset, &at.number, start(out), size(out), &info), 0, &info)
+}
+
+func callErrorText(of reply, out []byte) reply {
+	var info C.struct_ima_verify_info
+	return reported(C.ima_verify_raw_error_text(C.uint32_t(of.kind), C.uint32_t(of.number), C.uint64_t(of.place),
+		start(out), size(out), &info), 0, &info)
 }

@@ -4,27 +4,24 @@ import "bytes"
 
 // lines goes through the lines of entries or of events, which the library gives by pieces.
 type lines struct {
-	call    func(out []byte) (int32, errorInfo) // for the next piece
-	isEmpty bool                                // whether there are no lines, since the list has no bytes
-	buffer  []byte
-	rest    []byte // the lines of the piece that are not read yet
-	status  int32  // of the last call
-	count   uint64 // how many items were read
-	err     error
+	call   func(out []byte) reply // for the next piece
+	buffer []byte
+	rest   []byte // the lines of the piece that are not read yet
+	status int32  // of the last call
+	err    error
 }
 
-func linesOf(isEmpty bool, call func(out []byte) (int32, errorInfo)) *lines {
-	return &lines{call: call, isEmpty: isEmpty, buffer: make([]byte, firstCapacity), status: moreLines}
+func linesOf(call func(out []byte) reply) *lines {
+	return &lines{call: call, buffer: make([]byte, firstCapacity), status: moreLines}
 }
 
-// piece gives the lines that the next call gives, which are none only for an empty list. After the last ones, and after an
-// error, it gives nil.
+// piece gives the lines that the next call gives. After the last ones, and after an error, it gives nil.
 func (l *lines) piece() []byte {
 	if l.err != nil || l.status == done {
 		return nil
 	}
 	given, err := ask(l.buffer, l.call)
-	if err == nil && !l.isPiece(given) {
+	if err == nil && !isPiece(given) {
 		err = given.unexpected()
 	}
 	if err != nil {
@@ -35,9 +32,10 @@ func (l *lines) piece() []byte {
 	return given.text
 }
 
-func (l *lines) isPiece(given answer) bool {
-	if l.isEmpty {
-		return given.status == done && len(given.text) == 0
+// isPiece is whether an answer has whole lines: some, if more follow.
+func isPiece(given answer) bool {
+	if len(given.text) == 0 {
+		return given.status == done
 	}
 	return (given.status == done || given.status == moreLines) && bytes.HasSuffix(given.text, []byte("\n"))
 }
@@ -50,75 +48,55 @@ func (l *lines) line() []byte {
 	return l.rest[:bytes.IndexByte(l.rest, '\n')+1]
 }
 
-// isLast says whether no line comes after this one, which is the next.
-func (l *lines) isLast(line []byte) bool {
-	return l.status == done && len(line) > 0 && len(line) == len(l.rest)
-}
-
-// fail ends the lines with an error of this line.
-func (l *lines) fail(line []byte) {
-	l.rest, l.err = nil, answer{status: l.status, text: line}.unexpected()
-}
-
 // nextOf reads the next line, and says whether there is one.
-func nextOf[T any](l *lines) (T, bool) {
-	var read, none T
+func nextOf[T any](l *lines) (item T, isNext bool) {
 	line := l.line()
 	if len(line) == 0 {
+		return item, false
+	}
+	if !decode(line, &item) {
+		l.rest, l.err = nil, answer{reply: reply{status: l.status}, text: line}.unexpected()
+		var none T
 		return none, false
 	}
-	if !decode(line, &read) {
-		l.fail(line)
-		return none, false
-	}
-	l.rest, l.count = l.rest[len(line):], l.count+1
-	return read, true
+	l.rest = l.rest[len(line):]
+	return item, true
 }
 
-// endLine is the line after the last entry of a whole list.
-type endLine struct {
-	Entries uint64 `json:"entries"`
+// Scanner goes through entries or events, as bufio.Scanner goes through lines.
+type Scanner[T Entry | Event] struct {
+	lines  *lines
+	item   T
+	hasEnd bool // whether the last line is no item, but says how many there are
 }
 
-// EntryScanner goes through the entries of a measurement list, as bufio.Scanner goes through lines.
-type EntryScanner struct {
-	lines *lines
-	entry Entry
-}
-
-// Next reads the next entry, which Entry then gives. It is false after the last entry, and at an error, which Err then gives.
-func (s *EntryScanner) Next() bool {
+// Next reads the next item, which Item then gives. It is false after the last item, and at an error, which Err then gives.
+func (s *Scanner[T]) Next() bool {
 	line := s.lines.line()
-	if !s.lines.isLast(line) {
-		var isNext bool
-		s.entry, isNext = nextOf[Entry](s.lines)
-		return isNext
+	if isLast := s.lines.status == done && len(line) == len(s.lines.rest); isLast && s.hasEnd {
+		s.lines.rest = nil
 	}
-	// (the last line says how many entries there are, or the list was cut)
-	var end endLine
-	if !decode(line, &end) || end.Entries != s.lines.count {
-		s.lines.fail(line)
-	}
-	s.entry, s.lines.rest = Entry{}, nil
-	return false
+	var isNext bool
+	s.item, isNext = nextOf[T](s.lines)
+	return isNext
 }
 
-// Entry gives the entry that Next read, or the zero value if it read none.
-func (s *EntryScanner) Entry() Entry {
-	return s.entry
+// Item gives what Next read, or the zero value if it read none.
+func (s *Scanner[T]) Item() T {
+	return s.item
 }
 
-// Err gives the error that ended the entries: a *RefusedError says where the list is damaged. It is nil after the last entry
-// of a whole list, and as long as Next is true.
-func (s *EntryScanner) Err() error {
+// Err gives the error that ended the items: a *RefusedError says where the input is damaged. It is nil after the last item of a
+// whole input, and as long as Next is true.
+func (s *Scanner[T]) Err() error {
 	return s.lines.err
 }
 
-// EventScanner goes through the events of a firmware event log, as bufio.Scanner goes through lines.
+// EventScanner goes through the events of a firmware event log.
 type EventScanner struct {
-	lines  *lines
-	header LogHeader
-	event  Event
+	Scanner[Event]
+	header       LogHeader
+	quoteDiffers bool
 }
 
 // Header gives the log's header, with the algorithms that it declares.
@@ -126,31 +104,18 @@ func (s *EventScanner) Header() LogHeader {
 	return s.header
 }
 
-// Next reads the next event, which Event then gives. It is false after the last event, and at an error, which Err then gives.
-func (s *EventScanner) Next() bool {
-	var isNext bool
-	s.event, isNext = nextOf[Event](s.lines)
-	return isNext
-}
-
-// Event gives the event that Next read, or the zero value if it read none.
-func (s *EventScanner) Event() Event {
-	return s.event
-}
-
-// Err gives the error that ended the events: a *RefusedError says where the log is damaged. It is nil after the last event of a
-// whole log, and as long as Next is true.
-func (s *EventScanner) Err() error {
-	return s.lines.err
+// QuoteDiffers says that a quote which was given as evidence is no match for log and list: no event is confirmed then.
+func (s *EventScanner) QuoteDiffers() bool {
+	return s.quoteDiffers
 }
 
 // Entries goes through the entries of a measurement list. Each says whether its template digest is valid; no entry says that
 // the list is the machine's, as Verify does. The list must not change before the last call of Next.
 //
 // For a damaged list Next gives the entries before the error. A loop that ends early does not come to the error.
-func Entries(list []byte) *EntryScanner {
+func Entries(list []byte) *Scanner[Entry] {
 	at := new(position)
-	return &EntryScanner{lines: linesOf(false, func(out []byte) (int32, errorInfo) { return callEntries(list, at, true, out) })}
+	return &Scanner[Entry]{lines: linesOf(func(out []byte) reply { return callEntries(list, at, true, out) }), hasEnd: true}
 }
 
 // Events goes through the events of a firmware event log after its header. The log must not change before the last call of
@@ -158,27 +123,42 @@ func Entries(list []byte) *EntryScanner {
 //
 // For a log that is damaged later Next gives the events before the error. A loop that ends early does not come to the error.
 func Events(log []byte) (*EventScanner, error) {
-	at := new(position)
-	return eventsOf(linesOf(false, func(out []byte) (int32, errorInfo) { return callEvents(log, at, out) }))
+	return eventsBy(log, nil, false)
 }
 
-// eventsOf reads the first line, which is the header.
-func eventsOf(l *lines) (*EventScanner, error) {
+// ConfirmedEvents goes through events as Events does, and each says in Confirmed what the evidence confirms of its data. The evidence is
+// read here alone. Its errors are those of Verify and Attest; the zero value is refused with KindArgument.
+func ConfirmedEvents(log []byte, evidence Evidence) (*EventScanner, error) {
+	matching, err := ask(make([]byte, firstCapacity), func(out []byte) reply { return callMatching(log, evidence, out) })
+	if err != nil {
+		return nil, err
+	}
+	events, err := eventsBy(log, matching.text, true)
+	if err == nil {
+		events.quoteDiffers = matching.status == differs
+	}
+	return events, err
+}
+
+// eventsBy reads the first line, which is the header. The others say what these PCRs confirm, if they are given.
+func eventsBy(log, matching []byte, matchingGiven bool) (*EventScanner, error) {
+	at := new(position)
+	l := linesOf(func(out []byte) reply { return callEvents(log, matching, matchingGiven, at, out) })
 	header, isNext := nextOf[LogHeader](l)
-	if !isNext {
+	if !isNext && l.err == nil {
+		l.err = answer{reply: reply{status: l.status}}.unexpected() // (a log has a header)
+	}
+	if l.err != nil {
 		return nil, l.err
 	}
-	return &EventScanner{lines: l, header: header}, nil
+	return &EventScanner{Scanner: Scanner[Event]{lines: l}, header: header}, nil
 }
 
 // Show gives the entries of a measurement list as text, each in the kernel's form. Paths are as they are: they may have line
 // feeds and control bytes. Entries gives each entry by itself.
 func Show(list []byte) ([]byte, error) {
 	at := new(position)
-	return allOf(linesOf(len(list) == 0, func(out []byte) (int32, errorInfo) { return callEntries(list, at, false, out) }))
-}
-
-func allOf(l *lines) ([]byte, error) {
+	l := linesOf(func(out []byte) reply { return callEntries(list, at, false, out) })
 	var text []byte
 	for piece := l.piece(); len(piece) > 0; piece = l.piece() {
 		text = append(text, piece...)

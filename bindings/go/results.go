@@ -1,6 +1,9 @@
 package imaverify
 
-import "encoding/hex"
+import (
+	"encoding/hex"
+	"encoding/json"
+)
 
 // Hex is bytes that a line of JSON has in hexadecimal. It prints as any bytes do: with %x in hexadecimal.
 type Hex []byte
@@ -28,6 +31,23 @@ const (
 	AlgorithmSHA384 Algorithm = "sha384"
 	AlgorithmSHA512 Algorithm = "sha512"
 )
+
+// PerBank has something of each bank, by its algorithm.
+type PerBank[T any] map[Algorithm]T
+
+// UnmarshalJSON reads an object. It leaves out what is of another form, since a later library may have members of other kinds.
+func (p *PerBank[T]) UnmarshalJSON(text []byte) error {
+	var members map[Algorithm]json.RawMessage
+	err := json.Unmarshal(text, &members)
+	*p = PerBank[T]{}
+	for name, member := range members {
+		var value T
+		if json.Unmarshal(member, &value) == nil {
+			(*p)[name] = value
+		}
+	}
+	return err
+}
 
 // Conclusion is a report's word on all that it has, or on the quote alone.
 type Conclusion string
@@ -77,8 +97,8 @@ type Stray struct {
 	Register int    `json:"register"`
 }
 
-// Fault is an error as JSON has it: Message is its line. Event, Entry and Number are absent where it has none.
-type Fault struct {
+// ErrorInfo is an error as JSON has it: Message is its line. Event, Entry and Number are absent where it has none.
+type ErrorInfo struct {
 	Kind    Kind    `json:"kind"`
 	Number  uint32  `json:"number,omitempty"`
 	Event   *uint64 `json:"event,omitempty"`
@@ -86,30 +106,36 @@ type Fault struct {
 	Message string  `json:"message"`
 }
 
-// Verdict is the verdict on a log, a list and expected PCRs.
+// Report is what all verdicts have in common.
 //
-// Matches is the answer, and covers no PCR without a row in Registers. If PCRs are required, Extends has the first event that
-// extends PCR 10, and the first entry that extends another. JSON is the report as `ima-agent verify --json` prints it.
+// Matches is the answer. Registers are the expected PCRs, and after them required ones that are not expected. If PCRs are required,
+// Extends has the first event that extends PCR 10, and the first entry that extends another. JSON is the line of `ima-agent --json`.
 //
 // With the option Known, KnownFrom is the first entry that was looked up: 0, or in a session with a state the number of entries
 // that it covers. Unknown has the numbers of the entries from there on that are of no known file. Without the option both are nil.
+type Report struct {
+	Entries    uint64     `json:"entries"`
+	Registers  []Row      `json:"registers,omitempty"`
+	Extends    []Stray    `json:"extends,omitempty"`
+	KnownFrom  *uint64    `json:"known_from,omitempty"`
+	Unknown    []uint64   `json:"unknown,omitempty"`
+	Conclusion Conclusion `json:"verdict"`
+	Matches    bool       `json:"-"`
+	JSON       string     `json:"-"`
+}
+
+// Verdict is the verdict on a log, a list and expected PCRs. It covers the Compared PCRs.
 //
 // Only a Session with Prefix gives a Confirmed other than 0: then the verdict is on that many first entries, of all Entries, with
 // which the PCRs match. Unconfirmed is the first error after these, or nil.
 type Verdict struct {
+	Report
 	Events        uint64        `json:"events"`
 	Locality      uint8         `json:"locality"`
-	Entries       uint64        `json:"entries"`
 	Confirmed     uint64        `json:"confirmed,omitempty"`
-	Unconfirmed   *Fault        `json:"unconfirmed,omitempty"`
+	Unconfirmed   *ErrorInfo    `json:"unconfirmed,omitempty"`
+	Compared      uint64        `json:"compared"`
 	BootAggregate BootAggregate `json:"boot_aggregate"`
-	Registers     []Row         `json:"registers"`
-	Extends       []Stray       `json:"extends,omitempty"`
-	KnownFrom     *uint64       `json:"known_from,omitempty"`
-	Unknown       []uint64      `json:"unknown,omitempty"`
-	Conclusion    Conclusion    `json:"verdict"`
-	Matches       bool          `json:"-"`
-	JSON          string        `json:"-"`
 }
 
 // SignatureState says what is known of a quote's signature.
@@ -117,16 +143,8 @@ type SignatureState string
 
 const (
 	SignatureNotChecked SignatureState = "not checked" // nobody verified it
-	SignatureChecked    SignatureState = "checked"     // the caller says that he verified it
+	SignatureChecked    SignatureState = "checked"     // the caller says that it was verified
 	SignatureValid      SignatureState = "valid"       // it is by the key of the Quote
-)
-
-// Confirmation says whether expected PCRs have the values that were quoted. The package gives none with a quote.
-type Confirmation string
-
-const (
-	ConfirmationConfirmed   Confirmation = "confirmed"
-	ConfirmationUnconfirmed Confirmation = "unconfirmed"
 )
 
 // QuotedBank has the PCRs of a bank that a quote selects.
@@ -148,45 +166,31 @@ type Clock struct {
 	Safe         bool   `json:"safe"`
 }
 
-// Attestation is the verdict on a log and a list by a quote.
+// Attestation is the verdict on a log and a list by a quote. It covers the PCRs in Quoted.
 //
-// Matches is the answer, and covers the PCRs in Quoted. Quote says whether the quote is of the values to which log and list replay.
-// Signer is the qualified name of the key that signed, and Firmware the version of the TPM's firmware, as the quote states them. JSON
-// is the report as `ima-agent attest --json` prints it. The other fields are as in Verdict.
+// Quote says whether the quote is of the values to which log and list replay. Signer is the qualified name of the key that signed, and
+// Firmware the version of the TPM's firmware, as the quote states them. Expected and Registers are absent: nothing is expected beside a
+// quote. The other fields are as in Verdict.
 type Attestation struct {
+	Report
 	Quoted        []QuotedBank   `json:"quoted"`
 	Signer        Hex            `json:"signer"`
 	Clock         Clock          `json:"clock"`
 	Firmware      uint64         `json:"firmware"`
 	Events        uint64         `json:"events"`
 	Locality      uint8          `json:"locality"`
-	Entries       uint64         `json:"entries"`
 	Confirmed     uint64         `json:"confirmed,omitempty"`
-	Unconfirmed   *Fault         `json:"unconfirmed,omitempty"`
+	Unconfirmed   *ErrorInfo     `json:"unconfirmed,omitempty"`
 	BootAggregate BootAggregate  `json:"boot_aggregate"`
-	Expected      Confirmation   `json:"expected,omitempty"`
-	Registers     []Row          `json:"registers,omitempty"`
-	Extends       []Stray        `json:"extends,omitempty"`
-	KnownFrom     *uint64        `json:"known_from,omitempty"`
-	Unknown       []uint64       `json:"unknown,omitempty"`
+	Expected      string         `json:"expected,omitempty"`
 	Quote         Conclusion     `json:"quote"`
 	Signature     SignatureState `json:"signature"`
-	Conclusion    Conclusion     `json:"verdict"`
-	Matches       bool           `json:"-"`
-	JSON          string         `json:"-"`
 }
 
-// ListVerdict is the verdict on a list without a log, and expected PCRs. Its fields are as in Verdict; JSON is the report as
-// `ima-agent replay --json` prints it.
+// ListVerdict is the verdict on a list without a log, and expected PCRs. It covers the Compared PCRs.
 type ListVerdict struct {
-	Entries    uint64     `json:"entries"`
-	Registers  []Row      `json:"registers"`
-	Extends    []Stray    `json:"extends,omitempty"`
-	KnownFrom  *uint64    `json:"known_from,omitempty"`
-	Unknown    []uint64   `json:"unknown,omitempty"`
-	Conclusion Conclusion `json:"verdict"`
-	Matches    bool       `json:"-"`
-	JSON       string     `json:"-"`
+	Report
+	Compared uint64 `json:"compared"`
 }
 
 // Place is the earliest point at which a PCR has its expected value.
@@ -232,38 +236,18 @@ type PCRs struct {
 	JSON      string     `json:"-"`
 }
 
-// KeyType is the type of a TPM's key.
-type KeyType string
-
-const (
-	KeyTypeRSA KeyType = "rsa"
-	KeyTypeECC KeyType = "ecc" // of an elliptic curve
-)
-
-// Scheme is the scheme by which a TPM's key signs or decrypts.
-type Scheme string
-
-const (
-	SchemeNone   Scheme = "none" // whichever is asked for
-	SchemeRSASSA Scheme = "rsassa"
-	SchemeRSAES  Scheme = "rsaes"
-	SchemeRSAPSS Scheme = "rsapss"
-	SchemeOAEP   Scheme = "oaep"
-	SchemeECDSA  Scheme = "ecdsa"
-	SchemeECDH   Scheme = "ecdh"
-)
-
 // Key is what the public area of a key states. Whose TPM the key is in, it does not say.
 //
 // Name is the name by which TPMs know the key: the number of a hash, in two bytes, and that hash of the area. (The Signer of an
-// Attestation is the key's qualified name, which is another.) Bits is the size of the modulus, or 256, 384 or 521 for a curve. Scheme is
-// fixed in the key, and Hash is that of the scheme, or empty if it has none. PEM is the public key as `openssl pkey -pubin` writes it,
-// which Attest takes. JSON is what `ima-agent key --json` prints.
+// Attestation is the key's qualified name, which is another.) Type is "rsa" or "ecc", an elliptic curve. Bits is the size of the modulus,
+// or 256, 384 or 521 for a curve. Scheme, such as "rsassa" or "ecdsa", is fixed in the key; "none" leaves it open. Hash is that of the
+// scheme, or empty if it has none. PEM is the public key as `openssl pkey -pubin` writes it, which Attest takes. JSON is what
+// `ima-agent key --json` prints.
 type Key struct {
 	Name   Hex       `json:"name"`
-	Type   KeyType   `json:"type"`
+	Type   string    `json:"type"`
 	Bits   int       `json:"bits"`
-	Scheme Scheme    `json:"scheme"`
+	Scheme string    `json:"scheme"`
 	Hash   Algorithm `json:"hash,omitempty"`
 	PEM    string    `json:"pem"`
 	JSON   string    `json:"-"`

@@ -61,9 +61,9 @@ func Prefix() Option {
 // Resume has the session continue from the State of an earlier one, with a log of the same boot. The expected PCRs may be
 // others. More and Attest refuse a state that is not whole, even an empty one or nil, with KindCheckpoint.
 //
-// A state is trusted: who can write it can choose the verdict. Never take it from the machine that is judged.
+// A state is trusted: whoever can write it chooses the verdict. Never take it from the machine that is judged.
 func Resume(state []byte) Option {
-	return func(s *settings) { s.state = someBytes(clone(state)) }
+	return func(s *settings) { s.state = notEmpty(append([]byte{}, state...)) }
 }
 
 func settingsOf(options []Option) settings {
@@ -100,14 +100,9 @@ func NewQuoteSession(log []byte, options ...Option) *Session {
 // Numbers of entries, even in an error, are those of the whole list. After an error, and after a verdict that is no match, the
 // session is as it was before: give these bytes again.
 func (s *Session) More(data []byte) (Verdict, error) {
-	return s.more(func(next, out []byte) (int32, uint64, errorInfo) {
+	verdict, next, err := resultAndNext[Verdict](make([]byte, checkpointCapacity), func(next, out []byte) reply {
 		return callMore(s.log, s.settings.state, data, s.expected, []byte(s.require), s.settings.known, s.settings.prefix, next, out)
 	})
-}
-
-// more is More by this call.
-func (s *Session) more(call func(next, out []byte) (int32, uint64, errorInfo)) (Verdict, error) {
-	verdict, next, err := nextResult[Verdict](call)
 	if verdict.Matches {
 		s.settings.state = next
 	}
@@ -130,27 +125,9 @@ func (s *Session) Attest(data []byte, quote Quote) (Attestation, error) {
 
 // attestFrom gives the verdict by a quote on the list of a state followed by these bytes, and the next state.
 func attestFrom(log, data []byte, quote Quote, from settings) (Attestation, []byte, error) {
-	quote, err := quote.prepared()
-	if err != nil {
-		return Attestation{}, nil, err
-	}
-	return nextResult[Attestation](func(next, out []byte) (int32, uint64, errorInfo) {
+	return resultAndNext[Attestation](make([]byte, checkpointCapacity), func(next, out []byte) reply {
 		return callAttest(log, from.state, data, quote, from.known, from.prefix, next, out)
 	})
-}
-
-// nextResult reads a verdict from the answer to a call, and the next state, which only a match has.
-func nextResult[T any](call func(next, out []byte) (int32, uint64, errorInfo)) (T, []byte, error) {
-	var none T
-	given, err := askForBoth(make([]byte, checkpointCapacity), make([]byte, firstCapacity), call)
-	if err != nil {
-		return none, nil, err
-	}
-	read, err := resultOf[T](given)
-	if err == nil && (given.status == done) != (len(given.next) > 0) {
-		return none, nil, given.unexpected()
-	}
-	return read, clone(given.next), err
 }
 
 // State is what to keep, and to Resume another session from. It is nil before the first match on a list from its start.
@@ -171,12 +148,4 @@ func (s *Session) Offset() uint64 {
 
 func clone(data []byte) []byte {
 	return append([]byte(nil), data...)
-}
-
-// someBytes are these bytes, or in place of none a zero, which is refused for the same reason: it ends too early.
-func someBytes(data []byte) []byte {
-	if len(data) == 0 {
-		return []byte{0}
-	}
-	return data
 }

@@ -1,7 +1,5 @@
-"""Packs the library into the wheel, and names in the wheel's tag the machines on which it runs.
-
-The library is the file that the environment variable IMA_VERIFY_LIBRARY names by a path, otherwise
-`libima_verify.so` in the package's folder."""
+"""Packs the library into the wheel, and names in the wheel's tag the machines on which it runs. The
+library is the file whose path is in IMA_VERIFY_LIBRARY, otherwise that in the package's folder."""
 
 import os
 import re
@@ -37,8 +35,7 @@ def library_in(folder):
 
 
 def platform_of(library):
-    """The platform of a wheel with this library: machines whose glibc has what it asks for (PEP
-    600), if it asks by versions."""
+    """The platform of a wheel with this library: a glibc with what it asks for (PEP 600)."""
     asked = [VERSION.fullmatch(word) for word in GLIBC.findall(library)]
     if not asked or None in asked:
         return "linux_x86_64"

@@ -1,8 +1,9 @@
 """Asks the library for C what a command of the program does, by the functions that it exports.
 
-A call that has too little room must write nothing, and say how much it needs; the fault that a call tells must be that of its text. Files of
-known digests are given as one text, and the line of a fault in it is then counted in its file, as the program does. Entries and events
-are asked for by pieces: with room for single lines and for many, which must give the same lines."""
+A call that has too little room must write nothing, and say how much it needs; the error that a call tells must be that of its text. Files of
+known digests are given as one text, and the line of an error in it is then counted in its file, as the program does. Entries and events
+are asked for by pieces: with room for single lines and for many, which must give the same lines. The numbers of a verdict must be those that its
+line of JSON has. A verdict with which nothing is compared is no match for the library; the program's is given for it."""
 
 import ctypes
 import json
@@ -16,7 +17,8 @@ from form import ROOT
 
 sys.path[1:1] = [str(ROOT / "dist"), str(ROOT / "tests")]
 from header import constants_of, exports_of  # noqa: E402
-from reference.command_line import KNOWN, is_hexadecimal  # noqa: E402
+from reference.command_line import KNOWN, HelpAsked, VersionAsked, is_hexadecimal, read_words  # noqa: E402
+from reference.faults import Fault  # noqa: E402
 
 # What the program takes; the library takes more.
 MOST_BYTES = 64 << 20
@@ -33,16 +35,20 @@ FUNCTIONS = {
     ("show", 1): "entries",
     ("events", 1): "events",
 }
-# What requires nothing: the command has no such word.
+# What requires that some PCR is compared: the command has no such word.
 NONE_REQUIRED = "none"
 # Those that take a text of their command's option each time, and which if there is none.
 TEXTS = {"verdict": NONE_REQUIRED, "locate": NONE_REQUIRED, "replay": NONE_REQUIRED, "expected": ""}
-# Those that take a text of known digests after it, and whether it is given.
+# Those that take a text of known digests after it, and whether it is given; and those that give numbers, too.
 KNOWING = ("verdict", "replay")
+NUMBERED = (*KNOWING, "more", "attest")
 # What `verify` of a list that grows has, of which `ima_verify_more` answers.
 MORE_OPTIONS, MORE_FLAGS = ("--require", "--resume", "--save"), ("--json", "--prefix")
 # What `attest` has beside it, of which `ima_verify_attest_more` answers.
 QUOTED_OPTIONS, QUOTED_FLAGS = ("--nonce", "--key", "--signature", *MORE_OPTIONS), ("--sha1", "--signature-checked", *MORE_FLAGS)
+# What `boot` and `events --json` have, of which `ima_verify_raw_boot`, `matching` and `events` answer: the options that name files come first.
+BOOT_FILES = ("--before", "--expected", "--list", "--quote", "--key", "--signature")
+BOOT_OPTIONS, BOOT_FLAGS = (*BOOT_FILES, "--nonce", "--require"), ("--sha1", "--signature-checked", "--json")
 # What `key` has, of which `ima_verify_raw_key` answers: it gives all that there is.
 KEY_OPTIONS, KEY_FLAGS, WHOLE_KEY = ("--print",), ("--json", "--endorsement"), "all"
 # The status of the program where the quote or its signature is refused, or nobody says that this was checked. The library has none of its own for
@@ -59,18 +65,26 @@ CONSTANTS = {name.removeprefix("IMA_VERIFY_"): int(number) for name, number in c
 DONE, DIFFERS, REFUSED, OUT_OF_MEMORY, TOO_SHORT, MORE = (
     CONSTANTS[name] for name in ("DONE", "DIFFERS", "REFUSED", "OUT_OF_MEMORY", "TOO_SHORT", "MORE")
 )
-NO_FAULT, NO_PLACE = (CONSTANTS["NO_FAULT"], 0, (1 << 64) - 1), (1 << 64) - 1
+NO_ERROR, NO_PLACE = (CONSTANTS["NO_ERROR"], 0, (1 << 64) - 1), (1 << 64) - 1
 KIND_NAMES = ("LOG", "LIST", "REPLAY", "EXPECTED", "CHECKPOINT", "QUOTE", "KEY", "KNOWN", "SIGNATURE")
 KINDS = {"command line": "ARGUMENT", **{name.lower(): name for name in KIND_NAMES}}
 FAULT = re.compile(r"refused: (command line|\w+)(?: fault (\d+))?(?: at \w+ (\d+))?")
 KNOWN_LINE = re.compile(rb"(refused: known fault \d at line )(\d+)")
 
 
-class Told(ctypes.Structure):
+# What has the verdict in numbers, in their order.
+SUMMARY = ("verdict", "reason", "compared", "matching", "bank", "pcr", "missing", "entries", "judged", "unknown")
+VERDICTS, BANKS = {"match": 1, "differ": 2}, {"sha1": 1, "sha256": 2, "sha384": 3, "sha512": 4}
+NO_VERDICT = {**dict.fromkeys(SUMMARY, 0), "pcr": NO_PLACE}
+# The reason where nothing is compared, and more numbers than there are, which must be 0.
+NOTHING_COMPARED, MORE_NUMBERS = 8, 2
+
+
+class Info(ctypes.Structure):
     _fields_ = [("size", ctypes.c_size_t), ("kind", ctypes.c_uint32), ("number", ctypes.c_uint32), ("place", ctypes.c_uint64)]
 
     @property
-    def fault(self):
+    def error(self):
         return self.kind, self.number, self.place
 
 
@@ -84,8 +98,80 @@ TYPES = {
     "size_t ": ctypes.c_size_t,
     "size_t *": ctypes.POINTER(ctypes.c_size_t),
     "bool ": ctypes.c_bool,
-    "struct ima_verify_told *": ctypes.POINTER(Told),
+    "uint32_t ": ctypes.c_uint32,
+    "uint64_t ": ctypes.c_uint64,
+    "uint64_t *": ctypes.POINTER(ctypes.c_uint64),
+    "struct ima_verify_info *": ctypes.POINTER(Info),
 }
+
+
+class Numbers:
+    """Room for the numbers of a verdict, and for some that a newer header would have."""
+
+    def __init__(self):
+        self.room = (ctypes.c_uint64 * (1 + len(SUMMARY) + MORE_NUMBERS))(*[7] * (1 + len(SUMMARY) + MORE_NUMBERS))
+
+    def words(self):
+        return self.room, len(self.room)
+
+    def summary(self):
+        """The numbers by their names. The first must be as it was, and those that there are not 0."""
+        first, *numbers = self.room
+        if first != 7 or any(numbers[len(SUMMARY) :]):
+            raise Unlike(f"the numbers {list(self.room)}")
+        return dict(zip(SUMMARY, numbers))
+
+
+def wanted_summary(report):
+    """The numbers that a report as JSON has."""
+    rows = report.get("registers", [])
+    missing, wrong = ([row for row in rows if row["state"] in states] for states in (("missing",), ("differ", "absent")))
+    first = next(iter([*wrong, *missing]), None)
+    compared, matching = len(rows) - len(missing), len(rows) - len(missing) - len(wrong)
+    if "quote" in report:
+        compared = sum(len(bank["registers"]) for bank in report["quoted"])
+        matching = compared if report["quote"] == "match" else 0
+    return {
+        "verdict": VERDICTS.get(report["verdict"], 0),
+        "reason": 0 if report["verdict"] == "match" else wanted_reason(report, wrong, missing),
+        "compared": compared,
+        "matching": matching,
+        "bank": BANKS[first["bank"]] if first else 0,
+        "pcr": first["register"] if first else NO_PLACE,
+        "missing": len(missing),
+        "entries": report["entries"],
+        "judged": report.get("confirmed", report["entries"]),
+        "unknown": len(report.get("unknown", [])),
+    }
+
+
+def wanted_reason(report, wrong, missing):
+    """The number of the first reason against a match that a report has."""
+    is_bound = report["boot_aggregate"] == "good" if "boot_aggregate" in report else report["entries"] > 0
+    against = {
+        1: report.get("signature") == "not checked",
+        2: bool(wrong) and "quote" not in report,
+        3: bool(missing),
+        4: report.get("quote") == "differ",
+        5: not is_bound,
+        6: "extends" in report,
+        7: bool(report.get("unknown")),
+        NOTHING_COMPARED: report.get("compared") == 0,
+    }
+    return next(number for number, holds in against.items() if holds)
+
+
+def look_at_numbers(status, text, summary):
+    """Sees that the numbers are those of the text: for a report as text, that they have its verdict."""
+    if status not in (DONE, DIFFERS):
+        wanted = NO_VERDICT
+    elif text.startswith(b"{"):
+        wanted = wanted_summary(json.loads(text))
+    else:
+        words = text.decode(errors="surrogateescape").splitlines()[-1].removeprefix("verdict ")
+        wanted = {**summary, "verdict": VERDICTS.get(words, 0)}
+    if summary != wanted or (summary["verdict"] == VERDICTS["match"]) != (status == DONE):
+        raise Unlike(f"the numbers {summary}, and not {wanted}")
 
 
 class Library:
@@ -103,10 +189,10 @@ class Library:
     def takes(self, words, folder, most_bytes=MOST_BYTES):
         """Whether there is a function for a command, and it is given files of at most so many bytes, texts of options and nothing else; and
         a file that it saves can be written."""
-        call = more_of(words) or by_quote_of(words) or key_of(words) or call_of(words)
+        call = more_of(words) or by_quote_of(words) or key_of(words) or boot_of(words) or call_of(words)
         if call is None or not all(is_input(file, folder, most_bytes) for file in call.inputs()):
             return False
-        if isinstance(call, ByQuote) and not all(os.path.getsize(folder / file) for file in call.signers):
+        if isinstance(call, (ByQuote, Boot)) and not all(os.path.getsize(folder / file) for file in call.signers):
             # (the library takes no bytes as no key or signature)
             return False
         return not isinstance(call, More) or call.save is None or is_writable(call.save, folder)
@@ -114,9 +200,11 @@ class Library:
     def answer(self, words, folder):
         """What the function for a command answers. The checkpoint that the command saves is written as there."""
         try:
-            more, by_quote, key = more_of(words), by_quote_of(words), key_of(words)
+            more, by_quote, key, boot = more_of(words), by_quote_of(words), key_of(words), boot_of(words)
             if key:
                 return self.ask_for_key((folder / key.file).read_bytes(), key.is_endorsement, key.is_json)
+            if boot:
+                return self.answer_on_boot(boot, folder)
             call = by_quote or more or call_of(words)
             answer = self.answer_by_quote if by_quote else self.answer_more if more else self.answer_to
             status, text = answer(call, folder)
@@ -132,23 +220,41 @@ class Library:
         texts = [] if call.text is None else [encoded(call.text)]
         if call.function in KNOWING:
             texts, flags = [*texts, call.known_text(folder)], [bool(call.known)]
-        return self.ask_with_room(call.function, [*inputs, *texts], [*flags, call.is_json])[:2]
+        status, text, info = self.ask_with_room(call.function, [*inputs, *texts], [*flags, call.is_json])
+        if call.function == "verdict" and call.text == NONE_REQUIRED and info.summary["reason"] == NOTHING_COMPARED:
+            # (the command does not require that something is compared)
+            return DONE, b"match".join(text.rsplit(b"differ", 1))
+        return status, text
 
     def answer_by_quote(self, call, folder):
         log, listed, message = ((folder / file).read_bytes() for file in call.files)
         key, signature = [(folder / file).read_bytes() for file in call.signers] or [b"", b""]
-        inputs = [log, call.state(folder), listed, message, key, signature, call.nonce, call.require, call.known_text(folder)]
-        status, text, checkpoint = self.ask_by_quote(inputs, bool(call.known), call.takes_sha1, call.is_signed, call.prefix, call.is_json)
+        inputs = [log, call.state(folder), listed, message, key, signature, *call.nonces(), call.require, call.known_text(folder)]
+        status, text, checkpoint = self.ask_by_quote(inputs, bool(call.known), call.allows_sha1, call.is_checked, call.prefix, call.is_json)
         call.keep(status, checkpoint, folder)
         return status, text
 
-    def ask_by_quote(self, inputs, is_known_given, takes_sha1, is_signed, prefix, is_json):
+    def ask_by_quote(self, inputs, checks_known, allows_sha1, is_checked, prefix, is_json):
         """What the function for a quote gives: the status that the program has, the text, and the checkpoint."""
-        status, text, told, checkpoint = self.ask_more("attest", inputs, [is_known_given, takes_sha1, is_signed, prefix, is_json])
+        status, text, info, checkpoint = self.ask_more("attest", inputs, [checks_known, allows_sha1, is_checked, prefix, is_json])
         key = inputs[4]
-        is_unsigned = status == DIFFERS and not is_signed and not key
-        is_refused = told.kind in (CONSTANTS["QUOTE"], CONSTANTS["SIGNATURE"])
+        is_unsigned = status == DIFFERS and not is_checked and not key
+        is_refused = info.kind in (CONSTANTS["QUOTE"], CONSTANTS["SIGNATURE"])
         return NOT_ATTESTED if is_unsigned or is_refused else status, text, checkpoint
+
+    def answer_on_boot(self, boot, folder):
+        """What the functions for a boot answer, or for its events: these by what the function for matching PCRs gives."""
+        log, before = (folder / boot.log).read_bytes(), boot.bytes_of("--before", folder)
+        texts, flags = boot.evidence(folder)
+        if boot.is_of_events:
+            status, text, info = self.ask_with_room("matching", [log], [boot.by, *pairs(texts), *flags])
+            if status in (REFUSED, OUT_OF_MEMORY):
+                return boot.status(status, info), text
+            ended, lines = self.answer_by_pieces(Call("events", [], None, True, False), log, text)
+            return (boot.status(status, info), lines) if ended == DONE else (ended, lines)
+        compares = "--before" in boot.values
+        status, text, info = self.ask_with_room("boot", [log, before], [compares, boot.by, *pairs(texts), *flags, boot.is_json])
+        return boot.status(status, info), text
 
     def ask_for_key(self, area, is_endorsement, is_json):
         """The status and the text of the function for a key."""
@@ -158,51 +264,56 @@ class Library:
         """The status, the text, and what else is told, of a call, which is made again if there was too little room."""
         room = ROOM
         while True:
-            status, text, told = self.ask(function, inputs, between, room)
+            status, text, info = self.ask(function, inputs, between, room)
             if status != TOO_SHORT:
-                return status, text, told
-            room = told.size
+                return status, text, info
+            room = info.size
 
     def ask(self, function, inputs, between, room):
         """The status, the text, and what else is told, of one call with this much room."""
-        out, told = ctypes.create_string_buffer(FILL * room, max(room, 1)), Told()
-        status = self.functions[function](*pairs(inputs), *between, out, room, ctypes.byref(told))
-        return self.looked_at(status, out, room, told)
+        out, info, numbers = ctypes.create_string_buffer(FILL * room, max(room, 1)), Info(), Numbers()
+        counted = numbers.words() if function in NUMBERED else ()
+        status = self.functions[function](*pairs(inputs), *between, *counted, out, room, ctypes.byref(info))
+        return self.looked_at(status, out, room, info, numbers if counted else None)
 
-    def looked_at(self, status, out, room, told):
+    def looked_at(self, status, out, room, info, numbers=None):
         """The same, once it is seen that it is as the header says."""
+        text = b"" if status == TOO_SHORT else out.raw[: info.size]
+        if numbers is not None:
+            info.summary = numbers.summary()
+            look_at_numbers(status, text, info.summary)
         if status == TOO_SHORT:
-            if out.raw[:room].strip(FILL) or told.size <= room or told.fault != NO_FAULT:
+            if out.raw[:room].strip(FILL) or info.size <= room or info.error != NO_ERROR:
                 raise Unlike("too short")
-            return status, b"", told
-        if out.raw[told.size : room].strip(FILL):
+            return status, text, info
+        if out.raw[info.size : room].strip(FILL):
             raise Unlike("more than the text is written")
-        text = out.raw[: told.size]
-        wanted = fault_in(text) if status in (REFUSED, OUT_OF_MEMORY) else NO_FAULT
-        if told.fault != wanted:
-            raise Unlike(f"the fault {told.fault}, and not {wanted}")
-        return status, text, told
+        wanted = error_in(text) if status in (REFUSED, OUT_OF_MEMORY) else NO_ERROR
+        if info.error != wanted:
+            raise Unlike(f"the error {info.error}, and not {wanted}")
+        return status, text, info
 
-    def answer_by_pieces(self, call, data):
+    def answer_by_pieces(self, call, data, matching=None):
         """What a command shows: where it does not show the lines before a fault, these are left out."""
         rooms = ROOMS if len(data) <= SMALL_BYTES else ROOMS[-1:]
-        answer, *others = [self.pieces(call, data, room) for room in rooms]
+        answer, *others = [self.pieces(call, data, room, matching) for room in rooms]
         if any(other != answer for other in others):
             raise Unlike("other lines with another room")
         return answer.status, answer.fault if answer.fault and not call.is_json else answer.lines + answer.fault
 
-    def pieces(self, call, data, room):
-        """What the calls for all lines come to."""
+    def pieces(self, call, data, room, matching=None):
+        """What the calls for all lines come to: of events with this text of matching PCRs, if there is one."""
         offset, number, lines = ctypes.c_size_t(), ctypes.c_size_t(), []
-        form = [call.is_json] if call.function == "entries" else []
+        given = [matching or b"", len(matching or b""), matching is not None]
+        before_it, form = ([], [call.is_json]) if call.function == "entries" else (given, [])
         asked = room
         while True:
             before = offset.value, number.value
-            status, text, told = self.ask(call.function, [data], [ctypes.byref(offset), ctypes.byref(number), *form], asked)
+            status, text, info = self.ask(call.function, [data], [*before_it, ctypes.byref(offset), ctypes.byref(number), *form], asked)
             if status == TOO_SHORT:
                 if (offset.value, number.value) != before:
                     raise Unlike("a piece that is too short moves the position")
-                asked = told.size
+                asked = info.size
                 continue
             asked = room
             if status != MORE:
@@ -213,8 +324,8 @@ class Library:
         has_count = call.function == "entries" and call.is_json  # (a line behind the bytes of the list)
         if status == DONE and offset.value != len(data) + has_count:
             raise Unlike(f"the last position is {offset.value} of {len(data)}")
-        if status == REFUSED and call.function == "entries" and told.place != number.value:
-            raise Unlike(f"a fault at {told.place} after {number.value} entries")
+        if status == REFUSED and call.function == "entries" and info.place != number.value:
+            raise Unlike(f"an error at {info.place} after {number.value} entries")
         is_fault = status in (REFUSED, OUT_OF_MEMORY)
         return Pieces(status, b"".join([*lines, b"" if is_fault else text]), text if is_fault else b"", offset.value)
 
@@ -231,16 +342,17 @@ class Library:
         room, next_room = ROOM, CHECKPOINT_ROOM // 4
         while True:
             out, following = (ctypes.create_string_buffer(FILL * size, size) for size in (room, next_room))
-            told, next_size = Told(), ctypes.c_size_t()
-            words = [*pairs(inputs), *flags, following, next_room, ctypes.byref(next_size), out, room, ctypes.byref(told)]
+            info, next_size, numbers = Info(), ctypes.c_size_t(), Numbers()
+            words = [*pairs(inputs), *flags, *numbers.words(), following, next_room, ctypes.byref(next_size), out, room, ctypes.byref(info)]
             status = self.functions[function](*words)
             if status != TOO_SHORT:
                 if following.raw[next_size.value :].strip(FILL):
                     raise Unlike("more than the checkpoint is written")
-                return *self.looked_at(status, out, room, told), following.raw[: next_size.value]
-            if (out.raw + following.raw).strip(FILL) or (told.size <= room and next_size.value <= next_room) or told.fault != NO_FAULT:
+                return *self.looked_at(status, out, room, info, numbers), following.raw[: next_size.value]
+            look_at_numbers(status, b"", numbers.summary())
+            if (out.raw + following.raw).strip(FILL) or (info.size <= room and next_size.value <= next_room) or info.error != NO_ERROR:
                 raise Unlike("too short")
-            room, next_room = max(room, told.size), max(next_room, next_size.value)
+            room, next_room = max(room, info.size), max(next_room, next_size.value)
 
 
 def pairs(inputs):
@@ -251,8 +363,8 @@ def encoded(text):
     return text.encode("utf-8", "surrogateescape")
 
 
-def fault_in(text):
-    """The fault that a line says, as the library tells it."""
+def error_in(text):
+    """The error that a line says, as the library tells it."""
     line = text.decode(errors="surrogateescape").removesuffix("\n")
     if line.startswith("{"):
         line = json.loads(line)["fault"]["message"]
@@ -339,16 +451,63 @@ class More(Knowing):
 
 @dataclass(frozen=True)
 class ByQuote(More):
-    """A call of the function for a quote: with a message in place of expected registers, the nonce, whether a register may be in the SHA-1 bank
-    alone, whether the signature was checked, and the files of the key and the signature, or none."""
+    """A call of the function for a quote: with a message in place of expected registers, the nonce as the command has it, whether a register may
+    be in the SHA-1 bank alone, whether the signature was checked, and the files of the key and the signature, or none."""
 
-    nonce: bytes
-    takes_sha1: bool
-    is_signed: bool
+    nonce: str
+    allows_sha1: bool
+    is_checked: bool
     signers: tuple
 
     def inputs(self):
         return [*super().inputs(), *self.signers]
+
+    def nonces(self):
+        """The nonce as bytes, or for JSON as the digits of the command."""
+        return (b"", self.nonce.encode()) if self.is_json else (bytes.fromhex(self.nonce), b"")
+
+
+@dataclass(frozen=True)
+class Boot:
+    """A call of the functions for a boot, or for its events: the log, and the options of the command with their values."""
+
+    is_of_events: bool
+    log: str
+    values: dict
+    flags: tuple
+
+    def inputs(self):
+        return [self.log, *(self.values[option] for option in BOOT_FILES if option in self.values)]
+
+    @property
+    def signers(self):
+        return tuple(self.values[option] for option in ("--key", "--signature") if option in self.values)
+
+    @property
+    def is_json(self):
+        return "--json" in self.flags
+
+    @property
+    def by(self):
+        """What tells which PCRs match, by its number."""
+        return CONSTANTS["BY_QUOTE" if "--quote" in self.values else "BY_EXPECTED" if "--expected" in self.values else "BY_NOTHING"]
+
+    def bytes_of(self, option, folder):
+        return (folder / self.values[option]).read_bytes() if option in self.values else b""
+
+    def evidence(self, folder):
+        """What tells it, as the library takes it: texts, and then flags. The nonce is bytes, or for a boot as JSON digits."""
+        texts = [self.bytes_of(option, folder) for option in ("--expected", "--list", "--quote", "--key", "--signature")]
+        digits = self.values.get("--nonce", "")
+        nonces = (b"", digits.encode()) if self.is_json and not self.is_of_events else (bytes.fromhex(digits), b"")
+        flags = ["--sha1" in self.flags, "--signature-checked" in self.flags]
+        return [*texts, *nonces, encoded(self.values.get("--require", ""))], flags
+
+    def status(self, status, info):
+        """The status that the program has."""
+        is_unsigned = status == DIFFERS and not self.signers and "--signature-checked" not in self.flags
+        is_refused = info.kind in (CONSTANTS["QUOTE"], CONSTANTS["SIGNATURE"])
+        return NOT_ATTESTED if is_unsigned or is_refused else status
 
 
 @dataclass(frozen=True)
@@ -397,7 +556,7 @@ def by_quote_of(words):
     name, *rest = words or [""]
     given = given_in(rest, QUOTED_OPTIONS, QUOTED_FLAGS) if name == "attest" else None
     if given is None or not {"--nonce", "--require"} <= set(given[1]) or not is_hexadecimal(given[1]["--nonce"]):
-        # (the library takes bytes as nonce)
+        # (the library refuses it as the command does, but as JSON, too)
         return None
     files, values, flags = given
     signers = tuple(values[option] for option in ("--key", "--signature") if option in values)
@@ -405,7 +564,7 @@ def by_quote_of(words):
         # (the command refuses its words, and the library is misused)
         return None
     more = (encoded(values["--require"]), "--prefix" in flags, values.get("--resume"), values.get("--save"), "--json" in flags)
-    return ByQuote(known, files, *more, bytes.fromhex(values["--nonce"]), "--sha1" in flags, "--signature-checked" in flags, signers)
+    return ByQuote(known, files, *more, values["--nonce"], "--sha1" in flags, "--signature-checked" in flags, signers)
 
 
 def key_of(words):
@@ -416,6 +575,25 @@ def key_of(words):
         return None
     [file], _, flags = given
     return Key(file, "--endorsement" in flags, "--json" in flags)
+
+
+def boot_of(words):
+    """The call that answers `boot`, or `events --json` with what confirms them; or None."""
+    name, *rest = words or [""]
+    given = given_in(rest, BOOT_OPTIONS, BOOT_FLAGS, 1) if name in ("boot", "events") else None
+    if given is None or not is_well_formed(words) or (name == "events" and not {"--expected", "--quote"} & given[1].keys()):
+        return None
+    [log], values, flags = given
+    return Boot(name == "events", log, values, tuple(flags))
+
+
+def is_well_formed(words):
+    """Whether the command takes its arguments."""
+    try:
+        read_words(words)
+    except (Fault, HelpAsked, VersionAsked):
+        return False
+    return True
 
 
 def more_of(words):

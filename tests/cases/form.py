@@ -147,6 +147,12 @@ def sentences_of(name):
     return {int(number): sentence for number, sentence in re.findall(r"^ +(\d+)  (.*)$", tables[name], re.MULTILINE)}
 
 
+def displayed_of(name):
+    """The sentences by which the program displays these faults: those of docs/errors.txt, or of tests/faults/words.txt where that has others."""
+    others = re.findall(rf"^{name} (\d+): (.*)$", (ROOT / "tests/faults/words.txt").read_text(), re.MULTILINE)
+    return {**sentences_of(name), **{int(number): sentence for number, sentence in others}}
+
+
 def slice_of(data, start, end, line):
     """A part of some bytes, which has to lie in them; negative places count from their end."""
     places = [int(start or 0), int(end) if end else len(data)]

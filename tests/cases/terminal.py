@@ -4,13 +4,14 @@
 tests/cases/terminal.py [PROGRAM]: by default the program that was built in this tree.
 
 Each command of the cases whose files have at most 4 MiB runs with a terminal as its standard error. Status and output must be what the
-case wants. After a fault the terminal must get its sentence, which is made here of the fault's line, by the tables of docs/errors.txt, and
-where the input is not what it should be the line of tests/reference/hints.py that says so. After a verdict `differ`, or values that are not
-located, it must get the lines of that reference, and none if an input is no regular file. After a success it must get nothing, and after a
-refused command line some text of clap's: `USAGES` has some. Where the output goes to the same terminal, the sentence must come after the
-line. Further commands have names with bytes that a terminal acts upon, are out of memory, have an output that fails or a standard stream that
-is closed, or measure for more than a second. Each of these runs without a terminal too, and standard error must then get nothing. Pipes that
-are closed one after another show when which number is due, and none if the clock fails. The script counts commands."""
+case wants. After a fault the terminal must get its sentence, which is made here of the fault's line, by the tables of docs/errors.txt and by
+tests/faults/words.txt, and where the input is not what it should be the line of tests/reference/hints.py that says so. After a verdict `differ`,
+or values that are not located, it must get the lines of that reference, and none if an input is no regular file. After a success it must get
+nothing, but after a match with which nothing was compared the line that says so; and after a refused command line some text of clap's: `USAGES`
+has some. Where the output goes to the same terminal, the sentence must come after the line. Further commands have names with bytes that a
+terminal acts upon, are out of memory, have an output that fails or a standard stream that is closed, or measure for more than a second. Each of
+these runs without a terminal too, and standard error must then get nothing. Pipes that are closed one after another show when which number is
+due, and none if the clock fails. The script counts commands."""
 
 import json
 import os
@@ -57,6 +58,7 @@ from reference.hints import (  # noqa: E402
     is_regular,
     mistake_in,
     next_steps,
+    said_anyway,
 )
 from reference.known_files import read_known  # noqa: E402
 from reference.log import Log, read_log  # noqa: E402
@@ -114,9 +116,9 @@ INPUTS = {
     "replay": ["list", "expected"],
 }
 
-# The sentences of docs/errors.txt's tables of faults, by number; those of expected registers from 4 on name no line.
+# The sentences by which the program displays faults, by number; those of expected registers from 4 on name no line.
 LOG, LIST, REPLAY, EXPECTED, KNOWN, QUOTE, SIGNATURE, KEY, CHECKPOINT, BOOK = map(
-    form.sentences_of, ("Log", "List", "Replay", "Expected", "Known", "Quote", "Signature", "Key", "Checkpoint", "Book"))
+    form.displayed_of, ("Log", "List", "Replay", "Expected", "Known", "Quote", "Signature", "Key", "Checkpoint", "Book"))
 
 # The numbers of the signature faults that are of the key, and what to do about each; about a key that is no public area, which the first ten of its
 # faults are of; and where nobody looked at a signature.
@@ -452,13 +454,14 @@ def case_fault(command, folder, output):
     except (OSError, subprocess.TimeoutExpired) as error:
         return str(error)
     line = fault_line_of(command.words, text) if status >= 2 else None
+    anyway = "".join(f"{line}\n" for line in said_anyway(command.words, text)).encode() if status == 0 else b""
     # (this may move the output away)
-    fault = fault_of(command, Answer(status, output, b""), folder)
+    fault = fault_of(command, Answer(status, output, anyway), folder)
     if fault is not None:
         return f"the answer is another one:\n    {fault}"
     given = (folder / command.input).read_bytes() if command.input else None
     try:
-        wanted = hints_due(command.words, folder, given) if status == 1 else b"" if line is None else sentence_of(command.words, line, folder)
+        wanted = hints_due(command.words, folder, given) if status == 1 else anyway if line is None else sentence_of(command.words, line, folder)
         wanted = wanted and wanted + (mistake_due(command.words, line, folder, given) + signing_due(command.words, line) if line else b"")
         wanted = f"{UNSIGNED}\n".encode() if status == 4 and line is None else wanted
     except (Fault, KeyError, ValueError) as error:
@@ -857,6 +860,15 @@ class Further(harness.TestCase):
             self.check(f"{title}, on a terminal", left_on_terminal(command, self.room), plain._replace(said=said))
             self.check(f"{title}, explained", left_elsewhere(explained, self.room), plain._replace(said=said))
             self.check(f"{title}, explained on a terminal", left_on_terminal(explained, self.room), plain._replace(said=said))
+
+    def test_nothing_compared(self):
+        """That a match compared nothing is told everywhere."""
+        make_samples(self.room)
+        for words in ([], ["--json"], ["--explain"]):
+            command = Command(None, ["verify", *words, "firmware.log", "ima.list", "empty"], None)
+            for place, leave in {"on a terminal": left_on_terminal, "elsewhere": left_elsewhere}.items():
+                ended = leave(command, self.room)
+                self.check(f"nothing compared {words}, {place}", (ended.status, ended.said), (0, f"{NO_EXPECTED}\n".encode()))
 
     def test_signatures(self):
         """What to do about a signature or a key comes on a terminal, and with --explain elsewhere; no pipe is read where a signature is verified."""

@@ -123,10 +123,16 @@ def check_synopses(page, commands):
         yield from differences(title, [name.strip("<[]>.").lower() for name in command.arguments], arguments)
 
 
+def errors_in(rows):
+    """The errors of a table by number: what is wrong, and what to do."""
+    for found, action in helps.joined(rows.splitlines(), helps.ROW):
+        yield found["number"], f"{found['text']}. {' '.join(action)}"
+
+
 def check_faults(page):
     """The tables of faults, and the lines of faults, are those of docs/errors.txt."""
     errors = (ROOT / "docs/errors.txt").read_text()
-    wanted = {title: helps.rows_of(rows.splitlines()) for title, rows in TABLE.findall(errors)}
+    wanted = {title: dict(errors_in(rows)) for title, rows in TABLE.findall(errors)}
     found = {title: dict(page.items(title)) for title in page.parts if title.endswith(" faults")}
     yield from differences(page.name, list(wanted), list(found))
     for title, rows in wanted.items():

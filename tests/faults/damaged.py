@@ -32,7 +32,7 @@ from reference.measurement_list import IMA_REGISTER, read_list  # noqa: E402
 from reference.registers import ALGORITHMS, REGISTERS, Registers, register_line  # noqa: E402
 from reference.signatures import LACKS_CRYPTOGRAPHY, check_signed  # noqa: E402
 from reference.texts import pcrread_text, read_expected, read_requirement, read_selection  # noqa: E402
-from reference.verdict import verdict  # noqa: E402
+from reference.verdict import verdict_report  # noqa: E402
 
 BOOT = ROOT / "samples/real-boot"
 LOG, LIST = ((BOOT / name).read_bytes() for name in ("firmware.log", "ima.list"))
@@ -67,8 +67,11 @@ def answer_of(decide):
 
 
 def judged(log, listed, expected):
-    expected = read_expected(expected)
-    return verdict(read_log(log), read_list(listed), expected)
+    """The verdict where some PCR has to be compared."""
+    log, expected = read_log(log), read_expected(expected)
+    told = verdict_report(log, read_list(listed), expected)
+    told = told._replace(matches=told.matches and bool(expected))
+    return told.text(), told.matches
 
 
 def attested(log, listed, message, nonce, require):
@@ -128,7 +131,7 @@ def is_signed(kind):
 
 KINDS |= dict(signed_kinds())
 # What a function takes beside the inputs: a requirement, and its form.
-NOTHING_REQUIRED, AS_TEXT, OF_LOG = b"none", False, False
+ANY_REQUIRED, AS_TEXT, OF_LOG = b"none", False, False
 NO_KNOWN, KNOWN_IS_NOT_GIVEN = b"", False
 NO_STATE, NO_KEY, NO_SIGNATURE, SHA1_IS_NOT_TAKEN, IS_SIGNED, OF_WHOLE = b"", b"", b"", False, True, False
 ENTRIES = Call("entries", [], None, AS_TEXT, False)
@@ -155,7 +158,7 @@ def library_answer(library, function, inputs):
             return library.ask_for_key(*inputs, function != "key", AS_TEXT)
         if function == "registers":
             return library.ask(function, inputs, [OF_LOG, AS_TEXT], ROOM)[:2]
-        return library.ask(function, [*inputs, NOTHING_REQUIRED, NO_KNOWN], [KNOWN_IS_NOT_GIVEN, AS_TEXT], ROOM)[:2]
+        return library.ask(function, [*inputs, ANY_REQUIRED, NO_KNOWN], [KNOWN_IS_NOT_GIVEN, AS_TEXT], ROOM)[:2]
     except Unlike as cause:
         return None, f"not answered: {cause}".encode()
 

@@ -4,11 +4,12 @@
  *
  * FUNCTION is the name of a function without ima_verify_. After it can stand :json for that form, :prefix if the confirmed prefix is asked
  * for, :list for the registers of a list, :signed if a quote's signature was checked, :by_key if it is given with a key, :known for known files,
- * and :endorsement for a key of that purpose. INPUT are its files, and ROOM is the size of its buffer. RESULT and the file TEXT are the answer
- * that it has with ample memory, and the file NEXT is the checkpoint that it gives in a buffer of NEXT_ROOM bytes; a function that gives none
- * has no such buffer. In the Nth turn the Nth allocation is refused, until a turn ends with none refused. Each turn calls twice: the call whose
- * allocation is refused has the answer, or says that memory ran out, and then leaves the checkpoint's buffer as it was; the next one has the
- * answer. The fault that a call tells must be that of its text.
+ * :endorsement for a key of that purpose, :before for the log of an earlier boot, and :expected or :quote for what confirms a boot or events.
+ * INPUT are its files, and ROOM is the size of its buffer. RESULT and the file TEXT are the answer that it has with ample memory, and the file
+ * NEXT is the checkpoint that it gives in a buffer of NEXT_ROOM bytes; a function that gives none has no such buffer. In the Nth turn the Nth
+ * allocation is refused, until a turn ends with none refused. Each turn calls twice: the call whose allocation is refused has the answer, or says
+ * that memory ran out, and then leaves the checkpoint's buffer as it was; the next one has the answer. The error that a call tells must be that
+ * of its text, and the verdict of its summary that of its result.
  *
  * Of entries and events a turn calls until the last line has come: by pieces for which there is ROOM, or, if that is too short for a line,
  * by single lines. What comes must be TEXT, also where a call in between says that memory ran out.
@@ -188,10 +189,11 @@ static int inputs_of(const char *function) {
         int inputs;
     } functions[] = {{"verdict", 4},     {"locate", 4},   {"replay", 3},    {"more", 5},    {"attest", 5},
                      {"attest_more", 6}, {"expected", 2}, {"registers", 1}, {"entries", 1}, {"events", 1},
-                     {"key", 1}};
+                     {"boot", 1},        {"key", 1}};
     for (size_t i = 0; i < sizeof functions / sizeof functions[0]; i++)
         if (is(function, functions[i].name))
-            return functions[i].inputs + 2 * has(function, ":by_key") + has(function, ":known");
+            return functions[i].inputs + 2 * has(function, ":by_key") + has(function, ":known") + has(function, ":before")
+                   + has(function, ":expected") + 4 * has(function, ":quote");
     return 0;
 }
 
@@ -202,7 +204,7 @@ static void add_last(const char *function, const struct ima_verify_bytes *last, 
         quoted->key = *last++;
         quoted->signature = *last++;
     }
-    if ((quoted->judges_known = has(function, ":known")))
+    if ((quoted->checks_known = has(function, ":known")))
         quoted->known = *last;
 }
 
@@ -214,13 +216,35 @@ static bool is_by_pieces(const char *function) {
     return is(function, "entries") || is(function, "events");
 }
 
+/* Whether a summary has the verdict of a result, and its size as it was. */
+static enum ima_verify_result summed(const struct ima_verify_summary *summary, enum ima_verify_result result) {
+    bool is_match = summary->verdict == IMA_VERIFY_VERDICT_MATCH, is_any = summary->verdict != IMA_VERIFY_VERDICT_NONE;
+    bool is_one = result == IMA_VERIFY_DONE || result == IMA_VERIFY_DIFFERS;
+    if (summary->size != sizeof *summary || is_match != (result == IMA_VERIFY_DONE) || (is_any && !is_one))
+        fail("result %d, and the verdict %llu", (int)result, (unsigned long long)summary->verdict);
+    return result;
+}
+
+/* A boot, or events from a position on, by what confirms them. */
+static enum ima_verify_result call_confirmed(const char *function, const struct ima_verify_bytes *in, struct ima_verify_position *position,
+                                             struct ima_verify_output *out) {
+    const struct ima_verify_bytes *before = has(function, ":before") ? &in[1] : NULL;
+    const struct ima_verify_bytes *expected = has(function, ":expected") ? &in[1 + (before != NULL)] : NULL;
+    struct ima_verify_quoted quoted = {.list = in[1], .message = in[2], .nonce = in[3], .require = in[4]};
+    const struct ima_verify_quoted *quote = has(function, ":quote") ? &quoted : NULL;
+    quoted.signature_checked = has(function, ":signed");
+    return position ? ima_verify_events(in[0], expected, quote, position, out)
+                    : ima_verify_boot(in[0], before, expected, quote, form_of(function), out);
+}
+
 static enum ima_verify_result call(const char *function, const struct ima_verify_bytes *in, struct ima_verify_position *position,
                                    struct ima_verify_output *next, struct ima_verify_output *out) {
     enum ima_verify_form form = form_of(function);
+    struct ima_verify_summary summary = {.size = sizeof summary};
     if (is(function, "entries"))
         return ima_verify_entries(in[0], position, form, out);
-    if (is(function, "events"))
-        return ima_verify_events(in[0], position, out);
+    if (is(function, "events") || is(function, "boot"))
+        return call_confirmed(function, in, position, out);
     if (is(function, "registers"))
         return ima_verify_registers(has(function, ":list") ? IMA_VERIFY_OF_LIST : IMA_VERIFY_OF_LOG, in[0], form, out);
     if (is(function, "key"))
@@ -229,30 +253,32 @@ static enum ima_verify_result call(const char *function, const struct ima_verify
         return ima_verify_expected(in[0], in[1], form, out);
     if (is(function, "replay")) {
         struct ima_verify_evidence evidence = {.list = in[0], .expected = in[1], .require = in[2]};
-        if ((evidence.judges_known = has(function, ":known")))
+        if ((evidence.checks_known = has(function, ":known")))
             evidence.known = in[3];
-        return ima_verify_replay(&evidence, form, out);
+        return summed(&summary, ima_verify_replay(&evidence, form, &summary, out));
     }
     if (is(function, "more")) {
         struct ima_verify_evidence evidence = {.log = in[0], .list = in[2], .expected = in[3], .require = in[4]};
-        if ((evidence.judges_known = has(function, ":known")))
+        if ((evidence.checks_known = has(function, ":known")))
             evidence.known = in[5];
-        return ima_verify_more(&evidence, in[1], has(function, ":prefix"), form, next, out);
+        return summed(&summary, ima_verify_more(&evidence, in[1], has(function, ":prefix"), form, &summary, next, out));
     }
     if (is(function, "attest")) {
         struct ima_verify_quoted quoted = {.log = in[0], .list = in[1], .message = in[2], .nonce = in[3], .require = in[4]};
         add_last(function, in + 5, &quoted);
-        return ima_verify_attest(&quoted, form, out);
+        return summed(&summary, ima_verify_attest(&quoted, form, &summary, out));
     }
     if (is(function, "attest_more")) {
         struct ima_verify_quoted quoted = {.log = in[0], .list = in[2], .message = in[3], .nonce = in[4], .require = in[5]};
         add_last(function, in + 6, &quoted);
-        return ima_verify_attest_more(&quoted, in[1], has(function, ":prefix"), form, next, out);
+        return summed(&summary, ima_verify_attest_more(&quoted, in[1], has(function, ":prefix"), form, &summary, next, out));
     }
     struct ima_verify_evidence evidence = {.log = in[0], .list = in[1], .expected = in[2], .require = in[3]};
-    if ((evidence.judges_known = has(function, ":known")))
+    if ((evidence.checks_known = has(function, ":known")))
         evidence.known = in[4];
-    return is(function, "verdict") ? ima_verify_verdict(&evidence, form, out) : ima_verify_locate(&evidence, form, out);
+    if (is(function, "locate"))
+        return ima_verify_locate(&evidence, form, out);
+    return summed(&summary, ima_verify_verdict(&evidence, form, &summary, out));
 }
 
 /* What the byte at a place of the buffer is before a call. */
@@ -275,43 +301,43 @@ static bool has_text(struct ima_verify_bytes text, const struct room *room, bool
     size_t size = written ? text.size : 0;
     if (room->output.size != text.size || memcmp(room->buffer + MARGIN, text.data, size) != 0)
         return false;
-    for (size_t i = 0; i < room->output.room + 2 * MARGIN; i++)
+    for (size_t i = 0; i < room->output.capacity + 2 * MARGIN; i++)
         if ((i < MARGIN || i >= MARGIN + size) && room->buffer[i] != before(i))
             return false;
     return true;
 }
 
-/* The fault that a line says. */
-static struct ima_verify_fault fault_in(struct ima_verify_bytes line) {
+/* The error that a line says. */
+static struct ima_verify_error error_in(struct ima_verify_bytes line) {
     static const char *const kinds[] = {"", "command", "log", "list", "replay", "expected", "checkpoint", "", "quote", "key",
                                         "known", "signature"};
-    struct ima_verify_fault fault = {IMA_VERIFY_NO_FAULT, 0, IMA_VERIFY_NO_PLACE};
+    struct ima_verify_error error = {IMA_VERIFY_NO_ERROR, 0, IMA_VERIFY_NO_PLACE};
     char text[LINE] = "", kind[LINE] = "";
     unsigned number = 0;
     unsigned long long place = 0;
     memcpy(text, line.data, line.size < LINE ? line.size : LINE - 1);
     const char *said = strstr(text, "refused: ");
     if (said == NULL) {
-        fault.kind = has(text, "failed: memory") ? IMA_VERIFY_MEMORY : IMA_VERIFY_NO_FAULT;
-        return fault;
+        error.kind = has(text, "failed: memory") ? IMA_VERIFY_MEMORY : IMA_VERIFY_NO_ERROR;
+        return error;
     }
     int found = sscanf(said, "refused: %s fault %u at %*s %llu", kind, &number, &place);
     for (uint32_t i = 1; i < sizeof kinds / sizeof kinds[0]; i++)
         if (strcmp(kind, kinds[i]) == 0)
-            fault.kind = i;
-    fault.number = number;
+            error.kind = i;
+    error.number = number;
     if (found == 3)
-        fault.place = place;
-    return fault;
+        error.place = place;
+    return error;
 }
 
-/* Whether a call tells the fault of its text, if that is the line of one. */
-static bool has_fault(enum ima_verify_result result, struct ima_verify_bytes text, const struct ima_verify_output *output) {
+/* Whether a call tells the error of its text, if that is the line of one. */
+static bool has_error(enum ima_verify_result result, struct ima_verify_bytes text, const struct ima_verify_output *output) {
     bool is_one = result == IMA_VERIFY_REFUSED || result == IMA_VERIFY_OUT_OF_MEMORY;
     struct ima_verify_bytes line = is_one ? text : ima_verify_none();
-    struct ima_verify_fault fault = fault_in(line);
-    return output->fault.kind == fault.kind && output->fault.number == fault.number && output->fault.place == fault.place
-           && is_one == (fault.kind != IMA_VERIFY_NO_FAULT);
+    struct ima_verify_error error = error_in(line);
+    return output->error.kind == error.kind && output->error.number == error.number && output->error.place == error.place
+           && is_one == (error.kind != IMA_VERIFY_NO_ERROR);
 }
 
 /* The answer of a call that gets no memory. */
@@ -325,16 +351,16 @@ static struct answer memory_answer(const char *function) {
  * buffer is too short for its text, all bytes as before. */
 static bool is_given(const char *function, struct answer answer, enum ima_verify_result result, const struct room *next,
                      const struct room *out) {
-    bool fits = answer.text.size <= out->output.room && (!gives_checkpoint(function) || answer.next.size <= next->output.room);
+    bool fits = answer.text.size <= out->output.capacity && (!gives_checkpoint(function) || answer.next.size <= next->output.capacity);
     if (result != (fits ? answer.result : IMA_VERIFY_TOO_SHORT) || !has_text(answer.text, out, fits)
-        || !has_fault(result, answer.text, &out->output))
+        || !has_error(result, answer.text, &out->output))
         return false;
-    return !gives_checkpoint(function) || (has_text(answer.next, next, fits) && has_fault(IMA_VERIFY_DONE, answer.next, &next->output));
+    return !gives_checkpoint(function) || (has_text(answer.next, next, fits) && has_error(IMA_VERIFY_DONE, answer.next, &next->output));
 }
 
 static void fail_of(const struct room *next, const struct room *out, enum ima_verify_result result) {
-    fail("result %d, %zu and %zu bytes, fault %u %u %llu, and the buffer has '%.40s'", (int)result, out->output.size, next->output.size,
-         out->output.fault.kind, out->output.fault.number, (unsigned long long)out->output.fault.place, (char *)out->buffer + MARGIN);
+    fail("result %d, %zu and %zu bytes, error %u %u %llu, and the buffer has '%.40s'", (int)result, out->output.size, next->output.size,
+         out->output.error.kind, out->output.error.number, (unsigned long long)out->output.error.place, (char *)out->buffer + MARGIN);
 }
 
 /* Calls once. The answer is the right one or, if an allocation was refused, that memory ran out. */
@@ -418,7 +444,7 @@ static size_t take_piece(const char *function, const struct ima_verify_bytes *in
 
 /* Calls until the last piece has come. */
 static void turn_by_pieces(const char *function, const struct ima_verify_bytes *in, size_t size, struct answer right) {
-    struct ima_verify_position position = {0, 0};
+    struct ima_verify_position position = {0};
     bool is_last = false;
     while (!is_last) {
         size_t room = size;

@@ -7,7 +7,7 @@ which `dist/library` builds first if they are not there or are older than a sour
 The answers that are wanted, and the checkpoints, are those of the program to the same files. Each function of the header is called with each
 input, in both forms, and with buffers that have room to spare, just enough, and too little; entries and events come by pieces. In the Nth
 turn the Nth allocation is refused (tests/faults/library.c, which gives the library its memory), until a turn ends with none refused. A call
-must have the answer, or say that memory ran out. It must tell the fault of its text, and write nothing but that, and nothing to a
+must have the answer, or say that memory ran out. It must tell the error of its text, and write nothing but that, and nothing to a
 checkpoint's buffer if memory ran out. It must give back, once, all memory that it took, and have the answer when it is made again. A function
 that takes no memory at all fails, and so does one that takes it elsewhere, a crash, and a run of more than a minute. Needs cc and nm."""
 
@@ -38,6 +38,8 @@ DIFFERS, REFUSED = 1, 2
 # The first 97 entries of the sample's list, and the first three.
 PREFIX_BYTES, THREE_ENTRIES_BYTES = 11731, 292
 FEW_LINES = 8
+# The function that no command has.
+ERROR_TEXT = "ima_verify_error_text"
 # What the library takes where the program has no `--require`.
 NONE_REQUIRED = b"none"
 REPLACED = {"rattle_alloc", "rattle_realloc", "rattle_dealloc"}
@@ -61,14 +63,18 @@ class Case:
 
     def is_json(self):
         """Whether the answer has this form, of which alone events are."""
-        return ":json" in self.function or self.name == "events"
+        return ":json" in self.function or self.is_of("events")
+
+    def is_of(self, *functions):
+        """Whether this is one of these functions, whatever it is given."""
+        return self.name.partition(":")[0] in functions
 
     def is_more(self):
         """Whether the function gives a checkpoint too."""
-        return self.function.partition(":")[0] in ("more", "attest_more")
+        return self.is_of("more", "attest_more")
 
     def is_by_quote(self):
-        return self.name.startswith("attest")
+        return self.name.startswith("attest") or ":quote" in self.name
 
     def words(self, save):
         """What asks the program for the same, and to save a checkpoint, if there is one, in that file."""
@@ -76,6 +82,8 @@ class Case:
         json = [*(["--json"] if self.is_json() else []), *known]
         flags = ["--prefix"] if ":prefix" in self.function else []
         flags += [f"--save={save}"] if self.is_more() else []
+        if self.is_of("boot", "events"):
+            return [self.name.partition(":")[0], *json, *self.confirming()]
         if self.is_by_quote():
             if ":by_key" in self.function:
                 *inputs, key, signature = inputs
@@ -95,12 +103,24 @@ class Case:
         *files, value = inputs
         return [*command, *option_of(OPTIONS[self.name], value), *files]
 
+    def confirming(self):
+        """The log, and the program's options for what confirms it, and for an earlier log."""
+        log, *others = self.inputs
+        options = [f"--before={others.pop(0)}"] if ":before" in self.name else []
+        if ":expected" in self.name:
+            options.append(f"--expected={others.pop(0)}")
+        if ":quote" in self.name:
+            listed, message, nonce, require = others
+            options += [f"--list={listed}", f"--quote={message}", f"--nonce={nonce.read_bytes().hex()}", *option_of("--require", require)]
+            options += ["--signature-checked"] if ":signed" in self.name else []
+        return [*options, log]
+
     def rooms(self, text):
         """Sizes of the buffer for a text: too little, just enough and more, and so for the line that says that memory ran out. Pieces of one
         line are asked for where there are few, since each turn has as many calls as lines, and each call its turns."""
         memory, size = len(JSON_MEMORY if self.is_json() else MEMORY), len(text)
         rooms = {size + 64, size, max(size - 1, 0)}
-        if self.name in ("entries", "events") and text.count(b"\n") > FEW_LINES:
+        if self.is_of("entries", "events") and text.count(b"\n") > FEW_LINES:
             return sorted({*rooms, size // 2, size // 4}, reverse=True)
         return sorted({*rooms, memory, memory - 1, 0}, reverse=True)
 
@@ -378,6 +398,32 @@ CASES = (
         ("the real boot", "log"), ("one event", "one event"), ("a log that is cut short", "cut log"),
         ("a log that is cut early", "early log"), ("an empty log", "empty"),
     )),
+    (("boot:expected",), BOTH, (
+        ("the real boot", "log", "expected"), ("one event", "one event", "expected"), ("a log that is cut short", "cut log", "expected"),
+        ("expected registers of which one is wrong", "log", "wrong line"),
+    )),
+    (("boot",), BOTH, (
+        ("the real boot", "log"), ("an empty log", "empty"),
+    )),
+    (("boot:before",), BOTH, (
+        ("another boot", "log", "one event"), ("an earlier log that is cut short", "log", "cut log"),
+    )),
+    (("boot:before:expected",), BOTH, (
+        ("the same boot", "log", "log", "expected"),
+    )),
+    (("boot:quote:signed",), BOTH, (
+        ("the real boot", "log", "list", "message", "nonce", "low"),
+        ("a changed list", "log", "changed list", "message", "nonce", "low"),
+        ("another nonce", "log", "list", "message", "another nonce", "low"),
+    )),
+    (("events:expected",), ("",), (
+        ("the real boot", "log", "expected"), ("a log that is cut short", "cut log", "expected"),
+        ("expected registers of which one is wrong", "log", "wrong line"),
+    )),
+    (("events:quote:signed", "events:quote"), ("",), (
+        ("the real boot", "log", "list", "message", "nonce", "low"),
+        ("a changed list", "log", "changed list", "message", "nonce", "low"),
+    )),
     (("registers:list", "entries"), BOTH, (
         ("the real boot", "list"), ("a changed list", "changed list"), ("a list that is cut short", "cut list"),
         ("three entries", "first entries"), ("a list that is cut early", "early list"),
@@ -394,10 +440,13 @@ def cases(files):
 
 def answer_to(case, program, following, files):
     """The program's answer. It prints no entries of a damaged list without --json: those before the fault are the sample's. Where it has the
-    status of what is not attested, the library refuses the quote, or says that the verdict is not `match`."""
+    status of what is not attested, the library refuses the quote, or says that the verdict is not `match`; and so it says where nothing is
+    compared."""
     answer = subprocess.run([program, *case.words(following)], capture_output=True, timeout=SECONDS)
     if case.is_by_quote() and answer.returncode == NOT_ATTESTED:
         return REFUSED if QUOTE_REFUSED.search(answer.stdout) else DIFFERS, answer.stdout
+    if case.is_of("verdict") and answer.returncode == 0 and not case.inputs[2].read_bytes():
+        return DIFFERS, b"differ".join(answer.stdout.rsplit(b"match", 1))
     if answer.returncode not in (0, 1, 2):
         raise RuntimeError(f"{program} {case.function} of {case.title}: status {answer.returncode}, {answer.stderr[-500:]!r}")
     if case.function == "entries" and answer.returncode == 2:
@@ -470,7 +519,7 @@ class Library(harness.TestCase):
         for number, case in enumerate(cases(files)):
             runs += runs_of(case, program, folder / f"answer-{number}", files)
         called = {f"ima_verify_{run.case.name.partition(':')[0]}" for run in runs}
-        self.check("each function of the header is called", called, set(functions_of(ROOT)) - {VERSION})
+        self.check("each function of the header is called", called, set(functions_of(ROOT)) - {VERSION, ERROR_TEXT})
         check_runs(self, runs, lambda run: swept(run, caller), "allocations refused")
 
 

@@ -3,8 +3,10 @@
 
 tests/faults/words.py [ROOT]: the tree whose crates are read, or else the one that this file is in.
 
-A fault has one sentence, its `#[error("..")]`, by which it is displayed; the program tells it to a terminal. The faults with a number must
-have the sentences of the tables of docs/errors.txt. All others, and the texts of `agent_inputs/src/fault.rt` and of
+The tables of docs/errors.txt and of the manual must be those of crates/error_texts, as error_tables.py writes them.
+
+A fault is displayed by its `#[error("..")]`; the program tells it to a terminal. The faults with a number must have the sentences of the tables
+of docs/errors.txt, or others that words.txt has by table and number. All others, and the texts of `agent_inputs/src/fault.rt` and of
 `hints/src/explanations.rt` that put sentences together, must be those of words.txt, by crate and fault.
 
 A row of a table that begins with 'it' or 'its' says what is wrong at a place, which its sentence names first."""
@@ -15,8 +17,9 @@ from pathlib import Path
 
 HERE = Path(__file__).resolve().parent
 sys.path[:0] = [str(HERE.parent), str(HERE.parent / "cases")]
+import error_tables  # noqa: E402
 import harness  # noqa: E402
-from form import sentences_of  # noqa: E402
+from form import displayed_of, sentences_of  # noqa: E402
 
 # The table of each type of faults with numbers, and the place that its rows call 'it'. Two types may share a table.
 NUMBERED = {
@@ -44,6 +47,8 @@ FAULT = re.compile(
 )
 TEXT = re.compile(r'(?:const|fn) (?P<function>\w+)|^ +(?P<fault>RunFault::\w+)[^=\n]*=>|"(?P<words>[^"]*)"', re.MULTILINE)
 NOT_READ = "its sentence is not read"
+# The name of a fault in words.txt that has another sentence than its table.
+BY_NUMBER = re.compile(r"([A-Z][a-z]+) (\d+)")
 # What stands in a table for a number that a sentence has.
 NUMBERS = {"{index}": "I", "{group}": "G", "{place}": "R", "{register}": "R"}
 
@@ -101,6 +106,17 @@ def of_row(row, place):
 
 class Words(harness.TestCase):
     root = Path(sys.argv[1]).resolve() if len(sys.argv) > 1 else harness.ROOT
+    words = dict(line.split(": ", 1) for line in (HERE / "words.txt").read_text().splitlines())
+
+    def test_tables(self):
+        for path, text in error_tables.made(self.root):
+            self.check(f"the tables of {path.name}", path.read_text(), text)
+
+    def test_other_sentences(self):
+        """A sentence of words.txt is another than that of its table."""
+        for name, sentence in self.words.items():
+            if found := BY_NUMBER.fullmatch(name):
+                self.check(f"{name}, in the table", sentences_of(found[1])[int(found[2])] != sentence, True)
 
     def test_numbered_faults(self):
         found = {table: {} for table, _ in NUMBERED.values()}
@@ -111,7 +127,7 @@ class Words(harness.TestCase):
                 table, _ = NUMBERED[kind_of(name)]
                 found[table].setdefault(int(number or 0), []).append(in_table(sentence))
         for table, place in dict(NUMBERED.values()).items():
-            wanted = {number: [of_row(row, place)] for number, row in sentences_of(table).items()}
+            wanted = {number: [of_row(row, place)] for number, row in displayed_of(table).items()}
             for number in sorted({*found[table], *wanted}):
                 self.check(f"{table}, {number}", found[table].get(number), wanted.get(number))
 
@@ -119,7 +135,7 @@ class Words(harness.TestCase):
         found = {name: sentence for name, (_, sentence) in faults_in(self.root).items() if not is_numbered(name)}
         for file in ("agent_inputs/src/fault.rt", "hints/src/explanations.rt", "hints/src/task_inputs.rt"):
             found |= texts_in(self.root / "crates" / file)
-        wanted = dict(line.split(": ", 1) for line in (HERE / "words.txt").read_text().splitlines())
+        wanted = {name: sentence for name, sentence in self.words.items() if not BY_NUMBER.fullmatch(name)}
         for name in sorted({*found, *wanted}):
             self.check(name, found.get(name), wanted.get(name))
 

@@ -1,6 +1,9 @@
-"""What a person may do next (docs/cli.md, 'On a terminal'): after an answer that something differs, and of a refused input that is another."""
+"""What a person may do next (docs/cli.md, 'On a terminal'): after an answer that something differs, or a match with which nothing was compared,
+and of a refused input that is another."""
 
+import json
 import os
+import re
 import stat
 from typing import NamedTuple
 
@@ -42,6 +45,9 @@ NO_EXPECTED = "EXPECTED has no PCR, so no PCR was compared: give the values read
 NOT_GIVEN = "add EXPECTED, the values read with the quote: its rows show which PCR differs"
 UNCONFIRMED = "EXPECTED is not what the TPM signed: give the values read with the quote"
 PADDED = "a kernel before 5.8 extended it by SHA-1 digests with zeros after them, "
+
+# A report without rows, as text.
+BARE_MATCH = re.compile(rb"events \d+ locality \d+\nentries \d+\nboot_aggregate good\nverdict match\n")
 
 EMPTY = "it is empty: copy the kernel's files with cat, since their size is given as 0"
 NOTHING_PRINTED = "it is empty: the tool printed nothing"
@@ -191,6 +197,12 @@ def next_steps(words, folder, standard_input=b"", has_prefix=True):
     finally:
         inputs.close()
     return list(lines_on(asked.command, seen, counts))[:MOST_LINES]
+
+
+def said_anyway(words, text):
+    """The lines after this output that come even where there is no terminal: of a match with which no PCR was compared."""
+    is_bare = BARE_MATCH.fullmatch(text) or (text.startswith(b"{") and json.loads(text).get("compared") == 0)
+    return [NO_EXPECTED] if words[:1] == ["verify"] and is_bare else []
 
 
 def are_regular(words, folder, standard_input=None):

@@ -52,7 +52,8 @@ class Report(NamedTuple):
         missing = [named(*register, state="missing") for register in self.missing or []]
         strays = [{word: number, "register": register} for word, number, register in self.strays]
         told = ({"extends": strays} if strays else {}) | (self.unknown.members() if self.unknown else {})
-        return {**self.counts, "registers": [*rows, *missing], **told, "verdict": self.word}
+        before = {name: count for name, count in self.counts.items() if name != "boot_aggregate"}
+        return {**before, "compared": len(self.rows), **self.counts, "registers": [*rows, *missing], **told, "verdict": self.word}
 
 
 def named(algorithm, register, **told):

@@ -6,16 +6,22 @@ import functools
 import json
 import types
 import typing
-from collections.abc import Callable
+from collections.abc import Callable, Sequence
 from typing import Any, TypeVar
 
 from ._library import DIFFERS, DONE, unexpected
-from ._results import Attestation, Key, ListVerdict, Pcr, Places, Verdict
+from ._results import Attestation, Boot, Entry, Key, ListVerdict, Pcr, Places, Verdict
 
 _Result = TypeVar("_Result")
 _Verdict = TypeVar("_Verdict", Verdict, ListVerdict, Attestation)
 _Converter = Callable[[Any], Any]
 _WRONG = ValueError, KeyError, TypeError, RecursionError
+
+# The members of `Boot` that gather lines, by the member that each of these lines has.
+_GATHERED = {
+    "image": "images", "command": "commands", "boot_variable": "boot_variables", "alike": "alike",
+    "now": "changed", "before": "changed",
+}
 
 
 def read_verdict(kind: type[_Verdict], status: int, text: bytes) -> _Verdict:
@@ -23,9 +29,7 @@ def read_verdict(kind: type[_Verdict], status: int, text: bytes) -> _Verdict:
     try:
         report = _object_in(text)
         _require(status in (DONE, DIFFERS) and (status == DONE) == (report["verdict"] == "match"))
-        # (Until the library itself says that a verdict on no PCRs is none, this package does.)
-        covers = bool(report["quoted" if kind is Attestation else "registers"])
-        return _made(kind, report, matches=status == DONE and covers, json=_line(text))
+        return _made(kind, report, matches=status == DONE, json=_line(text))
     except _WRONG:
         unexpected(status, text)
 
@@ -36,6 +40,24 @@ def read_places(status: int, text: bytes) -> Places:
         places = _made(Places, _object_in(text), json=_line(text))
         _require(status in (DONE, DIFFERS) and places.located == (status == DONE))
         return places
+    except _WRONG:
+        unexpected(status, text)
+
+
+def read_boot(status: int, text: bytes) -> Boot:
+    """What was booted, by lines of several kinds. Of a kind that is not known a line is ignored."""
+    try:
+        _require(status in (DONE, DIFFERS) and text.endswith(b"\n"))
+        found: dict[str, Any] = {name: [] for name in _GATHERED.values()}
+        for line in text.splitlines(keepends=True):
+            members = _object_in(line)
+            for name in members.keys() & _GATHERED.keys():
+                found[_GATHERED[name]].append(members)
+            for name in members.keys() & {"secure_boot", "firmware_version"}:
+                found[name] = members[name]
+            if "ima_policy" in members:
+                found["ima_policy"] = members
+        return _made(Boot, found, matches=status == DONE, json=_line(text))
     except _WRONG:
         unexpected(status, text)
 
@@ -64,10 +86,13 @@ def read_line(kind: type[_Result], line: bytes) -> _Result:
         unexpected(DONE, line)
 
 
-def read_count(line: bytes) -> int:
-    """The number of entries in the line after them."""
+def read_entry(line: bytes) -> Entry | int:
+    """The entry of a line; or from the line after all entries, how many there are."""
     try:
-        return int(_exactly(int)(_object_in(line)["entries"]))
+        members = _object_in(line)
+        if "entry" in members:
+            return _made(Entry, members, json=_line(line))
+        return int(_exactly(int)(members["entries"]))
     except _WRONG:
         unexpected(DONE, line)
 
@@ -103,19 +128,40 @@ def _converters(kind: type[Any]) -> dict[str, _Converter]:
 def _converter(hint: Any) -> _Converter:
     """What makes a value of this type, or raises a ValueError or a TypeError."""
     origin, arguments = typing.get_origin(hint), typing.get_args(hint)
-    if origin is types.UnionType:  # (of a type and None; null is no value)
-        return _converter(arguments[0])
+    if origin is types.UnionType:  # (null is no value of a type or None)
+        return _one_of([_converter(kind) for kind in arguments if kind is not types.NoneType])
     if origin is tuple:
         item = _converter(arguments[0])
         return lambda value: tuple([item(each) for each in _list(value)])
     if origin is dict:
-        item = _converter(arguments[1])
-        return lambda value: {name: item(each) for name, each in _dict(value).items()}
+        return functools.partial(_members, arguments[1])
     if dataclasses.is_dataclass(hint):
         return functools.partial(_made, hint)
     if hint is bytes:
         return bytes.fromhex
     return (lambda value: value) if hint is Any else _exactly(hint)
+
+
+def _members(kind: Any, value: Any) -> dict[str, Any]:
+    """The members of an object by their names. (If they are words or bytes, one that is no string
+    is of a later library.)"""
+    convert, members = _converter(kind), _dict(value).items()
+    return {name: convert(each) for name, each in members if kind is Any or isinstance(each, str)}
+
+
+def _one_of(converters: Sequence[_Converter]) -> _Converter:
+    """What makes a value of the first type that takes it."""
+    *others, last = converters
+
+    def convert(value: Any) -> Any:
+        for converter in others:
+            try:
+                return converter(value)
+            except (ValueError, TypeError):
+                pass
+        return last(value)
+
+    return convert
 
 
 def _exactly(kind: type) -> _Converter:

@@ -1,20 +1,20 @@
 """What the package raises."""
 
 import enum
-import functools
-from pathlib import Path
 
 _PLACES = {"log": "event", "list": "entry", "replay": "entry", "expected": "line", "known": "line"}
 
 
 class Kind(str, enum.Enum):
-    """Which input is refused. Each equals its name: `refused.kind == "log"`."""
+    """What an error of the library is about. Each equals its name: `refused.kind == "log"`."""
 
+    ARGUMENT = "argument"
     LOG = "log"
     LIST = "list"
     REPLAY = "replay"  # (an entry's template digest does not match)
     EXPECTED = "expected"  # (the expected PCRs, or what tpm2-tools printed)
     CHECKPOINT = "checkpoint"  # (a session's state)
+    MEMORY = "memory"
     QUOTE = "quote"
     KEY = "key"
     KNOWN = "known"
@@ -22,39 +22,36 @@ class Kind(str, enum.Enum):
 
 
 class Error(Exception):
-    """The base of all errors of this package."""
-
-
-class Refused(Error):
-    """An input is refused.
+    """The base of all errors of this package.
 
     Attributes:
-        kind: Which input. A kind that only a later library has is its name, a string.
-        number: The error's number among those of its kind, by docs/errors.txt.
+        text: What is wrong, and what to do. This is also the `str` of the error.
+        kind: What the error is about. A kind that only a later library has is its number. None if
+            the library does not report the error.
+        number: The error's number among those of its kind, by docs/errors.txt; 0 without one.
         place: The number of the event (LOG; the header is 0), the entry (LIST, REPLAY; from 0) or
             the line (EXPECTED, KNOWN; from 1, through all texts of known files), or None.
     """
 
-    def __init__(self, kind: Kind | str, number: int, place: int | None = None):
-        super().__init__(kind, number, place)
-        self.kind = kind
-        self.number = number
-        self.place = place
+    def __init__(
+        self, text: str, kind: Kind | int | None = None, number: int = 0, place: int | None = None
+    ) -> None:
+        super().__init__(text, kind, number, place)
+        self.text, self.kind, self.number, self.place = text, kind, number, place
+
+    def __str__(self) -> str:
+        return self.text
+
+
+class Refused(Error):
+    """An input is refused. `kind` says which."""
 
     @property
     def message(self) -> str:
         """The line that `ima-agent` prints, such as `refused: replay fault 1 at entry 5`."""
-        word = self._word
+        word = self.kind.value if isinstance(self.kind, Kind) else str(self.kind)
         place = "" if self.place is None else f" at {_PLACES.get(word, 'place')} {self.place}"
         return f"refused: {word} fault {self.number}{place}"
-
-    @property
-    def _word(self) -> str:
-        return self.kind.value if isinstance(self.kind, Kind) else self.kind
-
-    def __str__(self) -> str:
-        sentence = _sentences().get((self._word, self.number))
-        return self.message if sentence is None else f"{self.message}: {sentence}"
 
 
 class OutOfMemory(Error, MemoryError):
@@ -62,7 +59,7 @@ class OutOfMemory(Error, MemoryError):
 
 
 class Misuse(Error, ValueError):
-    """An argument has no meaning, such as an empty `require`."""
+    """An argument has no meaning, such as an empty `require`, or a nonce that is too short."""
 
 
 class LoadError(Error, ImportError):
@@ -75,12 +72,3 @@ class VersionError(LoadError):
 
 class LibraryError(Error, RuntimeError):
     """The library's answer is not as its header says, so nothing is known of the inputs."""
-
-
-@functools.lru_cache(maxsize=None)
-def _sentences() -> dict[tuple[str, int], str]:
-    """The sentences of docs/errors.txt, by kind and number. (tests/bindings/answers.py writes
-    the file.)"""
-    lines = Path(__file__).with_name("sentences.txt").read_text(encoding="utf-8").splitlines()
-    words = (line.split(" ", 2) for line in lines)
-    return {(kind, int(number)): sentence for kind, number, sentence in words}

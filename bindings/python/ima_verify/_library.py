@@ -2,33 +2,44 @@
 
 import ctypes
 import functools
-import json
 import os
 import sys
-from collections.abc import Sequence
+from collections.abc import Iterator
 from ctypes import POINTER, byref, c_bool, c_char, c_int32, c_size_t, c_uint32, c_uint64, c_void_p
 from pathlib import Path
-from typing import Any, NoReturn, TypeAlias
+from typing import TYPE_CHECKING, Any, NoReturn, Protocol, TypeAlias
 
-from ._errors import Kind, LibraryError, LoadError, Misuse, OutOfMemory, Refused, VersionError
+from ._errors import Error, Kind, LibraryError, LoadError, Misuse, OutOfMemory, Refused
+from ._errors import VersionError
 
-Buffer: TypeAlias = bytes | bytearray | memoryview
+
+if TYPE_CHECKING:
+    from _typeshed import ReadableBuffer
+
+    Buffer: TypeAlias = ReadableBuffer
+else:
+
+    class Buffer(Protocol):
+        """Bytes, or what has memory, such as a bytearray or mmap (`collections.abc.Buffer`, which
+        Python has from 3.12 on)."""
+
 
 VERSION = 1
-FILE_NAME = "libima_verify.so"
-SYSTEM_NAME = "libima_verify.so.1"
+FILE_NAME, SYSTEM_NAME = "libima_verify.so", "libima_verify.so.1"
 VARIABLE = "IMA_VERIFY_LIBRARY"
 
 DONE, DIFFERS, REFUSED, OUT_OF_MEMORY, TOO_SHORT, MORE = range(6)
-TEXT, JSON = False, True
 
 # The kinds of errors, by their numbers; `NO_PLACE` is the place of an error that has none.
-NO_FAULT, ARGUMENT, MEMORY = 0, 1, 7
+NO_ERROR = 0
 KINDS = {
-    2: Kind.LOG, 3: Kind.LIST, 4: Kind.REPLAY, 5: Kind.EXPECTED, 6: Kind.CHECKPOINT,
-    8: Kind.QUOTE, 9: Kind.KEY, 10: Kind.KNOWN, 11: Kind.SIGNATURE,
+    1: Kind.ARGUMENT, 2: Kind.LOG, 3: Kind.LIST, 4: Kind.REPLAY, 5: Kind.EXPECTED,
+    6: Kind.CHECKPOINT, 7: Kind.MEMORY, 8: Kind.QUOTE, 9: Kind.KEY, 10: Kind.KNOWN,
+    11: Kind.SIGNATURE,
 }
 NO_PLACE = c_uint64(-1).value
+# By what `boot` and `matching` tell which PCRs match.
+BY_EXPECTED, BY_QUOTE = 1, 2
 
 # A report on all 96 PCRs of 4 banks has less, even if all values differ.
 REPORT_CAPACITY = 32 * 1024
@@ -39,38 +50,53 @@ CHECKPOINT_CAPACITY = 20_000
 
 
 class ErrorInfo(ctypes.Structure):
-    """`struct ima_verify_told`: the size of the text, and the error. A function that sets nothing
+    """`struct ima_verify_info`: the size of the text, and the error. A function that sets nothing
     leaves a size that cannot be."""
 
-    _fields_ = [("size", c_size_t), ("fault_kind", c_uint32), ("fault_number", c_uint32),
-                ("fault_place", c_uint64)]
+    _fields_ = [("size", c_size_t), ("error_kind", c_uint32), ("error_number", c_uint32),
+                ("error_place", c_uint64)]
 
     def __init__(self) -> None:
-        super().__init__(c_size_t(-1).value, NO_FAULT, 0, NO_PLACE)
+        super().__init__(c_size_t(-1).value, NO_ERROR, 0, NO_PLACE)
 
 
-# For each raw function: how many inputs it takes, and the types of the arguments between these
-# and the output.
-_SIZE = POINTER(c_size_t)
-_NEXT = c_void_p, c_size_t, _SIZE
-FUNCTIONS: dict[str, tuple[int, tuple[Any, ...]]] = {
-    "verdict": (5, (c_bool, c_bool)),
-    "locate": (4, (c_bool,)),
-    "replay": (4, (c_bool, c_bool)),
-    "more": (6, (c_bool, c_bool, c_bool, *_NEXT)),
-    "attest": (9, (c_bool, c_bool, c_bool, c_bool, c_bool, *_NEXT)),
-    "expected": (2, (c_bool,)),
-    "registers": (1, (c_bool, c_bool)),
-    "key": (1, (c_bool, c_bool)),
-    "events": (1, (_SIZE, _SIZE)),
-    "entries": (1, (_SIZE, _SIZE, c_bool)),
+# The arguments of each raw function before those of its answer.
+_QUOTED = "message key signature nonce nonce_hex require"
+_BY = f"by expected list {_QUOTED} allow_sha1 signature_checked"
+FUNCTIONS = {name: arguments.split() for name, arguments in {
+    "verdict": "log list expected require known checks_known json numbers",
+    "locate": "log list expected require json",
+    "replay": "list expected require known checks_known json numbers",
+    "more": "log state more expected require known checks_known prefix json numbers next",
+    "attest": f"log state more {_QUOTED} known checks_known allow_sha1 signature_checked prefix "
+              "json numbers next",
+    "expected": "printed registers json",
+    "registers": "bytes of_list json",
+    "key": "area endorsement json",
+    "matching": f"log {_BY}",
+    "boot": f"log before compares {_BY} json",
+    "events": "log matching matching_given offset number",
+    "entries": "list offset number json",
+    "error_text": "error_kind error_number error_place",
+}.items()}
+
+# Their types: those of bytes, if they are not among these. No numbers of a verdict are asked for.
+_BYTES = c_void_p, c_size_t
+_OUTPUT = POINTER(c_char), c_size_t
+_FLAGS = ("checks_known", "json", "prefix", "allow_sha1", "signature_checked", "of_list",
+          "endorsement", "compares", "matching_given")
+TYPES: dict[str, tuple[Any, ...]] = {
+    **dict.fromkeys(_FLAGS, (c_bool,)), "by": (c_uint32,),
+    "numbers": (POINTER(c_uint64), c_size_t), "next": (*_OUTPUT, POINTER(c_size_t)),
+    "offset": (POINTER(c_size_t),), "number": (POINTER(c_size_t),),
+    "error_kind": (c_uint32,), "error_number": (c_uint32,), "error_place": (c_uint64,),
 }
 
 
-def types_of(name: str) -> Sequence[Any]:
+def types_of(name: str) -> list[Any]:
     """The types of a raw function's arguments."""
-    inputs, between = FUNCTIONS[name]
-    return [*inputs * (c_void_p, c_size_t), *between, c_void_p, c_size_t, POINTER(ErrorInfo)]
+    types = [kind for argument in FUNCTIONS[name] for kind in TYPES.get(argument, _BYTES)]
+    return [*types, *_OUTPUT, POINTER(ErrorInfo)]
 
 
 def _file() -> str:
@@ -94,16 +120,13 @@ def load() -> ctypes.CDLL:
         library.ima_verify_version.restype = c_uint32
         found = library.ima_verify_version()
         if found < VERSION:
-            raise VersionError(
-                f"{file} has version {found} of the interface, and {VERSION} or later is needed"
-            )
+            raise VersionError(f"{file} has version {found} of the interface: {VERSION} is needed")
         for name in FUNCTIONS:
             function = getattr(library, f"ima_verify_raw_{name}")
             function.argtypes, function.restype = types_of(name), c_int32
     except (OSError, AttributeError) as error:
-        raise LoadError(
-            f"{file} is not there, or not the library (name it in {VARIABLE}): {error}"
-        ) from error
+        hint = f"is not there, or not the library (name it in {VARIABLE})"
+        raise LoadError(f"{file} {hint}: {error}") from error
     return library
 
 
@@ -113,35 +136,24 @@ def loaded() -> ctypes.CDLL:
     return load()
 
 
-def call(
-    name: str, inputs: Sequence[Buffer], options: Sequence[Any], capacity: int = REPORT_CAPACITY,
-    argument: object = None,
-) -> tuple[int, bytes]:
-    """The status and the text of a raw function for these inputs, and these arguments between
-    them and the output.
-
-    A text that is longer than `capacity` gets as much as it needs. `argument` is what the caller
-    gave as `require` or `registers`, where that was a text: the library refuses it as an argument.
-    """
-    status, info, out = _answered(getattr(loaded(), f"ima_verify_raw_{name}"), inputs, options,
-                                  capacity)
+def call(name: str, capacity: int = REPORT_CAPACITY, **given: Any) -> tuple[int, bytes]:
+    """The status and the text of a raw function for these arguments. Others are no bytes, or
+    False. A text that is longer than `capacity` gets as much as it needs."""
+    status, info, out = _answered(name, given, capacity)
     if info.size > len(out):
-        raise LibraryError(
-            f"libima_verify returned {status} and size {info.size} for {len(out)} bytes"
-        )
+        raise LibraryError(f"libima_verify returned {status}, with {info.size} of {len(out)} bytes")
+    if status not in (DONE, DIFFERS, MORE) or info.error_kind != NO_ERROR:
+        raise _error_of(status, info)
     with memoryview(out) as whole:
-        text = bytes(whole[:info.size])
-    _raise_error(status, info, text, argument)
-    return status, text
+        return status, bytes(whole[:info.size])
 
 
-def _answered(
-    function: Any, inputs: Sequence[Buffer], options: Sequence[Any], capacity: int
-) -> tuple[int, ErrorInfo, bytearray]:
+def _answered(name: str, given: dict[str, Any], size: int) -> tuple[int, ErrorInfo, bytearray]:
     """What a raw function returns, and what it wrote. (This raises no error of the library: a
     traceback would keep the inputs' memory.)"""
-    words = [*(word for data in inputs for word in _pointer_and_size(data)), *options]
-    info, out = ErrorInfo(), bytearray(capacity)
+    function = getattr(loaded(), f"ima_verify_raw_{name}")
+    words = [word for argument in FUNCTIONS[name] for word in _words(argument, given)]
+    info, out = ErrorInfo(), bytearray(size)
     status = function(*words, byref(c_char.from_buffer(out)), len(out), byref(info))
     while status == TOO_SHORT and len(out) < info.size <= sys.maxsize:
         out = bytearray(info.size)
@@ -149,85 +161,67 @@ def _answered(
     return status, info, out
 
 
-def call_more(
-    name: str, inputs: Sequence[Buffer], flags: Sequence[bool], argument: object
-) -> tuple[int, bytes, bytes]:
+def _words(argument: str, given: dict[str, Any]) -> tuple[Any, ...]:
+    """What crosses to the library for an argument."""
+    if argument == "numbers":
+        return byref(c_uint64()), 0
+    if argument not in TYPES:
+        return _pointer_and_size(given.get(argument, b""))
+    value = given.get(argument, False)
+    return value if isinstance(value, tuple) else (value,)
+
+
+def call_more(name: str, **given: Any) -> tuple[int, bytes, bytes]:
     """What `call` gives of the raw function `more` or `attest`, and the next checkpoint, which
     only a match has."""
     state, size = bytearray(CHECKPOINT_CAPACITY), c_size_t(-1)
-    options = *flags, JSON, byref(c_char.from_buffer(state)), len(state), byref(size)
-    status, text = call(name, inputs, options, argument=argument)
-    if size.value > len(state) or (size.value > 0) != (status == DONE):
-        raise LibraryError(
-            f"libima_verify returned {status} and a checkpoint of size {size.value}"
-        )
+    following = byref(c_char.from_buffer(state)), len(state), byref(size)
+    status, text = call(name, **given, json=True, next=following)
+    if status != DONE:
+        return status, text, b""
+    if not 0 < size.value <= len(state):
+        raise LibraryError(f"libima_verify returned a checkpoint of size {size.value}")
     return status, text, bytes(state[:size.value])
 
 
-def _raise_error(status: int, info: ErrorInfo, text: bytes, argument: object) -> None:
-    """Raises what the library says, if the status is that of a failure."""
-    kind, number, place = info.fault_kind, info.fault_number, info.fault_place
-    if status == REFUSED and kind == ARGUMENT and isinstance(argument, str):
-        raise Misuse(f"not of its form: {argument!r}")
-    if status == REFUSED and kind not in (NO_FAULT, ARGUMENT, MEMORY):
-        word = KINDS.get(kind) or _kind_in(text) or str(kind)
-        raise Refused(word, number, None if place == NO_PLACE else place)
-    if status == OUT_OF_MEMORY and kind == MEMORY:
-        raise OutOfMemory("libima_verify got no memory")
-    if status not in (DONE, DIFFERS, MORE) or kind != NO_FAULT:
-        raise LibraryError(
-            f"libima_verify returned {status} and fault {number} of kind {kind} at {place}"
-        )
+def _error_of(status: int, info: ErrorInfo) -> Error:
+    """The error that the library reports."""
+    kind, number, place = info.error_kind, info.error_number, info.error_place
+    word = KINDS.get(kind, kind)
+    is_memory = word is Kind.MEMORY
+    if kind == NO_ERROR or status != (OUT_OF_MEMORY if is_memory else REFUSED):
+        return LibraryError(f"libima_verify returned {status} and error {number} of kind {kind}")
+    error = OutOfMemory if is_memory else Misuse if word is Kind.ARGUMENT else Refused
+    text = _text_of(kind, number, place)
+    return error(text, word, number, None if place == NO_PLACE else place)
 
 
-def _kind_in(text: bytes) -> str | None:
-    """The kind of an error in the library's line, of a kind that this package does not know."""
-    try:
-        kind = json.loads(text)["fault"]["kind"]
-    except (ValueError, KeyError, TypeError, RecursionError):
-        return None
-    return kind if isinstance(kind, str) else None
+def _text_of(kind: int, number: int, place: int) -> str:
+    """What the library says of an error; without memory for that, its numbers."""
+    given = {"error_kind": kind, "error_number": number, "error_place": place}
+    status, info, out = _answered("error_text", given, 1024)
+    if status != DONE or info.size > len(out):
+        return f"error {number} of kind {kind} (docs/errors.txt)"
+    return out[:info.size].decode(errors="replace").rstrip("\n")
 
 
 def unexpected(status: int, text: bytes) -> NoReturn:
     """Raises the LibraryError for a text that is not as the header says."""
-    raise LibraryError(
-        f"libima_verify returned {status} and {len(text)} bytes that begin {text[:200]!r}"
-    )
+    raise LibraryError(f"libima_verify returned {status} and {len(text)} bytes: {text[:200]!r}")
 
 
-class Pieces:
-    """The lines that `entries` or `events` of the library give for an input, in pieces. Until the
-    end the input's memory stays where it is."""
-
-    def __init__(self, name: str, data: Buffer, *options: bool):
-        self._name, self._data, self._options = name, _pinned(data), options
-        # (a list without entries has no text, but a line of JSON)
-        self._may_be_empty = options == (TEXT,) and not memoryview(data).nbytes
-        self._position = 0, 0
-        self.is_over = False
-
-    def next(self) -> bytes:
-        """The next whole lines, or no bytes at the end. After an error other than `Refused`, which
-        is raised once and ends the lines, they can be asked for again."""
-        if self.is_over:
-            return b""
-        offset, number = (c_size_t(value) for value in self._position)
-        options = byref(offset), byref(number), *self._options
-        try:
-            status, text = call(self._name, (self._data,), options, PIECE_CAPACITY)
-        except Refused:
-            self._end()
-            raise
-        if status == DIFFERS or not (text.endswith(b"\n") or self._may_be_empty):
+def lines(name: str, **given: Any) -> Iterator[bytes]:
+    """The lines that `entries` or `events` of the library give for an input, which come in pieces.
+    Until the end the input's memory stays where it is."""
+    for argument in given.keys() - TYPES.keys():
+        given[argument] = _pinned(given[argument])
+    offset, number, status = c_size_t(0), c_size_t(0), MORE
+    while status == MORE:
+        position = {"offset": byref(offset), "number": byref(number)}
+        status, text = call(name, PIECE_CAPACITY, **given, **position)
+        if status == DIFFERS or not text.endswith(b"\n"):
             unexpected(status, text)
-        self._position = offset.value, number.value
-        if status == DONE:
-            self._end()
-        return text
-
-    def _end(self) -> None:
-        self.is_over, self._data = True, b""
+        yield from text.splitlines(keepends=True)
 
 
 def _pinned(data: Buffer) -> bytes | memoryview:

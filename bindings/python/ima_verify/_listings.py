@@ -4,9 +4,11 @@ time."""
 from collections.abc import Iterator
 from typing import TypeVar
 
-from ._answers import read_count, read_line
+from . import _library
+from ._answers import read_entry, read_line
 from ._errors import LibraryError
-from ._library import JSON, Buffer, Pieces
+from ._inputs import Quote, Text, bytes_of, confirming
+from ._library import Buffer
 from ._results import Entry, Event, Header
 
 _Item = TypeVar("_Item")
@@ -15,46 +17,37 @@ _Item = TypeVar("_Item")
 class Listing(Iterator[_Item]):
     """What an input has, one item after another.
 
-    A damaged input gives the items before the damage, and then raises `Refused`, once. A loop that
-    stops early does not come to it.
+    A damaged input gives the items before the damage, and then raises `Refused`. A loop that stops
+    early does not come to it. Iterating may also raise OutOfMemory, and LibraryError if the
+    library's answer is not as its header says. After an error there are no items."""
 
-    Iterating raises OutOfMemory if the library gets no memory, and LibraryError if its answer is
-    not as its header says; then the next step asks again."""
-
-    def __init__(self, pieces: Pieces, kind: type[_Item]):
-        self._pieces, self._kind = pieces, kind
-        self._lines: list[bytes] = []  # (those that were not given yet, the last one first)
-        self._count = 0
+    def __init__(self, items: Iterator[_Item]) -> None:
+        self._items = items
 
     def __next__(self) -> _Item:
-        if self._is_at_end():
-            raise StopIteration
-        item = read_line(self._kind, self._lines[-1])  # (if this fails, so it does the next time)
-        del self._lines[-1]
-        self._count += 1
-        return item
-
-    def _is_at_end(self) -> bool:
-        """Whether there is no other item. Otherwise there is its line."""
-        if not self._lines:
-            self._lines = self._pieces.next().splitlines(keepends=True)[::-1]
-        return not self._lines
+        return next(self._items)
 
 
 class Entries(Listing[Entry]):
     """The entries of a measurement list."""
 
-    def __init__(self, measurements: Buffer):
-        super().__init__(Pieces("entries", measurements, JSON), Entry)
+    def __init__(self, measurements: Buffer) -> None:
+        listed = bytes_of("measurements", measurements)
+        super().__init__(_entries_in(_library.lines("entries", list=listed, json=True)))
 
-    def _is_at_end(self) -> bool:
-        """The last line says how many entries there are: without it the answer was cut."""
-        if super()._is_at_end() or len(self._lines) > 1 or not self._pieces.is_over:
-            return not self._lines
-        count = read_count(self._lines[0])
-        if count != self._count:
-            raise LibraryError(f"libima_verify gave {self._count} entries of {count}")
-        return True
+
+def _entries_in(lines: Iterator[bytes]) -> Iterator[Entry]:
+    """The entries of lines, of which the last says how many there are: without it the answer was
+    cut."""
+    count = 0
+    for entry in map(read_entry, lines):
+        if isinstance(entry, int):
+            if entry == count and next(lines, None) is None:
+                return
+            break
+        yield entry
+        count += 1
+    raise LibraryError(f"libima_verify gave {count} entries, and says otherwise")
 
 
 class Events(Listing[Event]):
@@ -62,9 +55,19 @@ class Events(Listing[Event]):
 
     Attributes:
         header: What the log's header states.
+        matches: False if the verdict by the quote is no match: then nothing is confirmed.
     """
 
-    def __init__(self, log: Buffer):
-        super().__init__(Pieces("events", log), Event)
-        self._is_at_end()  # (this has the first lines)
-        self.header = read_line(Header, self._lines.pop())
+    def __init__(
+        self, log: Buffer, *, expected: Text | None = None, quote: Quote | None = None
+    ) -> None:
+        given, by = bytes_of("log", log), confirming(expected, quote)
+        status, matching = _library.DONE, b""
+        if by:
+            status, matching = _library.call("matching", log=given, **by)
+        if status not in (_library.DONE, _library.DIFFERS):
+            _library.unexpected(status, matching)
+        self.matches = status == _library.DONE
+        lines = _library.lines("events", log=given, matching=matching, matching_given=bool(by))
+        self.header = read_line(Header, next(lines))
+        super().__init__(read_line(Event, line) for line in lines)

@@ -18,13 +18,8 @@ class Pcr:
 
 @dataclass(frozen=True, slots=True, kw_only=True)
 class Row:
-    """An expected PCR, compared, or a required one that is missing.
-
-    Attributes:
-        expected: The expected value, or None if the state is "missing".
-        state: "match"; "differ"; "absent": the log has no such bank; or "missing": the PCR is
-            required, and not expected.
-        value: The value that log and list make, if the state is "differ".
+    """An expected PCR, compared. The state is "match"; "differ", with the value that log and list
+    make; "absent": the log has no such bank; or "missing": the PCR is required, and not expected.
     """
 
     bank: str
@@ -36,14 +31,9 @@ class Row:
 
 @dataclass(frozen=True, slots=True, kw_only=True)
 class PlaceRow:
-    """Where an expected PCR first has its value.
-
-    Attributes:
-        expected: The expected value, or None if the place is "missing".
-        place: "reset": before the events; "event"; "entry"; "nowhere"; "absent": the log has no
-            such bank; or "missing": the PCR is required, and not expected.
-        number: The number of the event, from 1, or of the entry, from 0.
-    """
+    """Where an expected PCR first has its value: "reset", before the events; at the "event" of this
+    number, from 1; at the "entry" of this number, from 0; "nowhere"; "absent": the log has no such
+    bank; or "missing": the PCR is required, and not expected."""
 
     bank: str
     register: int
@@ -54,13 +44,8 @@ class PlaceRow:
 
 @dataclass(frozen=True, slots=True, kw_only=True)
 class Stray:
-    """An event of the log that extends PCR 10, or an entry of the list that extends another.
-
-    Attributes:
-        event: The event's number, from 1, or None for an entry.
-        entry: The entry's number, from 0, or None for an event.
-        register: The PCR that it extends.
-    """
+    """An event of the log, from 1, that extends PCR 10, or an entry of the list, from 0, that
+    extends another."""
 
     event: int | None = None
     entry: int | None = None
@@ -69,13 +54,8 @@ class Stray:
 
 @dataclass(frozen=True, slots=True, kw_only=True)
 class Fault:
-    """An error in a list after its confirmed entries, for which the list is not refused.
-
-    Attributes:
-        kind, number: As of `Refused`.
-        event, entry: Where it is.
-        message: The line that `ima-agent` prints.
-    """
+    """An error in a list after its confirmed entries, for which the list is not refused. Kind,
+    number and message are as of `Refused`."""
 
     kind: str
     number: int | None = None
@@ -94,17 +74,12 @@ class QuotedBank:
 
 @dataclass(frozen=True, slots=True, kw_only=True)
 class Clock:
-    """The clock of a TPM when it made a quote.
+    """The clock of a TPM when it made a quote: how long it has had power since it was cleared, how
+    often it was reset since then (by each boot), how often restarted or resumed since its last
+    reset, and whether its clock never had a later value.
 
     For a key outside the endorsement and platform hierarchies the TPM adds a constant to `resets`
-    and `restarts`, and to the version of its firmware: only differences mean something.
-
-    Attributes:
-        milliseconds: How long the TPM has had power since it was last cleared.
-        resets: How often it was reset since then: each boot is one reset.
-        restarts: How often it was restarted or resumed since its last reset.
-        safe: Whether its clock never had a later value.
-    """
+    and `restarts`, and to the version of its firmware: only differences mean something."""
 
     milliseconds: int
     resets: int
@@ -112,12 +87,17 @@ class Clock:
     safe: bool
 
 
+@dataclass(frozen=True, slots=True, kw_only=True, repr=False)
 class _Judged:
-    """What a verdict has. As a condition, it is true exactly if it is a match."""
+    """What all verdicts have. As a condition, one is true exactly if it is a match."""
 
-    __slots__ = ()
     matches: bool
+    json: str
     entries: int
+    extends: tuple[Stray, ...] = ()
+    known_from: int | None = None
+    unknown: tuple[int, ...] = ()
+    verdict: str
 
     def __bool__(self) -> bool:
         return self.matches
@@ -132,34 +112,28 @@ class Verdict(_Judged):
     """The verdict on a log, a list and expected PCRs.
 
     Attributes:
-        matches: Whether the library says that it is a match, on at least one PCR.
+        matches: Whether the library says that it is a match.
         json: The line of `ima-agent verify --json`.
         events, entries: How many the log and the list have.
-        locality: The locality from which the TPM was started.
+        locality: That from which the TPM was started.
         confirmed: How many first entries the verdict covers, from a session with `prefix`.
         unconfirmed: The first error after these.
+        compared: How many expected PCRs were compared. Without one there is no match.
         boot_aggregate: What the first entry says of the log's PCRs: "good"; "wrong"; "nobank": it
             is by a bank that the log lacks; or "missing".
         registers: The expected PCRs, compared, and then the required ones that are missing.
         extends: The first event of PCR 10, and the first entry of another, if PCRs are required.
         known_from: The first entry that was looked up among known files, if some were given.
         unknown: The entries from there on that are of no known file.
-        verdict: The word of the line.
     """
 
-    matches: bool
-    json: str = field(repr=False)
     events: int
     locality: int
-    entries: int
     confirmed: int | None = None
     unconfirmed: Fault | None = None
+    compared: int
     boot_aggregate: str
     registers: tuple[Row, ...]
-    extends: tuple[Stray, ...] = ()
-    known_from: int | None = None
-    unknown: tuple[int, ...] = ()
-    verdict: str
 
 
 @dataclass(frozen=True, slots=True, kw_only=True, repr=False)
@@ -167,14 +141,8 @@ class ListVerdict(_Judged):
     """The verdict on a list without a log, and expected PCRs. The attributes are as of `Verdict`;
     `json` is the line of `ima-agent replay --json`."""
 
-    matches: bool
-    json: str = field(repr=False)
-    entries: int
+    compared: int
     registers: tuple[Row, ...]
-    extends: tuple[Stray, ...] = ()
-    known_from: int | None = None
-    unknown: tuple[int, ...] = ()
-    verdict: str
 
 
 @dataclass(frozen=True, slots=True, kw_only=True, repr=False)
@@ -182,47 +150,33 @@ class Attestation(_Judged):
     """The verdict on a log and a list by a quote. It covers the PCRs in `quoted`, and no others.
 
     Attributes:
-        quoted: The PCRs that the quote selects.
         signer: The qualified name of the key that signed, as the quote states it.
-        clock: The TPM's clock when it made the quote.
-        firmware: The version of the TPM's firmware.
-        expected, registers: Of expected PCRs beside the quote, which no call here gives.
+        expected, registers: Of expected PCRs beside the quote, which no call takes.
         quote: "match" if log and list make the quoted values, otherwise "differ".
         signature: "valid": it is by the key; "checked" or "not checked": what the caller said.
         verdict: The word of the line; "signature not checked" if nobody verified the signature.
-        matches, json, ...: As of `Verdict`; `json` is the line of `ima-agent attest --json`.
+        matches, json, ...: As of `Verdict`, for `ima-agent attest --json`.
     """
 
-    matches: bool
-    json: str = field(repr=False)
     quoted: tuple[QuotedBank, ...]
     signer: bytes
     clock: Clock
     firmware: int
     events: int
     locality: int
-    entries: int
     confirmed: int | None = None
     unconfirmed: Fault | None = None
     boot_aggregate: str
     expected: str | None = None
     registers: tuple[Row, ...] = ()
-    extends: tuple[Stray, ...] = ()
-    known_from: int | None = None
-    unknown: tuple[int, ...] = ()
     quote: str
     signature: str
-    verdict: str
 
 
 @dataclass(frozen=True, slots=True, kw_only=True)
 class Places:
-    """Where each expected PCR first has its value. As a condition, it is true if `located` is.
-
-    Attributes:
-        located: Whether a PCR is expected, and each has a place.
-        json: The line of `ima-agent locate --json`.
-    """
+    """Where each expected PCR first has its value; `located` is whether a PCR is expected, and each
+    has a place. As a condition, it is true if `located` is."""
 
     json: str = field(repr=False)
     registers: tuple[PlaceRow, ...]
@@ -239,10 +193,8 @@ class Key:
     Attributes:
         name: The name by which TPMs know the key: the number of a hash, in two bytes, and that
             hash of the area. (The `signer` of a quote is the qualified name, which is another.)
-        type: "rsa" or "ecc".
-        bits: The size of the modulus, or 256, 384 or 521 for a curve.
-        scheme: "none", "rsassa", "rsapss", "ecdsa", "rsaes", "oaep" or "ecdh".
-        hash: The scheme's hash, or None if it has none.
+        type, bits: "rsa" and the size of the modulus, or "ecc" and 256, 384 or 521.
+        scheme, hash: Such as "rsassa" and "sha256", or "none" and None.
         pem: The public key as `openssl pkey -pubin` writes it, which `attest` takes.
     """
 
@@ -261,11 +213,9 @@ class Entry:
 
     Attributes:
         entry: Its number, from 0.
-        register: The PCR that it extends.
         template, template_hex: The template's name; its bytes if they are not UTF-8.
         template_digest: The SHA-1 that the list states, all zero for a violation.
-        violation: Whether a file was open for writing while it was measured. No PCR confirms what
-            a violation says.
+        violation: Whether a file was open for writing while it was measured. No PCR confirms it.
         genuine: Whether the template digest is valid, or the entry is a violation.
         algorithm, digest, path, path_hex, signature: Those of the file, if the payload has the
             fields of ima, ima-ng or ima-sig. A path that is not UTF-8 is in `path_hex`.
@@ -307,7 +257,8 @@ class Event:
         measured: Which part of `data` was measured, in each bank in which one was: "data": all
             of it; "value": that of a variable; or "command": the text of a command of GRUB. The
             rest, and the type, are only what the log claims.
-        confirmed: Which part of the data is confirmed. (No call here asks for it.)
+        confirmed: Which part of the data is confirmed: "data", "value" or "command" as above, or
+            "none". It is None if `events` is given neither expected PCRs nor a quote.
         content: What the data says: one member, by its form (docs/event-data.md).
     """
 
@@ -325,8 +276,8 @@ class Event:
 
 @dataclass(frozen=True, slots=True, kw_only=True)
 class LogAlgorithm:
-    """An algorithm that a log's header declares: its name, if the library knows it, its number
-    as the TCG assigns it, and the size of its digests in bytes."""
+    """An algorithm that a log's header declares: its name, if it is known, its number as the TCG
+    assigns it, and the size of its digests in bytes."""
 
     name: str | None = None
     id: int
@@ -352,3 +303,92 @@ class Header:
     json: str = field(repr=False)
     algorithms: tuple[LogAlgorithm, ...]
     specification: Specification
+
+
+@dataclass(frozen=True, slots=True, kw_only=True)
+class Image:
+    """A program that the firmware started: the number of the event, or "unknown", its digest in
+    each bank that answers, and what the event's data claims."""
+
+    image: int | str
+    digests: dict[str, bytes] | None = None
+    claimed: dict[str, Any] | None = None
+
+
+@dataclass(frozen=True, slots=True, kw_only=True)
+class Command:
+    """A command that a boot loader measured: the number of the event, or "unknown" if texts of the
+    PCR are not reported, from `event` on; the text, or its bytes if it is not valid in its
+    encoding; and what the data claims of a command of GRUB."""
+
+    command: int | str
+    register: int
+    text: str | None = None
+    text_hex: bytes | None = None
+    claimed: dict[str, Any] | None = None
+    event: int | None = None
+
+
+@dataclass(frozen=True, slots=True, kw_only=True)
+class ImaPolicy:
+    """Whether a command asked Linux to measure files: "asked", "possible" (a command may set a
+    policy) or "unknown", and the first event whose text did."""
+
+    ima_policy: str
+    event: int | None = None
+
+
+@dataclass(frozen=True, slots=True, kw_only=True)
+class BootVariable:
+    """A variable of UEFI that says what to start: the number of the event, or "unknown", and what
+    its data says."""
+
+    boot_variable: int | str
+    content: dict[str, Any] | None = None
+
+
+@dataclass(frozen=True, slots=True, kw_only=True)
+class Alike:
+    """A PCR of two boots: the first bank in which the logs differ, and how many first events have
+    the same digests there; or "all", if each bank that answers has; or "unknown", if none does."""
+
+    register: int
+    bank: str | None = None
+    alike: int | str
+
+
+@dataclass(frozen=True, slots=True, kw_only=True)
+class Changed:
+    """An event that one of two boots has: its number in the log or in the earlier log, its digest
+    in the bank in which the logs differ, and what its data claims."""
+
+    register: int
+    now: int | None = None
+    before: int | None = None
+    digest: bytes | None = None
+    claimed: dict[str, Any]
+
+
+@dataclass(frozen=True, slots=True, kw_only=True)
+class Boot:
+    """What a machine booted: the lines of `ima-agent boot --json` (docs/event-data.md).
+
+    Attributes:
+        matches: False if the verdict by the quote is no match: then all is unknown.
+        secure_boot: "on", "off" or "unknown".
+        firmware_version: The content that states the version, or "unknown".
+        boot_variables: BootOrder and each Boot####.
+        alike: With an earlier log, each PCR that one of the logs extends.
+        changed: With an earlier log, the events that one of both has.
+    """
+
+    matches: bool
+    json: str = field(repr=False)
+    secure_boot: str
+    firmware_version: dict[str, Any] | str
+    images: tuple[Image, ...] = ()
+    commands: tuple[Command, ...] = ()
+    ima_policy: ImaPolicy
+    boot_variables: tuple[BootVariable, ...] = ()
+    alike: tuple[Alike, ...] = ()
+    changed: tuple[Changed, ...] = ()

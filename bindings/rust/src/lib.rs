@@ -15,37 +15,35 @@
 //! ```
 //!
 //! A verdict covers only the boot aggregate and the PCRs in the expected text. So each call says which PCRs it must cover, as here. With such a
-//! requirement a verdict is a match only if no event of the log extends PCR 10 and each entry of the list names it. With [`Required::known`] each
-//! entry but the boot aggregate must also be of a known file. [`entries`] and [`events`] go through the inputs themselves. A [`Session`] is for a
-//! list that grows, and for one that grew after the expected PCRs were read. [`attest`] compares a log and a list with a quote in place of expected
-//! PCRs, and verifies its signature by the machine's attestation key. [`read_key`] says what a key is.
+//! requirement a verdict is a match only if no event of the log extends PCR 10 and each entry of the list names it. [`attest`] judges by a quote in
+//! place of expected PCRs. A [`Session`] is for a list that grows, and for one that grew after the expected PCRs were read. [`boot`] says what the
+//! machine booted. [`entries`] and [`events`] go through the inputs themselves.
 //!
 //! # Errors
 //!
-//! An argument, an input or a session's state that is refused is an [`Error::Refused`] with its [`Kind`], its number and its place. Any
-//! call may give [`Error::OutOfMemory`], and [`Error::Unexpected`] or [`Error::Version`] if the library is not as its header describes.
+//! An argument, an input or a session's state that is refused is an [`Error::Refused`] with its [`Kind`], its number, its place, and a text that
+//! says what to do. Any call may give [`Error::OutOfMemory`], and [`Error::Unexpected`] or [`Error::Version`] if the library is not as its header
+//! describes.
 //!
 //! Any number of threads may call at once.
 
 #![deny(missing_docs)]
 
-mod answer;
+mod boot;
 mod error;
 mod library;
 mod lines;
+mod reply;
 mod request;
 mod results;
 mod session;
 mod words;
 
+pub use boot::Boot;
 pub use error::Error;
 pub use lines::{Entries, Events};
-pub use request::{Nonce, Quote, Required, Signing, NOTHING_REQUIRED};
-pub use results::{
-    Attestation, Blob, Bytes, Clock, CommandData, Content, DeclaredAlgorithm, Entry, Event, Fault, Fields, Gpt, Header, ImageData, Key, ListVerdict,
-    LoadOption, Partition, PlaceRow, Places, QuotedBank, Register, Registers, Row, Specification, Stray, Tagged, UefiSignature, UefiSignatureList,
-    Variable, Verdict,
-};
+pub use request::{Evidence, Nonce, Quote, Required, Signing, NOTHING_REQUIRED};
+pub use results::*;
 pub use session::Session;
 pub use words::*;
 
@@ -57,9 +55,11 @@ mod tests;
 #[doc = include_str!("../README.md")]
 struct Readme;
 
+use library::{ask, Grown, Out};
 use request::lines_of;
 
 /// The version of the library's interface.
+#[must_use]
 pub fn version() -> u32 {
     library::version()
 }
@@ -67,61 +67,35 @@ pub fn version() -> u32 {
 /// The verdict on a firmware event log, a measurement list and the expected PCRs that a text states.
 ///
 /// `require` names the PCRs that must be among the expected ones, such as `sha256:0-10` or `sha256:0-7,sha1:10`. Each that is not has
-/// a row whose state is [`State::Missing`], and then the verdict is no match. [`NOTHING_REQUIRED`] requires none; a text without PCR
-/// 10, or an empty one, is refused. It is a text, or a [`Required`] with known files.
-///
-/// ```
-/// # fn main() -> Result<(), Box<dyn std::error::Error>> {
-/// # let sample = |name| std::fs::read(format!("samples/{name}"));
-/// # let (log, mut list, expected) = (sample("firmware.log")?, sample("ima.list")?, sample("expected.txt")?);
-/// assert!(ima_verify::verify(&log, &list, &expected, "sha256:0-10")?.matches);
-/// assert!(!ima_verify::verify(&log, &list, b"", "sha256:0-10")?.matches);
-/// assert!(ima_verify::verify(&log, &list, &expected, "").is_err());
-/// list[0] = 9; // (the first entry's PCR)
-/// let found = ima_verify::verify(&log, &list, &expected, "sha256:0-10")?.extends;
-/// assert_eq!((found[0].entry, found[0].register), (Some(0), 9));
-/// # Ok(())
-/// # }
-/// ```
+/// a row whose state is [`State::Missing`], and then the verdict is no match. [`NOTHING_REQUIRED`] requires only that some PCR is compared; a
+/// text without PCR 10, or an empty one, is refused. It is a text, or a [`Required`] with known files.
 ///
 /// # Errors
 ///
-/// [`Error::Refused`] if the requirement is not of its form, or an input not of its.
+/// [`Error::Refused`] if the requirement or an input is malformed.
 pub fn verify<'a>(log: &[u8], list: &[u8], expected: &[u8], require: impl Into<Required<'a>>) -> Result<Verdict, Error> {
     let Required { registers, known } = require.into();
     let known = known.map(lines_of);
-    ask(|out| library::verdict(log, list, expected, registers.as_bytes(), known.as_deref(), out))?.judged()
+    ask(Out::for_text()?, |out| library::verdict(log, list, expected, registers, known.as_deref(), out))?.judged()
 }
 
 /// The verdict on a firmware event log and a measurement list by a quote with its signature. No file of PCR values is needed.
 ///
-/// ```no_run
-/// # fn judge(log: &[u8], list: &[u8], key: &[u8], nonce: &str, message: &[u8], signature: &[u8]) -> Result<(), ima_verify::Error> {
-/// use ima_verify::{attest, Nonce, Quote, Signing};
-///
-/// let signing = Signing::ByKey { key, signature }; // the machine's own restricted key
-/// let nonce = Nonce::from_hex(nonce)?; // what `openssl rand -hex 20` wrote
-/// let verdict = attest(log, list, &Quote::new(signing, message, &nonce, "sha256:0-10"))?;
-/// println!("{} {}", verdict.matches, verdict.entries);
-/// # Ok(())
-/// # }
-/// ```
-///
 /// # Errors
 ///
-/// [`Error::Refused`] with [`Kind::Signature`] if the signature is not by the key and on the message; with [`Kind::Key`] if the key is none,
-/// or if it begins as PEM does with [`Kind::Signature`]; with [`Kind::Quote`] if the message is no quote, has another nonce, or does not select
-/// a required PCR; with [`Kind::Argument`] if the requirement is not of its form, leaves out one of the PCRs 0 to 10, or names one of the SHA-1
-/// bank alone, or if the nonce is too short; otherwise as for [`verify`].
+/// [`Error::Refused`] with [`Kind::Signature`] if the signature is not by the key and on the message, or the PEM is not one of a key that is
+/// taken; with [`Kind::Key`] if the public area is refused; with [`Kind::Quote`] if the message is not a quote, has another nonce, or does not
+/// select a required PCR; with [`Kind::Argument`] if the requirement is malformed, leaves out one of the PCRs 0 to 10, or names one in the SHA-1
+/// bank alone, or if the nonce is too short or not hexadecimal; otherwise as for [`verify`].
 pub fn attest(log: &[u8], list: &[u8], quote: &Quote<'_>) -> Result<Attestation, Error> {
     let known = quote.known.map(lines_of);
-    let inputs = library::Grown { log, state: &[], data: list, known: known.as_deref(), prefix: false };
+    let inputs = Grown { log, state: &[], more: list, known: known.as_deref(), prefix: false };
     session::attested(&inputs, quote)?.judged()
 }
 
 /// Where each expected PCR first has its value. The arguments are as in [`verify`], without known files.
 pub fn locate(log: &[u8], list: &[u8], expected: &[u8], require: &str) -> Result<Places, Error> {
-    ask(|out| library::locate(log, list, expected, require.as_bytes(), out))?.judged()
+    ask(Out::for_text()?, |out| library::locate(log, list, expected, require, out))?.judged()
 }
 
 /// The verdict on a measurement list without a log, and the expected PCRs that a text states.
@@ -131,26 +105,25 @@ pub fn locate(log: &[u8], list: &[u8], expected: &[u8], require: &str) -> Result
 pub fn replay<'a>(list: &[u8], expected: &[u8], require: impl Into<Required<'a>>) -> Result<ListVerdict, Error> {
     let Required { registers, known } = require.into();
     let known = known.map(lines_of);
-    ask(|out| library::replay(list, expected, registers.as_bytes(), known.as_deref(), out))?.judged()
+    ask(Out::for_text()?, |out| library::replay(list, expected, registers, known.as_deref(), out))?.judged()
 }
 
 /// The lines of expected PCRs, as [`verify`] takes them, that a text which tpm2_pcrread or tpm2_checkquote printed states: of the PCRs
 /// that a selection has, such as `sha256:0-10` or `0-7,10`, or of all.
 ///
-/// Nothing says who wrote the text, nor whether a quote holds: take the values of a quote that was checked, or of a trusted machine.
+/// Anyone can write such a text, and it does not say whether a quote holds: take the values of a quote that was checked, or of a trusted machine.
 pub fn expected(printed: &[u8], registers: Option<&str>) -> Result<Vec<u8>, Error> {
-    let selection = registers.unwrap_or_default();
-    ask(|out| library::expected(printed, selection.as_bytes(), out))?.lines()
+    ask(Out::for_text()?, |out| library::expected(printed, registers.unwrap_or_default(), out))?.lines()
 }
 
 /// The PCRs that differ from their reset values after a firmware event log.
 pub fn registers(log: &[u8]) -> Result<Registers, Error> {
-    ask(|out| library::log_registers(log, out))?.line()
+    ask(Out::for_text()?, |out| library::registers(log, false, out))?.line()
 }
 
 /// The PCRs, in banks of all algorithms, that differ from their reset values after a measurement list without a log.
 pub fn list_registers(list: &[u8]) -> Result<Registers, Error> {
-    ask(|out| library::list_registers(list, out))?.line()
+    ask(Out::for_text()?, |out| library::registers(list, true, out))?.line()
 }
 
 /// The attestation key of a public area, a TPM2B_PUBLIC: the file that `tpm2_createak -u` writes.
@@ -162,18 +135,13 @@ pub fn list_registers(list: &[u8]) -> Result<Registers, Error> {
 ///
 /// ```
 /// # fn main() -> Result<(), Box<dyn std::error::Error>> {
-/// # let area = std::fs::read("samples/AK.pub")?;
-/// let key = ima_verify::read_key(&area)?;
-/// assert_eq!((key.key_type, key.bits), (ima_verify::KeyType::Ecc, 256));
-/// assert_eq!((key.scheme, key.hash), (ima_verify::Scheme::Ecdsa, Some(ima_verify::Algorithm::Sha256)));
-/// assert!(key.name.starts_with(&[0x00, 0x0b]) && key.pem.starts_with("-----BEGIN PUBLIC KEY-----\n"));
-/// let refused = ima_verify::read_endorsement_key(&area).unwrap_err(); // (it signs)
-/// assert!(refused.to_string().starts_with("refused: key fault 21: "));
+/// let key = ima_verify::read_key(&std::fs::read("samples/AK.pub")?)?;
+/// assert_eq!((key.key_type, key.bits, key.scheme), (ima_verify::KeyType::Ecc, 256, ima_verify::Scheme::Ecdsa));
 /// # Ok(())
 /// # }
 /// ```
 pub fn read_key(area: &[u8]) -> Result<Key, Error> {
-    ask(|out| library::key(area, out))?.line()
+    ask(Out::for_text()?, |out| library::key(area, false, out))?.line()
 }
 
 /// The endorsement key of a public area, to which credentials are made: the file that `tpm2_createek -u` writes.
@@ -181,7 +149,7 @@ pub fn read_key(area: &[u8]) -> Result<Key, Error> {
 /// The key is restricted, never leaves the TPM that made it, decrypts, and does not sign. Nor does its area say whose it is: compare
 /// the PEM with the key of a certificate by the TPM's manufacturer.
 pub fn read_endorsement_key(area: &[u8]) -> Result<Key, Error> {
-    ask(|out| library::endorsement_key(area, out))?.line()
+    ask(Out::for_text()?, |out| library::key(area, true, out))?.line()
 }
 
 /// The entries of a measurement list, one after another. Each says whether its template digest is valid; no entry says that the list
@@ -189,50 +157,53 @@ pub fn read_endorsement_key(area: &[u8]) -> Result<Key, Error> {
 ///
 /// For a damaged list the iterator gives the entries before the error, then the [`Error::Refused`] that says where it is, and then
 /// nothing. A loop that ends early does not come to the error.
-///
-/// ```
-/// # fn main() -> Result<(), Box<dyn std::error::Error>> {
-/// # let list = std::fs::read("samples/ima.list")?;
-/// for entry in ima_verify::entries(&list) {
-///     let entry = entry?;
-///     if entry.violation {
-///         println!("{} {:?}", entry.entry, entry.path_bytes().map(|path| path.escape_ascii().to_string()));
-///     }
-/// }
-/// let mut cut = ima_verify::entries(&list[..list.len() - 1]);
-/// assert_eq!(cut.by_ref().take(3).filter(Result::is_ok).count(), 3);
-/// assert_eq!(cut.next().unwrap().unwrap_err().to_string(), "refused: list fault 1 at entry 3: its bytes are not all there");
-/// # Ok(())
-/// # }
-/// ```
 pub fn entries(list: &[u8]) -> Entries<'_> {
-    Entries(lines::Lines::of(list, library::entries))
+    Entries(lines::Lines::of(list, None, library::entries))
 }
 
 /// The events of a firmware event log after its header, one after another.
 ///
 /// For a log that is damaged after its header the iterator gives the events before the error, then the [`Error::Refused`] that says
 /// where it is, and then nothing. A loop that ends early does not come to the error.
+pub fn events(log: &[u8]) -> Result<Events<'_>, Error> {
+    Events::of(log, None)
+}
+
+/// The events of a firmware event log as from [`events`], each with the part of its data that PCRs confirm, by this evidence.
+///
+/// # Errors
+///
+/// [`Error::Refused`] if the log is, even before the first event, or the evidence, as for [`verify`] and [`attest`].
+pub fn confirmed_events<'a>(log: &'a [u8], evidence: Evidence<'_>) -> Result<Events<'a>, Error> {
+    let shown = evidence.shown()?;
+    let matching = ask(Out::for_text()?, |out| library::matching(log, &shown, out))?;
+    Events::of(log, Some(matching))
+}
+
+/// What a machine booted, by its firmware event log and as far as PCRs confirm it, and what differs from the log of an earlier boot.
+/// Nothing confirms the earlier log.
 ///
 /// ```
 /// # fn main() -> Result<(), Box<dyn std::error::Error>> {
-/// # let log = std::fs::read("samples/firmware.log")?;
-/// let events = ima_verify::events(&log)?.collect::<Result<Vec<_>, _>>()?;
-/// assert_eq!(events[1].event_type.as_deref(), Some("EV_SEPARATOR"));
+/// # let sample = |name| std::fs::read(format!("samples/{name}"));
+/// # let (log, expected) = (sample("firmware.log")?, sample("expected.txt")?);
+/// let boot = ima_verify::boot(&log, ima_verify::Evidence::Expected(&expected), Some(&log))?;
+/// assert_eq!(boot.secure_boot, ima_verify::SecureBoot::Unknown); // (the log has no such variable)
+/// assert!(boot.changed.is_empty());
 /// # Ok(())
 /// # }
 /// ```
-pub fn events(log: &[u8]) -> Result<Events<'_>, Error> {
-    Events::of(log)
+///
+/// # Errors
+///
+/// As for [`confirmed_events`].
+pub fn boot(log: &[u8], evidence: Evidence<'_>, before: Option<&[u8]>) -> Result<Boot, Error> {
+    let shown = evidence.shown()?;
+    ask(Out::for_text()?, |out| library::boot(log, before, &shown, out))?.boot()
 }
 
 /// The entries of a measurement list as text, each in the kernel's form. Paths are as they are: they may have line feeds and control
 /// bytes. [`entries`] gives each entry by itself.
 pub fn show(list: &[u8]) -> Result<Vec<u8>, Error> {
-    lines::Lines::of(list, library::texts).text()
-}
-
-/// The answer to a call, which has no error.
-fn ask(call: impl FnMut(&mut [u8]) -> (i32, library::Told)) -> Result<answer::Answer, Error> {
-    library::ask(library::zeros(library::ROOM)?, call)
+    lines::Lines::of(list, None, library::texts).text()
 }

@@ -1,170 +1,196 @@
 //! Calls the C library, as `bindings/c/ima_verify.h` describes it.
 
-use crate::answer::Answer;
-use crate::{Error, Quote, Signing};
+use crate::reply::Reply;
+use crate::request::Shown;
+use crate::{Error, Quote};
 use ima_verify_sys as c;
+use std::ptr::NonNull;
 
 pub(crate) use c::{
-    ima_verify_told as Told, IMA_VERIFY_DIFFERS as DIFFERS, IMA_VERIFY_DONE as DONE, IMA_VERIFY_MORE as MORE,
+    ima_verify_info as Info, IMA_VERIFY_DIFFERS as DIFFERS, IMA_VERIFY_DONE as DONE, IMA_VERIFY_MORE as MORE,
     IMA_VERIFY_OUT_OF_MEMORY as OUT_OF_MEMORY, IMA_VERIFY_REFUSED as REFUSED, IMA_VERIFY_TOO_SHORT as TOO_SHORT,
 };
 
 /// The first buffer for a text. (Four banks have 96 PCRs, and no row has more than 256 bytes; a checkpoint has less than 20000.)
-pub(crate) const ROOM: usize = 64 * 1024;
+pub(crate) const CAPACITY: usize = 64 * 1024;
 
-/// What is reported before a call: a size that no text has.
-const NOTHING_TOLD: Told = Told { size: usize::MAX, fault_kind: c::IMA_VERIFY_NO_FAULT, fault_number: 0, fault_place: c::IMA_VERIFY_NO_PLACE };
+/// What is reported before a call: no error, and a size that no text has.
+pub(crate) const NO_ERROR: Info = Info { size: usize::MAX, error_kind: c::IMA_VERIFY_NO_ERROR, error_number: 0, error_place: c::IMA_VERIFY_NO_PLACE };
+
+/// Where a call writes: a text, what it reports of it, and a next state with its size.
+#[derive(Debug, Clone)]
+pub(crate) struct Out {
+    pub(crate) text: Vec<u8>,
+    pub(crate) info: Info,
+    pub(crate) next: Vec<u8>,
+    pub(crate) next_size: usize,
+}
+
+impl Out {
+    /// With this buffer for a text, and no next state.
+    pub(crate) fn with(text: Vec<u8>) -> Self {
+        Self { text, info: NO_ERROR, next: Vec::new(), next_size: 0 }
+    }
+
+    pub(crate) fn for_text() -> Result<Self, Error> {
+        zeros(CAPACITY).map(Self::with)
+    }
+
+    pub(crate) fn for_text_and_state() -> Result<Self, Error> {
+        Ok(Self { next: zeros(CAPACITY)?, next_size: usize::MAX, ..Self::for_text()? })
+    }
+}
+
+/// Calls a function with groups of arguments: slices in brackets, which it takes as pointers and sizes, and others after them. The last
+/// arguments are those of an [`Out`].
+macro_rules! call {
+    ($out:ident, $function:ident, $([$($slice:expr),*] $($other:expr),*);*) => {
+        // SAFETY: the pointers are those of slices that live through the call, so they are not null, and the sizes are theirs; `$out`
+        // is borrowed for writing, and its parts and all other variables overlap nothing else. The library keeps nothing, and any
+        // thread may call it.
+        unsafe { c::$function($($($slice.as_ptr(), $slice.len(),)* $($other,)*)* $out.text.as_mut_ptr(), $out.text.len(), &mut $out.info) }
+    };
+}
 
 pub(crate) fn version() -> u32 {
     // SAFETY: the function takes nothing and only returns a number.
     unsafe { c::ima_verify_version() }
 }
 
-/// The calls: each gives the result, and what is reported of the text. Behind the bar is the text of known files, if they are given.
-macro_rules! calls {
-    ($($name:ident = $function:ident($($input:ident),* $(| $known:ident)?; $($flag:expr),*);)*) => {
-        $(pub(crate) fn $name($($input: &[u8],)* $($known: Option<&[u8]>,)? out: &mut [u8]) -> (i32, Told) {
-            let mut told = NOTHING_TOLD;
-            // SAFETY: the pointers are those of slices that live through the call, so they are not null, and the sizes are
-            // theirs; `out` and `told` are borrowed for writing, so they overlap nothing else. The library keeps nothing, and
-            // any thread may call it.
-            let result = unsafe {
-                c::$function(
-                    $($input.as_ptr(), $input.len(),)*
-                    $($known.unwrap_or_default().as_ptr(), $known.unwrap_or_default().len(), $known.is_some(),)?
-                    $($flag,)* out.as_mut_ptr(), out.len(), &mut told,
-                )
-            };
-            (result, told)
-        })*
-    };
+/// The place of no numbers: what they say is in the text, too.
+fn no_numbers() -> *mut u64 {
+    NonNull::dangling().as_ptr()
 }
 
-calls! {
-    verdict = ima_verify_raw_verdict(log, list, expected, require | known; true);
-    locate = ima_verify_raw_locate(log, list, expected, require; true);
-    replay = ima_verify_raw_replay(list, expected, require | known; true);
-    expected = ima_verify_raw_expected(printed, registers; false);
-    log_registers = ima_verify_raw_registers(log; false, true);
-    list_registers = ima_verify_raw_registers(list; true, true);
-    key = ima_verify_raw_key(area; false, true);
-    endorsement_key = ima_verify_raw_key(area; true, true);
+/// The text of known files, and whether files have to be known.
+fn known_in(known: Option<&[u8]>) -> (&[u8], bool) {
+    (known.unwrap_or_default(), known.is_some())
+}
+
+pub(crate) fn verdict(log: &[u8], list: &[u8], expected: &[u8], require: &str, known: Option<&[u8]>, out: &mut Out) -> i32 {
+    let (known, checks_known) = known_in(known);
+    call!(out, ima_verify_raw_verdict, [log, list, expected, require, known] checks_known, true, no_numbers(), 0)
+}
+
+pub(crate) fn replay(list: &[u8], expected: &[u8], require: &str, known: Option<&[u8]>, out: &mut Out) -> i32 {
+    let (known, checks_known) = known_in(known);
+    call!(out, ima_verify_raw_replay, [list, expected, require, known] checks_known, true, no_numbers(), 0)
+}
+
+pub(crate) fn locate(log: &[u8], list: &[u8], expected: &[u8], require: &str, out: &mut Out) -> i32 {
+    call!(out, ima_verify_raw_locate, [log, list, expected, require] true)
+}
+
+pub(crate) fn expected(printed: &[u8], selection: &str, out: &mut Out) -> i32 {
+    call!(out, ima_verify_raw_expected, [printed, selection] false)
+}
+
+pub(crate) fn registers(bytes: &[u8], of_list: bool, out: &mut Out) -> i32 {
+    call!(out, ima_verify_raw_registers, [bytes] of_list, true)
+}
+
+pub(crate) fn key(area: &[u8], endorsement: bool, out: &mut Out) -> i32 {
+    call!(out, ima_verify_raw_key, [area] endorsement, true)
 }
 
 /// The inputs of a call on a list that grows.
 pub(crate) struct Grown<'a> {
     pub(crate) log: &'a [u8],
     pub(crate) state: &'a [u8],
-    pub(crate) data: &'a [u8],
+    pub(crate) more: &'a [u8],
     pub(crate) known: Option<&'a [u8]>,
     pub(crate) prefix: bool,
 }
 
-/// The call of a session on expected PCRs: it also gives the size of the next state.
-#[rustfmt::skip]
-pub(crate) fn verify_more(inputs: &Grown, expected: &[u8], require: &str, next: &mut [u8], out: &mut [u8]) -> (i32, usize, Told) {
-    let &Grown { log, state, data, known, prefix } = inputs;
-    let (known, known_given) = (known.unwrap_or_default(), known.is_some());
-    let (mut next_size, mut told) = (usize::MAX, NOTHING_TOLD);
-    // SAFETY: as of the calls above; `next` and `out` are two buffers, and `next_size` is a variable of its own.
-    let result = unsafe {
-        c::ima_verify_raw_more(
-            log.as_ptr(), log.len(), state.as_ptr(), state.len(), data.as_ptr(), data.len(),
-            expected.as_ptr(), expected.len(), require.as_ptr(), require.len(), known.as_ptr(), known.len(), known_given, prefix, true,
-            next.as_mut_ptr(), next.len(), &mut next_size, out.as_mut_ptr(), out.len(), &mut told,
-        )
-    };
-    (result, next_size, told)
+pub(crate) fn verify_more(inputs: &Grown<'_>, expected: &[u8], require: &str, out: &mut Out) -> i32 {
+    let &Grown { log, state, more, known, prefix } = inputs;
+    let (known, checks_known) = known_in(known);
+    let (next, next_capacity) = (out.next.as_mut_ptr(), out.next.len());
+    call!(out, ima_verify_raw_more, [log, state, more, expected, require, known]
+        checks_known, prefix, true, no_numbers(), 0, next, next_capacity, &mut out.next_size)
 }
 
-/// The call of a quote: it also gives the size of the next state.
-#[rustfmt::skip]
-pub(crate) fn attest(inputs: &Grown, quote: &Quote<'_>, next: &mut [u8], out: &mut [u8]) -> (i32, usize, Told) {
-    let &Grown { log, state, data, known, prefix } = inputs;
-    let (known, known_given) = (known.unwrap_or_default(), known.is_some());
-    let &Quote { signing, message, nonce, require, allow_sha1, .. } = quote;
-    let (key, signature) = match signing {
-        Signing::ByKey { key, signature } => (some_bytes(key), some_bytes(signature)),
-        Signing::ByCaller | Signing::NotChecked => (&[][..], &[][..]),
-    };
-    let (mut next_size, mut told) = (usize::MAX, NOTHING_TOLD);
-    // SAFETY: as of `verify_more`.
-    let result = unsafe {
-        c::ima_verify_raw_attest(
-            log.as_ptr(), log.len(), state.as_ptr(), state.len(), data.as_ptr(), data.len(), message.as_ptr(), message.len(),
-            key.as_ptr(), key.len(), signature.as_ptr(), signature.len(),
-            nonce.as_ptr(), nonce.len(), require.as_ptr(), require.len(), known.as_ptr(), known.len(), known_given,
-            allow_sha1, signing == Signing::ByCaller, prefix, true,
-            next.as_mut_ptr(), next.len(), &mut next_size, out.as_mut_ptr(), out.len(), &mut told,
-        )
-    };
-    (result, next_size, told)
+pub(crate) fn attest(inputs: &Grown<'_>, quote: &Quote<'_>, out: &mut Out) -> i32 {
+    let &Grown { log, state, more, known, prefix } = inputs;
+    let (known, checks_known) = known_in(known);
+    let [message, key, signature, nonce, nonce_hex, require] = quote.parts();
+    let (next, next_capacity) = (out.next.as_mut_ptr(), out.next.len());
+    call!(out, ima_verify_raw_attest, [log, state, more, message, key, signature, nonce, nonce_hex, require, known]
+        checks_known, quote.allow_sha1, quote.is_checked(), prefix, true, no_numbers(), 0, next, next_capacity, &mut out.next_size)
 }
 
-/// These bytes, or in place of none, which the library takes as no key, no signature or no state, a zero. It is refused for the same reason:
-/// it ends too early.
-pub(crate) fn some_bytes(bytes: &[u8]) -> &[u8] {
-    if bytes.is_empty() {
-        &[0]
-    } else {
-        bytes
-    }
+pub(crate) fn matching(log: &[u8], shown: &Shown<'_>, out: &mut Out) -> i32 {
+    let Shown { by, expected, list, quote } = shown;
+    let [message, key, signature, nonce, nonce_hex, require] = quote.parts();
+    call!(out, ima_verify_raw_matching, [log] *by; [expected, list, message, key, signature, nonce, nonce_hex, require]
+        quote.allow_sha1, quote.is_checked())
 }
 
-/// Where the lines of entries or events continue.
+pub(crate) fn boot(log: &[u8], before: Option<&[u8]>, shown: &Shown<'_>, out: &mut Out) -> i32 {
+    let Shown { by, expected, list, quote } = shown;
+    let [message, key, signature, nonce, nonce_hex, require] = quote.parts();
+    let (before, compares) = (before.unwrap_or_default(), before.is_some());
+    call!(out, ima_verify_raw_boot, [log, before] compares, *by; [expected, list, message, key, signature, nonce, nonce_hex, require]
+        quote.allow_sha1, quote.is_checked(), true)
+}
+
+/// What lines are of: a list or a log, and for events the PCRs that match, as [`matching`] gives them.
+#[derive(Debug, Clone)]
+pub(crate) struct Listed<'a> {
+    pub(crate) bytes: &'a [u8],
+    pub(crate) matching: Option<Vec<u8>>,
+}
+
+/// Where the lines of entries or events continue: zeros, or what the library set for these bytes.
 #[derive(Debug, Clone, Copy, Default)]
 pub(crate) struct Position {
     pub(crate) offset: usize,
     pub(crate) number: usize,
 }
 
-/// The calls for pieces of lines.
-macro_rules! pieces {
-    ($($name:ident = $function:ident($($flag:expr)?);)*) => {
-        $(pub(crate) fn $name(bytes: &[u8], at: &mut Position, out: &mut [u8]) -> (i32, Told) {
-            let (offset, number, mut told) = (&mut at.offset, &mut at.number, NOTHING_TOLD);
-            // SAFETY: as of the calls above; the numbers of the position are borrowed for writing, too. They are those that the library set
-            // for these bytes, or zeros.
-            let result = unsafe {
-                c::$function(bytes.as_ptr(), bytes.len(), offset, number, $($flag,)? out.as_mut_ptr(), out.len(), &mut told)
-            };
-            (result, told)
-        })*
-    };
+pub(crate) fn entries(of: &Listed<'_>, at: &mut Position, out: &mut Out) -> i32 {
+    call!(out, ima_verify_raw_entries, [of.bytes] &mut at.offset, &mut at.number, true)
 }
 
-pieces! {
-    entries = ima_verify_raw_entries(true);
-    texts = ima_verify_raw_entries(false);
-    events = ima_verify_raw_events();
+pub(crate) fn texts(of: &Listed<'_>, at: &mut Position, out: &mut Out) -> i32 {
+    call!(out, ima_verify_raw_entries, [of.bytes] &mut at.offset, &mut at.number, false)
 }
 
-/// Calls the library with a buffer for a text, and with a longer one while that is too short. The answer has no error.
-pub(crate) fn ask(text: Vec<u8>, mut call: impl FnMut(&mut [u8]) -> (i32, Told)) -> Result<Answer, Error> {
-    ask_for_both(Vec::new(), text, |_, out| {
-        let (result, told) = call(out);
-        (result, 0, told)
-    })
+pub(crate) fn events(of: &Listed<'_>, at: &mut Position, out: &mut Out) -> i32 {
+    let matching = of.matching.as_deref().unwrap_or_default();
+    call!(out, ima_verify_raw_events, [of.bytes, matching] of.matching.is_some(), &mut at.offset, &mut at.number)
 }
 
-/// Calls the library with buffers for a next checkpoint, whose size the call gives, and for a text.
-pub(crate) fn ask_for_both(
-    mut next: Vec<u8>, mut text: Vec<u8>, mut call: impl FnMut(&mut [u8], &mut [u8]) -> (i32, usize, Told),
-) -> Result<Answer, Error> {
+/// The library's words on an error, if it knows the error.
+pub(crate) fn error_text(error: &Info) -> Option<String> {
+    let Info { error_kind, error_number, error_place, .. } = *error;
+    let reply = exchange(Out::for_text().ok()?, |out| call!(out, ima_verify_raw_error_text, [] error_kind, error_number, error_place));
+    let text = reply.ok().filter(|reply| reply.result == DONE)?.text;
+    String::from_utf8(text).ok().map(|text| text.trim_end().to_owned())
+}
+
+/// Calls the library, whose reply has no error.
+pub(crate) fn ask(out: Out, call: impl FnMut(&mut Out) -> i32) -> Result<Reply, Error> {
+    exchange(out, call)?.accepted()
+}
+
+/// Calls the library, again with longer buffers while they are too short.
+fn exchange(mut out: Out, mut call: impl FnMut(&mut Out) -> i32) -> Result<Reply, Error> {
     if version() < c::IMA_VERIFY_VERSION {
         return Err(Error::Version(version()));
     }
     loop {
-        let (result, next_size, told) = call(&mut next, &mut text);
-        if result == TOO_SHORT && (lengthen(&mut next, next_size)? | lengthen(&mut text, told.size)?) {
+        let result = call(&mut out);
+        let Out { text, info, next, next_size } = &mut out;
+        if result == TOO_SHORT && (lengthen(next, *next_size)? | lengthen(text, info.size)?) {
             continue;
         }
-        if next_size > next.len() || told.size > text.len() {
-            return Err(Error::Unexpected { result, size: told.size, text: Vec::new() });
+        if *next_size > next.len() || info.size > text.len() {
+            return Err(Error::Unexpected { result, size: info.size, text: Vec::new() });
         }
-        next.truncate(next_size);
-        text.truncate(told.size);
-        return Answer { result, told, next, text }.accepted();
+        next.truncate(*next_size);
+        text.truncate(info.size);
+        return Ok(Reply { result, info: out.info, next: out.next, text: out.text });
     }
 }
 

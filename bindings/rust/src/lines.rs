@@ -1,19 +1,19 @@
 //! Lines of entries and of events, which the library gives by pieces.
 
-use crate::answer::{line, object, Answer};
-use crate::library::{ask, events, zeros, Position, Told, DONE, MORE, ROOM};
+use crate::library::{ask, events, Listed, Out, Position, DONE, MORE};
+use crate::reply::{line, object, Reply};
 use crate::results::{End, Line};
 use crate::{Entry, Error, Event, Header};
 use std::iter::FusedIterator;
 use std::ops::Range;
 
-/// What writes the next piece of lines on these bytes, and gives the result and what is reported of the text.
-pub(crate) type Piece = fn(&[u8], &mut Position, &mut [u8]) -> (i32, Told);
+/// What writes the next piece of lines, and gives the result.
+pub(crate) type Piece = fn(&Listed<'_>, &mut Position, &mut Out) -> i32;
 
 /// Goes through lines. Nothing comes after the first error.
 #[derive(Debug, Clone)]
 pub(crate) struct Lines<'a> {
-    bytes: &'a [u8],
+    listed: Listed<'a>,
     piece: Piece,
     at: Position,
     buffer: Vec<u8>,
@@ -27,32 +27,28 @@ pub(crate) struct Lines<'a> {
 }
 
 impl<'a> Lines<'a> {
-    pub(crate) fn of(bytes: &'a [u8], piece: Piece) -> Self {
-        Self { bytes, piece, at: Position::default(), buffer: Vec::new(), rest: 0..0, result: MORE, count: 0, is_over: false }
+    pub(crate) fn of(bytes: &'a [u8], matching: Option<Vec<u8>>, piece: Piece) -> Self {
+        let listed = Listed { bytes, matching };
+        Self { listed, piece, at: Position::default(), buffer: Vec::new(), rest: 0..0, result: MORE, count: 0, is_over: false }
     }
 
-    /// Gets the lines of the next call, which are none only after the last ones.
+    /// Gets the lines of the next call. There are no more only after the last ones.
     fn fill(&mut self) -> Result<(), Error> {
         self.rest = 0..0;
         if self.result == DONE {
             return Ok(());
         }
-        let mut buffer = std::mem::take(&mut self.buffer);
-        if buffer.is_empty() {
-            buffer = zeros(ROOM)?;
+        let buffer = std::mem::take(&mut self.buffer);
+        let out = if buffer.is_empty() { Out::for_text()? } else { Out::with(buffer) };
+        let reply = ask(out, |out| (self.piece)(&self.listed, &mut self.at, out))?;
+        let is_last = reply.result == DONE;
+        if !(reply.text.ends_with(b"\n") && (is_last || reply.result == MORE) || reply.text.is_empty() && is_last) {
+            return Err(reply.unexpected());
         }
-        let answer = ask(buffer, |out| (self.piece)(self.bytes, &mut self.at, out))?;
-        let is_piece = match answer.result {
-            DONE => answer.text.is_empty() || answer.text.ends_with(b"\n"),
-            result => result == MORE && answer.text.ends_with(b"\n"),
-        };
-        if !is_piece {
-            return Err(answer.unexpected());
-        }
-        let Answer { result, text, .. } = answer;
+        let Reply { result, text, .. } = reply;
         (self.result, self.rest, self.buffer) = (result, 0..text.len(), text);
-        let room = self.buffer.capacity();
-        self.buffer.resize(room, 0);
+        let capacity = self.buffer.capacity();
+        self.buffer.resize(capacity, 0);
         Ok(())
     }
 
@@ -71,20 +67,20 @@ impl<'a> Lines<'a> {
     pub(crate) fn next_of<T: Line>(&mut self) -> Result<Option<T>, Error> {
         let result = self.result;
         let Some(text) = self.next_line()? else { return Ok(None) };
-        line(text).map(Some).ok_or_else(|| unexpected(result, text))
+        line(text, false).map(Some).ok_or_else(|| Error::unexpected(result, text))
     }
 
     /// The next entry, or none after the line that says how many there are. Without this line the list was cut.
     pub(crate) fn next_entry(&mut self) -> Result<Option<Entry>, Error> {
         let result = self.result;
-        let Some(text) = self.next_line()? else { return Err(unexpected(result, b"")) };
-        if let Some(entry) = line(text) {
+        let Some(text) = self.next_line()? else { return Err(Error::unexpected(result, b"")) };
+        if let Some(entry) = line(text, false) {
             self.count += 1;
             return Ok(Some(entry));
         }
         let (end, text) = (object::<End>(text), text.to_vec());
         let is_end = end.map(|end| end.entries) == Some(self.count) && self.result == DONE && self.rest.is_empty();
-        is_end.then_some(None).ok_or_else(|| unexpected(result, &text))
+        is_end.then_some(None).ok_or_else(|| Error::unexpected(result, &text))
     }
 
     /// An item of an iterator, after which there may be none.
@@ -111,10 +107,6 @@ impl<'a> Lines<'a> {
     }
 }
 
-fn unexpected(result: i32, line: &[u8]) -> Error {
-    Error::Unexpected { result, size: line.len(), text: line.to_vec() }
-}
-
 /// The entries of a measurement list, by [`entries`](crate::entries).
 #[derive(Debug, Clone)]
 #[must_use]
@@ -130,24 +122,34 @@ impl Iterator for Entries<'_> {
 
 impl FusedIterator for Entries<'_> {}
 
-/// The events of a firmware event log, by [`events`](crate::events).
+/// The events of a firmware event log, by [`events`](crate::events) or [`confirmed_events`](crate::confirmed_events).
 #[derive(Debug, Clone)]
 #[must_use]
 pub struct Events<'a> {
     lines: Lines<'a>,
     header: Header,
+    quote_differs: bool,
 }
 
 impl<'a> Events<'a> {
-    pub(crate) fn of(log: &'a [u8]) -> Result<Self, Error> {
-        let mut lines = Lines::of(log, events);
-        let header = lines.next_of()?.ok_or_else(|| unexpected(lines.result, b""))?;
-        Ok(Self { lines, header })
+    /// The events of a log, with the library's reply on the PCRs that match, if these are asked for.
+    pub(crate) fn of(log: &'a [u8], matching: Option<Reply>) -> Result<Self, Error> {
+        let quote_differs = matching.as_ref().map_or(Ok(false), Reply::quote_differs)?;
+        let mut lines = Lines::of(log, matching.map(|reply| reply.text), events);
+        let header = lines.next_of()?.ok_or_else(|| Error::unexpected(lines.result, b""))?;
+        Ok(Self { lines, header, quote_differs })
     }
 
     /// The log's header.
+    #[must_use]
     pub fn header(&self) -> &Header {
         &self.header
+    }
+
+    /// The evidence is a quote whose verdict is no match, so nothing is confirmed.
+    #[must_use]
+    pub fn quote_differs(&self) -> bool {
+        self.quote_differs
     }
 }
 

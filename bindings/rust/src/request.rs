@@ -1,10 +1,9 @@
 //! What verdicts are asked for.
 
-use crate::results::{bytes_of, Bytes};
 use crate::Error;
+use ima_verify_sys as c;
 
-/// A requirement that names no PCR: a verdict then covers only what the expected text names. A verdict on no PCRs is no match, even
-/// if its `json` says so.
+/// A requirement that names no PCR. The verdict is a match only if some PCR was compared.
 pub const NOTHING_REQUIRED: &str = "none";
 
 /// What a verdict requires: PCRs that must be among the expected ones, and maybe that each file is known.
@@ -17,36 +16,16 @@ pub struct Required<'a> {
 impl<'a> Required<'a> {
     /// These PCRs, and that each entry but the boot aggregate, with which a list begins, is of a known file: one whose digest these
     /// texts have, a line for each file, as sha256sum, sha384sum and sha512sum print them. The verdict has the others in `unknown`, and
-    /// is then no match. Without a text no file is known.
-    ///
-    /// A text with another line, or with a digest by SHA-1, is refused with [`Kind::Known`](crate::Kind::Known); lines count on from one
-    /// text to the next. With [`NOTHING_REQUIRED`] the error has [`Kind::Argument`](crate::Kind::Argument).
-    ///
-    /// ```
-    /// # fn main() -> Result<(), Box<dyn std::error::Error>> {
-    /// # let sample = |name| std::fs::read(format!("samples/{name}"));
-    /// # let (log, list, expected) = (sample("firmware.log")?, sample("ima.list")?, sample("expected.txt")?);
-    /// let verdict = ima_verify::verify(&log, &list, &expected, ima_verify::Required::known("sha256:0-10", &[]))?;
-    /// assert!(!verdict.matches && verdict.unknown == [1, 2, 3]); // (no file is known)
-    /// # Ok(())
-    /// # }
-    /// ```
+    /// is then no match. Without a text no file is known. The place of an error counts the lines of all texts.
     pub fn known(registers: &'a str, texts: &'a [&'a [u8]]) -> Self {
         Self { registers, known: Some(texts) }
     }
 }
 
 /// These PCRs, such as `sha256:0-10`, and no known files.
-impl<'a> From<&'a str> for Required<'a> {
-    fn from(registers: &'a str) -> Self {
-        Self { registers, known: None }
-    }
-}
-
-/// These PCRs, such as `sha256:0-10`, and no known files.
-impl<'a> From<&'a String> for Required<'a> {
-    fn from(registers: &'a String) -> Self {
-        registers.as_str().into()
+impl<'a, T: AsRef<str> + ?Sized> From<&'a T> for Required<'a> {
+    fn from(registers: &'a T) -> Self {
+        Self { registers: registers.as_ref(), known: None }
     }
 }
 
@@ -63,28 +42,13 @@ pub(crate) fn lines_of(texts: &[&[u8]]) -> Vec<u8> {
 }
 
 /// The verifier's own nonce for a quote, used once: 16 random bytes or more.
-#[derive(Debug, Clone, PartialEq, Eq, Hash)]
-pub struct Nonce(Bytes);
-
-impl Nonce {
-    /// These bytes.
-    pub fn from_bytes(bytes: impl Into<Vec<u8>>) -> Self {
-        Self(Bytes(bytes.into()))
-    }
-
-    /// The bytes that hexadecimal digits spell, as `openssl rand -hex 20` writes them. White space around them is left out.
-    ///
-    /// # Errors
-    ///
-    /// [`Error::Refused`] with [`Kind::Argument`](crate::Kind::Argument) if the text is none.
-    pub fn from_hex(digits: &str) -> Result<Self, Error> {
-        bytes_of(digits.trim()).map(Self::from_bytes).ok_or_else(Error::argument)
-    }
-
+#[derive(Debug, Clone, Copy, PartialEq, Eq)]
+#[non_exhaustive]
+pub enum Nonce<'a> {
     /// The bytes.
-    pub fn as_bytes(&self) -> &[u8] {
-        &self.0
-    }
+    Bytes(&'a [u8]),
+    /// Hexadecimal digits that spell them, as `openssl rand -hex 20` writes them: a line feed may follow.
+    Hex(&'a str),
 }
 
 /// A quote, and what a verdict by it needs.
@@ -93,17 +57,20 @@ impl Nonce {
 pub struct Quote<'a> {
     pub(crate) signing: Signing<'a>,
     pub(crate) message: &'a [u8],
-    pub(crate) nonce: &'a [u8],
+    pub(crate) nonce: Nonce<'a>,
     pub(crate) require: &'a str,
     pub(crate) allow_sha1: bool,
     pub(crate) known: Option<&'a [&'a [u8]]>,
 }
 
 impl<'a> Quote<'a> {
+    /// No quote.
+    const NONE: Self = Self { signing: Signing::NotChecked, message: &[], nonce: Nonce::Bytes(&[]), require: "", allow_sha1: false, known: None };
+
     /// A quote with this message: what the TPM signed, a TPMS_ATTEST, the file that `tpm2_quote -m` writes. It must have the nonce, and
     /// select the required PCRs, at least 0 to 10, such as `sha256:0-10`.
-    pub fn new(signing: Signing<'a>, message: &'a [u8], nonce: &'a Nonce, require: &'a str) -> Self {
-        Self { signing, message, nonce: nonce.as_bytes(), require, allow_sha1: false, known: None }
+    pub fn new(signing: Signing<'a>, message: &'a [u8], nonce: Nonce<'a>, require: &'a str) -> Self {
+        Self { signing, message, nonce, require, ..Self::NONE }
     }
 
     /// PCRs may be required in the SHA-1 bank alone.
@@ -111,9 +78,36 @@ impl<'a> Quote<'a> {
         Self { allow_sha1: true, ..self }
     }
 
-    /// Entries must be of these known files, as of [`Required::known`]. In a session these stand in place of its own.
+    /// Entries must be of these known files, as for [`Required::known`]. In a session they replace its own.
     pub fn known(self, texts: &'a [&'a [u8]]) -> Self {
         Self { known: Some(texts), ..self }
+    }
+
+    /// Message, key, signature, nonce, a nonce's digits, and requirement, as the library takes them: one that is not given is empty.
+    pub(crate) fn parts(&self) -> [&'a [u8]; 6] {
+        let (key, signature) = match self.signing {
+            Signing::ByKey { key, signature } => (some_bytes(key), some_bytes(signature)),
+            Signing::ByCaller | Signing::NotChecked => (&[][..], &[][..]),
+        };
+        let (nonce, nonce_hex) = match self.nonce {
+            Nonce::Bytes(bytes) => (bytes, &[][..]),
+            Nonce::Hex(digits) => (&[][..], digits.as_bytes()),
+        };
+        [self.message, key, signature, nonce, nonce_hex, self.require.as_bytes()]
+    }
+
+    pub(crate) fn is_checked(&self) -> bool {
+        self.signing == Signing::ByCaller
+    }
+}
+
+/// These bytes, or in place of none, which the library takes as no key, no signature or no state, a zero. It is refused for the same reason:
+/// it ends too early.
+pub(crate) fn some_bytes(bytes: &[u8]) -> &[u8] {
+    if bytes.is_empty() {
+        &[0]
+    } else {
+        bytes
     }
 }
 
@@ -124,14 +118,48 @@ pub enum Signing<'a> {
     /// By a signature, which is verified.
     ByKey {
         /// The public area for which a credential was activated, as [`read_key`](crate::read_key) reads it, or the PEM that it gives for
-        /// it. The key is of RSA with 2048 to 4096 bits, or of the curve P-256 or P-384. A PEM does not tell a key that also signs
-        /// messages that no TPM made from another, so keep one only of an area that `read_key` took.
+        /// it. The key is of RSA with 2048 to 4096 bits, or of the curve P-256 or P-384. A PEM does not say whether the key also signs
+        /// messages that no TPM made, so keep one only of an area that `read_key` took.
         key: &'a [u8],
         /// The file that `tpm2_quote -s` writes, with `-f plain` or without: RSASSA, RSAPSS or ECDSA, by SHA-256, SHA-384 or SHA-512.
         signature: &'a [u8],
     },
-    /// By the word of the caller, who has verified the signature of this same message: for a key that is not taken, such as one of the curve P-521.
+    /// By the word of the caller, which has verified the signature of this message: for a key that is not taken, such as one on P-521.
     ByCaller,
     /// Nobody has verified its signature. There is no match.
     NotChecked,
+}
+
+/// What shows which PCRs have the values that a firmware event log gives them, so that they confirm its events.
+#[derive(Debug, Clone, Copy)]
+#[non_exhaustive]
+pub enum Evidence<'a> {
+    /// The text of expected PCRs, as [`verify`](crate::verify) takes it.
+    Expected(&'a [u8]),
+    /// A quote. It confirms events only if [`attest`](crate::attest) finds a match for the log, this list and the quote.
+    Quote {
+        /// The measurement list.
+        list: &'a [u8],
+        /// The quote. One with known files, which have no part in this, is refused with [`Kind::Argument`](crate::Kind::Argument).
+        quote: Quote<'a>,
+    },
+}
+
+/// The arguments of a call that takes evidence.
+pub(crate) struct Shown<'a> {
+    /// The library's number for the kind of evidence.
+    pub(crate) by: u32,
+    pub(crate) expected: &'a [u8],
+    pub(crate) list: &'a [u8],
+    pub(crate) quote: Quote<'a>,
+}
+
+impl<'a> Evidence<'a> {
+    pub(crate) fn shown(self) -> Result<Shown<'a>, Error> {
+        match self {
+            Self::Expected(expected) => Ok(Shown { by: c::IMA_VERIFY_BY_EXPECTED, expected, list: &[], quote: Quote::NONE }),
+            Self::Quote { quote, .. } if quote.known.is_some() => Err(Error::argument()),
+            Self::Quote { list, quote } => Ok(Shown { by: c::IMA_VERIFY_BY_QUOTE, expected: &[], list, quote }),
+        }
+    }
 }

@@ -3,7 +3,6 @@
 use crate::words::*;
 use serde::de::DeserializeOwned;
 use serde::Deserialize;
-use std::collections::BTreeMap;
 use std::fmt;
 use std::ops::Deref;
 
@@ -16,7 +15,9 @@ impl TryFrom<String> for Bytes {
     type Error = &'static str;
 
     fn try_from(digits: String) -> Result<Self, Self::Error> {
-        bytes_of(&digits).map(Self).ok_or("no hexadecimal digits of bytes")
+        let digit = |byte: &u8| char::from(*byte).to_digit(16);
+        let pairs = digits.as_bytes().chunks(2).map(|pair| u8::try_from(16 * digit(&pair[0])? + digit(pair.get(1)?)?).ok());
+        pairs.collect::<Option<_>>().map(Self).ok_or("no hexadecimal digits of bytes")
     }
 }
 
@@ -40,73 +41,52 @@ impl fmt::Debug for Bytes {
     }
 }
 
-/// The bytes that hexadecimal digits spell.
-pub(crate) fn bytes_of(digits: &str) -> Option<Vec<u8>> {
-    let digit = |byte: &u8| char::from(*byte).to_digit(16);
-    let pairs = digits.as_bytes().chunks(2).map(|pair| u8::try_from(16 * digit(&pair[0])? + digit(pair.get(1)?)?).ok());
-    pairs.collect()
-}
-
-/// A line of JSON that a caller gets, and keeps.
+/// A line of JSON that a caller gets.
 pub(crate) trait Line: DeserializeOwned {
-    fn keep(&mut self, json: String);
-}
-
-/// A line that judges inputs.
-pub(crate) trait Judged: Line {
-    /// Whether the line says that all is well.
-    fn says_match(&self) -> bool;
-
-    /// Whether it is on any PCR.
-    fn has_registers(&self) -> bool;
-
-    fn settle(&mut self, matches: bool);
+    /// Keeps the line, and if it judges whether all is well.
+    fn keep(&mut self, json: String, matches: bool);
 }
 
 macro_rules! lines {
-    ($($name:ident $(($registers:ident, $matches:ident, $says:expr))?;)*) => {$(
+    ($($name:ident $($matches:ident)?;)*) => {$(
         impl Line for $name {
-            fn keep(&mut self, json: String) {
+            fn keep(&mut self, json: String, _matches: bool) {
                 self.json = json;
+                $(self.$matches = _matches;)?
             }
         }
-
-        $(impl Judged for $name {
-            fn says_match(&self) -> bool {
-                $says(self)
-            }
-
-            fn has_registers(&self) -> bool {
-                !self.$registers.is_empty()
-            }
-
-            fn settle(&mut self, matches: bool) {
-                self.$matches = matches;
-            }
-        })?
     )*};
 }
 
 lines! {
-    Verdict (registers, matches, |line: &Self| line.verdict == Outcome::Match);
-    ListVerdict (registers, matches, |line: &Self| line.verdict == Outcome::Match);
-    Attestation (quoted, matches, |line: &Self| line.verdict == Outcome::Match);
-    Places (registers, located, |line: &Self| line.located);
-    Registers;
-    Key;
-    Header;
-    Entry;
-    Event;
+    Verdict matches; ListVerdict matches; Attestation matches; Places located;
+    Registers; Key; Header; Entry; Event;
 }
 
-/// Defines what lines have: a field for each member, with what it is.
+/// What a line that judges says.
+#[derive(Deserialize)]
+pub(crate) struct Judgement {
+    pub(crate) verdict: Option<Outcome>,
+    pub(crate) located: Option<bool>,
+}
+
+/// Defines what lines have: a field for each member, with its name there if that is another, and with what it is. A line that a caller gets
+/// has itself, too.
 macro_rules! results {
-    ($($(#[$about:meta])* $name:ident { $($(#[$how:meta])* $field:ident: $of:ty, $meaning:literal;)* })*) => {$(
+    ($($(#[$about:meta])* $name:ident $($json:ident)? {
+        $($(#[$how:meta])* $field:ident $(as $member:literal)?: $of:ty, $meaning:literal;)*
+    })*) => {$(
         $(#[$about])*
         #[derive(Debug, Clone, PartialEq, Eq, Deserialize)]
         #[non_exhaustive]
         pub struct $name {
-            $(#[doc = $meaning] $(#[$how])* pub $field: $of,)*
+            $(#[doc = "The line as the library gives it, without the line feed."] #[serde(skip)] pub $json: String,)?
+            $(#[doc = $meaning] $(#[serde(rename = $member)])? $(#[$how])* pub $field: $of,)*
+        }
+
+        #[cfg(test)]
+        impl $name {
+            pub(crate) const MEMBERS: &'static [&'static str] = &[$([$($member,)? stringify!($field)][0]),*];
         }
     )*};
 }
@@ -114,50 +94,39 @@ macro_rules! results {
 results! {
     /// The verdict on a log, a list and expected PCRs.
     #[must_use]
-    Verdict {
-        #[serde(skip)] matches: bool,
-            "The boot aggregate is good, each expected PCR has its value, there is one, no required one is missing, and `extends` and `unknown` \
-             are empty. It covers no PCR without a row in `registers`.";
-        #[serde(skip)] json: String, "The report as `ima-agent verify --json` prints it, without the line feed.";
+    Verdict json {
+        #[serde(skip)] matches: bool, "The library's verdict is a match (docs/verdict.md). It covers no PCR without a row in `registers`.";
         events: u64, "How many events the log has after its header.";
         locality: u8, "The startup locality that the log states, otherwise 0.";
         entries: u64, "How many entries the list has.";
-        confirmed: Option<u64>,
-            "Only from a [`Session`](crate::Session) with a prefix: the verdict is on that many first entries, of all `entries`, with which the \
-             PCRs match, and does not cover those after them.";
+        confirmed: Option<u64>, "Only from a [`Session`](crate::Session) with a prefix: the verdict covers only that many first entries.";
         unconfirmed: Option<Fault>, "The first error in the entries after the confirmed ones, if they have one.";
+        compared: u64, "How many expected PCRs were compared.";
         boot_aggregate: BootAggregate, "How the list's first entry compares with the PCRs after the log.";
         registers: Vec<Row>, "A row for each expected PCR, in their order, and then one for each that is missing.";
         #[serde(default)] extends: Vec<Stray>, "The first event that extends PCR 10, and the first entry that extends another, if PCRs are required.";
-        known_from: Option<u64>,
-            "The first entry that was looked up among known files, if they are given: 0, or in a session with a state the number of entries \
-             that it covers.";
+        known_from: Option<u64>, "The first entry that was looked up among known files, if they are given: entries of a state are not.";
         #[serde(default)] unknown: Vec<u64>, "The numbers of the entries from that one on that are of no known file.";
-        verdict: Outcome, "What the report says. Trust `matches` alone.";
+        verdict: Outcome, "The verdict in words.";
     }
 
     /// The verdict on a list without a log, and expected PCRs.
     #[must_use]
-    ListVerdict {
-        #[serde(skip)] matches: bool,
-            "The list has an entry, each expected PCR has its value, there is one, no required one is missing, and `extends` and `unknown` are \
-             empty.";
-        #[serde(skip)] json: String, "The report as `ima-agent replay --json` prints it, without the line feed.";
+    ListVerdict json {
+        #[serde(skip)] matches: bool, "The library's verdict is a match. It covers no PCR without a row in `registers`.";
         entries: u64, "How many entries the list has.";
+        compared: u64, "How many expected PCRs were compared.";
         registers: Vec<Row>, "A row for each expected PCR, in their order, and then one for each that is missing.";
         #[serde(default)] extends: Vec<Stray>, "The first entry that extends another PCR than 10, if PCRs are required.";
         known_from: Option<u64>, "The first entry that was looked up among known files, if they are given: 0.";
         #[serde(default)] unknown: Vec<u64>, "The numbers of the entries from that one on that are of no known file.";
-        verdict: Outcome, "What the report says. Trust `matches` alone.";
+        verdict: Outcome, "The verdict in words.";
     }
 
     /// The verdict on a log and a list by a quote.
     #[must_use]
-    Attestation {
-        #[serde(skip)] matches: bool,
-            "The quote is of what log and list replay to, the boot aggregate is good, `extends` and `unknown` are empty, and the signature is \
-             valid, or checked by the caller. It covers the PCRs in `quoted`, and no others.";
-        #[serde(skip)] json: String, "The report as `ima-agent attest --json` prints it, without the line feed.";
+    Attestation json {
+        #[serde(skip)] matches: bool, "The library's verdict is a match, by a signature that is valid or checked. It covers the PCRs in `quoted`.";
         quoted: Vec<QuotedBank>, "The PCRs that the quote selects.";
         signer: Bytes, "The qualified name of the key that signed, as the quote states it.";
         clock: Clock, "The TPM's clock when it made the quote.";
@@ -165,40 +134,33 @@ results! {
         events: u64, "How many events the log has after its header.";
         locality: u8, "The startup locality that the log states, otherwise 0.";
         entries: u64, "How many entries the list has.";
-        confirmed: Option<u64>, "Only from a [`Session`](crate::Session) with a prefix, as of [`Verdict`].";
+        confirmed: Option<u64>, "Only from a [`Session`](crate::Session) with a prefix, as for [`Verdict`].";
         unconfirmed: Option<Fault>, "The first error in the entries after the confirmed ones, if they have one.";
         boot_aggregate: BootAggregate, "How the list's first entry compares with the PCRs after the log.";
         expected: Option<ExpectedState>, "Whether expected PCRs are those of the quote, if any are given.";
         #[serde(default)] registers: Vec<Row>, "A row for each expected PCR that the quote selects, if they are those of the quote.";
         #[serde(default)] extends: Vec<Stray>, "The first event that extends PCR 10, and the first entry that extends another.";
-        known_from: Option<u64>, "The first entry that was looked up among known files, as of [`Verdict`].";
+        known_from: Option<u64>, "The first entry that was looked up among known files, as for [`Verdict`].";
         #[serde(default)] unknown: Vec<u64>, "The numbers of the entries from that one on that are of no known file.";
         quote: QuoteState, "Whether the quote is of the values to which log and list replay.";
         signature: SignatureState, "Whether its signature is by the key that was given, or what the caller said.";
-        verdict: Outcome, "What the report says. Trust `matches` alone.";
+        verdict: Outcome, "The verdict in words.";
     }
 
     /// Where each expected PCR first has its value.
     #[must_use]
-    Places {
+    Places json {
         located: bool, "Each value was reached, there is one, and no required PCR is missing.";
-        #[serde(skip)] json: String, "What `ima-agent locate --json` prints, without the line feed.";
         registers: Vec<PlaceRow>, "A row for each expected PCR, in their order, and then one for each that is missing.";
     }
 
     /// PCRs and their values.
-    Registers {
-        #[serde(skip)] json: String, "What `ima-agent registers --json` prints, without the line feed.";
-        registers: Vec<Register>, "The PCRs that differ from their reset values.";
-    }
+    Registers json { registers: Vec<Register>, "The PCRs that differ from their reset values."; }
 
     /// What the public area of a key states. Whose TPM the key is in, it does not say.
-    Key {
-        #[serde(skip)] json: String, "What `ima-agent key --json` prints, without the line feed.";
-        name: Bytes,
-            "The name by which TPMs know the key: the number of a hash, in two bytes, and that hash of the area. ([`Attestation::signer`] is \
-             the key's qualified name, which is another.)";
-        #[serde(rename = "type")] key_type: KeyType, "Whether it is of RSA or of an elliptic curve.";
+    Key json {
+        name: Bytes, "The name by which TPMs know the key (docs/formats.md). [`Attestation::signer`] is the key's qualified name, which is another.";
+        key_type as "type": KeyType, "Whether it is of RSA or of an elliptic curve.";
         bits: u16, "The size of the modulus, or 256, 384 or 521 for the curves P-256, P-384 and P-521.";
         scheme: Scheme, "The scheme that is fixed in it.";
         hash: Option<Algorithm>, "The hash of the scheme, if it has one.";
@@ -207,8 +169,7 @@ results! {
 
     /// An entry of a measurement list; entries count from 0. If its payload has the fields of `ima`, `ima-ng` or `ima-sig`, as its template
     /// says, it has `algorithm`, `digest` and a path; any other has `payload`.
-    Entry {
-        #[serde(skip)] json: String, "The line of the entry, without the line feed.";
+    Entry json {
         entry: u64, "The entry's number.";
         register: u8, "The PCR that it extends.";
         template: Option<String>, "The template's name, if it is UTF-8.";
@@ -226,26 +187,74 @@ results! {
     }
 
     /// The header of a firmware event log.
-    Header {
-        #[serde(skip)] json: String, "The line of the header, without the line feed.";
-        algorithms: Vec<DeclaredAlgorithm>, "The algorithms that it declares.";
-        specification: Specification, "What else it says.";
-    }
+    Header json { algorithms: Vec<DeclaredAlgorithm>, "The algorithms that it declares."; specification: Specification, "What else it says."; }
 
     /// An event of a firmware event log; events count from 1.
-    Event {
-        #[serde(skip)] json: String, "The line of the event, without the line feed.";
+    Event json {
         event: u64, "The event's number.";
         register: u32, "The PCR that it names. An event of the type `EV_NO_ACTION` extends none, whatever digests it states, so no PCR confirms it.";
-        #[serde(rename = "type")] event_type: Option<String>, "The name of the type, if it has one.";
+        event_type as "type": Option<String>, "The name of the type, if it has one.";
         type_number: u32, "The number of the type.";
-        digests: BTreeMap<Algorithm, Bytes>, "Those of the log's banks.";
+        digests: Digests, "Those of the log's banks.";
         data: Bytes, "What the firmware says of the event. No PCR confirms it as such.";
-        measured: BTreeMap<Algorithm, Part>,
-            "The part of the data whose hash is the digest, for each bank of which there is one. What is not measured is only what the log \
-             claims, and so is the type.";
-        confirmed: Option<ConfirmedPart>, "The part of the data that expected PCRs confirm, if there are such: [`events`](crate::events) has none.";
+        measured: Measured, "The part of the data whose hash is the digest, by banks. All else, and the type, is only claimed.";
+        confirmed: Option<Part>, "The part of the data that PCRs confirm, by [`confirmed_events`](crate::confirmed_events).";
         content: Content, "What the data says, by the type.";
+    }
+
+    /// A program that the firmware started, or may have.
+    Image {
+        image: Answer<u64>, "The event's number.";
+        digests: Option<Digests>, "A digest for each bank that answers.";
+        claimed: Option<Content>, "What the event's data claims.";
+    }
+
+    /// A text that a boot loader measured, such as a command line of the kernel.
+    Command {
+        command: Answer<u64>, "The event's number. A word: texts of the PCR from `event` on are not reported, and without `event` none is.";
+        register: u8, "The PCR, 8 or 12.";
+        text: Option<String>, "The text.";
+        text_hex: Option<Bytes>, "Its bytes, if it is not valid in its encoding.";
+        claimed: Option<CommandData>, "What the data claims of the text, if a command of GRUB was measured: its kind.";
+        event: Option<u64>, "The first event that is not reported.";
+    }
+
+    /// Whether a command asked Linux to measure files.
+    ImaPolicy { ima_policy: PolicyState, "Whether one did."; event: Option<u64>, "The first event whose text did."; }
+
+    /// A variable that says what the firmware boots, `BootOrder` or a `Boot####`.
+    BootVariable { boot_variable: Answer<u64>, "The event's number."; content: Option<Content>, "What its data says."; }
+
+    /// How two logs extend a PCR.
+    Alike {
+        register: u8, "The PCR.";
+        bank: Option<Algorithm>, "The first bank in which the logs differ.";
+        alike: Answer<u64>, "How many first events have the same digests in that bank, or that all have in each bank that answers.";
+    }
+
+    /// An event that one of two logs has.
+    Changed {
+        register: u8, "The PCR.";
+        now: Option<u64>, "The event's number in the log.";
+        before: Option<u64>, "Its number in the earlier log, if it is of that one.";
+        digest: Option<Bytes>, "Its digest in the bank in which the logs differ, if it has one.";
+        claimed: Content, "What its data claims.";
+    }
+
+    /// The digests of an event.
+    Digests {
+        sha1: Option<Bytes>, "By SHA-1.";
+        sha256: Option<Bytes>, "By SHA-256.";
+        sha384: Option<Bytes>, "By SHA-384.";
+        sha512: Option<Bytes>, "By SHA-512.";
+    }
+
+    /// What of an event's data was measured.
+    Measured {
+        sha1: Option<Part>, "In the SHA-1 bank.";
+        sha256: Option<Part>, "In the SHA-256 bank.";
+        sha384: Option<Part>, "In the SHA-384 bank.";
+        sha512: Option<Part>, "In the SHA-512 bank.";
     }
 
     /// An expected PCR, compared, or a required one that is missing.
@@ -291,10 +300,7 @@ results! {
     }
 
     /// The PCRs that a quote selects of a bank.
-    QuotedBank {
-        bank: Algorithm, "The bank's algorithm.";
-        registers: Vec<u8>, "The numbers of the PCRs.";
-    }
+    QuotedBank { bank: Algorithm, "The bank's algorithm."; registers: Vec<u8>, "The numbers of the PCRs."; }
 
     /// A TPM's clock and its counts when it made a quote.
     ///
@@ -371,14 +377,11 @@ results! {
     }
 
     /// A partition table.
-    Gpt {
-        disk: String, "The disk's GUID.";
-        partitions: Vec<Partition>, "Its partitions.";
-    }
+    Gpt { disk: String, "The disk's GUID."; partitions: Vec<Partition>, "Its partitions."; }
 
     /// A partition.
     Partition {
-        #[serde(rename = "type")] partition_type: String, "The GUID of its type.";
+        partition_type as "type": String, "The GUID of its type.";
         guid: String, "Its GUID.";
         first: String, "Its first block, as `0x` and hexadecimal digits.";
         last: String, "Its last block, likewise.";
@@ -396,11 +399,7 @@ results! {
     }
 
     /// A tagged event.
-    Tagged {
-        id: u32, "The tag.";
-        text: Option<String>, "The data, if it is text.";
-        data: Option<Bytes>, "The data, if it is not.";
-    }
+    Tagged { id: u32, "The tag."; text: Option<String>, "The data, if it is text."; data: Option<Bytes>, "The data, if it is not."; }
 
     /// A load option.
     LoadOption {
@@ -413,20 +412,17 @@ results! {
     }
 
     /// A signature of UEFI.
-    UefiSignature {
-        owner: String, "The GUID of who put it there.";
-        data: Bytes, "The certificate, or the hash.";
-    }
+    UefiSignature { owner: String, "The GUID of its owner."; data: Bytes, "The certificate, or the hash."; }
 
     /// A list of signatures.
     UefiSignatureList {
-        #[serde(rename = "type")] list_type: String, "The GUID of the signatures' type.";
+        list_type as "type": String, "The GUID of the signatures' type.";
         count: u32, "How many there are.";
         owners: Vec<String>, "The owner of each signature whose owner differs from that of the signature before it.";
     }
 
-    /// What the fields of `ima-ngv2`, `ima-sigv2`, `ima-buf`, `ima-modsig` and `evm-sig` say (docs/formats.md). A field that a template
-    /// lacks, or that is empty where it says so, is none.
+    /// What the fields of `ima-ngv2`, `ima-sigv2`, `ima-buf`, `ima-modsig` and `evm-sig` say (docs/formats.md). A template has only some of
+    /// them, and some are absent if they are empty.
     Fields {
         digest_type: Option<DigestType>, "What the digest is of.";
         algorithm: Algorithm, "The algorithm of `digest`.";
@@ -446,6 +442,27 @@ results! {
         uid: Option<u32>, "The file's owner.";
         gid: Option<u32>, "Its group.";
         mode: Option<u16>, "Its mode.";
+    }
+}
+
+/// What PCRs confirm, or a word in its place.
+#[derive(Debug, Clone, PartialEq, Eq, Deserialize)]
+#[serde(untagged)]
+#[non_exhaustive]
+pub enum Answer<T> {
+    /// What they confirm.
+    Given(T),
+    /// In place of it.
+    Word(AnswerWord),
+}
+
+impl<T> Answer<T> {
+    /// What they confirm, if they do.
+    pub fn given(&self) -> Option<&T> {
+        match self {
+            Self::Given(value) => Some(value),
+            Self::Word(_) => None,
+        }
     }
 }
 

@@ -1,9 +1,9 @@
 //! Verdicts on a list that grows.
 
-use crate::answer::Answer;
-use crate::library::{self, ask_for_both, some_bytes, verify_more, zeros, Grown, ROOM};
-use crate::request::lines_of;
-use crate::results::Judged;
+use crate::library::{self, ask, Grown, Out, DONE};
+use crate::reply::Reply;
+use crate::request::{lines_of, some_bytes};
+use crate::results::Line;
 use crate::{Attestation, Error, Quote, Required, Verdict};
 
 /// Verdicts on a measurement list that grows: each is on all of the list so far, but only what is new of it is given.
@@ -13,15 +13,11 @@ use crate::{Attestation, Error, Quote, Required, Verdict};
 /// # let sample = |name| std::fs::read(format!("samples/{name}"));
 /// # let (log, list, expected) = (sample("firmware.log")?, sample("ima.list")?, sample("expected.txt")?);
 /// use ima_verify::Session;
-///
 /// let mut session = Session::new(&log, &expected, "sha256:0-10").prefix();
 /// let verdict = session.more(&[&list[..], b"cut"].concat())?; // more than the PCRs confirm
 /// assert_eq!((verdict.matches, verdict.confirmed, session.offset()), (true, Some(4), list.len() as u64));
-/// assert_eq!(verdict.unconfirmed.unwrap().message, "unconfirmed: list fault 1 at entry 4");
-///
 /// let mut later = Session::new(&log, &expected, "sha256:0-10").resume(session.state().unwrap());
-/// let verdict = later.more(&list[later.offset() as usize..])?;
-/// assert_eq!((verdict.matches, verdict.entries), (true, 4));
+/// assert!(later.more(&list[later.offset() as usize..])?.matches);
 /// # Ok(())
 /// # }
 /// ```
@@ -37,11 +33,8 @@ pub struct Session {
 }
 
 impl Session {
-    /// A session on a list from its start. The arguments are as in [`verify`](crate::verify), and are copied. For a requirement that is
-    /// not of its form, such as an empty one, [`more`](Self::more) gives the error.
-    ///
-    /// Entries that the state covers are not looked up again among known files: if other files are known than were then, begin a new
-    /// session with the whole list.
+    /// A session on a list from its start. The arguments are as in [`verify`](crate::verify), and are copied. Entries that the state
+    /// covers are not looked up again among known files: if other files are known now, begin a new session with the whole list.
     pub fn new<'a>(log: &[u8], expected: &[u8], require: impl Into<Required<'a>>) -> Self {
         let Required { registers, known } = require.into();
         let (log, expected, require) = (log.to_vec(), expected.to_vec(), registers.to_owned());
@@ -62,8 +55,8 @@ impl Session {
 
     /// A session that continues from the state of an earlier one, with a log of the same boot. The expected PCRs may be others.
     ///
-    /// A state is trusted: who can write it can choose the verdict. Never take it from the machine that is judged. One that is not
-    /// whole, even an empty one, is refused by [`more`](Self::more) and [`attest`](Self::attest).
+    /// A state is trusted: whoever can write it can choose the verdict. Never take it from the machine that is judged. A damaged one,
+    /// even an empty one, is refused by [`more`](Self::more) and [`attest`](Self::attest).
     pub fn resume(self, state: &[u8]) -> Self {
         Self { state: Some(state.to_vec()), ..self }
     }
@@ -76,22 +69,21 @@ impl Session {
     ///
     /// # Errors
     ///
-    /// [`Error::Refused`] if the requirement, an input or the state is refused (with [`Kind::Checkpoint`](crate::Kind::Checkpoint)),
-    /// otherwise as for [`verify`](crate::verify).
+    /// [`Error::Refused`] with [`Kind::Checkpoint`](crate::Kind::Checkpoint) if the state is refused; otherwise as for
+    /// [`verify`](crate::verify).
     pub fn more(&mut self, data: &[u8]) -> Result<Verdict, Error> {
         let inputs = self.inputs(data, self.known.as_deref());
-        let call = |next: &mut [u8], out: &mut [u8]| verify_more(&inputs, &self.expected, &self.require, next, out);
-        let answer = ask_for_both(zeros(ROOM)?, zeros(ROOM)?, call)?;
-        self.take(answer, |verdict: &Verdict| verdict.matches)
+        let call = |out: &mut Out| library::verify_more(&inputs, &self.expected, &self.require, out);
+        let reply = ask(Out::for_text_and_state()?, call)?;
+        self.take(reply)
     }
 
     /// The verdict by a quote on the list that the state covers, followed by these bytes, which may be none. After a match the state
     /// covers what the verdict is on, as after [`more`](Self::more).
     ///
     /// A state is continued by a quote only in its boot: `resets` and `restarts` of the quote's clock are those of the last quote, and
-    /// the state is that of a session that used this function last. (A suspend counts as a restart: then begin a new session with the
-    /// whole list.) So it is if other files are known than were by the last quote: entries that the state covers are not looked up again.
-    /// The known files are those of the quote, or of the session if the quote has none.
+    /// the state is that of a session that used this function last. After a suspend, which counts as a restart, begin a new session with
+    /// the whole list. The known files are those of the quote, or of the session if the quote has none.
     ///
     /// # Errors
     ///
@@ -100,30 +92,32 @@ impl Session {
     pub fn attest(&mut self, data: &[u8], quote: &Quote<'_>) -> Result<Attestation, Error> {
         let of_quote = quote.known.map(lines_of);
         let known = of_quote.as_deref().or(self.known.as_deref());
-        let answer = attested(&self.inputs(data, known), quote)?;
-        self.take(answer, |found: &Attestation| found.matches)
+        let reply = attested(&self.inputs(data, known), quote)?;
+        self.take(reply)
     }
 
     /// What to keep, and to [`resume`](Self::resume) another session from. None before the first match on a list from its start.
+    #[must_use]
     pub fn state(&self) -> Option<&[u8]> {
         self.state.as_deref()
     }
 
     /// How many bytes of the list the state covers: [`more`](Self::more) takes those that follow. It is 0 for a state that is refused.
+    #[must_use]
     pub fn offset(&self) -> u64 {
         self.state().and_then(offset_of).unwrap_or_default()
     }
 
-    fn inputs<'a>(&'a self, data: &'a [u8], known: Option<&'a [u8]>) -> Grown<'a> {
-        Grown { log: &self.log, state: self.state().map(some_bytes).unwrap_or_default(), data, known, prefix: self.prefix }
+    fn inputs<'a>(&'a self, more: &'a [u8], known: Option<&'a [u8]>) -> Grown<'a> {
+        Grown { log: &self.log, state: self.state().map(some_bytes).unwrap_or_default(), more, known, prefix: self.prefix }
     }
 
-    /// What an answer says, and its state, if it is a match.
-    pub(crate) fn take<T: Judged>(&mut self, answer: Answer, matches: impl FnOnce(&T) -> bool) -> Result<T, Error> {
-        let found = answer.judged()?;
-        if matches(&found) {
-            offset_of(&answer.next).ok_or_else(|| answer.unexpected())?;
-            self.state = Some(answer.next);
+    /// What a reply says, and its state, if it is a match.
+    pub(crate) fn take<T: Line>(&mut self, reply: Reply) -> Result<T, Error> {
+        let found = reply.judged()?;
+        if reply.result == DONE {
+            offset_of(&reply.next).ok_or_else(|| reply.unexpected())?;
+            self.state = Some(reply.next);
         }
         Ok(found)
     }
@@ -135,7 +129,7 @@ fn offset_of(state: &[u8]) -> Option<u64> {
     std::str::from_utf8(digits).ok()?.parse().ok()
 }
 
-/// The answer to a call by a quote.
-pub(crate) fn attested(inputs: &Grown, quote: &Quote<'_>) -> Result<Answer, Error> {
-    ask_for_both(zeros(ROOM)?, zeros(ROOM)?, |next, out| library::attest(inputs, quote, next, out))
+/// The reply to a call by a quote.
+pub(crate) fn attested(inputs: &Grown<'_>, quote: &Quote<'_>) -> Result<Reply, Error> {
+    ask(Out::for_text_and_state()?, |out| library::attest(inputs, quote, out))
 }

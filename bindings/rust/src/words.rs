@@ -79,23 +79,17 @@ words! {
     }
 
     /// How a quote's digest compares with that of the PCRs after log and list.
-    QuoteState {
-        Match = "match", "It is the same.";
-        Differ = "differ", "It is another.";
-    }
+    QuoteState { Match = "match", "It is the same."; Differ = "differ", "It is another."; }
 
     /// What is known of a quote's signature.
     SignatureState {
         NotChecked = "not checked", "Nobody verified it.";
-        Checked = "checked", "The caller says that he verified it.";
+        Checked = "checked", "The caller states that it was verified.";
         Valid = "valid", "It is by the key that was given.";
     }
 
     /// Whether expected PCRs are those of a quote.
-    ExpectedState {
-        Confirmed = "confirmed", "They are.";
-        Unconfirmed = "unconfirmed", "They are others.";
-    }
+    ExpectedState { Confirmed = "confirmed", "They are."; Unconfirmed = "unconfirmed", "They are others."; }
 
     /// Where a PCR first has its expected value.
     Place {
@@ -108,14 +102,11 @@ words! {
     }
 
     /// The type of a TPM's key.
-    KeyType {
-        Rsa = "rsa", "RSA.";
-        Ecc = "ecc", "An elliptic curve.";
-    }
+    KeyType { Rsa = "rsa", "RSA."; Ecc = "ecc", "An elliptic curve."; }
 
     /// The scheme by which a TPM's key signs or decrypts.
     Scheme {
-        None = "none", "Whichever is asked for.";
+        None = "none", "Any that is asked for.";
         Rsassa = "rsassa", "RSASSA, which signs.";
         Rsapss = "rsapss", "RSAPSS, which signs.";
         Ecdsa = "ecdsa", "ECDSA, which signs.";
@@ -130,14 +121,20 @@ words! {
         Data = "data", "All of it.";
         Value = "value", "The value of a variable, in PCR 1. Its name and its vendor are only claimed.";
         Command = "command", "The text of a command of GRUB, in PCR 8. Its kind is only claimed.";
+        None = "none", "PCRs confirm no part.";
     }
 
-    /// The part of an event's data that PCRs confirm.
-    ConfirmedPart {
-        Data = "data", "All of it.";
-        Value = "value", "The value of a variable.";
-        Command = "command", "The text of a command.";
-        None = "none", "None.";
+    /// A word in place of what PCRs confirm.
+    AnswerWord { Unknown = "unknown", "They confirm nothing of this."; All = "all", "All events are alike."; }
+
+    /// Whether Secure Boot was on.
+    SecureBoot { On = "on", "It was."; Off = "off", "It was not."; Unknown = "unknown", "Nothing confirms either."; }
+
+    /// Whether a command asked Linux to measure files.
+    PolicyState {
+        Asked = "asked", "One did.";
+        Possible = "possible", "None did, but one may set a policy.";
+        Unknown = "unknown", "There is no such command.";
     }
 
     /// The kind of a command of GRUB, by what precedes its text.
@@ -148,27 +145,19 @@ words! {
     }
 
     /// What the digest of an entry's fields is of.
-    DigestType {
-        Ima = "ima", "The file.";
-        Verity = "verity", "Its hash tree, by fs-verity.";
-    }
+    DigestType { Ima = "ima", "The file."; Verity = "verity", "Its hash tree, by fs-verity."; }
 
     /// What is refused.
     Kind {
-        Argument = "command_line",
-            "The selection of PCRs, required or asked for, is not of its form, or does not suit a quote or known files; or a nonce is \
-             too short, or not hexadecimal. It has no number.";
+        Argument = "command_line", "An argument: a selection of PCRs, a nonce, or known files where they have no part. It has no number.";
         Log = "log", "The firmware event log.";
         List = "list", "The measurement list.";
         Replay = "replay", "The template digest of an entry is not valid.";
         Expected = "expected", "The text of expected PCRs, or what tpm2-tools printed.";
-        Checkpoint = "checkpoint",
-            "The state of a session is damaged (1), of another version (2), or of another boot by the log (3) or by a quote (4).";
-        Quote = "quote", "The message of a quote: it is none (1 to 10), has another nonce (11), or does not select a required PCR (12).";
-        Key = "key", "The public area of a key: it is none (1 to 10), or the key lacks what its purpose needs (11 to 22).";
+        Checkpoint = "checkpoint", "The state of a session: it is damaged (1), of another version (2), or of another boot (3 by the log, 4 by a quote).";
+        Quote = "quote", "The message of a quote: it is not one (1 to 10), has another nonce (11), or does not select a required PCR (12).";
+        Key = "key", "The public area of a key: it is not one (1 to 10), or the key lacks what its purpose needs (11 to 22).";
         Known = "known", "A line of the known files has a digest by SHA-1 (1), or is no digest and name (2).";
-        Signature = "signature",
-            "The signature of a quote is none (1 to 4), or not by the key and on the message (5 to 7); or the key is one that is not \
-             taken (8), or no PEM of such a key (9).";
+        Signature = "signature", "The signature of a quote: it is not one (1 to 4), or not the key's (5 to 7), or the key is not taken (8, 9).";
     }
 }

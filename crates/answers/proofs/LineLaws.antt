@@ -1,5 +1,5 @@
 -- Each answer is one line.
-use Rattle.std.proofs.Common.{ℕ, zero, suc, refl, ◌+◌, ◌≤◌, Bool, true, false, List, [], ◌∷◌, map, Option, Some, None, codes, arith}
+use Rattle.std.proofs.Common.{ℕ, zero, suc, refl, ◌+◌, ◌≤◌, Bool, true, false, List, [], ◌∷◌, length, map, Option, Some, None, codes, arith}
 use Rattle.std.specs.Prelude.{flat_map, if◌then◌else◌, IfSome}
 use Rattle.std.specs.List.{AllByRecursion, range_with_len}
 use Rattle.std.proofs.lemmas.List.Concat.{flat_map-append}
@@ -148,10 +148,10 @@ position_plain positions.Absent fits = (tt, tt)
 
 -- ---- parts of a report
 
-compared_plain : (required : Option (List BankRange)) (compared : ℕ) → ArePlain (if_some required (λ ranges. compared_cell compared)).json 2
+compared_plain : (required : Option (List BankRange)) (compared : ℕ) → IsCount compared → ArePlain (compared_cell required compared).json 2
 unfolding beside
-compared_plain None compared = tt
-compared_plain (Some ranges) compared = tt
+compared_plain None compared fits = ((compared, fits, refl), tt)
+compared_plain (Some ranges) compared fits = ((compared, fits, refl), tt)
 
 event_plain : (event : Option ℕ) → IfSome event IsCount → AreRows (stray_event event).json
 unfolding beside object
@@ -187,12 +187,13 @@ unknown_plain (Some unknown) fits = (
   (each_plain 1 IsCount (λ n. number_json n ∷ []) (λ n is. ((n, is, refl), tt)) unknown.numbers.items fits.1, tt),
 )
 
-outcome_plain : (required : Option (List BankRange)) (unknown : Option UnknownFiles) (is_match : Bool) (verdict : Verdict) → AreCounted verdict.strays
+outcome_plain : (required : Option (List BankRange)) (unknown : Option UnknownFiles) (is_match : Bool) (verdict : Verdict)
+    → IsCount (length verdict.rows) → AreCounted verdict.strays
     → IfSome unknown IsCountedUnknown → AllByRecursion (λ row. IsCount row.expected.register) verdict.rows
     → ArePlain (outcome_cell required unknown is_match verdict).json 2
 unfolding beside
-outcome_plain required unknown is_match verdict strays counted rows =
-    members_joined 2 (if_some required (λ ranges. compared_cell _)).json _ (compared_plain required _) (
+outcome_plain required unknown is_match verdict compared strays counted rows =
+    members_joined 2 (compared_cell required (length verdict.rows)).json _ (compared_plain required _ compared) (
       tt,
       members_joined 2 (report_rows required verdict.rows).json _ (report_plain required verdict.rows rows)
           (members_joined 2 (if_some required (λ ranges. strays_cell verdict.strays)).json _ (required_strays required verdict.strays strays)
@@ -202,15 +203,15 @@ outcome_plain required unknown is_match verdict strays counted rows =
 -- ---- reports
 
 pub report_line : (required : Option (List BankRange)) (unknown : Option UnknownFiles) (is_match : Bool) (verdict : Verdict)
-    → IsCount verdict.events → IsCount verdict.locality → IsCount verdict.entries → AreCounted verdict.strays
-    → IfSome unknown IsCountedUnknown → AllByRecursion (λ row. IsCount row.expected.register) verdict.rows
+    → IsCount verdict.events → IsCount verdict.locality → IsCount verdict.entries → IsCount (length verdict.rows)
+    → AreCounted verdict.strays → IfSome unknown IsCountedUnknown → AllByRecursion (λ row. IsCount row.expected.register) verdict.rows
     → IsOneLine (object_of (report_cell required unknown is_match verdict).json)
 unfolding beside
-report_line required unknown is_match verdict events locality entries strays counted rows = one_line _ (
+report_line required unknown is_match verdict events locality entries compared strays counted rows = one_line _ (
   (verdict.events, events, refl),
   (
     (verdict.locality, locality, refl),
-    ((verdict.entries, entries, refl), outcome_plain required unknown is_match verdict strays counted rows),
+    ((verdict.entries, entries, refl), outcome_plain required unknown is_match verdict compared strays counted rows),
   ),
 )
 
@@ -243,26 +244,26 @@ unconfirmed_plain (Some fault) fits = (
 
 pub prefix_line : (required : Option (List BankRange)) (unknown : Option UnknownFiles) (prefix : Verdict) (entries : ℕ) (unconfirmed : Option Unconfirmed)
     → IsCount prefix.events → IsCount prefix.locality → IsCount prefix.entries → IsCount entries
-    → IfSome unconfirmed (λ fault. IfSome (unconfirmed_entry fault) IsCount) → AreCounted prefix.strays
+    → IfSome unconfirmed (λ fault. IfSome (unconfirmed_entry fault) IsCount) → IsCount (length prefix.rows) → AreCounted prefix.strays
     → IfSome unknown IsCountedUnknown → AllByRecursion (λ row. IsCount row.expected.register) prefix.rows
     → IsOneLine (object_of (prefix_cell required unknown prefix entries unconfirmed).json)
 unfolding beside
-prefix_line required unknown prefix entries unconfirmed events locality confirmed all after strays counted rows =
+prefix_line required unknown prefix entries unconfirmed events locality confirmed all after compared strays counted rows =
     let told = members_joined 2 (if_some unconfirmed unconfirmed_cell).json _ (unconfirmed_plain unconfirmed after)
-    (outcome_plain required unknown (meets required prefix) prefix strays counted rows) in
+    (outcome_plain required unknown (meets required prefix) prefix compared strays counted rows) in
     one_line _ (
       (prefix.events, events, refl),
       ((prefix.locality, locality, refl), ((entries, all, refl), ((prefix.entries, confirmed, refl), told))),
     )
 
 pub list_report_line : (required : Option (List BankRange)) (unknown : Option UnknownFiles) (verdict : ListVerdict)
-    → IsCount verdict.entries → AreCounted verdict.strays
+    → IsCount verdict.entries → IsCount (length verdict.rows) → AreCounted verdict.strays
     → IfSome unknown IsCountedUnknown → AllByRecursion (λ row. IsCount row.expected.register) verdict.rows
     → IsOneLine (object_of (list_report_cell required unknown verdict).json)
 unfolding beside
-list_report_line required unknown verdict entries strays counted rows = one_line _ (
+list_report_line required unknown verdict entries compared strays counted rows = one_line _ (
   (verdict.entries, entries, refl),
-  members_joined 2 (if_some required (λ ranges. compared_cell _)).json _ (compared_plain required _)
+  members_joined 2 (compared_cell required (length verdict.rows)).json _ (compared_plain required _ compared)
       (members_joined 2 (report_rows required verdict.rows).json _ (report_plain required verdict.rows rows)
       (members_joined 2 (if_some required (λ ranges. strays_cell verdict.strays)).json _ (required_strays required verdict.strays strays)
       (members_joined 2 (if_some unknown unknown_cell).json _ (unknown_plain unknown counted) (tt, tt)))),

@@ -1,5 +1,5 @@
 -- No answer has a member `fault`.
-use Rattle.std.proofs.Common.{◌≡◌, ℕ, Bool, true, false, List, Option, Some, None, refl, codes}
+use Rattle.std.proofs.Common.{◌≡◌, ℕ, Bool, true, false, List, length, Option, Some, None, refl, codes}
 use Rattle.std.specs.Prelude.{if◌then◌else◌}
 use Rattle.json.specs.Find.{get}
 use Rattle.json.specs.Json.{Json}
@@ -20,10 +20,10 @@ use Rattle.answers.specs.ReportCells.{compared_cell, list_report_cell, meets, ou
 
 -- ---- parts
 
-compared_other : (required : Option (List BankRange)) (compared : ℕ) → AreOther (members_of (if_some required (λ ranges. compared_cell compared)).json)
+compared_other : (required : Option (List BankRange)) (compared : ℕ) → AreOther (members_of (compared_cell required compared).json)
 unfolding beside
-compared_other None compared = tt
-compared_other (Some ranges) compared = tt
+compared_other None compared = (refl, tt)
+compared_other (Some ranges) compared = (refl, tt)
 
 unless_other : (is : Bool) (items : Cell Json) → AreOther (members_of (if is then nothing else list_at (codes "extends") items).json)
 unfolding list_at
@@ -51,7 +51,7 @@ outcome_other : (required : Option (List BankRange)) (unknown : Option UnknownFi
     → AreOther (members_of (outcome_cell required unknown is_match verdict).json)
 unfolding beside list_at
 outcome_other required unknown is_match verdict =
-    others_joined (if_some required (λ ranges. compared_cell _)).json _ (compared_other required _) (
+    others_joined (compared_cell required (length verdict.rows)).json _ (compared_other required _) (
       refl,
       (
         refl,
@@ -91,7 +91,7 @@ pub list_report_lacks : (required : Option (List BankRange)) (unknown : Option U
 unfolding beside list_at
 list_report_lacks required unknown verdict = lacks (object_of (list_report_cell required unknown verdict).json) refl (
   refl,
-  others_joined (if_some required (λ ranges. compared_cell _)).json _ (compared_other required _) (
+  others_joined (compared_cell required (length verdict.rows)).json _ (compared_other required _) (
     refl,
     others_joined (if_some required (λ ranges. strays_cell verdict.strays)).json _ (required_strays required verdict.strays)
         (others_joined (if_some unknown unknown_cell).json _ (unknown_other unknown) (refl, tt)),

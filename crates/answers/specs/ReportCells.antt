@@ -25,9 +25,13 @@ counts_cell events locality entries = in_order (
     ∷ text (codes "\n")
     ∷ [])
 
--- How many registers were compared, as text.
-abbrev pub compared_cell : ℕ → Cell Member
-compared_cell compared = beside (count (codes "compared ") compared) (text (codes "\n"))
+abbrev pub compared_line : ℕ → Cell Member
+compared_line compared = beside (count (codes "compared ") compared) (text (codes "\n"))
+
+-- How many registers were compared; as text only where registers are required.
+abbrev pub compared_cell : Option (List BankRange) → ℕ → Cell Member
+compared_cell required compared =
+    beside (number_member (codes "compared") compared) (if_some required (λ ranges. compared_line compared))
 
 abbrev pub aggregate_cell : Aggregate → Cell Member
 aggregate_cell aggregate = beside (word (codes "boot_aggregate ") (codes "boot_aggregate") (aggregate_word aggregate)) (text (codes "\n"))
@@ -84,7 +88,7 @@ verdict_cell unknown is_match =
 -- What comes after the counts, with whether it is a match if no entry is unknown.
 abbrev pub outcome_cell : Option (List BankRange) → Option UnknownFiles → Bool → Verdict → Cell Member
 outcome_cell required unknown is_match verdict = in_order (
-    if_some required (λ ranges. compared_cell (length verdict.rows))
+    compared_cell required (length verdict.rows)
     ∷ aggregate_cell verdict.aggregate
     ∷ report_rows required verdict.rows
     ∷ if_some required (λ ranges. strays_cell verdict.strays)
@@ -145,7 +149,7 @@ abbrev pub list_report_cell : Option (List BankRange) → Option UnknownFiles �
 list_report_cell required unknown verdict = in_order (
     number (codes "entries ") (codes "entries") verdict.entries
     ∷ text (codes "\n")
-    ∷ if_some required (λ ranges. compared_cell (length verdict.rows))
+    ∷ compared_cell required (length verdict.rows)
     ∷ report_rows required verdict.rows
     ∷ if_some required (λ ranges. strays_cell verdict.strays)
     ∷ if_some unknown unknown_cell

@@ -1,6 +1,6 @@
 //! Laws: consequences of the definitions, each the contract of a function that does nothing.
 
-ghost use Rattle.std.specs.Prelude.{◌≡◌, ℕ, Bool, List, codes, Option, None, IfSome};
+ghost use Rattle.std.specs.Prelude.{◌≡◌, ℕ, Bool, List, codes, length, Option, None, IfSome};
 ghost use Rattle.std.specs.List.{AllByRecursion};
 ghost use Rattle.json.specs.Find.{get};
 ghost use Rattle.pcr_banks.specs.declared.banks.Banks.{Banks};
@@ -33,17 +33,17 @@ pub fn each_answer_is_one_line()
     ensures expected { (expected : List Expected) → AllByRecursion (λ e. IsCount e.register) expected
         → IsOneLine (object_of (expected_cell expected).json) }
     ensures report { (required : Option (List BankRange)) (unknown : Option UnknownFiles) (is_match : Bool) (verdict : Verdict)
-        → IsCount verdict.events → IsCount verdict.locality → IsCount verdict.entries → AreCounted verdict.strays
-        → IfSome unknown IsCountedUnknown → AllByRecursion (λ row. IsCount row.expected.register) verdict.rows
+        → IsCount verdict.events → IsCount verdict.locality → IsCount verdict.entries → IsCount (length verdict.rows)
+        → AreCounted verdict.strays → IfSome unknown IsCountedUnknown → AllByRecursion (λ row. IsCount row.expected.register) verdict.rows
         → IsOneLine (object_of (report_cell required unknown is_match verdict).json) }
     ensures prefix_report { (required : Option (List BankRange)) (unknown : Option UnknownFiles) (prefix : Verdict) (entries : ℕ)
         (unconfirmed : Option Unconfirmed)
         → IsCount prefix.events → IsCount prefix.locality → IsCount prefix.entries → IsCount entries
-        → IfSome unconfirmed (λ fault. IfSome (unconfirmed_entry fault) IsCount) → AreCounted prefix.strays
+        → IfSome unconfirmed (λ fault. IfSome (unconfirmed_entry fault) IsCount) → IsCount (length prefix.rows) → AreCounted prefix.strays
         → IfSome unknown IsCountedUnknown → AllByRecursion (λ row. IsCount row.expected.register) prefix.rows
         → IsOneLine (object_of (prefix_cell required unknown prefix entries unconfirmed).json) }
     ensures list_report { (required : Option (List BankRange)) (unknown : Option UnknownFiles) (verdict : ListVerdict)
-        → IsCount verdict.entries → AreCounted verdict.strays
+        → IsCount verdict.entries → IsCount (length verdict.rows) → AreCounted verdict.strays
         → IfSome unknown IsCountedUnknown → AllByRecursion (λ row. IsCount row.expected.register) verdict.rows
         → IsOneLine (object_of (list_report_cell required unknown verdict).json) }
     ensures attestation { (unknown : Option UnknownFiles) (report : AttestVerdict)

@@ -5,7 +5,7 @@ ghost use Rattle.boot_verdict.specs.declared.report.State.TheVariants.{Differ};
 ghost use Rattle.boot_verdict.specs.Names.{verdict_of};
 ghost use Rattle.known_files.specs.Unknown.{has_no_unknown};
 ghost use Rattle.cells.specs.Cells.{ShowsItems, ShowsMembers, each, if_some, item_number};
-ghost use Rattle.answers.specs.ReportCells.{aggregate_cell, compared_cell, counts_cell, meets, outcome_cell, report_cell, report_rows, state_cell, stray_cell, stray_entry, stray_event, strays_cell, unknown_cell, verdict_cell, verdict_word};
+ghost use Rattle.answers.specs.ReportCells.{aggregate_cell, compared_cell, compared_line, counts_cell, meets, outcome_cell, report_cell, report_rows, state_cell, stray_cell, stray_entry, stray_event, strays_cell, unknown_cell, verdict_cell, verdict_word};
 
 use crate::rows::{Says, show_rows};
 use boot_verdict::{
@@ -67,12 +67,25 @@ pub(crate) fn show_outcome(
     show_verdict(unknown, is_match, out)
 }
 
+/// Shows how many registers were compared.
 pub(crate) fn show_compared(
     requirement: Option<&Requirement>,
     compared: usize,
     out: &mut CellWriter,
 ) -> Written
-    ensures { ShowsMembers result out.old out.new (if_some (option_copied requirement.entry) (λ ranges. compared_cell compared)) }
+    ensures { ShowsMembers result out.old out.new (compared_cell (option_copied requirement.entry) compared) }
+{
+    out.number_member("compared", compared as u64)?;
+    show_compared_line(requirement, compared, out)
+}
+
+// Shows it as a line, where registers are required.
+fn show_compared_line(
+    requirement: Option<&Requirement>,
+    compared: usize,
+    out: &mut CellWriter,
+) -> Written
+    ensures { ShowsMembers result out.old out.new (if_some (option_copied requirement.entry) (λ ranges. compared_line compared)) }
 {
     match requirement {
         None => Ok(()),
@@ -81,7 +94,7 @@ pub(crate) fn show_compared(
 }
 
 fn show_count(compared: usize, out: &mut CellWriter) -> Written
-    ensures { ShowsMembers result out.old out.new (compared_cell compared) }
+    ensures { ShowsMembers result out.old out.new (compared_line compared) }
 {
     out.count("compared ", compared)?;
     out.text("\n")

@@ -8,6 +8,7 @@ use Rattle.agent_plans.specs.declared.plan.Task.{Task}
 use Rattle.agent_plans.specs.declared.plan.Task.TheVariants as tasks
 use Rattle.judging.specs.Requests.{Requested}
 use Rattle.hints.specs.declared.reasons.Causes.{Causes}
+use Rattle.hints.specs.declared.hints.Hint.TheVariants.{NothingExpected}
 use Rattle.hints.specs.declared.reasons.Grown.{Grown}
 use Rattle.hints.specs.declared.wrong_input.Mistake.{Mistake}
 use Rattle.hints.specs.declared.wrong_input.ExpectedInput.{ExpectedInput}
@@ -68,4 +69,5 @@ abbrev pub TellsNext : Inputs → Failure → List ℕ → Type 0
 TellsNext inputs (failures.Differs task) text = TellsOf inputs task.now text
 TellsNext inputs (failures.Unsigned task) text = text ≡ escape unsigned_words ++ 10 ∷ []
 TellsNext inputs (failures.Fault fault task) text = TellsFault inputs fault.now task.now text
+TellsNext inputs failures.NothingCompared text = text ≡ shown_hint NothingExpected
 TellsNext inputs failure text = text ≡ []

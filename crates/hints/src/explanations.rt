@@ -47,6 +47,7 @@ pub fn explanation<R: FileSystem + io::Input>(
             _ => Err(AllocError),
         },
         Failure::Differs { .. } | Failure::Unsigned { .. } => Ok(String::new(alloc)),
+        Failure::NothingCompared => Ok(String::new(alloc)),
         Failure::Output => shown_line(alloc, "the output could not be written"),
     }
 }

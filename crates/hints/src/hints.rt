@@ -3,6 +3,7 @@
 ghost use Rattle.std.specs.Prelude.{◌≡◌, ◌++◌, ◌∷◌, [], codes, decimal, flat_map, take, true, string_bytes, IfOk, OnOk};
 ghost use Rattle.std.specs.List.{list_all};
 ghost use Rattle.pcr_banks.specs.Names.{name_of};
+ghost use Rattle.hints.specs.declared.hints.Hint.TheVariants.{NothingExpected};
 ghost use Rattle.hints.specs.Escaping.{escape, is_shown};
 ghost use Rattle.hints.specs.HintTexts.{absent_hint, entry_hint, event_hint, hint_line, hints_of_causes, is_grown, last_words, list_hint, log_hint, missing_hint, mistake_words, of_option, shown_hint, unknown_hint, values_hint};
 
@@ -75,6 +76,14 @@ pub(crate) fn rendered_hints(
     let mut hints = hints_of_causes(alloc, causes, grown, is_old)?;
     hints.truncate(MOST_LINES);
     lines_of(alloc, &hints)
+}
+
+/// What to do after a match with which nothing was compared.
+pub(crate) fn nothing_compared_hint(alloc: Global) -> Result<String, AllocError>
+    ensures line { IfOk result (λ text. string_bytes text ≡ shown_hint NothingExpected) }
+    ensures shown { IfOk result (λ text. list_all is_shown (string_bytes text) ≡ true) }
+{
+    shown_line(alloc, NOTHING_EXPECTED)
 }
 
 // The lines of these.

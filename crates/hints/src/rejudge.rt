@@ -8,7 +8,7 @@ ghost use Rattle.hints.specs.Escaping.{is_shown};
 ghost use Rattle.hints.specs.Hints.{IsGrown, IsNotGrown, IsNotSeen, IsSeen};
 ghost use Rattle.hints.specs.Saying.{TellsFault, TellsMistake, TellsNext, TellsOf};
 
-use crate::hints::{rendered_hints, rendered_mistake};
+use crate::hints::{nothing_compared_hint, rendered_hints, rendered_mistake};
 use crate::old_aggregates::is_old_aggregate;
 use crate::reasons::{Causes, Grown, causes_of, grown_by};
 use crate::reread::{FilesAgain, head_of};
@@ -35,8 +35,8 @@ pub fn hint_on_failure<R: FileSystem>(
 }
 
 /// What a person may do next, in lines: after an answer that something differs, by a second look at the inputs; where nobody looked at a quote's
-/// signature, or it or its key is refused; and where another input is refused that is not what it should be, by its first bytes. No text where
-/// nothing helps, or the inputs cannot be read again. It changes no input.
+/// signature, or it or its key is refused; after a match with which nothing was compared; and where another input is refused that is not what it
+/// should be, by its first bytes. No text where nothing helps, or the inputs cannot be read again. It changes no input.
 ///
 /// Fails if memory runs out.
 pub fn hint_from_files<F: AgentFiles>(
@@ -51,6 +51,7 @@ pub fn hint_from_files<F: AgentFiles>(
     match failure {
         Failure::Differs { task } => on_difference(alloc, files, task),
         Failure::Unsigned { .. } => unsigned_hint(alloc),
+        Failure::NothingCompared => nothing_compared_hint(alloc),
         Failure::Fault { fault, task } => on_fault(alloc, files, fault, task),
         _ => Ok(String::new(alloc)),
     }

@@ -1,144 +1,32 @@
--- The registers that match: those that have their expected values after a log, before any list; or those that a quote is of, which the list
--- does not extend.
-use Rattle.std.specs.Prelude.{◌≡◌, ◌⊎◌, ℕ, ◌==◌, ◌&&◌, Bool, true, false, not, List, [], map, flat_map, filter, Option, None, Some, IsSomeAnd, string_bytes}
-use Rattle.std.specs.List.{Contains, list_any}
-use Rattle.std.specs.Option.{option_map_or}
-use Rattle.pcr_banks.specs.declared.alg.Alg.{Alg}
-use Rattle.pcr_banks.specs.declared.alg.Alg.TheVariants.{Sha1}
-use Rattle.pcr_banks.specs.declared.sets.AlgSet.{AlgSet}
-use Rattle.pcr_banks.specs.Names.{alg_of, bytes_of, same_alg}
-use Rattle.pcr_values.specs.Names.{IsExpectedText}
-use Rattle.pcr_values.specs.declared.expected.Expected.{Expected}
-use Rattle.tpm_quotes.specs.Spelling.{BankSelection, all_registers, is_selected}
-use Rattle.attestations.specs.Quoted.{stated_of}
-use Rattle.boot_log.specs.declared.header.DeclaredAlgorithm.{DeclaredAlgorithm}
-use Rattle.boot_log.specs.Names.{IsLog, LogEvent, algs_in}
-use Rattle.boot_verdict.specs.Names.{ReadsAsLog, is_value, list_register, pcr_after_log}
+-- The registers that match, by what the program's arguments name.
+use Rattle.std.specs.Prelude.{ℕ, List, [], Option}
 use Rattle.cells.specs.declared.writer.Form.{Form}
 use Rattle.cells.specs.declared.writer.Form.TheVariants as told
+use Rattle.boot_verdict.specs.Names.{ReadsAsLog}
 use Rattle.measured_data.specs.declared.confirmed.Pcr.{Pcr}
 use Rattle.agent_plans.specs.declared.plan.ConfirmedBy.{ConfirmedBy}
 use Rattle.agent_plans.specs.declared.plan.ConfirmedBy.TheVariants as confirmed
-use Rattle.judging.specs.declared.request.Answer.{Answer}
-use Rattle.judging.specs.declared.request.Answer.TheVariants as answers
-use Rattle.judging.specs.declared.request.Answered.{Answered}
-use Rattle.judging.specs.Answering.{IsAttestation, IsNotExpected}
-use Rattle.judging.specs.Inputs.{BytesOf}
-use Rattle.judging.specs.Requests.{AttestRequested, Attests}
-use Rattle.rendering.specs.Rendering.{IsRefusalOn, answer_status}
 use Rattle.agent_inputs.specs.declared.fault.RunFault.{RunFault}
 use Rattle.agent_inputs.specs.Faults.{HasLogFault}
-use Rattle.agent_inputs.specs.Loading.{Inputs, IsInputFault, OfInput}
-use Rattle.judging.specs.Queries.{attested_with}
-use Rattle.ima_agent.specs.Showing.{IsLogFaultOf}
+use Rattle.agent_inputs.specs.Loading.{Inputs}
+use Rattle.judging.specs.Inputs.{BytesOf}
+use Rattle.judging.specs.Queries.{attested_with, file_of}
+use Rattle.confirming.specs.Matching.{ByExpected, ByNothing, ByQuote, Confirmation}
+use Rattle.confirming.specs.Matching as matching
 
--- The register that is expected to have a value.
-abbrev pub place_of : Expected → Pcr
-place_of expected = record { alg = expected.alg; register = expected.register }
-
--- The value of each register of each bank; none of one that is not there.
-abbrev pub Values : Type 0
-Values = Alg → ℕ → Option (List ℕ)
-
--- Whether the register has the value that is expected. A register that is not there never has.
-abbrev pub has_value : Values → Expected → Bool
-has_value value expected = option_map_or (is_value expected) (value expected.alg expected.register) false
-
--- Whether it refutes what is said of the register: it is of a bank other than SHA-1, and has not the value that is expected.
-abbrev pub refutes : Values → ℕ → Expected → Bool
-refutes value register expected =
-    not (same_alg expected.alg Sha1) && ((expected.register == register) && not (has_value value expected))
-
-abbrev pub is_refuted : Values → List Expected → ℕ → Bool
-is_refuted value expected register = list_any (refutes value register) expected
-
--- Whether the register counts as one that matches: it has the value that is expected of it in this bank, and no other bank refutes it. (A
--- bank that the firmware does not extend is root's to extend: it must not outweigh another.)
-abbrev pub counts : Values → List Expected → Expected → Bool
-counts value expected row = has_value value row && not (is_refuted value expected row.register)
-
--- Those of the rows that count, in their order.
-abbrev pub matched_among : Values → List Expected → List Expected → List Pcr
-matched_among value expected rows = map place_of (filter (counts value expected) rows)
-
--- Those of the expected registers that match after the log's events: a register that none extends has its reset value.
-abbrev pub matched_places : AlgSet → List LogEvent → List Expected → List Pcr
-matched_places algs events expected = matched_among (pcr_after_log algs events) expected expected
-
--- After the log the expected register has its value, of its bank.
-pub record HasExpected (algs : AlgSet) (events : List LogEvent) (row : Expected) : Type 0 where
-  pub bank_is : alg_of row.value ≡ row.alg
-  pub value_is : pcr_after_log algs events row.alg row.register ≡ Some (bytes_of row.value)
-
--- Some value is expected of the register, and it is the one that the register has after the log; and so it is in each bank other than
--- SHA-1 in which one is expected of the register.
-pub record IsMatched (algs : AlgSet) (events : List LogEvent) (expected : List Expected) (place : Pcr) : Type 0 where
-  pub row : Expected
-  pub among : Contains expected row
-  pub place_is : place ≡ place_of row
-  pub has : HasExpected algs events row
-  pub agreed : (other : Expected) → Contains expected other → other.register ≡ row.register → (other.alg ≡ Sha1 → ⊥)
-      → HasExpected algs events other
-
--- ---- by a quote
-
--- Whether the quote is of the register's value, which the log alone gives it: it selects the register, and the list extends another.
-abbrev pub is_of_log : List ℕ → ℕ → Bool
-is_of_log bits register = not (register == list_register) && is_selected bits register
-
--- Those of a bank, ascending.
-abbrev pub places_in : BankSelection → List Pcr
-places_in selection =
-    filter (λ place. is_of_log selection.bits place.register)
-    (map (λ register. record { alg = selection.alg; register = register }) all_registers)
-
--- Those of all banks that are selected from.
-abbrev pub quoted_places : List BankSelection → List Pcr
-quoted_places selections = flat_map places_in selections
-
--- The registers that match by an answer: none, unless all is well with it.
-abbrev pub places_by : Bool → Answer → List Pcr
-places_by true (answers.Attestation report) = quoted_places (stated_of report.quoted).selections
-places_by is_success answer = []
-
--- These match by the answer to what is asked of a quote; and the status is that of the answer.
-abbrev pub AreMatchedByQuote : Inputs → AttestRequested → List Pcr → ℕ → Type 0
-AreMatchedByQuote inputs asked places status =
-    (given : Answered) × IsAttestation inputs asked given × (places ≡ places_by given.is_success given.answer)
-    × (status ≡ answer_status given.is_success given.answer)
-
--- ---- in files
-
--- The bytes are a log, the text states expected registers, and these of them match.
-pub record MatchIn (log text : List ℕ) (places : List Pcr) : Type 0 where
-  pub table : List DeclaredAlgorithm
-  pub events : List LogEvent
-  pub expected : List Expected
-  pub log_is : IsLog log table events
-  pub text_is : IsExpectedText text expected
-  pub places_are : places ≡ matched_places (algs_in table) events expected
+-- What tells it, in the files of these names. A quote is of the log that was loaded.
+abbrev pub confirmation_by : ConfirmedBy → Confirmation
+confirmation_by confirmed.Nothing = ByNothing
+confirmation_by (confirmed.Expected name) = ByExpected (file_of name)
+confirmation_by (confirmed.Quote quoting) = ByQuote (attested_with (BytesOf []) quoting)
 
 -- The registers that match after the log, if something tells it; none are compared if nothing does. And the status once all is told.
 abbrev pub AreMatched : Inputs → ConfirmedBy → List ℕ → Option (List Pcr) → ℕ → Type 0
-AreMatched inputs confirmed.Nothing log matched status = (matched ≡ None) × (status ≡ 0)
-AreMatched inputs (confirmed.Expected name) log matched status =
-    IsSomeAnd matched (λ places. OfInput inputs (Some (string_bytes name)) (λ text. MatchIn log text places)) × (status ≡ 0)
-AreMatched inputs (confirmed.Quote quoting) log matched status =
-    IsSomeAnd matched (λ places. AreMatchedByQuote inputs (attested_with (BytesOf log) quoting) places status)
-
--- Why the file of this name tells of none: it is not loaded; its text states no expected registers; or it does, and the bytes are no log, or are
--- one and memory ran out.
-abbrev pub AreNotExpected : Inputs → Option (List ℕ) → List ℕ → RunFault → Type 0
-AreNotExpected inputs name log fault =
-    IsInputFault inputs name fault
-    ⊎ OfInput inputs name (λ text. IsNotExpected text fault)
-    ⊎ (((expected : List Expected) × OfInput inputs name (λ text. IsExpectedText text expected)) × IsLogFaultOf log fault)
+AreMatched inputs confirmed_by log matched status = matching.AreMatched inputs (confirmation_by confirmed_by) log matched status
 
 -- Why they are not known.
 abbrev pub AreNotMatched : Inputs → ConfirmedBy → List ℕ → RunFault → Type 0
-AreNotMatched inputs confirmed.Nothing log fault = ⊥
-AreNotMatched inputs (confirmed.Expected name) log fault = AreNotExpected inputs (Some (string_bytes name)) log fault
-AreNotMatched inputs (confirmed.Quote quoting) log fault = IsRefusalOn inputs (Attests (attested_with (BytesOf log) quoting)) fault
+AreNotMatched inputs confirmed_by log fault = matching.AreNotMatched inputs (confirmation_by confirmed_by) log fault
 
 -- ---- before a line is told
 
@@ -151,3 +39,13 @@ IsKnownFor told.Text log = ReadsAsLog log
 abbrev pub IsNotTold : Inputs → Form → ConfirmedBy → List ℕ → RunFault → Type 0
 IsNotTold inputs told.Text confirmed.Nothing log fault = HasLogFault log fault
 IsNotTold inputs form confirmed_by log fault = AreNotMatched inputs confirmed_by log fault
+
+-- Where nothing tells which registers match, the bytes are a log, if its lines are told to people.
+abbrev pub IsLookedThrough : Form → ConfirmedBy → List ℕ → Type 0
+IsLookedThrough told.Text confirmed.Nothing log = ReadsAsLog log
+IsLookedThrough form confirmed_by log = Unit {0}
+
+-- They are to be a log, and have this fault.
+abbrev pub IsNotLookedThrough : Form → ConfirmedBy → List ℕ → RunFault → Type 0
+IsNotLookedThrough told.Text confirmed.Nothing log fault = HasLogFault log fault
+IsNotLookedThrough form confirmed_by log fault = ⊥

@@ -3,7 +3,6 @@ use Rattle.std.specs.Prelude.{◌≡◌, ℕ, ◌≤◌, ◌⊎◌, ◌==◌, �
 use Rattle.hex.specs.Hex.{decode_of}
 use Rattle.ima_list.specs.declared.fault.ListFault.{ListFault}
 use Rattle.ima_list.specs.Names.{BeginsWith, IsReading, ListEntry}
-use Rattle.boot_verdict.specs.Names.{ReadsAsLog}
 pub use Rattle.cells.specs.ItemLines.{numbered_lines, EndsWithFault}
 pub use Rattle.entry_lines.specs.ListLines.{entry_lines, list_lines, AreAllEntries, FailsAfterEntries}
 use Rattle.entry_lines.specs.SentEntries.{AreAllIn}
@@ -11,7 +10,7 @@ use Rattle.cells.specs.declared.writer.Form.{Form}
 use Rattle.cells.specs.declared.writer.Form.TheVariants.{Json, Text}
 use Rattle.agent_inputs.specs.declared.fault.RunFault.{RunFault}
 use Rattle.agent_inputs.specs.declared.fault.RunFault.TheVariants as runs
-use Rattle.agent_inputs.specs.Faults.{HasLogFault, fault_of_list}
+use Rattle.agent_inputs.specs.Faults.{fault_of_list}
 use Rattle.agent_inputs.specs.Loading.{Holds, HoldsTooMuch, Inputs, IsInputFault, IsReadFailure, IsTooLong, OfInput, input_limit, unknown}
 use Rattle.judging.specs.Requests.{LogRegistersOf}
 use Rattle.judging.specs.Inputs.{BytesOf}
@@ -48,10 +47,6 @@ IsRefusedFor text fault =
     ⊎ ((bytes : List ℕ) × Spells text bytes × IsRefusalOn unknown (LogRegistersOf (BytesOf bytes)) fault) ⊎ (fault ≡ runs.Memory)
 
 -- ---- events and entries as text
-
--- Why nothing of a log is shown: the bytes are no log; or they are one, and memory ran out.
-abbrev pub IsLogFaultOf : List ℕ → RunFault → Type 0
-IsLogFaultOf log fault = HasLogFault log fault ⊎ ((fault ≡ runs.Memory) × ReadsAsLog log)
 
 -- The bytes are no list, and the fault is that of their reading.
 abbrev pub IsNoListFor : List ℕ → RunFault → Type 0

@@ -1,54 +1,20 @@
--- What is answered on a boot.
-use Rattle.std.specs.Prelude.{◌≡◌, ◌⊎◌, ℕ, List, [], ◌++◌, Option, None, Some}
-use Rattle.boot_log.specs.declared.header.DeclaredAlgorithm.{DeclaredAlgorithm}
-use Rattle.boot_log.specs.Names.{IsLog, LogEvent}
-use Rattle.measured_data.specs.declared.confirmed.Pcr.{Pcr}
-use Rattle.boot_texts.specs.BootLines.{AreBootLines}
-use Rattle.boot_texts.specs.Differences.{AreDifferenceLines}
+-- What is answered on a boot, by the logs and the rest that the program's arguments name.
+use Rattle.std.specs.Prelude.{ℕ, List, Option, option_map}
 use Rattle.agent_plans.specs.declared.plan.ConfirmedBy.{ConfirmedBy}
 use Rattle.cells.specs.declared.writer.Form.{Form}
 use Rattle.agent_inputs.specs.declared.fault.RunFault.{RunFault}
-use Rattle.agent_inputs.specs.Faults.{HasLogFault}
-use Rattle.agent_inputs.specs.Loading.{Inputs, IsInputFault, OfInput}
-use Rattle.ima_agent.specs.Matching.{AreMatched, AreNotMatched}
-use Rattle.ima_agent.specs.Showing.{IsLogFaultOf}
+use Rattle.agent_inputs.specs.Loading.{Inputs}
+use Rattle.judging.specs.Inputs.{FileOf}
+use Rattle.confirming.specs.Boot as boots
+use Rattle.ima_agent.specs.Matching.{confirmation_by}
 
--- The registers that match; none where none were compared.
-abbrev pub places_of : Option (List Pcr) → List Pcr
-places_of None = []
-places_of (Some places) = places
+-- The text answers what the boot was that left the log in these bytes, and compares it with that of the log in the file of this name, if there is
+-- one.
+abbrev pub ShowsBoot : Inputs → Form → ConfirmedBy → Option (List ℕ) → List ℕ → List ℕ → ℕ → Type 0
+ShowsBoot inputs form confirmed_by before log text status =
+    boots.ShowsBoot inputs form (confirmation_by confirmed_by) (option_map FileOf before) log text status
 
--- The text tells how far the boot with these events, and the earlier one that left the log in the file of this name, extended each register
--- alike; without a name it is empty.
-abbrev pub AreCompared : Inputs → Form → List Pcr → List LogEvent → Option (List ℕ) → List ℕ → Type 0
-AreCompared inputs form matched events None text = text ≡ []
-AreCompared inputs form matched events (Some name) text =
-    OfInput inputs (Some name) (λ earlier. (table : List DeclaredAlgorithm) × (others : List LogEvent) × IsLog earlier table others
-    × AreDifferenceLines form matched events others text)
-
--- The bytes are a log, and the text answers what was booted, by the registers that match; and compares this with the boot of the log in the
--- file of this name, if there is one. The status is that of what they match by.
-pub record ShowsBoot (inputs : Inputs) (form : Form) (confirmed_by : ConfirmedBy) (before : Option (List ℕ)) (log text : List ℕ) (status : ℕ)
-    : Type 0 where
-  pub table : List DeclaredAlgorithm
-  pub events : List LogEvent
-  pub log_is : IsLog log table events
-  pub matched : Option (List Pcr)
-  pub are_matched : AreMatched inputs confirmed_by log matched status
-  pub answers : List ℕ
-  pub are_answers : AreBootLines form (places_of matched) events answers
-  pub compared : List ℕ
-  pub are_compared : AreCompared inputs form (places_of matched) events before compared
-  pub text_is : text ≡ answers ++ compared
-
--- Why there is no log of an earlier boot: the file is not loaded; or its bytes are no log.
-abbrev pub IsNoEarlierLog : Inputs → Option (List ℕ) → RunFault → Type 0
-IsNoEarlierLog inputs None fault = ⊥
-IsNoEarlierLog inputs (Some name) fault =
-    IsInputFault inputs (Some name) fault ⊎ OfInput inputs (Some name) (λ earlier. HasLogFault earlier fault)
-
--- Why there is no answer: the registers that match are not known; the bytes are no log, or are one and memory ran out; or there is no log of an
--- earlier boot.
+-- Why there is no answer.
 abbrev pub IsNoBootFor : Inputs → ConfirmedBy → Option (List ℕ) → List ℕ → RunFault → Type 0
 IsNoBootFor inputs confirmed_by before log fault =
-    AreNotMatched inputs confirmed_by log fault ⊎ (IsLogFaultOf log fault ⊎ IsNoEarlierLog inputs before fault)
+    boots.IsNoBoot inputs (confirmation_by confirmed_by) (option_map FileOf before) log fault

@@ -6,8 +6,7 @@ ghost use Rattle.agent_plans.specs.declared.plan.Task.TheVariants as tasks;
 ghost use Rattle.ima_agent.specs.Program.{IsOutcome, Streams};
 ghost use Rattle.ima_agent.specs.ShowingEvents.{ShowsEventsIn, ShowsPlainEventsIn, ShowsToldOf, plain_lines};
 
-use crate::matches::matched_in;
-use crate::quoted::load_log;
+use crate::confirmed::{load_log, matched_in};
 use crate::streams::{DONE, Sent, StreamFault};
 use agent_inputs::{AgentFiles, RunFault};
 use agent_plans::{ConfirmedBy, DataShown, Form};

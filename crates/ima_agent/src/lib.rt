@@ -4,12 +4,11 @@
 #![tactic(auto)]
 
 mod boot;
+mod confirmed;
 mod events;
 mod hexadecimal;
 pub mod laws;
-mod matches;
 mod program;
-mod quoted;
 mod shown;
 mod streams;
 mod version;

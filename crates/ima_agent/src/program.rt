@@ -22,7 +22,8 @@ use byte_streams::{Failed, Sink, send};
 use judging::{known_inputs, request_of, save_of};
 use measuring::measure;
 use rendering::{
-    json_fault_line, json_memory_line, output_for, print_measured, status_of, write_fault,
+    Output, Summary, json_fault_line, json_memory_line, output_for, print_measured, status_of,
+    write_fault,
 };
 use run_progress::{Failure, NoProgress, Progress};
 use std::alloc::{AllocError, Global};
@@ -125,7 +126,7 @@ pub fn run<R: Threads + Wait + Sync, F: AgentFiles, S: Sink>(
 }
 
 /// As [`run`]; also reports to `progress` how many files of a measurement are done, that standard input is about to be read, and, after the
-/// output, why the run failed or that something differs. Output and status are the same.
+/// output, why the run failed, or that something differs or nothing was compared. Output and status are the same.
 pub fn run_with_progress<R: Threads + Wait + Sync, F: AgentFiles, S: Sink, P: Progress>(
     rt: &R,
     alloc: Global,
@@ -218,7 +219,7 @@ fn perform<R: Threads + Wait + Sync, F: AgentFiles, S: Sink, P: Progress>(
             progress.waits();
             send_output(shown_registers(alloc, files, form), sink)
         }
-        Task::Answer(question) => send_output(answer_for(alloc, question, form, files), sink),
+        Task::Answer(question) => send_answer(alloc, question, form, files, sink, progress),
         Task::Measure(request) => {
             send_output(measure_for(rt, alloc, request, form, files, progress), sink)
         }
@@ -261,11 +262,40 @@ fn send_text<S: Sink>(text: &[u8], status: u8, sink: &mut S) -> Sent
     }
 }
 
-// The output of the answer to a question.
-fn answer_for<F: AgentFiles>(alloc: Global, question: &Query, form: Form, files: &mut F) -> Prepared
+// Sends the answer to a question, and tells if it is a match with which nothing was compared.
+fn send_answer<F: AgentFiles, S: Sink, P: Progress>(
+    alloc: Global,
+    question: &Query,
+    form: Form,
+    files: &mut F,
+    sink: &mut S,
+    progress: &P,
+) -> Sent
     requires { NamesKnown question.now }
-    ensures shown { IfOk result (λ output. IsOutputFor (F.inputs files.old) (tasks.Answer question.now) form (F.replaced files.old) (F.replaced files.new)
-        output.text.items output.status) }
+    ensures { Streams form (IsOutcome (F.inputs files.old) (tasks.Answer question.now) form (F.replaced files.old) (F.replaced files.new)) (S.state sink.old) (S.state sink.new) result }
+{
+    match answer_for(alloc, question, form, files) {
+        Ok((output, summary)) => {
+            let sent = send_output(Ok(output), sink);
+            if sent.is_ok() && summary.compares_nothing() {
+                progress.explain(alloc, Failure::NothingCompared);
+            }
+            sent
+        }
+        Err(fault) => send_output(Err(fault), sink),
+    }
+}
+
+// The output of the answer to a question, and its summary.
+fn answer_for<F: AgentFiles>(
+    alloc: Global,
+    question: &Query,
+    form: Form,
+    files: &mut F,
+) -> Result<(Output, Summary), RunFault>
+    requires { NamesKnown question.now }
+    ensures shown { IfOk result (λ given. IsOutputFor (F.inputs files.old) (tasks.Answer question.now) form (F.replaced files.old) (F.replaced files.new)
+        given.0.text.items given.0.status) }
     ensures kept { OnErr result (F.replaced files.new ≡ F.replaced files.old) }
     ensures fault { IfErr result (IsFaultOf (F.inputs files.old) (tasks.Answer question.now) form) }
 {

@@ -1,2 +1,5 @@
+mod BootLaws
+mod ComparedLaws
+mod ErrorLaws
 mod GivingLaws
 mod LineLaws

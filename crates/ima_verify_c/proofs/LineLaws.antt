@@ -7,12 +7,12 @@ use Rattle.cells.specs.declared.writer.Form.{Form}
 use Rattle.line_chunks.specs.declared.piece.Piece.{Piece}
 use Rattle.line_chunks.specs.declared.piece.LineOffset.{LineOffset}
 use Rattle.line_chunks.specs.Pieces.{is_within}
-use Rattle.ima_verify_c.specs.declared.told.Told.{Told}
+use Rattle.ima_verify_c.specs.declared.text_info.TextInfo.{TextInfo}
 use Rattle.ima_verify_c.specs.Answers.{GivesFound, GivesLines}
 use Rattle.ima_verify_c.proofs.GivingLaws.{refused}
 
 module _ (AreBefore : LineOffset → List ℕ → Type 0) (IsPiece : ℕ → List ℕ → Piece → Type 0) (FailsAfter : List ℕ → RunFault → Type 0) (form : Form)
-    (size : ℕ) (position after : LineOffset) (answer : ℤ) (told : Told) (old new : List ℕ) where
+    (size : ℕ) (position after : LineOffset) (answer : ℤ) (info : TextInfo) (old new : List ℕ) where
   -- What was found of the lines, once it is given.
   pub gives_lines : (found : Result (Option Piece) RunFault)
       → IfOk found (λ f. IfSome f (λ piece. (before : List ℕ) → AreBefore position before → IsPiece (length old) before piece))
@@ -20,8 +20,8 @@ module _ (AreBefore : LineOffset → List ℕ → Type 0) (IsPiece : ℕ → Lis
       → IfErr found (λ fault. is_within position size ≡ true)
       → IfOk found (λ f. IfNone f ((is_within position size ≡ false) × ((before : List ℕ) → AreBefore position before → ⊥)))
       → IfErr found (λ fault. (fault ≡ Memory) ⊎ ((before : List ℕ) → AreBefore position before → FailsAfter before fault))
-      → GivesFound form found position after answer told old new
-      → GivesLines AreBefore IsPiece FailsAfter form size position after answer told old new
+      → GivesFound form found position after answer info old new
+      → GivesLines AreBefore IsPiece FailsAfter form size position after answer info old new
   gives_lines (Ok (Some piece)) is within reached none fails given = record {
     misused = λ outside. let no : false ≡ true = sym outside ∙ within in absurd cc;
     gives = λ before are. inl (piece, is before are, given);
@@ -32,7 +32,7 @@ module _ (AreBefore : LineOffset → List ℕ → Type 0) (IsPiece : ℕ → Lis
     misused = λ outside. let no : false ≡ true = sym outside ∙ reached in absurd cc;
     gives = λ before are. inr (
       given.0,
-      refused (λ fault. FailsAfter before fault ⊎ (fault ≡ Memory)) form fault answer told old new
+      refused (λ fault. FailsAfter before fault ⊎ (fault ≡ Memory)) form fault answer info old new
           (elim fails [ inl memory ↦ inr memory | inr after ↦ inl (after before are) ]) (inr refl) given.1,
     );
   }

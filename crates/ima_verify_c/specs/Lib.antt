@@ -1,1 +1,5 @@
 pub mod Answers
+pub mod ErrorTexts
+pub mod Boot
+pub mod Numbers
+pub mod Requests

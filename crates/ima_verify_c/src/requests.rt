@@ -2,7 +2,7 @@
 
 ghost use Rattle.std.specs.Prelude.{◌≡◌, [], if◌then◌else◌, map, option_map};
 ghost use Rattle.judging.specs.Requests.{requested_of, judgement_of, location_of, requires_of, signing_of};
-ghost use Rattle.ima_verify_c.specs.Answers.{requested_by, requested_of_key, requested_of_registers, form_of, given_bytes, purpose_of, required_by, resume_of, scope_of, signing_in, verdict_of};
+ghost use Rattle.ima_verify_c.specs.Requests.{requested_by, requested_of_key, requested_of_registers, form_of, given_bytes, purpose_of, required_by, resume_of, scope_of, signing_in, verdict_of};
 
 use agent_plans::{Form, Scope};
 use judging::{Comparison, Input, ReportKind, Request, Required, Signing};
@@ -55,14 +55,14 @@ pub(crate) fn verdict_of<'a>(log: &'a [u8], state: &'a [u8], prefix: bool) -> Re
 pub(crate) fn signing_in<'a>(
     key: &'a [u8],
     signature: &'a [u8],
-    is_signed: bool,
+    signature_checked: bool,
 ) -> Option<Signing<'a>>
-    ensures { option_map signing_of result ≡ signing_in key.now signature.now is_signed }
+    ensures { option_map signing_of result ≡ signing_in key.now signature.now signature_checked }
 {
     match (given_bytes(key), given_bytes(signature)) {
-        (None, None) if is_signed => Some(Signing::ByCaller),
+        (None, None) if signature_checked => Some(Signing::ByCaller),
         (None, None) => Some(Signing::NotChecked),
-        (Some(key), Some(signature)) if !is_signed => Some(Signing::ByKey {
+        (Some(key), Some(signature)) if !signature_checked => Some(Signing::ByKey {
             key: Input::Bytes(key),
             signature: Input::Bytes(signature),
         }),
@@ -77,33 +77,32 @@ pub(crate) fn known_in<'a>(given: bool, texts: &'a [Input<'a>]) -> &'a [Input<'a
     if given { texts } else { &[] }
 }
 
-/// What a list is worth against expected registers, with these texts of known files; the word `none` requires this.
+/// What a list is worth against expected PCRs, with these texts of known files.
 pub(crate) fn requested_by<'a>(
-    none: Required<'a>,
     wanted: ReportKind<'a>,
     list: &'a [u8],
     expected: &'a [u8],
     require: &'a [u8],
     known: &'a [Input<'a>],
 ) -> Request<'a>
-    ensures { requested_of result ≡ requested_by (requires_of none.entry) (judgement_of wanted.entry) list.now expected.now require.now
+    ensures { requested_of result ≡ requested_by (judgement_of wanted.entry) list.now expected.now require.now
         (map location_of known.now) }
 {
     Request::Comparison(Comparison {
         wanted,
         list: Input::Bytes(list),
         expected: Input::Bytes(expected),
-        required: required_by(none, require),
+        required: required_by(require),
         known,
     })
 }
 
-// What has to be among the expected registers: those that the text spells, unless it is the word `none`.
-fn required_by<'a>(none: Required<'a>, require: &'a [u8]) -> Required<'a>
-    ensures { requires_of result ≡ required_by (requires_of none.entry) require.now }
+// What has to be among the expected PCRs: those that the text spells; any, if it is the word `none`.
+fn required_by(require: &[u8]) -> Required<'_>
+    ensures { requires_of result ≡ required_by require.now }
 {
     if require == b"none".as_slice() {
-        none
+        Required::Any
     } else {
         Required::These(require)
     }
@@ -124,7 +123,7 @@ pub(crate) fn registers_on(of_list: bool, bytes: &[u8]) -> Request<'_>
     }
 }
 
-/// All that is told of the key of this public area, if it is an endorsement key, or an attestation key.
+/// All that is reported of the key of this public area, if it is an endorsement key, or an attestation key.
 pub(crate) fn key_in(area: &[u8], endorsement: bool) -> Request<'_>
     ensures { requested_of result ≡ requested_of_key area.now endorsement }
 {

@@ -14,19 +14,19 @@ use Rattle.line_chunks.specs.declared.piece.LineOffset.{LineOffset}
 use Rattle.line_chunks.specs.Pieces.{AreInTurn, EndsSo, IsGiven, IsLineOf, IsNextLine, IsPiece, IsWithin, Series}
 
 -- The text has lines from the start to where the next begin, and they fit into the room.
-pub record HasGathered (lines : Series) (size room : ℕ) (start next : LineOffset) (text : List ℕ) : Type 0 where
+pub record HasGathered (lines : Series) (size capacity : ℕ) (start next : LineOffset) (text : List ℕ) : Type 0 where
   pub within : IsWithin next size
-  pub fits : length text ≤ room
+  pub fits : length text ≤ capacity
   pub are : (before : List ℕ) → lines.AreBefore start before → lines.AreBefore next (before ++ text)
 
-module _ (lines : Series) (size room : ℕ) (start : LineOffset) where
-  pub gathered_none : IsWithin start size → HasGathered lines size room start start []
+module _ (lines : Series) (size capacity : ℕ) (start : LineOffset) where
+  pub gathered_none : IsWithin start size → HasGathered lines size capacity start start []
   gathered_none within =
       record { within = within; fits = omega arith; are = λ before is. subst (lines.AreBefore start) (sym (append-nil before)) is }
 
-  pub gathered_more : (next after : LineOffset) (text more line : List ℕ) → HasGathered lines size room start next text → IsWithin after size
-      → more ≡ text ++ line → IsNextLine lines next after line → length more ≤ room
-      → HasGathered lines size room start after more
+  pub gathered_more : (next after : LineOffset) (text more line : List ℕ) → HasGathered lines size capacity start next text → IsWithin after size
+      → more ≡ text ++ line → IsNextLine lines next after line → length more ≤ capacity
+      → HasGathered lines size capacity start after more
   gathered_more next after text more line gathered within parts is fits = record {
     within = within;
     fits = fits;
@@ -36,24 +36,24 @@ module _ (lines : Series) (size room : ℕ) (start : LineOffset) where
   }
 
   piece_of : (before text : List ℕ) (next : LineOffset) (end : PieceEnd) (piece : Piece) → piece.text.items ≡ text → piece.next ≡ next
-      → piece.end ≡ end → lines.AreBefore next (before ++ text) → EndsSo lines room before text end
-      → IsPiece lines room before piece
+      → piece.end ≡ end → lines.AreBefore next (before ++ text) → EndsSo lines capacity before text end
+      → IsPiece lines capacity before piece
   piece_of before text next end piece same_text same_next same_end are ends =
       record { next = rw (same_text, same_next) are; ends = rw (same_text, same_end) ends }
 
   -- There are no more lines.
-  pub last_piece : (next : LineOffset) (text : List ℕ) (piece : Piece) → HasGathered lines size room start next text
+  pub last_piece : (next : LineOffset) (text : List ℕ) (piece : Piece) → HasGathered lines size capacity start next text
       → ((before : List ℕ) → lines.AreBefore next before → lines.AreAll before) → piece.text.items ≡ text → piece.next ≡ next → piece.end ≡ Last
-      → (before : List ℕ) → lines.AreBefore start before → IsPiece lines room before piece
+      → (before : List ℕ) → lines.AreBefore start before → IsPiece lines capacity before piece
   last_piece next text piece gathered all same_text same_next same_end before starts =
       let are = gathered.are before starts in
       piece_of before text next Last piece same_text same_next same_end are (all (before ++ text) are)
 
   -- The next line has no room.
-  cut_ends : (next after : LineOffset) (text line : List ℕ) (end : PieceEnd) → HasGathered lines size room start next text
-      → IsNextLine lines next after line → room < length (text ++ line)
+  cut_ends : (next after : LineOffset) (text line : List ℕ) (end : PieceEnd) → HasGathered lines size capacity start next text
+      → IsNextLine lines next after line → capacity < length (text ++ line)
       → end ≡ (if length text == 0 then Longer (length (text ++ line)) else More)
-      → (before : List ℕ) → lines.AreBefore start before → EndsSo lines room before text end
+      → (before : List ℕ) → lines.AreBefore start before → EndsSo lines capacity before text end
   cut_ends next after [] line end gathered is long end_is before starts =
       let has = (is (before ++ []) (gathered.are before starts)).0 in
       rw end_is (refl, (line, subst (λ (t : List ℕ). lines.HasLine t line) (append-nil before) has, refl, long))
@@ -62,10 +62,10 @@ module _ (lines : Series) (size room : ℕ) (start : LineOffset) where
       rw (end_is, eqb-suc-zero (length text)) (omega arith, inl (line, has, omega (arith, long, length-append (byte ∷ text) line)))
 
   pub cut_piece : (next after : LineOffset) (text more line : List ℕ) (kept : ℕ) (piece : Piece)
-      → HasGathered lines size room start next text → kept ≡ length text → more ≡ text ++ line
-      → IsNextLine lines next after line → room < length more → piece.text.items ≡ take kept more → piece.next ≡ next
+      → HasGathered lines size capacity start next text → kept ≡ length text → more ≡ text ++ line
+      → IsNextLine lines next after line → capacity < length more → piece.text.items ≡ take kept more → piece.next ≡ next
       → piece.end ≡ (if kept == 0 then Longer (length more) else More)
-      → (before : List ℕ) → lines.AreBefore start before → IsPiece lines room before piece
+      → (before : List ℕ) → lines.AreBefore start before → IsPiece lines capacity before piece
   cut_piece next after text more line kept piece gathered kept_is parts is long same_text same_next end_is before starts =
       let text_is : piece.text.items ≡ text =
       same_text ∙ ap (λ (n : ℕ). take n more) kept_is ∙ ap (take (length text)) parts ∙ take-append_seam text line in
@@ -73,17 +73,17 @@ module _ (lines : Series) (size room : ℕ) (start : LineOffset) where
       piece_of before text next piece.end piece text_is same_next refl (gathered.are before starts) ends
 
   -- A fault comes next.
-  pub stopped_piece : (next : LineOffset) (text : List ℕ) (fault : RunFault) (piece : Piece) → HasGathered lines size room start next text
+  pub stopped_piece : (next : LineOffset) (text : List ℕ) (fault : RunFault) (piece : Piece) → HasGathered lines size capacity start next text
       → (fault ≡ Memory → ⊥) → 0 < length text
       → (fault ≡ Memory) ⊎ ((before : List ℕ) → lines.AreBefore next before → lines.FailsAfter before fault)
       → piece.text.items ≡ text → piece.next ≡ next → piece.end ≡ More
-      → (before : List ℕ) → lines.AreBefore start before → IsPiece lines room before piece
+      → (before : List ℕ) → lines.AreBefore start before → IsPiece lines capacity before piece
   stopped_piece next text fault piece gathered other some (inl memory) same_text same_next same_end before starts = absurd (other memory)
   stopped_piece next text fault piece gathered other some (inr fails) same_text same_next same_end before starts =
       let are = gathered.are before starts in
       piece_of before text next More piece same_text same_next same_end are (some, inr (fault, fails (before ++ text) are))
 
-  pub fails_first : (next : LineOffset) (text : List ℕ) (fault reason : RunFault) → HasGathered lines size room start next text
+  pub fails_first : (next : LineOffset) (text : List ℕ) (fault reason : RunFault) → HasGathered lines size capacity start next text
       → reason ≡ fault → (text ≡ []) ⊎ (fault ≡ Memory)
       → (fault ≡ Memory) ⊎ ((before : List ℕ) → lines.AreBefore next before → lines.FailsAfter before fault)
       → (reason ≡ Memory) ⊎ ((before : List ℕ) → lines.AreBefore start before → lines.FailsAfter before reason)

@@ -17,6 +17,7 @@ use Rattle.event_lines.specs.LogLines as logged
 use Rattle.boot_log.specs.declared.header.DeclaredAlgorithm.{DeclaredAlgorithm}
 use Rattle.boot_log.specs.Names.{LogEvent, specification_in}
 use Rattle.boot_log.specs.Spelling as logs
+use Rattle.measured_data.specs.declared.confirmed.Pcr.{Pcr}
 use Rattle.event_lines.specs.EventJson.{header_json, event_json}
 use Rattle.cells.specs.declared.writer.Form.TheVariants as events
 use Rattle.event_lines.specs.SentEvents as sent
@@ -86,22 +87,22 @@ Appends lines size position old new (Err fault) =
 -- Why a piece with this text ends, after lines with the text `before`. `Last`: they are all lines. `More`: it has some, and the next line has
 -- no more room, or a fault comes next. `Longer`: it has none, and the next line, of this size, has no room.
 abbrev pub EndsSo : Series → ℕ → List ℕ → List ℕ → PieceEnd → Type 0
-EndsSo lines room before text Last = lines.AreAll (before ++ text)
-EndsSo lines room before text More =
+EndsSo lines capacity before text Last = lines.AreAll (before ++ text)
+EndsSo lines capacity before text More =
     (0 < length text)
-    × (((line : List ℕ) × lines.HasLine (before ++ text) line × (room < length text + length line))
+    × (((line : List ℕ) × lines.HasLine (before ++ text) line × (capacity < length text + length line))
     ⊎ ((fault : RunFault) × lines.FailsAfter (before ++ text) fault))
-EndsSo lines room before text (Longer size) =
-    (text ≡ []) × ((line : List ℕ) × lines.HasLine before line × (size ≡ length line) × (room < size))
+EndsSo lines capacity before text (Longer size) =
+    (text ≡ []) × ((line : List ℕ) × lines.HasLine before line × (size ≡ length line) × (capacity < size))
 
 -- The piece has the lines that come after lines with the text `before`: as many as there is room for.
-pub record IsPiece (lines : Series) (room : ℕ) (before : List ℕ) (piece : Piece) : Type 0 where
+pub record IsPiece (lines : Series) (capacity : ℕ) (before : List ℕ) (piece : Piece) : Type 0 where
   pub next : lines.AreBefore piece.next (before ++ piece.text.items)
-  pub ends : EndsSo lines room before piece.text.items piece.end
+  pub ends : EndsSo lines capacity before piece.text.items piece.end
 
 -- The piece is given from this position, with some room.
 abbrev pub IsGiven : Series → LineOffset → Piece → Type 0
-IsGiven lines position piece = (room : ℕ) × ((before : List ℕ) → lines.AreBefore position before → IsPiece lines room before piece)
+IsGiven lines position piece = (capacity : ℕ) × ((before : List ℕ) → lines.AreBefore position before → IsPiece lines capacity before piece)
 
 -- Pieces one after another, each from the position that the one before it gives.
 abbrev pub AreInTurn : Series → LineOffset → List Piece → LineOffset → Type 0
@@ -177,41 +178,43 @@ entries_of form list = record {
 
 -- The piece has the lines of the next entries of the list, as many as there is room for.
 abbrev pub IsEntryPiece : Form → List ℕ → ℕ → List ℕ → Piece → Type 0
-IsEntryPiece form list room before piece = IsPiece (entries_of form list) room before piece
+IsEntryPiece form list capacity before piece = IsPiece (entries_of form list) capacity before piece
 
 -- ---- the algorithms and the events of a log
 
--- The lines of a log, as JSON; no registers are compared.
-abbrev pub log_lines : List ℕ → List DeclaredAlgorithm → List LogEvent → List ℕ
-log_lines log table read = sent.log_lines events.Json None log table read
+-- The lines of a log, as JSON, with what the registers that match confirm, if registers are compared.
+abbrev pub log_lines : Option (List Pcr) → List ℕ → List DeclaredAlgorithm → List LogEvent → List ℕ
+log_lines matched log table read = sent.log_lines events.Json matched log table read
 
 -- The log begins with a header and events whose lines are this text, up to the position; or nothing comes before it.
-abbrev pub AreEventsBefore : List ℕ → LineOffset → List ℕ → Type 0
-AreEventsBefore log position text =
+abbrev pub AreEventsBefore : Option (List Pcr) → List ℕ → LineOffset → List ℕ → Type 0
+AreEventsBefore matched log position text =
     ((position ≡ start) × (text ≡ []))
-    ⊎ ((0 < position.offset) × ((table : List DeclaredAlgorithm) × AreItemsBefore (logs.BeginsWith log table) (log_lines log table) log position text))
+    ⊎ ((0 < position.offset)
+    × ((table : List DeclaredAlgorithm) × AreItemsBefore (logs.BeginsWith log table) (log_lines matched log table) log position text))
 
 -- The line is the first, that of what the header declares; or the log begins with a header and events whose lines are this text,
 -- and after them comes another, which has this line.
-abbrev pub HasEventLine : List ℕ → List ℕ → List ℕ → Type 0
-HasEventLine log text line =
+abbrev pub HasEventLine : Option (List Pcr) → List ℕ → List ℕ → List ℕ → Type 0
+HasEventLine matched log text line =
     ((text ≡ []) × ((table : List DeclaredAlgorithm) × (rest : List ℕ) × logs.BeginsWith log table [] rest × (line ≡ json.line_of (header_json (specification_in log) table))))
     ⊎ ((table : List DeclaredAlgorithm)
-    × HasItemLine (logs.BeginsWith log table) (log_lines log table) (λ number event. json.line_of (event_json None (number + 1) event)) text line)
+    × HasItemLine (logs.BeginsWith log table) (log_lines matched log table) (λ number event. json.line_of (event_json matched (number + 1) event)) text
+    line)
 
 -- The bytes are no log: the text is the lines of the header and of the events after it, and after these they have this fault.
-abbrev pub FailsAfterEvents : List ℕ → List ℕ → RunFault → Type 0
-FailsAfterEvents log text fault = logged.FailsAfterEvents (log_lines log) fault_of_log log text fault
+abbrev pub FailsAfterEvents : Option (List Pcr) → List ℕ → List ℕ → RunFault → Type 0
+FailsAfterEvents matched log text fault = logged.FailsAfterEvents (log_lines matched log) fault_of_log log text fault
 
 -- The lines of a log one after another.
-abbrev pub events_of : List ℕ → Series
-events_of log = record {
-  AreBefore = AreEventsBefore log;
-  HasLine = HasEventLine log;
-  AreAll = logged.AreAllEvents (log_lines log) log;
-  FailsAfter = FailsAfterEvents log;
+abbrev pub events_of : Option (List Pcr) → List ℕ → Series
+events_of matched log = record {
+  AreBefore = AreEventsBefore matched log;
+  HasLine = HasEventLine matched log;
+  AreAll = logged.AreAllEvents (log_lines matched log) log;
+  FailsAfter = FailsAfterEvents matched log;
 }
 
 -- The piece has the lines of the next events of the log, as many as there is room for.
-abbrev pub IsEventPiece : List ℕ → ℕ → List ℕ → Piece → Type 0
-IsEventPiece log room before piece = IsPiece (events_of log) room before piece
+abbrev pub IsEventPiece : Option (List Pcr) → List ℕ → ℕ → List ℕ → Piece → Type 0
+IsEventPiece matched log capacity before piece = IsPiece (events_of matched log) capacity before piece

@@ -1,8 +1,9 @@
 //! Laws: what pieces one after another are, each the contract of a function that does nothing.
 
-ghost use Rattle.std.specs.Prelude.{◌≡◌, ℕ, List, [], ◌++◌, flat_map};
+ghost use Rattle.std.specs.Prelude.{◌≡◌, ℕ, List, [], ◌++◌, flat_map, Option};
 ghost use Rattle.agent_inputs.specs.declared.fault.RunFault.{RunFault as AFault};
 ghost use Rattle.cells.specs.declared.writer.Form.{Form};
+ghost use Rattle.measured_data.specs.declared.confirmed.Pcr.{Pcr as APcr};
 ghost use Rattle.line_chunks.specs.declared.piece.PieceEnd.TheVariants.{Last};
 ghost use Rattle.line_chunks.specs.declared.piece.Piece.{Piece as APiece};
 ghost use Rattle.line_chunks.specs.declared.piece.LineOffset.{LineOffset as AnOffset};
@@ -14,7 +15,7 @@ ghost use Rattle.line_chunks.specs.Pieces.{AreEntriesBefore, FailsAfterEntries, 
 /// No line comes before the first position.
 pub fn lines_begin_at_the_start()
     ensures entries { (form : Form) (list : List ℕ) → AreEntriesBefore form list start [] }
-    ensures events { (log : List ℕ) → AreEventsBefore log start [] }
+    ensures events { (matched : Option (List APcr)) (log : List ℕ) → AreEventsBefore matched log start [] }
 {}
 
 /// Pieces of a list one after another, the first from the start and each other from where the one before it ended, whatever room each had,
@@ -26,8 +27,8 @@ pub fn entries_in_turn_are_those_of_the_list()
 
 /// Pieces of a log one after another have its lines, as those of a list do.
 pub fn events_in_turn_are_those_of_the_log()
-    ensures { (log : List ℕ) (pieces : List APiece) (end : AnOffset) → AreInTurn (events_of log) start pieces end
-        → AreEventsBefore log end (flat_map (λ piece. piece.text.items) pieces) }
+    ensures { (matched : Option (List APcr)) (log : List ℕ) (pieces : List APiece) (end : AnOffset) → AreInTurn (events_of matched log) start pieces end
+        → AreEventsBefore matched log end (flat_map (λ piece. piece.text.items) pieces) }
 {}
 
 /// Pieces of a list up to the last one show all of it; and up to where a fault comes next, with the line of the fault after them, what
@@ -42,13 +43,14 @@ pub fn entries_to_the_end_are_what_is_shown()
         → EndsWithFault (FailsAfterEntries form list) (IsLineOf fault line status) (flat_map (λ piece. piece.text.items) pieces ++ line) status }
 {}
 
-/// Pieces of a log show it as those of a list do: this is the text of `events --json` (`ShowsJsonEvents` of `ima_agent`).
+/// Pieces of a log show it as those of a list do: this is the text of `events --json` (`ShowsTold` of `ima_agent`), with the registers that match, if
+/// these are the same for each piece.
 pub fn events_to_the_end_are_what_is_shown()
-    ensures all { (log : List ℕ) (pieces : List APiece) (position : AnOffset) (piece : APiece)
-        → AreInTurn (events_of log) start pieces position → IsGiven (events_of log) position piece → piece.end ≡ Last
-        → AreAllEvents (log_lines log) log (flat_map (λ piece. piece.text.items) pieces ++ piece.text.items) }
-    ensures fault { (log : List ℕ) (pieces : List APiece) (end : AnOffset) (fault : AFault) (line : List ℕ) (status : ℕ)
-        → AreInTurn (events_of log) start pieces end
-        → ((before : List ℕ) → AreEventsBefore log end before → FailsAfterEvents log before fault)
-        → EndsWithFault (FailsAfterEvents log) (IsLineOf fault line status) (flat_map (λ piece. piece.text.items) pieces ++ line) status }
+    ensures all { (matched : Option (List APcr)) (log : List ℕ) (pieces : List APiece) (position : AnOffset) (piece : APiece)
+        → AreInTurn (events_of matched log) start pieces position → IsGiven (events_of matched log) position piece → piece.end ≡ Last
+        → AreAllEvents (log_lines matched log) log (flat_map (λ piece. piece.text.items) pieces ++ piece.text.items) }
+    ensures fault { (matched : Option (List APcr)) (log : List ℕ) (pieces : List APiece) (end : AnOffset) (fault : AFault) (line : List ℕ) (status : ℕ)
+        → AreInTurn (events_of matched log) start pieces end
+        → ((before : List ℕ) → AreEventsBefore matched log end before → FailsAfterEvents matched log before fault)
+        → EndsWithFault (FailsAfterEvents matched log) (IsLineOf fault line status) (flat_map (λ piece. piece.text.items) pieces ++ line) status }
 {}

@@ -19,7 +19,7 @@ pub struct LineOffset {
 
 impl LineOffset {
     /// Whether so many entries or events may be before it, in as many bytes.
-    pub(crate) fn is_within(self, size: usize) -> bool
+    pub fn is_within(self, size: usize) -> bool
         ensures { result ≡ is_within self size }
     {
         self.number <= self.offset && self.offset <= size
@@ -72,12 +72,12 @@ pub(crate) fn fill<L: Lines>(
     alloc: Global,
     lines: &L,
     start: LineOffset,
-    room: usize,
+    capacity: usize,
 ) -> Result<Piece, RunFault>
     requires { IsWithin start (L.size lines.now) }
     ensures piece { IfOk result (λ piece. (before : List ℕ) → (L.series lines.now).AreBefore start before
-        → IsPiece (L.series lines.now) room before piece) }
-    ensures fits { IfOk result (λ piece. length piece.text.items ≤ room) }
+        → IsPiece (L.series lines.now) capacity before piece) }
+    ensures fits { IfOk result (λ piece. length piece.text.items ≤ capacity) }
     ensures fault { IfErr result (λ fault. (fault ≡ Memory)
         ⊎ ((before : List ℕ) → (L.series lines.now).AreBefore start before → (L.series lines.now).FailsAfter before fault)) }
 {
@@ -96,7 +96,7 @@ pub(crate) fn fill<L: Lines>(
             }
             Err(fault) => return stop(fault, text, next),
         };
-        if text.len() > room {
+        if text.len() > capacity {
             return Ok(cut(text, kept, next));
         }
         next = after;

@@ -1,2 +1,3 @@
 pub mod FaultTexts
 pub mod Rendering
+pub mod Summaries

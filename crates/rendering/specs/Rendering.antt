@@ -29,6 +29,8 @@ use Rattle.agent_inputs.specs.declared.fault.RunFault.TheVariants as runs
 use Rattle.agent_inputs.specs.Loading.{HasReplaced, Inputs, IsNotWritten, ReplacedFiles}
 use Rattle.judging.specs.Answering.{IsAnswer, IsRefusal}
 use Rattle.judging.specs.Requests.{Requested}
+use Rattle.rendering.specs.declared.summary.Summary.{Summary}
+use Rattle.rendering.specs.Summaries.{summary_of}
 
 -- The cell of an answer, with whether all is well, the registers that are required, and the entries that are not known.
 abbrev pub answer_cell : Bool → Option (List BankRange) → Option UnknownFiles → Answer → Cell Member
@@ -82,15 +84,19 @@ abbrev pub ShowsAnswer : Inputs → Requested → Option (List ℕ) → Form →
 ShowsAnswer inputs request save form old new shown status =
     (next : Option SavedState) × IsShown inputs request form shown status next × HasSaved old new save next
 
+-- The summary is that of an answer to what is asked for.
+abbrev pub IsSummaryOn : Inputs → Requested → Summary → Type 0
+IsSummaryOn inputs request summary = (given : Answered) × IsAnswer inputs request given × (summary ≡ summary_of given)
+
 -- The text of a checkpoint, if there is one.
 abbrev pub state_of : Option SavedState → List ℕ
 state_of None = []
 state_of (Some next) = checkpoint_text next
 
--- The answer is given; and, if all is well, the text of the checkpoint of what it is on.
-abbrev pub GivesAnswer : Inputs → Requested → Form → List ℕ → ℕ → List ℕ → Type 0
-GivesAnswer inputs request form shown status state =
-    (next : Option SavedState) × IsShown inputs request form shown status next × (state ≡ state_of next)
+-- The answer is given; if all is well, the text of the checkpoint of what it is on; and its summary.
+abbrev pub GivesAnswer : Inputs → Requested → Form → List ℕ → ℕ → List ℕ → Summary → Type 0
+GivesAnswer inputs request form shown status state summary =
+    (next : Option SavedState) × (is : IsShown inputs request form shown status next) × (state ≡ state_of next) × (summary ≡ summary_of is.given)
 
 -- There is a checkpoint to be written under a name that is given, and it could not be; or memory ran out.
 abbrev pub IsNotSaved : Option (List ℕ) → Option SavedState → RunFault → Type 0

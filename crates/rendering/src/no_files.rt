@@ -7,7 +7,7 @@ use std::alloc::Global;
 
 /// No files.
 #[derive(Drop)]
-pub(crate) struct NoFiles;
+pub struct NoFiles;
 
 impl Files for NoFiles {
     type Src = SliceSource<'static>;

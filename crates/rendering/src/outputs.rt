@@ -3,10 +3,11 @@
 ghost use Rattle.std.specs.Prelude.{◌≡◌, option_map, IfOk, IfErr, OnErr, OnOk};
 ghost use Rattle.agent_inputs.specs.Loading.{unknown};
 ghost use Rattle.judging.specs.Requests.{requested_of};
-ghost use Rattle.rendering.specs.Rendering.{GivesAnswer, HasSaved, IsNotSaved, IsOutputFault, IsRefusalOn, ShowsAnswer, answer_cell, answer_status, render, state_of};
+ghost use Rattle.rendering.specs.Rendering.{GivesAnswer, HasSaved, IsNotSaved, IsOutputFault, IsRefusalOn, IsSummaryOn, ShowsAnswer, answer_cell, answer_status, render, state_of};
 ghost use Rattle.cells.specs.Cells.{ShowsMembers};
 
 use crate::no_files::NoFiles;
+use crate::summary::Summary;
 use agent_inputs::{AgentFiles, RunFault, not_written};
 use answers::{
     show_attestation, show_expected, show_key, show_list_report, show_positions, show_prefix,
@@ -46,33 +47,37 @@ const DIFFERS: u8 = 1;
 // The exit status of a report by a quote whose signature nobody verified.
 const UNSIGNED: u8 = 4;
 
-/// An output, and where to go on.
+/// An output, where to go on, and what the output says in numbers.
 #[derive(Drop)]
 pub struct Rendered {
     /// The output.
     pub output: Output,
     /// The text of the checkpoint of what a verdict is on, if all is well; else no bytes.
     pub checkpoint: Vec<u8>,
+    /// The summary of the answer.
+    pub summary: Summary,
 }
 
-/// The output of what is asked for, in this form. If all is well, the checkpoint of what a verdict is on is saved last, if a name is given
-/// for it.
+/// The output of what is asked for, in this form, and its summary. If all is well, the checkpoint of what a verdict is on is saved last, if a
+/// name is given for it.
 pub fn output_for<F: AgentFiles>(
     alloc: Global,
     files: &mut F,
     request: Request<'_>,
     name: Option<&str>,
     form: Form,
-) -> Result<Output, RunFault>
-    ensures shown { IfOk result (λ output. ShowsAnswer (F.inputs files.old) (requested_of request.entry) (option_map (λ name. name.now) name.entry) form
-        (F.replaced files.old) (F.replaced files.new) output.text.items output.status) }
+) -> Result<(Output, Summary), RunFault>
+    ensures shown { IfOk result (λ given. ShowsAnswer (F.inputs files.old) (requested_of request.entry) (option_map (λ name. name.now) name.entry) form
+        (F.replaced files.old) (F.replaced files.new) given.0.text.items given.0.status) }
+    ensures summary { IfOk result (λ given. IsSummaryOn (F.inputs files.old) (requested_of request.entry) given.1) }
     ensures kept { OnErr result (F.replaced files.new ≡ F.replaced files.old) }
     ensures fault { IfErr result (IsOutputFault (F.inputs files.old) (requested_of request.entry) (option_map (λ name. name.now) name.entry)) }
 {
     let given = answer_request(alloc, files, request)?;
     let output = render(alloc, &given, form)?;
+    let summary = Summary::of(&given);
     save(alloc, files, name, given.next)?;
-    Ok(output)
+    Ok((output, summary))
 }
 
 // Saves the checkpoint, if there is one, under this name, if there is one.
@@ -101,13 +106,18 @@ fn save<F: AgentFiles>(
 /// The output of what is asked for of bytes in memory, in this form. There are no files: one that is asked for cannot be read.
 pub fn output_on(alloc: Global, request: Request<'_>, form: Form) -> Result<Rendered, RunFault>
     ensures shown { IfOk result (λ given. GivesAnswer unknown (requested_of request.entry) form given.output.text.items given.output.status
-        given.checkpoint.items) }
+        given.checkpoint.items given.summary) }
     ensures fault { IfErr result (IsRefusalOn unknown (requested_of request.entry)) }
 {
     let given = answer_request(alloc, &mut NoFiles, request)?;
     let output = render(alloc, &given, form)?;
+    let summary = Summary::of(&given);
     let checkpoint = text_of(alloc, given.next)?;
-    Ok(Rendered { output, checkpoint })
+    Ok(Rendered {
+        output,
+        checkpoint,
+        summary,
+    })
 }
 
 // The text of a checkpoint and its boot, if there is one.

@@ -9,7 +9,7 @@ use measuring::FileProgress;
 use std::alloc::Global;
 use std::io;
 
-/// What came of a run that failed, or of an answer that something differs, or that nobody looked at a signature.
+/// What came of a run that failed, or of an answer: something differs, nobody looked at a signature, or nothing was compared.
 #[derive(Clone, Copy)]
 pub enum Failure<'a> {
     /// The line of a fault of a task.
@@ -41,25 +41,28 @@ pub enum Failure<'a> {
         /// What was to be done.
         task: &'a Task,
     },
+    /// The answer to a task: it is a match, and no register was compared.
+    NothingCompared,
     /// A part of the output, or nothing.
     Output,
 }
 
 impl Failure<'_> {
-    /// Whether it is said: standard error is a terminal, or the arguments ask for it.
+    /// Whether it is said: standard error is a terminal, or the arguments ask for it. That nothing was compared is said in any case.
     pub fn is_said(self, is_terminal: bool) -> bool
         ensures { result ≡ is_said is_terminal self.entry }
     {
         is_terminal || self.is_asked_for()
     }
 
-    // Whether the arguments ask for it.
+    // Whether it is said where there is no terminal.
     fn is_asked_for(self) -> bool
         ensures { result ≡ is_asked_for self.entry }
     {
         match self {
             Failure::Fault { task, .. } | Failure::Differs { task } | Failure::Unsigned { task } =>
                 is_explained(task),
+            Failure::NothingCompared => true,
             Failure::Refused { .. } | Failure::Arguments { .. } | Failure::Output => false,
         }
     }
@@ -76,12 +79,12 @@ fn is_explained(task: &Task) -> bool
     }
 }
 
-/// Receives the progress of a measurement, and why the run failed, or something differs or was not looked at.
+/// Receives the progress of a measurement, and why the run failed, or something differs, was not looked at or was not compared.
 pub trait Progress: FileProgress {
     /// Standard input is about to be read.
     fn waits(&self);
 
-    /// The run failed, or something differs or was not looked at. The fault's line, if there is one, or the answer was sent before.
+    /// The run failed, or something differs, was not looked at or was not compared. The fault's line, if there is one, or the answer was sent before.
     fn explain(&self, alloc: Global, failure: Failure<'_>);
 }
 

@@ -10,27 +10,17 @@ use std::vec::Vec;
 
 const SOURCE: &str = include_str!("lib.rs");
 
+/// The header, without its comments and each white space of one blank.
 fn header() -> String {
-    std::fs::read_to_string(concat!(env!("CARGO_MANIFEST_DIR"), "/../../../bindings/c/ima_verify.h")).unwrap()
-}
-
-fn one_line(text: &str) -> String {
-    text.split_whitespace().collect::<Vec<_>>().join(" ")
-}
-
-/// The functions of the header that the library exports, which alone have no body, each on one line.
-fn functions_of_the_header() -> BTreeSet<String> {
-    let text = header();
-    let declarations = text.split(';').filter_map(|part| part.rfind("\n\n").max(part.rfind("\nint32_t ")).map(|at| &part[at..]));
-    let named = declarations.filter(|text| !text.contains('{') && !text.contains("inline"));
-    let functions = named.map(|text| one_line(text.rsplit("*/").next().unwrap()));
-    functions.filter(|text| text.contains("ima_verify_raw_") || text.contains("ima_verify_version(")).collect()
+    let text = std::fs::read_to_string(concat!(env!("CARGO_MANIFEST_DIR"), "/../../../bindings/c/ima_verify.h")).unwrap();
+    let code = text.split("/*").map(|part| part.split_once("*/").map_or(part, |(_, code)| code));
+    code.flat_map(str::split_whitespace).collect::<Vec<_>>().join(" ")
 }
 
 /// The type of C that is this type of Rust.
 fn in_c(name: &str) -> &str {
-    let types = "*const u8=const uint8_t *|*mut u8=uint8_t *|*mut usize=size_t *|*mut ima_verify_told=struct ima_verify_told *|\
-                 usize=size_t |bool=bool |i32=int32_t |u32=uint32_t |u64=uint64_t ";
+    let types = "*const u8=const uint8_t *|*mut u8=uint8_t *|*mut u64=uint64_t *|*mut usize=size_t *|\
+                 *mut ima_verify_info=struct ima_verify_info *|usize=size_t |bool=bool |i32=int32_t |u32=uint32_t |u64=uint64_t ";
     types.split('|').find_map(|pair| pair.strip_prefix(name)?.strip_prefix('=')).unwrap()
 }
 
@@ -48,30 +38,29 @@ fn functions_are_those_of_the_header() {
         let parameters = declared(parameters, "").join(", ");
         format!("{}{name}({})", in_c(result), if parameters.is_empty() { "void" } else { &parameters })
     });
-    assert_eq!(functions_of_the_header().len(), 11);
-    assert_eq!(functions.collect::<BTreeSet<_>>(), functions_of_the_header());
-    let (_, fields) = SOURCE.split_once("pub struct ima_verify_told {\n").unwrap();
-    let fields = fields.split_once('}').unwrap().0.lines().filter(|line| !line.contains("///"));
-    let fields = declared(&fields.collect::<String>().replace("pub ", ""), ";").join(" ");
-    assert!(one_line(&header()).contains(&format!("struct ima_verify_told {{ {fields} }};")), "{fields}");
+    let header = header();
+    let parts = header.split(';').map(|part| String::from(part.trim().rsplit("} ").next().unwrap()));
+    let exported = parts.filter(|part| part.starts_with("int32_t ima_verify_raw_") || part.ends_with("ima_verify_version(void)"));
+    assert_eq!(functions.collect::<BTreeSet<_>>(), exported.collect());
+    let fields = SOURCE.split_once("pub struct ima_verify_info {\n").unwrap().1.split_once('}').unwrap().0;
+    let fields: String = fields.lines().filter(|line| !line.contains("///")).collect();
+    let wanted = format!("struct ima_verify_info {{ {} }};", declared(&fields.replace("pub ", ""), ";").join(" "));
+    assert!(header.contains(&wanted), "{wanted}");
 }
 
-/// Results, kinds of errors, and versions. (None is left out: an enumeration ends after its last number.)
+/// Results, kinds of errors, and versions.
 #[test]
 fn numbers_are_those_of_the_header() {
-    let (header, mut count) = (header(), 0);
+    let header = header();
     for line in SOURCE.lines().filter_map(|line| line.strip_prefix("pub const ")) {
         let (name, rest) = line.split_once(": ").unwrap();
         let (_, number) = rest.trim_end_matches(';').split_once(" = ").unwrap();
-        let forms = [format!("    {name} = {number}"), format!("#define {name} {number}"), format!("#define {name} UINT64_MAX")];
-        assert!(header.lines().any(|found| forms.iter().any(|form| found.trim_end_matches(',') == form)), "{line}");
-        count += 1;
+        let forms = [format!(" {name} = {number}"), format!("#define {name} {number} "), format!("#define {name} UINT64_MAX ")];
+        assert!(forms.iter().any(|form| header.contains(form)), "{line}");
     }
-    assert_eq!((count, IMA_VERIFY_NO_PLACE), (21, u64::MAX));
-    for last in ["IMA_VERIFY_MISUSED = 6\n};", "IMA_VERIFY_SIGNATURE = 11\n};", "IMA_VERIFY_NO_PLACE UINT64_MAX\n"] {
-        assert!(header.contains(last), "{last}");
-    }
-    assert!(header.contains(concat!("\n#define IMA_VERIFY_PACKAGE_VERSION \"", env!("CARGO_PKG_VERSION"), "\"\n")));
+    // (none is left out: an enumeration ends after its last number)
+    assert!(["MISUSED = 6", "SIGNATURE = 11", "BY_QUOTE = 2"].iter().all(|last| header.contains(&format!("IMA_VERIFY_{last} }}"))));
+    assert!(header.contains(concat!("#define IMA_VERIFY_PACKAGE_VERSION \"", env!("CARGO_PKG_VERSION"), "\" ")));
     // SAFETY: the function takes nothing and only returns a number.
     assert!(unsafe { ima_verify_version() } >= IMA_VERIFY_VERSION);
 }

@@ -11,10 +11,7 @@ returns-in-Registers g c =
     c.shown_registers.ensures.kept c.shown_registers.ensures.fault c.send_output.ensures)
 
 pub returns-in-Answer : goal.returns-in-Answer
-returns-in-Answer g c =
-    rw c.in-Answer.is
-    (outcome_sent (g.F.Files.inputs c.args.files.now) (tasks.Answer c.in-Answer.question) c.args.form _ _ c.answer_for.result _ _ _
-    c.answer_for.ensures.shown c.answer_for.ensures.kept c.answer_for.ensures.fault c.send_output-in-Answer.ensures)
+returns-in-Answer g c = rw c.in-Answer.is c.send_answer.ensures
 
 pub returns-in-Measure : goal.returns-in-Measure
 returns-in-Measure g c =

@@ -11,7 +11,7 @@ returns-in-Ok c =
       text = c.in-Ok.given.output.text.items;
       status = c.answer_of_status.result;
       fault = None;
-      is_answer = (c.in-Ok.given.checkpoint.items, inl (refl, (c.in-Ok.given.output.status, c.in-Ok.ensures.shown, c.answer_of_status.ensures)));
+      is_answer = (c.in-Ok.given.summary, (c.in-Ok.given.checkpoint.items, inl (refl, (c.in-Ok.given.output.status, c.in-Ok.ensures.shown, c.answer_of_status.ensures))));
       given = rw c.deref.ensures.value at c.put.ensures;
     })
 

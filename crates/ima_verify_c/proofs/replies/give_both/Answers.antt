@@ -2,7 +2,7 @@ use Rattle.std.proofs.Common.{None, refl, inl, rules, w32}
 use mir.Val.{SFits}
 use Rattle.std.proofs.Math.Facts.{to_z-of_z}
 use Rattle.ima_verify_c.specs.Answers.{answer_of_status}
-use Rattle.ima_verify_c.proofs.GivingLaws.{gives_no_next}
+use Rattle.ima_verify_c.proofs.GivingLaws.{gives_no_answer}
 use Rattle.ima_verify_c.proofs.replies.give_both.Goals as goal
 
 pub returns-in-Ok : goal.returns-in-Ok
@@ -13,11 +13,13 @@ returns-in-Ok c =
       status = answer_of_status c.in-Ok.given.output.status;
       fault = None;
       state = c.in-Ok.given.checkpoint.items;
+      summary = c.in-Ok.given.summary;
       is_answer = inl (refl, (c.in-Ok.given.output.status, c.in-Ok.ensures.shown, refl));
-      given = c.put_both.ensures;
+      given = c.put_both.ensures.given;
+      numbers_are = c.put_both.ensures.numbers;
     })
 
 pub returns-in-Err : goal.returns-in-Err
 returns-in-Err c =
-    let fits : SFits w32 c.give_fault.result = search rules in
-    rw (to_z-of_z fits) (gives_no_next _ _ c.in-Err.fault _ _ _ _ c.in-Err.ensures.fault c.give_fault.ensures _)
+    let fits : SFits w32 c.give_no_report.result = search rules in
+    rw (to_z-of_z fits) (gives_no_answer _ c.in-Err.fault _ _ _ _ _ _ _ _ _ (c.give_no_report.ensures _) _ (inl c.in-Err.ensures.fault))

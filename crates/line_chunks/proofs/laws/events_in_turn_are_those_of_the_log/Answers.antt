@@ -4,4 +4,4 @@ use Rattle.line_chunks.proofs.PieceLaws.{in_turn}
 use Rattle.line_chunks.proofs.laws.events_in_turn_are_those_of_the_log.Goals as goal
 
 pub returns : goal.returns
-returns c = λ log pieces end turn. in_turn (events_of log) start end [] pieces turn (inl (refl, refl))
+returns c = λ matched log pieces end turn. in_turn (events_of matched log) start end [] pieces turn (inl (refl, refl))

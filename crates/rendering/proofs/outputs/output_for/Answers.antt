@@ -28,3 +28,6 @@ returns-clause-shown g c = (
   },
   rw c.in_ok-given.ensures.replaced at c.in_ok-save.ensures.saved,
 )
+
+pub returns-clause-summary : goal.returns-clause-summary
+returns-clause-summary g c = (c.in_ok-given.given, c.in_ok-given.ensures.answer, c.of-summary.ensures)

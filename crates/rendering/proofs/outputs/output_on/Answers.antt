@@ -15,3 +15,17 @@ pub returns-in_err-checkpoint-clause-fault : goal.returns-in_err-checkpoint-clau
 returns-in_err-checkpoint-clause-fault c =
     let p = err_from_is_err_and c.from_residual-in_err-checkpoint.result c.from_residual-in_err-checkpoint.ensures.1 in
     rw (p.1, p.2) (inr (refl, (c.in_ok-given.given, c.in_ok-given.ensures.answer)))
+
+pub returns-clause-shown : goal.returns-clause-shown
+returns-clause-shown c = (
+  c.in_ok-given.given.next,
+  record {
+    given = c.in_ok-given.given;
+    answer = c.in_ok-given.ensures.answer;
+    text_is = c.in_ok-output.ensures.text;
+    status_is = c.in_ok-output.ensures.status;
+    next_is = refl;
+  },
+  c.in_ok-checkpoint.ensures,
+  c.of-summary.ensures,
+)

@@ -1,0 +1,4 @@
+pub mod MatchingLaws
+pub mod QuotedLaws
+pub mod PlaceLaws
+pub mod ExistLaws
