@@ -98,7 +98,7 @@ static void change(struct given *given, char *word) {
 /* The sample with changes, one after another. */
 static struct given changed(const char *changes) {
     struct given given = sample;
-    char words[WORDS], *rest = words;
+    char words[2 * WORDS], *rest = words;
     snprintf(words, sizeof words, "%s", changes);
     for (char *word; (word = strsep(&rest, " "));)
         if (*word) change(&given, word);
@@ -119,7 +119,7 @@ static const char *sized(const char *changes, size_t size) {
 
 /* The changes to another quote, of which nobody says that its signature was checked. */
 static const char *signed_by(const char *name, const char *key, const char *signature, const char *changes) {
-    static char words[WORDS];
+    static char words[2 * WORDS];
     snprintf(words, sizeof words, "unsigned message@%s.msg key@%s.%s signature@%s.%s %s", name, name, key, name, signature, changes);
     return words;
 }
@@ -526,7 +526,7 @@ static void check_known_prefix(void) {
 /* The verdict by a quote whose signature the caller checked, and that there is none without its signature; and that it confirms only if it matches. */
 static void quotes(const char *changes, const struct ima_verify_summary *numbers) {
     bool is_match = numbers->verdict == IMA_VERIFY_VERDICT_MATCH, is_quoted = numbers->matching > 0;
-    char lines[3 * SHOWN], members[3 * SHOWN], unsigned_one[4 * SHOWN];
+    char lines[3 * SHOWN], members[3 * SHOWN], unsigned_one[WORDS];
     struct ima_verify_summary unchecked = *numbers;
     unchecked.verdict = IMA_VERIFY_VERDICT_NONE;
     unchecked.reason = IMA_VERIFY_REASON_SIGNATURE;
