@@ -19,17 +19,17 @@ static void fail(const char *what) {
 /* Files of securityfs do not tell their size, so the bytes are read until there are no more. */
 static struct ima_verify_bytes read_file(const char *name) {
     uint8_t *bytes = NULL;
-    size_t size = 0, room = 64 * 1024;
+    size_t size = 0, capacity = 64 * 1024;
     FILE *stream = fopen(name, "rb");
     if (stream == NULL)
         fail(name);
     do {
-        room *= 2;
-        bytes = realloc(bytes, room);
+        capacity *= 2;
+        bytes = realloc(bytes, capacity);
         if (bytes == NULL)
             fail(name);
-        size += fread(bytes + size, 1, room - size, stream);
-    } while (size == room);
+        size += fread(bytes + size, 1, capacity - size, stream);
+    } while (size == capacity);
     if (ferror(stream))
         fail(name);
     fclose(stream);
@@ -49,16 +49,16 @@ int main(int count, char **words) {
     };
 
     /* A report has a line for each expected register, so it may be longer than this. Then the first call says how long it is. */
-    struct ima_verify_output report = {.room = 256};
+    struct ima_verify_output report = {.capacity = 256};
     enum ima_verify_result result;
     for (;;) {
-        report.data = realloc(report.data, report.room);
+        report.data = realloc(report.data, report.capacity);
         if (report.data == NULL)
             fail("the report");
-        result = ima_verify_verdict(&evidence, IMA_VERIFY_TEXT, &report);
+        result = ima_verify_verdict(&evidence, IMA_VERIFY_TEXT, NULL, &report);
         if (result != IMA_VERIFY_TOO_SHORT)
             break;
-        report.room = report.size;
+        report.capacity = report.size;
     }
 
     if (fwrite(report.data, 1, report.size, stdout) != report.size || fflush(stdout) != 0)

@@ -38,7 +38,7 @@ void rattle_dealloc(void *at) {
 
 int main(int count, char **words) {
     static uint8_t log[1 << 20], text[1 << 16];
-    struct ima_verify_output registers = {.data = text, .room = sizeof text};
+    struct ima_verify_output registers = {.data = text, .capacity = sizeof text};
     FILE *stream = count == 2 ? fopen(words[1], "rb") : NULL;
     if (stream == NULL)
         return 3;

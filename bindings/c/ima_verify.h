@@ -295,7 +295,7 @@ uint32_t ima_verify_version(void);
  * - `next` is a second text, the checkpoint, whose size is set in any case.
  * - `by` says what tells which PCRs match; inputs of another kind have no bytes. `matching` gives these PCRs as a
  *   selection, such as `sha256:0,sha256:1`: IMA_VERIFY_DONE, or without bytes IMA_VERIFY_DIFFERS if the verdict by the
- *   quote is no match. Give it to each call of `events`, with `matching_given`.
+ *   quote is no match; the line of an error is text. Give it to each call of `events`, with `matching_given`.
  * - A later library may add members to lines of JSON. */
 
 struct ima_verify_info {
@@ -745,9 +745,9 @@ ima_verify_ask_matching(struct ima_verify_bytes log, struct ima_verify_confirmin
 }
 
 /* The algorithms that a log declares, and its events with their data, each as a line of JSON, from this position on,
- * as ima_verify_entries gives entries. With expected PCRs or a quote the events have the member `confirmed`; they are
- * judged by the first call, whose errors are also those of ima_verify_verdict or ima_verify_attest, and the last call
- * returns IMA_VERIFY_DIFFERS if the verdict by the quote is no match. Give each call the same. */
+ * as ima_verify_entries gives entries. With expected PCRs or a quote the events have the member `confirmed`: the first
+ * call judges them, gives the line of an error as text (those of ima_verify_boot), and the last call returns
+ * IMA_VERIFY_DIFFERS if the verdict by the quote is no match. Give each call the same. */
 IMA_VERIFY_USE_RESULT static inline enum ima_verify_result
 ima_verify_events(struct ima_verify_bytes log, const struct ima_verify_bytes *expected,
                   const struct ima_verify_quoted *quoted, struct ima_verify_position *position,

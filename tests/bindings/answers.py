@@ -3,8 +3,8 @@
 
 tests/bindings/answers.py > tests/bindings/answers.jsonl
 
-The answers are lines of the cases of `--json` (tests/cases/*/*.case): the first lines that have a member, a value of an enumeration, or an absent
-member of docs/schema.json that no line before them has. A line of answers.jsonl is an object with the members
+The answers are lines of the cases of `--json` (tests/cases/*/*.case): one after another that which shows most members, values of enumerations, and
+absent members of docs/schema.json, and statuses, that none before it shows. A line of answers.jsonl is an object with the members
 
     kind       which definition of docs/schema.json the answer has: `verify`, `attest`, `replay`, `places`, `pcrs`, `key`, `header`, `event`, `entry`,
                `end`, or `error`
@@ -78,15 +78,13 @@ def answer_of(kind, status, line):
 
 def answers():
     """The lines of the table, by their kinds."""
-    shown, chosen = set(), []
-    for line, status in lines_of_cases():
-        value = object_in(line)
-        for kind in kinds_of(value):
-            features = {*features_of(value, kind)}
-            if is_of_library(value, kind) and not features <= shown:
-                shown |= features
-                chosen.append(answer_of(kind, status, line))
-    order = [*VERDICTS, *LINES]
+    left = [(answer_of(kind, status, line), {*features_of(value, kind), (kind, bool(status))}) for line, status in lines_of_cases()
+            for value in [object_in(line)] for kind in kinds_of(value) if is_of_library(value, kind)]
+    shown, chosen, order = set(), [], [*VERDICTS, *LINES]
+    while left := [(answer, features) for answer, features in left if features - shown]:
+        answer, features = max(left, key=lambda each: len(each[1] - shown))  # (of several the first, which is the shortest)
+        shown |= features
+        chosen.append(answer)
     return sorted(chosen, key=lambda answer: order.index(answer["kind"]))
 
 

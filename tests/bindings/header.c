@@ -18,7 +18,6 @@ enum { SPACE = 1 << 16, FILL = 0xa7, STACK = 512 * 1024, GUARD = 1 << 24, UNSET 
 #define DONE IMA_VERIFY_DONE
 #define DIFFERS IMA_VERIFY_DIFFERS
 #define TEXT IMA_VERIFY_TEXT
-
 /* The inputs of the functions. */
 enum { LOG, LIST, EXPECTED, PRINTED, MESSAGE, NONCE, AREA, REQUIRE, KNOWN, STATE, SELECTION, KEY, SIGNATURE, NONCE_HEX, BEFORE, INPUTS };
 static const char *const input_names[INPUTS] = {"log",   "list",  "expected",  "printed", "message",   "nonce",     "area",  "require",
@@ -33,7 +32,6 @@ struct given {
     struct ima_verify_error error;
     bool checks_known, prefix, allow_sha1, signature_checked, is_absent;
 };
-
 static struct given sample;
 static const struct ima_verify_bytes none = {NULL, 0};
 static const char *const signers[] = {"rsassa", "rsapss", "rsa3072", "p256", "p384"};
@@ -98,7 +96,7 @@ static void change(struct given *given, char *word) {
 /* The sample with changes, one after another. */
 static struct given changed(const char *changes) {
     struct given given = sample;
-    char words[WORDS], *rest = words;
+    char words[2 * WORDS], *rest = words;
     snprintf(words, sizeof words, "%s", changes);
     for (char *word; (word = strsep(&rest, " "));)
         if (*word) change(&given, word);
@@ -119,7 +117,7 @@ static const char *sized(const char *changes, size_t size) {
 
 /* The changes to another quote, of which nobody says that its signature was checked. */
 static const char *signed_by(const char *name, const char *key, const char *signature, const char *changes) {
-    static char words[WORDS];
+    static char words[2 * WORDS];
     snprintf(words, sizeof words, "unsigned message@%s.msg key@%s.%s signature@%s.%s %s", name, name, key, name, signature, changes);
     return words;
 }
@@ -404,11 +402,14 @@ static void refuses(unsigned set, const char *changes, const char *line) {
     snprintf(whole, sizeof whole, "refused: %s\n", line);
     EACH(which, set) {
         ask(which, &given, TEXT, SPACE);
-        check(is_in(which, EVENTS_ALL) || is_same(text, out.size, ima_verify_text(whole)), which, line);
+        check(which == EVENTS || is_same(text, out.size, ima_verify_text(whole)), which, line);
         check(result == IMA_VERIFY_REFUSED && is_error(&out, error), which, line);
         check(has_no_checkpoint(which) && (!is_in(which, JUDGING) || is_sum(&no_verdict)), which, "no checkpoint and no verdict");
         ask(which, &given, IMA_VERIFY_JSON, SPACE);
-        check(result == IMA_VERIFY_REFUSED && is_error(&out, error) && memcmp(text, "{\"fault\":{", 10) == 0, which, "an error as JSON");
+        check(result == IMA_VERIFY_REFUSED && is_error(&out, error) && has_text(is_in(which, EVENTS_ALL & ~ONE(EVENTS)) ? line : "{\"fault\":{"), which, "an error as JSON");
+        size_t size = out.size;
+        ask(which, &given, IMA_VERIFY_JSON, size - 1);
+        check(result == IMA_VERIFY_TOO_SHORT && is_left() && out.size == size && is_error(&out, no_error), which, "a byte too few for an error");
         prepare(&given, SPACE);
         result = ima_verify_error_text(&error, to);
         snprintf(place, sizeof place, error.place == NONE ? "." : " %llu", (unsigned long long)error.place);
@@ -469,7 +470,7 @@ static void check_refusals(void) {
 
 /* By expected PCRs. After the list alone the PCRs 8 and 10 to 23 have their values, which neither firmware nor kernel extends, or the list does. */
 static void check_verdicts(void) {
-    enum { SHA256 = IMA_VERIFY_BANK_SHA256, SHA512 = IMA_VERIFY_BANK_SHA512 };
+    const uint64_t SHA256 = IMA_VERIFY_BANK_SHA256, SHA512 = IMA_VERIFY_BANK_SHA512;
     const char *match = "\nverdict match\n", *differ = "\nverdict differ\n", *place = "sha256 10 after entry 98\n";
     const char *match_json = ",\"verdict\":\"match\"}\n", *differ_json = ",\"verdict\":\"differ\"}\n", *place_json = "\"number\":98}";
     gives(WHOLE, "", DONE, match, match_json, SUM(1, 0, 24, 24, 0, NONE, 0, 99, 99, 0));
@@ -526,7 +527,7 @@ static void check_known_prefix(void) {
 /* The verdict by a quote whose signature the caller checked, and that there is none without its signature; and that it confirms only if it matches. */
 static void quotes(const char *changes, const struct ima_verify_summary *numbers) {
     bool is_match = numbers->verdict == IMA_VERIFY_VERDICT_MATCH, is_quoted = numbers->matching > 0;
-    char lines[3 * SHOWN], members[3 * SHOWN], unsigned_one[4 * SHOWN];
+    char lines[3 * SHOWN], members[3 * SHOWN], unsigned_one[WORDS];
     struct ima_verify_summary unchecked = *numbers;
     unchecked.verdict = IMA_VERIFY_VERDICT_NONE;
     unchecked.reason = IMA_VERIFY_REASON_SIGNATURE;
@@ -660,8 +661,7 @@ static void check_keys(void) {
     char member[HEX + 80];
     size_t size = NAME + HEX + strlen(second);
     ask_text(READ_KEY, "");
-    check(result == DONE && out.size > size && memcmp(text, "name 000b", 9) == 0, READ_KEY, "the name");
-    check(memcmp(text + NAME + HEX, second, strlen(second)) == 0 && is_same(text + size, out.size - size, kept("pem")), READ_KEY, "the PEM");
+    check(result == DONE && has_text("name 000b") && is_same(text + size, out.size - size, kept("pem")), READ_KEY, "the name and the PEM");
     snprintf(member, sizeof member, "{\"name\":\"%.*s\",\"type\":\"rsa\",\"bits\":2048,\"scheme\":\"rsassa\",\"hash\":\"sha256\",\"pem\":\"", HEX,
              (char *)text + NAME);
     gives(ONE(READ_KEY), "", DONE, second, member, NULL);

@@ -32,9 +32,9 @@ DOCS = ["CHANGELOG.md", "VERSION", "attest.md", "cli.md", "errors.txt", "event-d
         "investigate.md", "json.md", "layouts.txt", "library.md", "reports.txt", "schema.json", "standards.txt", "trust.md", "trust.svg",
         "verdict.md"]
 OTHERS = {
-    "": ["README.md", "SHA256SUMS"], "debug/": ["ima-agent.debug", "libima_verify.so.1.debug"], "include/": ["ima_verify.h"],
+    "": ["README.md", "SHA256SUMS"], "debug/": ["ima-agent.debug", "libima_verify.so.1.debug"], "include/": ["ima_verify.h", "ima_verify_evp.h"],
     "lib/": ["libima_verify.a", "libima_verify.so", "pkgconfig/ima_verify.pc"], "share/doc/ima-agent/": DOCS,
-    "share/": ["bash-completion/completions/ima-agent", "fish/vendor_completions.d/ima-agent.fish", "ima-agent/example.c",
+    "share/": ["bash-completion/completions/ima-agent", "fish/vendor_completions.d/ima-agent.fish", "ima-agent/example.c", "ima-agent/judge_quote.c",
                "zsh/site-functions/_ima-agent"],
     "share/man/": ["man1/ima-agent.1", "man1/ima-attest.1", "man1/ima-collect.1", "man1/ima-enroll.1", "man3/ima_verify.3"],
 }
