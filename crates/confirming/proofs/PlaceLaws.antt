@@ -182,6 +182,7 @@ reads_nothing text some = record { spell = whole; only = λ all is. (all, refl, 
   whole : (others : List Pcr) → LeftSpells (Some text) others → SpellsPlaces text.now others
   whole [] is = absurd is
   whole (first ∷ others) is = is
+
   left : (all : List Pcr) → SpellsPlaces text.now all → LeftSpells (Some text) all
   left [] is = let none : length text.now ≡ 0 = ap length is.text_is in absurd (omega (arith, some, none))
   left (first ∷ others) is = is
