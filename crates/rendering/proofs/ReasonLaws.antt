@@ -1,8 +1,9 @@
 -- A verdict that is no match has a reason.
-use Rattle.std.proofs.Common.{◌≡◌, ℕ, suc, Bool, true, false, List, [], ◌∷◌, ◌++◌, length, map, Option, Some, None, refl, sym, ap, ◌∙◌}
+use Rattle.std.proofs.Common.{◌≡◌, ℕ, Bool, true, false, List, [], ◌∷◌, ◌++◌, length, map, Option, Some, None, refl, sym, ap, ◌∙◌}
 use Rattle.std.specs.Prelude.{◌==◌, ◌&&◌, cond, not, flat_map, IsSome}
 use Rattle.std.specs.List.{filter, list_all}
 use Rattle.std.proofs.lemmas.List.Folds.{list_all-append, list_all-map}
+use Rattle.std.proofs.Math.Dec.{eqb-suc-zero}
 use Rattle.pcr_banks.specs.declared.alg.Alg.{Alg}
 use Rattle.pcr_banks.specs.Names.{all_algs}
 use Rattle.pcr_values.specs.declared.expected.Expected.{Expected}
@@ -26,7 +27,7 @@ use Rattle.rendering.specs.Summaries.{outcome_by, reason_of, summary_by, summary
 
 none_with : {X : Type 0} (p : X → Bool) (x : X) (xs : List X) (is : Bool) → list_all (λ x. not (p x)) xs ≡ (length (filter p xs) == 0)
     → not is && list_all (λ x. not (p x)) xs ≡ (length (cond is (x ∷ filter p xs) (filter p xs)) == 0)
-none_with p x xs true later = refl
+none_with p x xs true later = sym (eqb-suc-zero (length (filter p xs)))
 none_with p x xs false later = later
 
 none_pass : {X : Type 0} (p : X → Bool) (xs : List X) → list_all (λ x. not (p x)) xs ≡ (length (filter p xs) == 0)
@@ -130,7 +131,10 @@ has_reason : (success : Bool) (requires : Requires) (required : Option (List Ban
     → success ≡ is_success requires required unknown answer → (summary_by success required unknown answer).verdict ≡ Differ
     → IsSome (summary_by success required unknown answer).reason
 has_reason true requires required unknown answer is differs = absurd (success_matches required unknown answer differs)
-has_reason false requires required unknown (answers.Attestation report) is differs =
+has_reason false requires None unknown (answers.Attestation report) is differs =
+    of_quote (is_signed report.signature) report.is_quoted (is_good report.report.aggregate) (are_none report.report.strays)
+    (has_no_unknown unknown) (sym is)
+has_reason false requires (Some ranges) unknown (answers.Attestation report) is differs =
     of_quote (is_signed report.signature) report.is_quoted (is_good report.report.aggregate) (are_none report.report.strays)
     (has_no_unknown unknown) (sym is)
 has_reason false Nothing None unknown (answers.Report report) is differs =
@@ -174,7 +178,7 @@ differs_for_a_reason inputs (Attests asked) given is differs =
     has_reason given.is_success Nothing given.requirement given.unknown given.answer (rw is.none_required is.success_is) differs
 differs_for_a_reason inputs (Compares compare) given is differs =
     has_reason given.is_success compare.required given.requirement given.unknown given.answer is.success_is differs
-differs_for_a_reason inputs (LogRegistersOf log) given is differs = absurd (alone_matches is.0 given is.1.1 differs)
-differs_for_a_reason inputs (ListRegistersOf list) given is differs = absurd (alone_matches is.0 given is.1.1 differs)
-differs_for_a_reason inputs (ExpectedOf printed text) given is differs = absurd (alone_matches is.0 given is.1.1 differs)
-differs_for_a_reason inputs (KeyOf area purpose part) given is differs = absurd (alone_matches is.0 given is.1.1 differs)
+differs_for_a_reason inputs (LogRegistersOf log) given is differs = absurd (alone_matches is.0 given is.2 differs)
+differs_for_a_reason inputs (ListRegistersOf list) given is differs = absurd (alone_matches is.0 given is.2 differs)
+differs_for_a_reason inputs (ExpectedOf printed text) given is differs = absurd (alone_matches is.0 given is.2 differs)
+differs_for_a_reason inputs (KeyOf area purpose part) given is differs = absurd (alone_matches is.0 given is.2 differs)

@@ -1,9 +1,9 @@
 //! What a verdict says, in numbers.
 
-ghost use Rattle.std.specs.Prelude.{◌≡◌, ◌==◌, ◌&&◌, not, length, map, option_copied, slice_get};
+ghost use Rattle.std.specs.Prelude.{◌≡◌, ◌==◌, ◌&&◌, not, is_some, length, map, option_copied, slice_get};
 ghost use Rattle.std.specs.List.{filter, list_all};
 ghost use Rattle.std.specs.Option.{option_map_or};
-ghost use Rattle.boot_verdict.specs.Names.{is_match, list_verdict_of, verdict_of};
+ghost use Rattle.boot_verdict.specs.Names.{are_none, is_match, list_verdict_of, verdict_of};
 ghost use Rattle.tpm_quotes.specs.Spelling.{selects};
 ghost use Rattle.attestations.specs.Quoted.{bank_selection_of};
 ghost use Rattle.attestations.specs.Reports.{attest_verdict_of};
@@ -151,7 +151,7 @@ fn of_rows(given: &Answered, rows: &[Row]) -> Summary
     Summary {
         verdict: outcome_of(given.is_success),
         compared: rows.len(),
-        matching: rows.iter().filter(|row| is_match(row)).count(),
+        matching: count_matching(rows),
         first: first_differing(rows).or(first_missing),
         missing,
         unknown: count_of(given.unknown.as_ref()),
@@ -223,10 +223,10 @@ fn reasons_on(
 {
     let required = given.requirement.as_ref();
     [
-        (!rows.iter().all(|row| is_match(row)), Reason::OtherValue),
+        (!all_match(rows), Reason::OtherValue),
         (missing_of(required, rows).1 != 0, Reason::NotExpected),
         (is_unbound, Reason::BootAggregate),
-        (required.is_some() && !strays.are_none(), Reason::NotApart),
+        (are_mixed(required, strays), Reason::NotApart),
         (!has_no_unknown(given.unknown.as_ref()), Reason::UnknownFile),
         (rows.is_empty(), Reason::NothingCompared),
     ]
@@ -246,12 +246,34 @@ fn reasons_by(unknown: Option<&UnknownFiles>, report: &AttestReport) -> [(bool, 
     ]
 }
 
+// Whether registers are required, and something extends a register that is not its own.
+fn are_mixed(required: Option<&Requirement>, strays: Strays) -> bool
+    ensures { result ≡ (is_some (option_copied required.entry) && not (are_none strays)) }
+{
+    match required {
+        Some(_) => !strays.are_none(),
+        None => false,
+    }
+}
+
 // ---- registers and entries
 
 fn is_match(row: &Row) -> bool
     ensures { result ≡ is_match row.now }
 {
     matches!(row.state, State::Match)
+}
+
+fn all_match(rows: &[Row]) -> bool
+    ensures { result ≡ list_all is_match rows.now }
+{
+    rows.iter().all(|row| is_match(row))
+}
+
+fn count_matching(rows: &[Row]) -> usize
+    ensures { result ≡ length (filter is_match rows.now) }
+{
+    rows.iter().filter(|row| is_match(row)).count()
 }
 
 // The first register that does not match.

@@ -17,12 +17,12 @@ loop-number-preserved c =
     let inside : c.loop-number.number < length every_register = omega (arith, every_count) in
     let more = length-filter_more p every_register c.loop-number.number (Sha1, 0) inside in
     elim c.if-selects.branch [
-      then-selects w ↦
-        let one = rw (c.register_numbered-alg.ensures, sym c.selects.ensures ∙ w.if-selects.true) at more in
-        (omega (arith, w.count-is, has.0, one), omega (arith, w.count-is, has.1))
-    | else-selects w ↦
-        let none = rw (c.register_numbered-alg.ensures, sym c.selects.ensures ∙ w.if-selects.false) at more in
-        (omega (arith, w.count-is, has.0, none), omega (arith, w.count-is, has.1))
+      | then-selects w ↦
+          let one = rw (c.register_numbered-alg.ensures, sym c.selects.ensures ∙ w.if-selects.true) at more in
+          (omega (arith, w.count-is, has.0, one), omega (arith, w.count-is, has.1))
+      | else-selects w ↦
+          let none = rw (c.register_numbered-alg.ensures, sym c.selects.ensures ∙ w.if-selects.false) at more in
+          (omega (arith, w.count-is, has.0, none), omega (arith, w.count-is, has.1))
     ]
 
 pub returns : goal.returns

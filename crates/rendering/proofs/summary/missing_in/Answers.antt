@@ -17,15 +17,15 @@ loop-number-preserved c =
     let has = c.loop-number.invariant in
     let more : number < length every_register = omega (arith, every_count) in
     elim c.if-is_missing.branch [
-      then-is_missing w ↦
-        let counted = counted_one p every_register number (Sha1, 0) more c.loop-number.first c.loop-number.count has.0
-        (rw c.register_numbered-alg.ensures (sym c.is_missing.ensures ∙ w.if-is_missing.true)) in
-        let place = ap (λ (place : Alg × ℕ). option_or c.loop-number.first (Some place)) (sym c.register_numbered-alg.ensures) in
-        ((w.first-is ∙ w.or-first.ensures ∙ place ∙ counted.0, w.count-is ∙ counted.1), omega (arith, w.count-is, has.1))
-    | else-is_missing w ↦
-        let counted = counted_none p every_register number (Sha1, 0) more c.loop-number.first c.loop-number.count has.0
-        (rw c.register_numbered-alg.ensures (sym c.is_missing.ensures ∙ w.if-is_missing.false)) in
-        ((w.first-is ∙ counted.0, w.count-is ∙ counted.1), omega (arith, w.count-is, has.1))
+      | then-is_missing w ↦
+          let counted = counted_one p every_register number (Sha1, 0) more c.loop-number.first c.loop-number.count has.0
+          (rw c.register_numbered-alg.ensures (sym c.is_missing.ensures ∙ w.if-is_missing.true)) in
+          let place = ap (λ (place : Alg × ℕ). option_or c.loop-number.first (Some place)) (sym c.register_numbered-alg.ensures) in
+          ((w.first-is ∙ w.or-first.ensures ∙ place ∙ counted.0, w.count-is ∙ counted.1), omega (arith, w.count-is, has.1))
+      | else-is_missing w ↦
+          let counted = counted_none p every_register number (Sha1, 0) more c.loop-number.first c.loop-number.count has.0
+          (rw c.register_numbered-alg.ensures (sym c.is_missing.ensures ∙ w.if-is_missing.false)) in
+          ((w.first-is ∙ counted.0, w.count-is ∙ counted.1), omega (arith, w.count-is, has.1))
     ]
 
 pub returns-clause-first : goal.returns-clause-first
