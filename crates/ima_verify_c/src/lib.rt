@@ -13,6 +13,7 @@
 #![tactic(auto)]
 
 mod boot;
+mod evidence;
 pub mod laws;
 mod nonce;
 mod numbers;
@@ -29,16 +30,18 @@ ghost use Rattle.ima_verify_c.specs.Requests.{requested_of_attestation, requeste
 
 use crate::boot::{give_events, give_misuse, given_places};
 use crate::nonce::nonce_in;
-use crate::replies::{give, give_both, give_counted, give_fault, give_lines, give_no_report, give_nothing};
+use crate::replies::{
+    give, give_both, give_counted, give_fault, give_lines, give_no_report, give_nothing,
+};
 use crate::requests::{
     form_of, given_bytes, key_in, known_in, registers_on, requested_by, resume_of, scope_of,
     signing_in, verdict_of,
 };
 use agent_plans::Form;
+pub use boot::{ima_verify_raw_boot, ima_verify_raw_matching};
 use judging::{AttestRequest, Input, ReportKind, Request};
 use line_chunks::{LineOffset, entry_lines};
 use std::alloc::Global;
-pub use boot::{ima_verify_raw_boot, ima_verify_raw_matching};
 pub use text_info::TextInfo;
 
 /// The version of this interface: 1. A later version may have more functions; what these do stays as it is.
@@ -307,15 +310,7 @@ pub extern "C" fn ima_verify_raw_events(
         return give_misuse(info);
     }
     match given_places(alloc, matching_given, matching) {
-        Ok(matched) => give_events(
-            alloc,
-            log,
-            matched.as_deref(),
-            offset,
-            number,
-            out,
-            info,
-        ),
+        Ok(matched) => give_events(alloc, log, matched.as_deref(), offset, number, out, info),
         Err(fault) => give_fault(alloc, Form::Json, &fault, out, info),
     }
 }
