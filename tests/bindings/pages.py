@@ -29,7 +29,7 @@ PAGE = r"""differ 99
 """
 
 
-# The first two examples of Go's page are functions, which this calls with the files that the other pages' programs read.
+# The examples of Go's page are functions, which this calls with the files that the other pages' programs read.
 GO_CALL = """package main
 
 import (
@@ -58,10 +58,6 @@ GO_QUOTE = """	verdict, err := attested(files[0], string(files[1]), files[2], fi
 		log.Fatal(err)
 	}
 	fmt.Println(verdict.Conclusion, verdict.Entries)"""
-GO_BOOT = """	quote := imaverify.Quote{Key: files[0], NonceHex: string(files[1]), Message: files[2], Signature: files[3], Require: "sha256:0-10"}
-	if err := booted(files[4], files[5], quote); err != nil {
-		log.Fatal(err)
-	}"""
 GO_PAGE = """	if err := unknownFiles(files[0], files[1], files[2], files[3]); err != nil {
 		log.Fatal(err)
 	}"""
@@ -71,31 +67,13 @@ def go_call(call, *names):
     return GO_CALL.format(call=call, names=", ".join(f'"{name}"' for name in names))
 
 
-def examples_of(language):
-    """The examples of a language's page, in their order."""
-    page = (ROOT / "bindings" / language / "README.md").read_text()
-    return re.findall(rf"^```{language}(?:,no_run)?\n(.*?)^```", page, re.MULTILINE | re.DOTALL)
-
-
-def page_of(language):
-    """The last examples of a language's page: of known files, as a program, and after it the function of a list that grows."""
-    *_, program, function = examples_of(language)
-    begun = go_call(GO_PAGE, *FILES, "known.txt") if language == "go" else ""
-    return f"{begun}{program}\n{function}"
-
-
-def quote_page_of(language, call=GO_QUOTE):
-    """The first example of a language's page, of a quote, as a program."""
-    names = "AK.pub", "nonce", "quote.msg", "quote.sig", *FILES[:2]
-    begun = go_call(call, *names) if language == "go" else ""
-    return begun + examples_of(language)[0]
-
-
-def boot_page_of(language):
-    """The example of what was booted, as a program: it is one of its own, or the function `booted` of the first example."""
-    if language == "rust":
-        return examples_of(language)[1]
-    return quote_page_of(language, GO_BOOT) + ("booted()\n" if language == "python" else "")
+def pages_of(language):
+    """The examples of a language's page, each as a program: of a quote, and of known files."""
+    quote, page = re.findall(rf"^```{language}(?:,no_run)?\n(.*?)^```", (ROOT / "bindings" / language / "README.md").read_text(), re.M | re.S)
+    if language == "go":
+        quote = go_call(GO_QUOTE, "AK.pub", "nonce", "quote.msg", "quote.sig", *FILES[:2]) + quote
+        page = go_call(GO_PAGE, *FILES, "known.txt") + page
+    return {"quote": quote, "page": page}
 
 
 def quoting_area():

@@ -15,7 +15,7 @@ sys.path.insert(0, str(Path(__file__).resolve().parents[1]))
 import harness  # noqa: E402
 
 RECIPES, TPM, COLLECTING = "tests/pages/recipes.py", "tests/attest/tpm.py", "tests/attest/collecting.py"
-FLEET, BINDINGS = "tests/fleet/recipes.py", "tests/bindings/pages.py"
+FLEET, BINDINGS, LIBRARY = "tests/fleet/recipes.py", "tests/bindings/pages.py", "tests/bindings/library_page.py"
 
 RUN = [
     ("README.md", "$", "", RECIPES),
@@ -45,6 +45,7 @@ RUN = [
     ("docs/cli.md", "sh", "ima-agent measure", RECIPES),
     ("docs/json.md", "$", "", RECIPES),
     ("docs/calls.md", "rust", "", "tests/pages/quotes.py"),  # (what `./check` proves)
+    *(("docs/library.md", language, "", LIBRARY) for language in ("python", "go", "rust", "c")),
     ("docs/fleet.md", "sh", "", FLEET),  # (which sees that it runs each, but for the one of a system's packages, which is of tests/dist/test)
     ("docs/fleet.md", "sql", "", "tests/fleet/test"),
     ("bindings/go/README.md", "go", "", BINDINGS),
@@ -57,7 +58,6 @@ NOT_RUN = [
     ("docs/performance.md", "indented", "tools/bench/run", "it measures for minutes, by hand"),
     ("bindings/go/README.md", "indented", "go mod edit", "tests/bindings/test gives the same arguments, with its own paths"),
     ("bindings/python/README.md", "indented", "pip install", "it needs a network, or a build backend"),
-    ("bindings/rust/README.md", "toml", "ima-verify", "a line of a Cargo.toml"),
     ("bindings/rust/README.md", "sh", "cargo test", "tests/bindings/test gives the same arguments, with its own paths"),
     ("dist/release.md", "$", "verify", "a release has other paths: tests/dist/test verifies its sample there"),
     ("dist/release.md", "indented", "./install", "tests/dist/test installs into folders of its own"),

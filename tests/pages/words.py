@@ -31,7 +31,7 @@ BOUNDS = {
     "docs/formats.md": 3000,
     "docs/investigate.md": 1500,
     "docs/json.md": 800,
-    "docs/library.md": 800,
+    "docs/library.md": 1100,
     "docs/performance.md": 600,
     "docs/trust.md": 700,
     "docs/verdict.md": 1200,
