@@ -1,5 +1,5 @@
 -- A verdict that is no match has a reason.
-use Rattle.std.proofs.Common.{◌≡◌, ℕ, Bool, true, false, List, [], ◌∷◌, ◌++◌, length, map, Option, Some, None, refl, sym, ap, ◌∙◌}
+use Rattle.std.proofs.Common.{◌≡◌, ℕ, Bool, true, false, List, [], ◌∷◌, length, map, Option, Some, None, refl, sym, ap, ◌∙◌}
 use Rattle.std.specs.Prelude.{◌==◌, ◌&&◌, cond, not, flat_map, IsSome}
 use Rattle.std.specs.List.{filter, list_all}
 use Rattle.std.proofs.lemmas.List.Folds.{list_all-append, list_all-map}
@@ -9,10 +9,10 @@ use Rattle.pcr_banks.specs.Names.{all_algs}
 use Rattle.pcr_values.specs.declared.expected.Expected.{Expected}
 use Rattle.pcr_values.specs.declared.selection.BankRange.{BankRange}
 use Rattle.pcr_values.specs.Names.{all_registers, every_register}
-use Rattle.boot_verdict.specs.Names.{ListVerdict, Verdict, are_none, expected_of_rows, is_complete, is_good, is_match, is_missing, list_verdict_of, verdict_of}
+use Rattle.boot_verdict.specs.Names.{are_none, expected_of_rows, is_complete, is_good, is_match, is_missing}
 use Rattle.known_files.specs.declared.unknown.UnknownFiles.{UnknownFiles}
 use Rattle.known_files.specs.Unknown.{has_no_unknown}
-use Rattle.attestations.specs.Reports.{attest_verdict_of, is_signed}
+use Rattle.attestations.specs.Reports.{is_signed}
 use Rattle.agent_inputs.specs.Loading.{Inputs}
 use Rattle.judging.specs.Requests.{Any, Attests, Compares, ExpectedOf, KeyOf, ListRegistersOf, LogRegistersOf, Nothing, Requested, Requires, These}
 use Rattle.judging.specs.Answering.{IsAnswer, alone, is_success}
