@@ -288,7 +288,7 @@ fn send_told<S: Sink, P: Progress>(
     sink: &mut S,
     progress: &P,
 ) -> Sent
-    ensures { SendsOutput (Ok output.entry) (S.state sink.old) (S.state sink.new) result }
+    ensures { SendsOutput (Ok output) (S.state sink.old) (S.state sink.new) result }
 {
     let sent = send_output(Ok(output), sink);
     if sent.is_ok() && summary.compares_nothing() {
