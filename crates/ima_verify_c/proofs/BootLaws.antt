@@ -60,3 +60,9 @@ module _ (form : Form) (answer : ℤ) (info : TextInfo) (old new : List ℕ) whe
     pub gives_asked : (confirmation : Confirmation) (n : List ℕ) → found ≡ Some confirmation → nonce ≡ AsksFor n
         → Answers (IsOutputOr (IsWanted (with_nonce confirmation n)) (HasReason (with_nonce confirmation n)) form) answer info old new → Gives
     gives_asked confirmation n some asks given = rw (some, asks) given
+
+-- A reason is one, or memory ran out.
+pub or_memory : {A : Type 0} (HasReason : RunFault → Type 0) (made : Result A RunFault) → IfErr made HasReason
+    → IfErr made (λ fault. HasReason fault ⊎ (fault ≡ Memory))
+or_memory HasReason (Ok output) reason = tt
+or_memory HasReason (Err fault) reason = inl reason
