@@ -1,6 +1,6 @@
 //! The answers on a machine's boot, by the registers that match.
 
-ghost use Rattle.std.specs.Prelude.{◌≡◌, ◌⊎◌, ℕ, List, ◌++◌, option_map, IfErr, IfOk, OnErr, OnOk};
+ghost use Rattle.std.specs.Prelude.{◌≡◌, ◌⊎◌, ℕ, List, ◌++◌, Some, option_map, IfErr, IfOk, OnErr, OnOk};
 ghost use Rattle.agent_inputs.specs.declared.fault.RunFault.TheVariants.{Memory};
 ghost use Rattle.agent_inputs.specs.Faults.{HasLogFault};
 ghost use Rattle.boot_log.specs.declared.header.DeclaredAlgorithm.{DeclaredAlgorithm};
@@ -81,10 +81,32 @@ fn append_compared<F: AgentFiles>(
 {
     match before {
         None => Ok(()),
-        Some(Input::Bytes(earlier)) => append_since(alloc, view, earlier, matched, form, lines),
-        Some(Input::File(name)) => {
-            let earlier = load_input(alloc, files, Some(name))?;
-            append_since(alloc, view, &earlier, matched, form, lines)
+        Some(earlier) => append_earlier(alloc, files, view, earlier, matched, form, lines),
+    }
+}
+
+// Appends those of the comparison with the boot that left the log in this input.
+fn append_earlier<F: AgentFiles>(
+    alloc: Global,
+    files: &mut F,
+    view: &LogView<'_>,
+    earlier: Input<'_>,
+    matched: &[Pcr],
+    form: Form,
+    lines: &mut Vec<u8>,
+) -> Result<(), RunFault>
+    ensures lines { OnOk result ((table : List DeclaredAlgorithm) (events : List LogEvent) → IsLog (log_bytes view.now) table events
+        → (text : List ℕ) × AreCompared (F.inputs files.old) form matched.now events (Some (location_of earlier.entry)) text
+        × (lines.new.items ≡ lines.old.items ++ text)) }
+    ensures fault { IfErr result (λ fault. IsNoEarlierLog (F.inputs files.old) (Some (location_of earlier.entry)) fault ⊎ (fault ≡ Memory)) }
+    ensures inputs { F.inputs files.new ≡ F.inputs files.old }
+    ensures replaced { F.replaced files.new ≡ F.replaced files.old }
+{
+    match earlier {
+        Input::Bytes(bytes) => append_since(alloc, view, bytes, matched, form, lines),
+        Input::File(name) => {
+            let bytes = load_input(alloc, files, Some(name))?;
+            append_since(alloc, view, &bytes, matched, form, lines)
         }
     }
 }

@@ -14,6 +14,7 @@ use Rattle.agent_inputs.specs.Faults.{fault_of_list}
 use Rattle.agent_inputs.specs.Loading.{Holds, HoldsTooMuch, Inputs, IsInputFault, IsReadFailure, IsTooLong, OfInput, input_limit, unknown}
 use Rattle.judging.specs.Requests.{LogRegistersOf}
 use Rattle.judging.specs.Inputs.{BytesOf}
+use Rattle.rendering.specs.declared.summary.Summary.{Summary}
 use Rattle.rendering.specs.Rendering.{GivesAnswer, IsRefusalOn}
 use Rattle.rendering.specs.FaultTexts.{fault_line, fault_status, IsReportedAsJson}
 
@@ -38,7 +39,8 @@ Spells text bytes = decode_of (without_white_space text) ≡ Ok bytes
 -- The text is a firmware event log in hexadecimal, and what is shown is the answer to what is asked of its bytes, in this form.
 abbrev pub ShowsHexadecimal : Form → List ℕ → List ℕ → ℕ → Type 0
 ShowsHexadecimal form text shown status =
-    (bytes : List ℕ) × (state : List ℕ) × Spells text bytes × GivesAnswer unknown (LogRegistersOf (BytesOf bytes)) form shown status state
+    (bytes : List ℕ) × (state : List ℕ) × (summary : Summary) × Spells text bytes
+    × GivesAnswer unknown (LogRegistersOf (BytesOf bytes)) form shown status state summary
 
 -- Why no registers are shown: the text is not hexadecimal; or there is no answer to what is asked of its bytes; or memory ran out.
 abbrev pub IsRefusedFor : List ℕ → RunFault → Type 0

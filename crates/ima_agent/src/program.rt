@@ -262,7 +262,7 @@ fn send_text<S: Sink>(text: &[u8], status: u8, sink: &mut S) -> Sent
     }
 }
 
-// Sends the answer to a question, and tells if it is a match with which nothing was compared.
+// Sends the answer to a question.
 fn send_answer<F: AgentFiles, S: Sink, P: Progress>(
     alloc: Global,
     question: &Query,
@@ -275,15 +275,26 @@ fn send_answer<F: AgentFiles, S: Sink, P: Progress>(
     ensures { Streams form (IsOutcome (F.inputs files.old) (tasks.Answer question.now) form (F.replaced files.old) (F.replaced files.new)) (S.state sink.old) (S.state sink.new) result }
 {
     match answer_for(alloc, question, form, files) {
-        Ok((output, summary)) => {
-            let sent = send_output(Ok(output), sink);
-            if sent.is_ok() && summary.compares_nothing() {
-                progress.explain(alloc, Failure::NothingCompared);
-            }
-            sent
-        }
+        Ok((output, summary)) => send_told(alloc, output, &summary, sink, progress),
         Err(fault) => send_output(Err(fault), sink),
     }
+}
+
+// Sends an output, and tells if it is a match with which nothing was compared.
+fn send_told<S: Sink, P: Progress>(
+    alloc: Global,
+    output: Output,
+    summary: &Summary,
+    sink: &mut S,
+    progress: &P,
+) -> Sent
+    ensures { SendsOutput (Ok output.entry) (S.state sink.old) (S.state sink.new) result }
+{
+    let sent = send_output(Ok(output), sink);
+    if sent.is_ok() && summary.compares_nothing() {
+        progress.explain(alloc, Failure::NothingCompared);
+    }
+    sent
 }
 
 // The output of the answer to a question, and its summary.

@@ -15,7 +15,7 @@ use Rattle.line_chunks.specs.declared.piece.LineOffset.{LineOffset}
 use Rattle.line_chunks.specs.Pieces.{is_within}
 use Rattle.measured_data.specs.declared.confirmed.Pcr.{Pcr}
 use Rattle.rendering.specs.declared.outputs.Output.{Output}
-use Rattle.ima_verify_c.specs.declared.boot.Evidence.{Evidence}
+use Rattle.ima_verify_c.specs.declared.evidence.Evidence.{Evidence}
 use Rattle.ima_verify_c.specs.declared.text_info.TextInfo.{TextInfo}
 use Rattle.ima_verify_c.specs.Answers.{Answers, GivesEvents, HasNoNonce, IsGiven, IsMisused, IsRefusal, answer_of_status, info_of}
 use Rattle.ima_verify_c.specs.Requests.{Asked, AsksFor, Misused, NotHexadecimal, nonce_in, signing_in}

@@ -14,6 +14,7 @@
 
 mod boot;
 pub mod error_text;
+mod evidence;
 pub mod laws;
 mod nonce;
 mod numbers;

@@ -15,4 +15,4 @@ returns-in_err-given-clause-refused c =
 pub returns-clause-shown : goal.returns-clause-shown
 returns-clause-shown c =
     let shown = rw c.deref.ensures.value at c.in_ok-given.ensures.shown in
-    (c.in_ok-bytes.bytes.items, c.in_ok-given.given.checkpoint.items, c.in_ok-bytes.ensures.ok, shown)
+    (c.in_ok-bytes.bytes.items, c.in_ok-given.given.checkpoint.items, c.in_ok-given.given.summary, c.in_ok-bytes.ensures.ok, shown)
