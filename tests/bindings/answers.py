@@ -6,13 +6,10 @@ tests/bindings/answers.py > tests/bindings/answers.jsonl
 The answers are lines of the cases of `--json` (tests/cases/*/*.case): one after another that which shows most members, values of enumerations, and
 absent members of docs/schema.json, and statuses, that none before it shows. A line of answers.jsonl is an object with the members
 
-    kind       which definition of docs/schema.json the answer has: `verify`, `attest`, `replay`, `places`, `pcrs`, `key`, `header`, `event`, `entry`,
-               `end`, or `error`
+    kind       which definition of docs/schema.json the answer has, such as `verify`, or `error`
     status     what the library returns with it: 0 (IMA_VERIFY_DONE) or 1 (IMA_VERIFY_DIFFERS); an `error` has 2 (IMA_VERIFY_REFUSED)
     matches    for a verdict and for places: whether a package says that all match, which is the status alone
     line       the answer, without its line feed
-
-A verdict `match` on no PCR is the program's alone, and not in the table.
 """
 
 import json
@@ -60,11 +57,11 @@ def features_of(value, kind):
     """What of the schema a value shows: members that it has or lacks, values that the schema names, and whether an array has items."""
     for name, part, inner in visited(DEFINED[kind], value, kind):
         if "const" in part or "enum" in part:
-            yield kind, name, str(inner)
+            yield name, str(inner)
         if isinstance(inner, list):
-            yield kind, name, bool(inner)
+            yield name, bool(inner)
         if isinstance(inner, dict):
-            yield from ((kind, name, member, member in inner) for member in part.get("properties", {}))
+            yield from ((name, member, member in inner) for member in part.get("properties", {}))
 
 
 def answer_of(kind, status, line):

@@ -6,30 +6,14 @@ import re
 
 import inputs
 from harness import ROOT
-from reference import answer
 from reference.log import Event, Log
-from reference.measurement_list import IMA_NG, VIOLATION, Entry, entry_of, list_spelling, replay
-from reference.registers import ALGORITHMS, SHA1, SHA256
+from reference.measurement_list import VIOLATION, list_spelling, replay
+from reference.registers import ALGORITHMS, SHA256
 
 SAMPLE, QUOTED = ROOT / "samples/real-boot", ROOT / "samples/quoted"
 FILES = "firmware.log", "ima.list", "expected.txt"
 
-# What `sha256sum` may print of a path, after which no line starts.
-MARKS = b" ", b"\t", b"\r", b"\v", b"\f", b"\x1c", b"\xc2\x85", b"\xe2\x80\xa8", b"\xff "
-
-# What the programs of the pages print about the sample, if the digests of these files are not known: the files by their entries.
-UNKNOWN = (b"/init", b"/mnt/odd/bad\xff\xfebytes", b"/mnt/odd/new")  # (the last goes on after a line feed)
-PAGE = r"""differ 99
-1 /init
-78 /mnt/odd/bad\xff\xfebytes
-81 /mnt/odd/new\nline
-93 /mnt/viol/tomtou
-94 /mnt/viol/open_writers.log
-97 /mnt/viol/tomtou
-"""
-
-
-# The examples of Go's page are functions, which this calls with the files that the other pages' programs read.
+# The example of Go's page is a function, which this calls with the files that the other pages' programs read.
 GO_CALL = """package main
 
 import (
@@ -40,40 +24,27 @@ import (
 	"imaverify"
 )
 
-func main() {{
+func main() {
 	var files [][]byte
-	for _, name := range []string{{{names}}} {{
-		data, err := os.ReadFile(name)
-		if err != nil {{
-			log.Fatal(err)
-		}}
+	for _, name := range []string{"AK.pub", "nonce", "quote.msg", "quote.sig", "firmware.log", "ima.list"} {
+		data, _ := os.ReadFile(name)
 		files = append(files, data)
-	}}
-{call}
-}}
-
-"""
-GO_QUOTE = """	verdict, err := attested(files[0], string(files[1]), files[2], files[3], files[4], files[5])
+	}
+	verdict, err := attested(files[0], string(files[1]), files[2], files[3], files[4], files[5])
 	if err != nil {
 		log.Fatal(err)
 	}
-	fmt.Println(verdict.Conclusion, verdict.Entries)"""
-GO_PAGE = """	if err := unknownFiles(files[0], files[1], files[2], files[3]); err != nil {
-		log.Fatal(err)
-	}"""
+	fmt.Println(verdict.Conclusion, verdict.Entries)
+}
+
+"""
 
 
-def go_call(call, *names):
-    return GO_CALL.format(call=call, names=", ".join(f'"{name}"' for name in names))
-
-
-def pages_of(language):
-    """The examples of a language's page, each as a program: of a quote, and of known files."""
-    quote, page = re.findall(rf"^```{language}(?:,no_run)?\n(.*?)^```", (ROOT / "bindings" / language / "README.md").read_text(), re.M | re.S)
-    if language == "go":
-        quote = go_call(GO_QUOTE, "AK.pub", "nonce", "quote.msg", "quote.sig", *FILES[:2]) + quote
-        page = go_call(GO_PAGE, *FILES, "known.txt") + page
-    return {"quote": quote, "page": page}
+def page_of(language):
+    """The example of a language's page, as a program."""
+    page = (ROOT / "bindings" / language / "README.md").read_text()
+    example, = re.findall(rf"^```{language}(?:,no_run)?\n(.*?)^```", page, re.MULTILINE | re.DOTALL)
+    return (GO_CALL if language == "go" else "") + example
 
 
 def quoting_area():
@@ -106,38 +77,6 @@ def quote_inputs(folder):
         for file, data in {**files, **changes}.items():
             (folder / name / file).write_bytes(data)
         yield folder / name, wanted
-
-
-def page_inputs(folder):
-    """A folder with what the programs of the pages read."""
-    folder.mkdir(parents=True)
-    for name in FILES:
-        (folder / name).symlink_to(SAMPLE / name)
-    files = re.findall(rb"^10 (?!0{40}).* sha[0-9]+:([0-9a-f]+) (.*)$", (SAMPLE / "ima.ascii").read_bytes(), re.MULTILINE)
-    known = [(digest, path) for digest, path in files if path not in UNKNOWN]
-    # (and a known digest of paths that end with one that is not)
-    known += [(known[0][0], b"/x" + mark + digest) for digest, path in files if path in UNKNOWN for mark in MARKS]
-    (folder / "known.txt").write_bytes(b"".join(b"%b  %b\n" % line for line in known))
-    return folder
-
-
-def sha1_inputs(folder, is_listed):
-    """A folder with a log and a list with an entry whose digest is a SHA-1, which may be listed as a known digest."""
-    log, files = inputs.made_log([SHA256], 12), list(inputs.made_measurements(3))
-    digest = SHA1.hash(b"x")
-    entries = [*inputs.made_entries(log, files), entry_of(IMA_NG, SHA1, digest, b"/short")]
-    return made_folder(folder, log, entries, [*(known for _, known in files), *([digest] if is_listed else [])])
-
-
-def hiding_inputs():
-    """Logs and lists that are not apart, and say nothing of some entries or of an event, though all registers match."""
-    log = inputs.made_log([SHA256], 12)
-    entries = inputs.made_entries(log, inputs.made_measurements(5))
-    moved = [Event(10, inputs.EV_EVENT_TAG, {SHA256.identifier: entry.digest_of(SHA256)}, b"") for entry in entries]
-    yield "entries in the log", log._replace(events=[*log.events, *moved]), entries[:1]
-    log, event = log._replace(events=log.events[:-1]), log.events[-1]
-    moved = Entry(event.register, SHA1.hash(event.data), b"x", event.data)
-    yield "an event in the list", log, [*inputs.made_entries(log, inputs.made_measurements(5)), moved]
 
 
 def banks_inputs():
@@ -181,19 +120,3 @@ def doc_samples():
     entries[-1] = entries[-1]._replace(template_digest=VIOLATION)
     expected = inputs.expected_text(inputs.expected_after(log, entries)[:11])
     return {**dict(zip(FILES, (log.spelling(), list_spelling(entries), expected))), "AK.pub": (ROOT / "samples/keys/ak-p256.pub").read_bytes()}
-
-
-def made_folder(folder, log, entries, known=()):
-    """A folder with this log and list, the registers after them, so that all match, and these known digests."""
-    folder.mkdir()
-    expected = inputs.expected_text(inputs.expected_after(log, entries))
-    for file, data in zip(FILES, (log.spelling(), list_spelling(entries), expected)):
-        (folder / file).write_bytes(data)
-    (folder / "known.txt").write_text("".join(f"{digest.hex()}  /x\n" for digest in known))
-    assert answer(["verify", *FILES], folder)[0] == 0
-    return folder
-
-
-def said_by(ended):
-    """What a page's program printed, without the marks that its language has around a path."""
-    return re.sub(r"^(\d+ )b?(['\"])(.*)\2$", r"\1\3", ended.stdout, flags=re.MULTILINE)

@@ -58,7 +58,6 @@ NOT_RUN = [
     ("docs/performance.md", "indented", "tools/bench/run", "it measures for minutes, by hand"),
     ("bindings/go/README.md", "indented", "go mod edit", "tests/bindings/test gives the same arguments, with its own paths"),
     ("bindings/python/README.md", "indented", "pip install", "it needs a network, or a build backend"),
-    ("bindings/rust/README.md", "sh", "cargo test", "tests/bindings/test gives the same arguments, with its own paths"),
     ("dist/release.md", "$", "verify", "a release has other paths: tests/dist/test verifies its sample there"),
     ("dist/release.md", "indented", "./install", "tests/dist/test installs into folders of its own"),
 ]

@@ -5,7 +5,8 @@ tests/pages/quotes.py [ROOT]: the tree whose README.md and docs/*.md are read, b
 
 Each block that begins with ```rust must be in one file of crates/uses/src, as whole lines in a row: as they are in that file, or with
 contracts, doc comments or both left out. A contract is what is between the signature of a function and the line `{` of its body. Where it
-is left out, the `{` ends the signature's last line. A doc comment is a line that begins with `///`. There must be at least one block.
+is left out, the `{` ends the signature's last line. A doc comment is a line that begins with `///`. There must be at least one block. Those of
+docs/library.md are of the package for Rust: tests/bindings/library_page.py has them run.
 
 Each link to a file of the tree must lead to one, and if it names a heading of a page, to that. The links of CONTRIBUTING.md and of the READMEs
 of dist/, samples/, tests/cases/ and each folder of bindings/ are checked too. docs/trust.svg must be what tools/picture.py prints.
@@ -89,7 +90,7 @@ class Quotes(harness.TestCase):
     def test_callers(self):
         files = sorted((self.root / "crates/uses/src").glob("**/*.rt"))
         sources = [lines for file in files for lines in readings(file.read_text())]
-        blocks = list(self.blocks(BLOCK))
+        blocks = [block for block in self.blocks(BLOCK) if not block[0].startswith("docs/library.md:")]
         for place, text in blocks:
             block = text.splitlines()
             is_there = block and any(stands_in(block, lines) for lines in sources)
