@@ -295,7 +295,9 @@ uint32_t ima_verify_version(void);
  * - `next` is a second text, the checkpoint, whose size is set in any case.
  * - `by` says what tells which PCRs match; inputs of another kind have no bytes. `matching` gives these PCRs as a
  *   selection, such as `sha256:0,sha256:1`: IMA_VERIFY_DONE, or without bytes IMA_VERIFY_DIFFERS if the verdict by the
- *   quote is no match; the line of an error is text. Give it to each call of `events`, with `matching_given`.
+ *   quote is no match; the line of an error is text. Give it to each call of `events` for the same log, with
+ *   `matching_given`.
+ * - `known` without `checks_known`, `before` without `compares` and `matching` without `matching_given` are ignored.
  * - A later library may add members to lines of JSON. */
 
 struct ima_verify_info {
@@ -399,7 +401,7 @@ static inline bool ima_verify_is_output(enum ima_verify_form form, const struct 
 }
 
 static inline bool ima_verify_is_summary(const struct ima_verify_summary *summary) {
-    return !summary || (summary->size && summary->size % sizeof summary->size == 0);
+    return !summary || (summary->size && summary->size % sizeof summary->size == 0 && summary->size <= 512);
 }
 
 static inline bool ima_verify_are_known(struct ima_verify_bytes known, bool checks_known) {
@@ -412,6 +414,13 @@ static inline bool ima_verify_is_evidence(const struct ima_verify_evidence *evid
            && ima_verify_are_known(evidence->known, evidence->checks_known);
 }
 
+/* A key or a signature without bytes beside one that has some, as from an empty file: a byte that is neither, since
+ * to the library no bytes mean that nothing is given. */
+static inline struct ima_verify_bytes ima_verify_beside(struct ima_verify_bytes bytes, struct ima_verify_bytes other) {
+    struct ima_verify_bytes neither = {(const uint8_t *)"", 1};
+    return bytes.size || !other.size ? bytes : neither;
+}
+
 /* A nonce is given once, and key and signature both or not at all, and not beside the caller's word. */
 static inline bool ima_verify_is_quoted(const struct ima_verify_quoted *quoted) {
     return quoted && ima_verify_is_given(quoted->log) && ima_verify_is_given(quoted->list)
@@ -419,7 +428,8 @@ static inline bool ima_verify_is_quoted(const struct ima_verify_quoted *quoted) 
            && ima_verify_is_given(quoted->nonce_hex) && !(quoted->nonce.size && quoted->nonce_hex.size)
            && ima_verify_is_given(quoted->require) && ima_verify_are_known(quoted->known, quoted->checks_known)
            && ima_verify_is_given(quoted->key) && ima_verify_is_given(quoted->signature)
-           && !quoted->key.size == !quoted->signature.size && !(quoted->signature_checked && quoted->key.size);
+           && (!quoted->key.size == !quoted->signature.size || (quoted->key.data && quoted->signature.data))
+           && !(quoted->signature_checked && (quoted->key.size || quoted->signature.size));
 }
 
 /* What a call says of its text goes to the output. */
@@ -559,7 +569,8 @@ ima_verify_attest_more(const struct ima_verify_quoted *quoted, struct ima_verify
         return IMA_VERIFY_MISUSED;
     result = ima_verify_raw_attest(
         IMA_VERIFY_IN(quoted->log), IMA_VERIFY_IN(state), IMA_VERIFY_IN(quoted->list),
-        IMA_VERIFY_IN(quoted->message), IMA_VERIFY_IN(quoted->key), IMA_VERIFY_IN(quoted->signature),
+        IMA_VERIFY_IN(quoted->message), IMA_VERIFY_IN(ima_verify_beside(quoted->key, quoted->signature)),
+        IMA_VERIFY_IN(ima_verify_beside(quoted->signature, quoted->key)),
         IMA_VERIFY_IN(quoted->nonce), IMA_VERIFY_IN(quoted->nonce_hex), IMA_VERIFY_IN(quoted->require),
         IMA_VERIFY_IN(quoted->known), quoted->checks_known, quoted->allow_sha1, quoted->signature_checked, prefix,
         form == IMA_VERIFY_JSON, IMA_VERIFY_NUMBERS(summary), IMA_VERIFY_OUT(next), &next_info.size,
@@ -667,6 +678,8 @@ static inline struct ima_verify_confirming ima_verify_confirming_by(const struct
     confirming.by = expected ? IMA_VERIFY_BY_EXPECTED : quoted ? IMA_VERIFY_BY_QUOTE : IMA_VERIFY_BY_NOTHING;
     if (expected) confirming.expected = *expected;
     if (quoted) confirming.quoted = *quoted;
+    if (quoted) confirming.quoted.key = ima_verify_beside(quoted->key, quoted->signature);
+    if (quoted) confirming.quoted.signature = ima_verify_beside(quoted->signature, quoted->key);
     return confirming;
 }
 
@@ -679,7 +692,8 @@ static inline struct ima_verify_confirming ima_verify_confirming_by(const struct
 
 /* What a machine booted, by its log, as `ima-agent boot` prints it: secure boot, firmware, images, commands, variables,
  * each confirmed, unknown, or as the log claims. `before`, if it is not NULL, is the log of an earlier boot, with which
- * this one is compared. IMA_VERIFY_DONE, or IMA_VERIFY_DIFFERS if the verdict by the quote is no match. */
+ * this one is compared; an error of a log may be of either. IMA_VERIFY_DONE, or IMA_VERIFY_DIFFERS if the verdict by the
+ * quote is no match. */
 IMA_VERIFY_USE_RESULT static inline enum ima_verify_result
 ima_verify_boot(struct ima_verify_bytes log, const struct ima_verify_bytes *before,
                 const struct ima_verify_bytes *expected, const struct ima_verify_quoted *quoted,
@@ -739,7 +753,8 @@ ima_verify_ask_matching(struct ima_verify_bytes log, struct ima_verify_confirmin
         return (enum ima_verify_result)result;
     }
     none.size = info.size;
-    if (info.size > output->capacity) return ima_verify_end(output, &none, IMA_VERIFY_TOO_SHORT);
+    if (result == IMA_VERIFY_TOO_SHORT || info.size > output->capacity)
+        return ima_verify_end(output, &none, IMA_VERIFY_TOO_SHORT);
     if (info.size) memcpy(output->data, position->matching, info.size);
     return ima_verify_end(output, &info, result);
 }
@@ -759,7 +774,8 @@ ima_verify_events(struct ima_verify_bytes log, const struct ima_verify_bytes *ex
         || position->offset > log.size || position->matching_size > sizeof position->matching
         || !ima_verify_is_output(IMA_VERIFY_JSON, output))
         return IMA_VERIFY_MISUSED;
-    if (asks && !position->asked) {
+    if (!asks && position->asked) return IMA_VERIFY_MISUSED;
+    if (asks && (!position->asked || !position->offset)) {
         struct ima_verify_confirming by = ima_verify_confirming_by(expected, quoted);
         enum ima_verify_result asked = ima_verify_ask_matching(log, by, position, output);
         if (asked > IMA_VERIFY_DIFFERS) return asked;

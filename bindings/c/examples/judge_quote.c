@@ -82,10 +82,10 @@ int main(int count, char **names) {
         fprintf(stderr, "%.*s\n", size, (const char *)text);
         return (int)result;
     }
-    printf("verdict %s: %" PRIu64 " of %" PRIu64 " PCRs, %" PRIu64 " entries\n", verdicts[summary.verdict], summary.matching, summary.compared,
+    /* (a newer library may have more reasons and banks) */
+    printf("verdict %s: %" PRIu64 " of %" PRIu64 " PCRs, %" PRIu64 " entries\n", summary.verdict < 3 ? verdicts[summary.verdict] : "none", summary.matching, summary.compared,
            summary.entries);
-    /* (a newer library may have more reasons) */
     if (summary.reason > 0 && summary.reason < sizeof reasons / sizeof reasons[0]) printf("%s\n", reasons[summary.reason]);
-    if (summary.bank > 0) printf("the first is %s %" PRIu64 "\n", banks[summary.bank], summary.pcr);
+    if (summary.bank > 0 && summary.bank < sizeof banks / sizeof banks[0]) printf("the first is %s %" PRIu64 "\n", banks[summary.bank], summary.pcr);
     return (int)result;
 }
