@@ -153,11 +153,8 @@ type QuotedBank struct {
 	Registers []int     `json:"registers"`
 }
 
-// Clock is a TPM's clock and its counts when it made a quote. Milliseconds says how long the TPM has had power since it was last
-// cleared, and Resets how often it was reset since then: each boot is one reset. Restarts says how often it was restarted or resumed
-// since its last reset. Safe says that the clock never had a later value.
-//
-// For a key outside the endorsement and platform hierarchies the TPM adds a constant to Resets, to Restarts and to the version of its
+// Clock is a TPM's clock and its counts when it made a quote. Each boot is one of the Resets, and Safe says that the clock never had a later
+// value. For a key outside the endorsement and platform hierarchies the TPM adds a constant to Resets, to Restarts and to the version of its
 // firmware: only differences between two quotes by one key mean something.
 type Clock struct {
 	Milliseconds uint64 `json:"milliseconds"`
@@ -168,9 +165,8 @@ type Clock struct {
 
 // Attestation is the verdict on a log and a list by a quote. It covers the PCRs in Quoted.
 //
-// Quote says whether the quote is of the values to which log and list replay. Signer is the qualified name of the key that signed, and
-// Firmware the version of the TPM's firmware, as the quote states them. Expected and Registers are absent: nothing is expected beside a
-// quote. The other fields are as in Verdict.
+// Quote says whether the quote is of the values to which log and list replay. Signer is the qualified name of the key that signed.
+// Expected and Registers are absent: nothing is expected beside a quote. The other fields are as in Verdict.
 type Attestation struct {
 	Report
 	Quoted        []QuotedBank   `json:"quoted"`
