@@ -93,8 +93,7 @@ type ClaimedCommand struct {
 	Kind string `json:"kind"`
 }
 
-// IMAPolicy says whether a command asked Linux to measure files: State is "asked", "possible" if only one may set a policy, or "unknown".
-// Event is the first whose text does, or 0.
+// IMAPolicy says whether a command asked Linux to measure files, in the words of docs/event-data.md. Event is the first whose text does, or 0.
 type IMAPolicy struct {
 	State string `json:"ima_policy"`
 	Event uint64 `json:"event,omitempty"`

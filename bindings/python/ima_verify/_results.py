@@ -18,9 +18,8 @@ class Pcr:
 
 @dataclass(frozen=True, slots=True, kw_only=True)
 class Row:
-    """An expected PCR, compared. The state is "match"; "differ", with the value that log and list
-    make; "absent": the log has no such bank; or "missing": the PCR is required, and not expected.
-    """
+    """An expected PCR, compared, or with the state "missing" a required one that is not expected.
+    The value is that which log and list make, with the state "differ"."""
 
     bank: str
     register: int
@@ -31,9 +30,8 @@ class Row:
 
 @dataclass(frozen=True, slots=True, kw_only=True)
 class PlaceRow:
-    """Where an expected PCR first has its value: "reset", before the events; at the "event" of this
-    number, from 1; at the "entry" of this number, from 0; "nowhere"; "absent": the log has no such
-    bank; or "missing": the PCR is required, and not expected."""
+    """Where an expected PCR first has its value: with the place "event" or "entry" the number is that
+    of the event, from 1, or of the entry, from 0."""
 
     bank: str
     register: int

@@ -7,20 +7,6 @@ use crate::results::Line;
 use crate::{Attestation, Error, Quote, Required, Verdict};
 
 /// Verdicts on a measurement list that grows: each is on all of the list so far, but only what is new of it is given.
-///
-/// ```
-/// # fn main() -> Result<(), Box<dyn std::error::Error>> {
-/// # let sample = |name| std::fs::read(format!("samples/{name}"));
-/// # let (log, list, expected) = (sample("firmware.log")?, sample("ima.list")?, sample("expected.txt")?);
-/// use ima_verify::Session;
-/// let mut session = Session::new(&log, &expected, "sha256:0-10").prefix();
-/// let verdict = session.more(&[&list[..], b"cut"].concat())?; // more than the PCRs confirm
-/// assert_eq!((verdict.matches, verdict.confirmed, session.offset()), (true, Some(4), list.len() as u64));
-/// let mut later = Session::new(&log, &expected, "sha256:0-10").resume(session.state().unwrap());
-/// assert!(later.more(&list[later.offset() as usize..])?.matches);
-/// # Ok(())
-/// # }
-/// ```
 #[derive(Debug, Clone)]
 #[must_use]
 pub struct Session {
