@@ -56,7 +56,7 @@ const NothingRequired = "none"
 // Verify gives the verdict on a firmware event log, a measurement list and the expected PCRs that a text states.
 //
 // require names the PCRs that must be among the expected ones, such as "sha256:0-10" or "sha256:0-7,sha1:10". Each that is not has
-// a row whose state is StateMissing. A text without PCR 10 is refused. The one option is Known.
+// a row whose state is StateMissing. A requirement without PCR 10 is refused, except NothingRequired. The one option is Known.
 func Verify(log, list, expected []byte, require string, options ...Option) (Verdict, error) {
 	known, err := knownIn(options)
 	if err != nil {

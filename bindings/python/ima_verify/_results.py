@@ -30,7 +30,7 @@ class Row:
 
 @dataclass(frozen=True, slots=True, kw_only=True)
 class PlaceRow:
-    """Where an expected PCR first has its value: with the place "event" or "entry" the number is that
+    """Where an expected PCR first has its value: at the place "event" or "entry" the number is that
     of the event, from 1, or of the entry, from 0."""
 
     bank: str
@@ -111,7 +111,7 @@ class Verdict(_Judged):
         confirmed: How many first entries the verdict covers, from a session with `prefix`.
         unconfirmed: The first error after these.
         compared: How many expected PCRs were compared. Without one there is no match.
-        boot_aggregate: Of the log's PCRs: "good", "wrong", "nobank" (the log lacks it), "missing".
+        boot_aggregate: "good", "wrong", "nobank" (it is by a bank that the log lacks), "missing".
         registers: The expected PCRs, compared, and then the required ones that are missing.
         extends: The first event of PCR 10, and the first entry of another, if PCRs are required.
         known_from: The first entry that was looked up among known files, if some were given.

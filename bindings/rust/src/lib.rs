@@ -60,7 +60,7 @@ pub fn version() -> u32 {
 /// The verdict on a firmware event log, a measurement list and the expected PCRs that a text states.
 ///
 /// `require` names the PCRs that must be among the expected ones, such as `sha256:0-10` or `sha256:0-7,sha1:10`, or it is a [`Required`] with known
-/// files. A PCR that is not expected has a row whose state is [`State::Missing`], and then the verdict is no match. A text without PCR 10 is refused.
+/// files. One that is not has a row whose state is [`State::Missing`]. A requirement without PCR 10 is refused, except [`NOTHING_REQUIRED`].
 pub fn verify<'a>(log: &[u8], list: &[u8], expected: &[u8], require: impl Into<Required<'a>>) -> Result<Verdict, Error> {
     let Required { registers, known } = require.into();
     let known = known.map(lines_of);
@@ -71,8 +71,8 @@ pub fn verify<'a>(log: &[u8], list: &[u8], expected: &[u8], require: impl Into<R
 ///
 /// # Errors
 ///
-/// [`Error::Refused`] with [`Kind::Signature`], [`Kind::Key`] or [`Kind::Quote`] for what the quote has, and with [`Kind::Argument`] for a requirement
-/// that leaves out one of the PCRs 0 to 10, or names one in the SHA-1 bank alone, and for a nonce that is too short or not hexadecimal.
+/// [`Error::Refused`] with [`Kind::Signature`], [`Kind::Key`] or [`Kind::Quote`] for what the quote has, and with [`Kind::Argument`] for a
+/// requirement that leaves out one of the PCRs 0 to 10, or names one in the SHA-1 bank alone, and for a nonce that is too short or not hexadecimal.
 pub fn attest(log: &[u8], list: &[u8], quote: &Quote<'_>) -> Result<Attestation, Error> {
     let known = quote.known.map(lines_of);
     let inputs = Grown { log, state: &[], more: list, known: known.as_deref(), prefix: false };
