@@ -23,12 +23,10 @@ func ByQuote(list []byte, quote Quote) Evidence {
 	return Evidence{by: byQuote, list: list, quote: quote}
 }
 
-// BootReport is what a machine booted, as docs/event-data.md says: what evidence confirms of the events of a log, and what they claim.
-// In each field Claimed is what an event's data says without being confirmed.
+// BootReport is what a machine booted (docs/event-data.md). In each field Claimed is what an event's data says without being confirmed.
 //
 // Of Images, Commands and BootVariables an item whose Event is Unknown says that nothing confirms more. Registers and Changes compare
-// the log with an earlier one, and are absent in a report on one log. QuoteDiffers says that a quote is no match for log and list: nothing is
-// confirmed then. JSON has the lines that `ima-agent boot --json` prints.
+// the log with an earlier one. QuoteDiffers says that a quote is no match for log and list: nothing is confirmed then.
 type BootReport struct {
 	SecureBoot      SecureBoot
 	FirmwareVersion *Content // nil if nothing confirms it
@@ -95,8 +93,7 @@ type ClaimedCommand struct {
 	Kind string `json:"kind"`
 }
 
-// IMAPolicy says whether a command asked Linux to measure files: State is "asked", "possible" if only one may set a policy, or "unknown".
-// Event is the first whose text does, or 0.
+// IMAPolicy says whether a command asked Linux to measure files, in the words of docs/event-data.md. Event is the first whose text does, or 0.
 type IMAPolicy struct {
 	State string `json:"ima_policy"`
 	Event uint64 `json:"event,omitempty"`

@@ -41,6 +41,7 @@ func TestBootByAQuote(t *testing.T) {
 	found, expected := must(Boot(bootLog, ByQuote(bootList, sampleQuote))), must(Boot(bootLog, ByExpected(bootTPM)))
 	equal(t, found, expected)
 	equal(t, each(found.SecureBoot, found.Images[0].Event, found.QuoteDiffers), each(SecureBootOff, Number(10), false))
+	equal(t, found.Images[0].Claimed.Image.Path, "VenMedia(1428f772-b64a-441e-b8c3-9ebdd7f893c7)/kernel")
 	nothing := BootReport{SecureBoot: SecureBootUnknown, Images: []BootImage{{Event: Unknown}}, IMAPolicy: IMAPolicy{State: "unknown"},
 		Commands: []BootCommand{{Event: Unknown, Register: 8}, {Event: Unknown, Register: 12}}, BootVariables: []BootVariable{{Event: Unknown}}}
 	for _, c := range []struct {

@@ -7,35 +7,28 @@
 //
 // A verdict covers only the boot aggregate and the PCRs in the expected text. So each call says which PCRs it must cover:
 // Verify(log, list, expected, "sha256:0-10"). With such a requirement a verdict is a match only if no event of the log extends PCR
-// 10 and each entry of the list names it. With the option Known each entry but the boot aggregate must also be of a known file. A Session is
-// for a list that grows, and for one that grew after the expected PCRs were read. Attest compares a log and a list with a quote in place of
-// expected PCRs, and verifies its signature by the machine's attestation key. ReadKey says what a key is.
-//
-// Boot says what a machine booted. Entries and Events go through the inputs themselves; ConfirmedEvents also says what is confirmed.
+// 10 and each entry of the list names it. A Session is for a list that grows, and for one that grew after the expected PCRs were read.
+// Attest compares a log and a list with a quote in place of expected PCRs. docs/library.md has examples.
 //
 // If an input or an argument is refused, the error is a *RefusedError. If memory runs out, it is ErrOutOfMemory. If the
 // library's answer is not as its header describes, it is an *UnexpectedError. With any error the result is the zero value, whose
 // Matches and Located are false.
 //
-// Results have the members of the library's JSON (docs/schema.json), and the line itself. Matches is the library's status.
+// Results have the members of the library's JSON (docs/schema.json), and in JSON the line itself. Matches is the library's status.
 //
 // Any number of goroutines may call at once. No input may change during a call.
 package imaverify
 
 // Quote is a quote with its signature, and what a verdict by it needs.
 //
-// Key is the machine's attestation key: the public area for which a credential was activated, as ReadKey reads it, or the PEM that ReadKey
-// gives for it. It is of RSA with 2048 to 4096 bits, or of the curve P-256 or P-384. A PEM does not tell a key that also signs messages that
-// no TPM made from another, so keep one only of an area that ReadKey took. Message is what the TPM signed, a TPMS_ATTEST: the file that
-// `tpm2_quote -m` writes. Signature is the file that `tpm2_quote -s` writes, with `-f plain` or without: RSASSA, RSAPSS or ECDSA, by
-// SHA-256, SHA-384 or SHA-512. Require names the PCRs that must be quoted, at least 0 to 10, such as "sha256:0-10"; one of the SHA-1 bank
-// alone is refused unless AllowSHA1.
+// Key is the machine's attestation key: the public area for which a credential was activated, or the PEM that ReadKey gives for it. It is of
+// RSA with 2048 to 4096 bits, or of the curve P-256 or P-384. Message is what the TPM signed: the file that `tpm2_quote -m` writes. Signature
+// is the file that `tpm2_quote -s` writes, with `-f plain` or without: RSASSA, RSAPSS or ECDSA, by SHA-256, SHA-384 or SHA-512. Require names
+// the PCRs that must be quoted, at least 0 to 10, such as "sha256:0-10"; one of the SHA-1 bank alone is refused unless AllowSHA1.
 //
-// The nonce is the verifier's own for this quote, used once, of 16 bytes or more. One of two fields has it: NonceHex in hexadecimal, as
-// `openssl rand -hex 20` writes it, or Nonce as bytes.
-//
-// SignatureChecked is for a key that is not taken, such as one of the curve P-521. In place of Key and Signature, which are then nil, it says
-// that the caller has verified the signature of this same Message by the machine's attestation key. Without any of these there is no match.
+// The nonce is the verifier's own for this quote, used once, of 16 bytes or more: NonceHex in hexadecimal, as `openssl rand -hex 20` writes
+// it, or Nonce as bytes. SignatureChecked, in place of Key and Signature, says that the caller has verified the signature of this same
+// Message, for a key that is not taken, such as one of the curve P-521. Without any of these there is no match.
 type Quote struct {
 	Key              []byte
 	Nonce            []byte
@@ -63,8 +56,7 @@ const NothingRequired = "none"
 // Verify gives the verdict on a firmware event log, a measurement list and the expected PCRs that a text states.
 //
 // require names the PCRs that must be among the expected ones, such as "sha256:0-10" or "sha256:0-7,sha1:10". Each that is not has
-// a row whose state is StateMissing, and then the verdict is no match. NothingRequired requires no PCR; a text without PCR 10, or an
-// empty one, is refused. The one option is Known.
+// a row whose state is StateMissing. A requirement without PCR 10 is refused, except NothingRequired. The one option is Known.
 func Verify(log, list, expected []byte, require string, options ...Option) (Verdict, error) {
 	known, err := knownIn(options)
 	if err != nil {
@@ -75,10 +67,8 @@ func Verify(log, list, expected []byte, require string, options ...Option) (Verd
 
 // Attest gives the verdict on a firmware event log and a measurement list by a quote with its signature. No file of PCR values is needed.
 //
-// A signature that is not by the key and on the message is refused with KindSignature, and what is no key with KindKey, or if it begins as PEM
-// does with KindSignature. A message that is no quote, has another nonce, or does not select a required PCR is refused with KindQuote. A
-// requirement that leaves out one of the PCRs 0 to 10, a nonce that is too short or not hexadecimal, and members of the Quote that do not
-// belong together are refused with KindArgument. The one option is Known.
+// A quote is refused with KindSignature, KindKey or KindQuote, or with KindArgument if it requires less than PCRs 0 to 10, its nonce is too
+// short or not hexadecimal, or its members do not belong together. The one option is Known.
 func Attest(log, list []byte, quote Quote, options ...Option) (Attestation, error) {
 	known, err := knownIn(options)
 	if err != nil {
@@ -123,10 +113,9 @@ func ListRegisters(list []byte) (PCRs, error) {
 
 // ReadKey gives the attestation key of a public area, a TPM2B_PUBLIC: the file that `tpm2_createak -u` writes.
 //
-// The key is restricted, never leaves the TPM that made it, signs, and does not decrypt. It signs by SHA-256, SHA-384 or SHA-512, and
-// is of RSA with 2048 bits or more, or of the curve P-256, P-384 or P-521; any other is refused with KindKey. Whose TPM it is in, the
-// area does not say, and anyone can write one. Take the area, or its PEM, for Attest only after a credential was activated that was made to
-// the Name and to the machine's endorsement key. `ima-enroll` does that, and keeps both.
+// The key is restricted, never leaves the TPM that made it, signs, and does not decrypt; any other is refused with KindKey. Whose TPM it is
+// in, the area does not say, and anyone can write one. Take the area, or its PEM, for Attest only after a credential for its Name was
+// activated, as `ima-enroll` does.
 func ReadKey(area []byte) (Key, error) {
 	return resultFor[Key](func(out []byte) reply { return callKey(area, false, out) })
 }

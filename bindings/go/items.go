@@ -1,6 +1,6 @@
 package imaverify
 
-// Entry is one of a measurement list; entries count from 0. JSON is its line.
+// Entry is one of a measurement list; entries count from 0.
 //
 // If the payload has the fields of its template, Algorithm, Digest and Path or PathHex have them, and Signature for ima-sig, where it may
 // be empty. Otherwise these are absent, and Payload is the whole; Fields is what it says if it has the fields of another of the kernel's
@@ -85,12 +85,9 @@ type Specification struct {
 	Vendor        Hex    `json:"vendor"`
 }
 
-// Event is one of a firmware event log; events count from 1. Register is the PCR that it names: one of the type EV_NO_ACTION extends
-// none, whatever digests it states, so no PCR confirms it. Type is the name of the type, or empty if it has none. Digests has those of
-// the log's banks. JSON is its line.
-//
-// Measured has the part of the data whose hash is the digest, for each bank of which there is one. Confirmed is the part that the evidence
-// of ConfirmedEvents confirms, and otherwise empty. What is not confirmed is only what the log claims, and so is the type.
+// Event is one of a firmware event log; events count from 1. Register is the PCR that it names: one of the type EV_NO_ACTION extends none, so
+// no PCR confirms it. Measured has the part of the data whose hash is the digest, for each bank of which there is one. Confirmed is the part
+// that the evidence of ConfirmedEvents confirms, and otherwise empty. What is not confirmed is only what the log claims, and so is the type.
 type Event struct {
 	Number     uint64        `json:"event"`
 	Register   uint32        `json:"register"`

@@ -109,8 +109,8 @@ func (s *EventScanner) QuoteDiffers() bool {
 	return s.quoteDiffers
 }
 
-// Entries goes through the entries of a measurement list. Each says whether its template digest is valid; no entry says that
-// the list is the machine's, as Verify does. The list must not change before the last call of Next.
+// Entries goes through the entries of a measurement list. No entry says that the list is the machine's, as Verify does. The list must not
+// change before the last call of Next.
 //
 // For a damaged list Next gives the entries before the error. A loop that ends early does not come to the error.
 func Entries(list []byte) *Scanner[Entry] {
@@ -118,10 +118,7 @@ func Entries(list []byte) *Scanner[Entry] {
 	return &Scanner[Entry]{lines: linesOf(func(out []byte) reply { return callEntries(list, at, true, out) }), hasEnd: true}
 }
 
-// Events goes through the events of a firmware event log after its header. The log must not change before the last call of
-// Next. If the header is damaged, there is an error here.
-//
-// For a log that is damaged later Next gives the events before the error. A loop that ends early does not come to the error.
+// Events goes through the events of a firmware event log after its header, as Entries does. If the header is damaged, there is an error here.
 func Events(log []byte) (*EventScanner, error) {
 	return eventsBy(log, nil, false)
 }

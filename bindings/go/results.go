@@ -109,7 +109,7 @@ type ErrorInfo struct {
 // Report is what all verdicts have in common.
 //
 // Matches is the answer. Registers are the expected PCRs, and after them required ones that are not expected. If PCRs are required,
-// Extends has the first event that extends PCR 10, and the first entry that extends another. JSON is the line of `ima-agent --json`.
+// Extends has the first event that extends PCR 10, and the first entry that extends another.
 //
 // With the option Known, KnownFrom is the first entry that was looked up: 0, or in a session with a state the number of entries
 // that it covers. Unknown has the numbers of the entries from there on that are of no known file. Without the option both are nil.
@@ -153,12 +153,9 @@ type QuotedBank struct {
 	Registers []int     `json:"registers"`
 }
 
-// Clock is a TPM's clock and its counts when it made a quote. Milliseconds says how long the TPM has had power since it was last
-// cleared, and Resets how often it was reset since then: each boot is one reset. Restarts says how often it was restarted or resumed
-// since its last reset. Safe says that the clock never had a later value.
-//
-// If the key is neither in the endorsement nor in the platform hierarchy, the TPM adds a constant to Resets, to Restarts and to the
-// version of its firmware. Then only differences between two quotes by one key mean something.
+// Clock is a TPM's clock and its counts when it made a quote. Each boot is one of the Resets, and Safe says that the clock never had a later
+// value. For a key outside the endorsement and platform hierarchies the TPM adds a constant to Resets, to Restarts and to the version of its
+// firmware: only differences between two quotes by one key mean something.
 type Clock struct {
 	Milliseconds uint64 `json:"milliseconds"`
 	Resets       uint32 `json:"resets"`
@@ -168,9 +165,8 @@ type Clock struct {
 
 // Attestation is the verdict on a log and a list by a quote. It covers the PCRs in Quoted.
 //
-// Quote says whether the quote is of the values to which log and list replay. Signer is the qualified name of the key that signed, and
-// Firmware the version of the TPM's firmware, as the quote states them. Expected and Registers are absent: nothing is expected beside a
-// quote. The other fields are as in Verdict.
+// Quote says whether the quote is of the values to which log and list replay. Signer is the qualified name of the key that signed.
+// Expected and Registers are absent: nothing is expected beside a quote. The other fields are as in Verdict.
 type Attestation struct {
 	Report
 	Quoted        []QuotedBank   `json:"quoted"`
@@ -216,7 +212,7 @@ type PlaceRow struct {
 }
 
 // Places says where each expected PCR first has its value. Located says that each value was reached, that there is one, and that
-// no required PCR is missing. JSON is what `ima-agent locate --json` prints.
+// no required PCR is missing.
 type Places struct {
 	Registers []PlaceRow `json:"registers"`
 	Located   bool       `json:"located"`
@@ -230,7 +226,7 @@ type Register struct {
 	Value    Hex       `json:"value"`
 }
 
-// PCRs are PCRs and their values. JSON is what `ima-agent registers --json` prints.
+// PCRs are PCRs and their values.
 type PCRs struct {
 	Registers []Register `json:"registers"`
 	JSON      string     `json:"-"`
@@ -238,11 +234,8 @@ type PCRs struct {
 
 // Key is what the public area of a key states. Whose TPM the key is in, it does not say.
 //
-// Name is the name by which TPMs know the key: the number of a hash, in two bytes, and that hash of the area. (The Signer of an
-// Attestation is the key's qualified name, which is another.) Type is "rsa" or "ecc", an elliptic curve. Bits is the size of the modulus,
-// or 256, 384 or 521 for a curve. Scheme, such as "rsassa" or "ecdsa", is fixed in the key; "none" leaves it open. Hash is that of the
-// scheme, or empty if it has none. PEM is the public key as `openssl pkey -pubin` writes it, which Attest takes. JSON is what
-// `ima-agent key --json` prints.
+// Name is the name by which TPMs know the key. (The Signer of an Attestation is the key's qualified name, which is another.) Type is "rsa" or
+// "ecc". Hash is that of the Scheme, or empty if it has none. PEM is the public key as `openssl pkey -pubin` writes it, which Attest takes.
 type Key struct {
 	Name   Hex       `json:"name"`
 	Type   string    `json:"type"`

@@ -30,15 +30,11 @@ type knownFiles struct {
 // Option is Known, which Verify, Replay, Attest and sessions take, or Prefix or Resume, which only sessions take.
 type Option func(s *settings)
 
-// Known has each entry be of a known file, but for the boot aggregate, with which a list begins. A file is known if these texts have its
-// digest, a line for each file, as sha256sum, sha384sum and sha512sum print them. The verdict has the other entries in Unknown, and is then
-// no match. Without a text no file is known. A session copies the texts.
+// Known has each entry but the boot aggregate be of a known file: one whose digest these texts have, as sha256sum, sha384sum and sha512sum
+// print them. The verdict has the other entries in Unknown. Without a text no file is known. A session copies the texts.
 //
 // A text with another line, or with a digest by SHA-1, is refused with KindKnown; lines count on from one text to the next. PCRs have to be
-// required: with NothingRequired the error has KindArgument.
-//
-// A session does not look up again the entries that its state covers: if other files are known than were then, begin a new session with
-// the whole list.
+// required: with NothingRequired the error has KindArgument. A session does not look up again the entries that its state covers.
 func Known(texts ...[]byte) Option {
 	return func(s *settings) {
 		s.known.checked = true
@@ -52,16 +48,14 @@ func Known(texts ...[]byte) Option {
 }
 
 // Prefix has the verdict be on the confirmed part of the list, if there is one: the list's first entries, as few as make all
-// PCRs match. What comes after them may be new since the PCRs were read, or damaged. The verdict's Confirmed says how many
-// entries they are, and its Unconfirmed what is wrong after them.
+// PCRs match. What comes after them may be new since the PCRs were read, or damaged.
 func Prefix() Option {
 	return func(s *settings) { s.prefix = true }
 }
 
 // Resume has the session continue from the State of an earlier one, with a log of the same boot. The expected PCRs may be
-// others. More and Attest refuse a state that is not whole, even an empty one or nil, with KindCheckpoint.
-//
-// A state is trusted: whoever can write it chooses the verdict. Never take it from the machine that is judged.
+// others. More and Attest refuse a state that is not whole, even an empty one or nil. A state is trusted: whoever can write it chooses the
+// verdict.
 func Resume(state []byte) Option {
 	return func(s *settings) { s.state = notEmpty(append([]byte{}, state...)) }
 }
@@ -109,12 +103,11 @@ func (s *Session) More(data []byte) (Verdict, error) {
 	return verdict, err
 }
 
-// Attest gives the verdict by a quote on the list that the state covers, followed by these bytes, which may be none. If it is a
-// match, the state then covers what it is on, as after More.
+// Attest gives the verdict by a quote on the list that the state covers, followed by these bytes, as of More and the function Attest.
 //
 // A state is continued by a quote only in its boot: Resets and Restarts of the quote's Clock are those of the last quote, and the
 // state is that of a session that used Attest last. Another is refused with KindCheckpoint and the number 4. (A suspend counts as a
-// restart: then begin a new session with the whole list.) Other errors are those of the function Attest.
+// restart: then begin a new session with the whole list.)
 func (s *Session) Attest(data []byte, quote Quote) (Attestation, error) {
 	found, next, err := attestFrom(s.log, data, quote, s.settings)
 	if found.Matches {

@@ -20,14 +20,9 @@ Each verdict takes `require`, the PCRs that it must cover, such as `sha256:0-10`
 verdict for which no PCR was compared is no match. With `require` an event of the log that extends
 PCR 10, or an entry of the list that extends another, is no match.
 
-With `known`, texts as sha256sum prints them, each entry but the boot aggregate must be of a file
-whose digest is in one of them; `unknown` has the numbers of the others.
-
 Results have the members of the line of `ima-agent --json` (docs/schema.json), and the line itself
-as `json`. All errors are `Error`: `Refused` for an input, `Misuse` for an argument without a
-meaning, `OutOfMemory`, `LoadError`, and `LibraryError` for an answer that is not as the library's
-header says. `str` of an error says what is wrong, and what to do. An argument of another type
-raises TypeError.
+as `json`. All errors are `Error`; `str` of one says what is wrong, and what to do. An argument of
+another type raises TypeError.
 
 Calls from several threads run at once. Do not call in the forked child of a process with threads.
 The library is the file that the environment variable IMA_VERIFY_LIBRARY names by a path, otherwise
@@ -82,8 +77,8 @@ def verify(
 
     Args:
         require: The PCRs that must be among the expected ones, or `NOTHING`.
-        known: Texts as sha256sum, sha384sum or sha512sum print them; without a text no file is
-            known. If it is None, none has to be.
+        known: Texts as sha256sum, sha384sum or sha512sum print them, by which each entry but the
+            boot aggregate must be of a known file; `unknown` of the verdict has the others.
 
     Raises:
         Refused: An input is not valid, or the template digest of an entry does not match.
@@ -154,8 +149,7 @@ def attest(
 
     Args:
         key: The machine's attestation key, of RSA with 2048 to 4096 bits, or of P-256 or P-384:
-            the public area for which a credential was activated, or the `pem` of `read_key`. (A
-            PEM does not say whether the key also signs messages that no TPM made.)
+            the public area for which a credential was activated, or the `pem` of `read_key`.
         quote: What the TPM signed: the file that `tpm2_quote -m` writes.
         signature: The file that `tpm2_quote -s` writes, with `-f plain` or without.
         nonce: The verifier's own nonce for this quote, used once: 16 bytes or more.
@@ -177,14 +171,6 @@ def attest(
     >>> found = ima_verify.attest(key, quote, signature, log, measurements, **given)
     >>> found.matches, found.entries, found.quoted[0].registers[-1], found.clock.resets
     (True, 99, 10, 1)
-    >>> try:
-    ...     ima_verify.attest(key, quote, signature[::-1], log, measurements, **given)
-    ... except ima_verify.Refused as error:
-    ...     error.kind.value, error.number
-    ('signature', 7)
-    >>> given["signature_checked"] = False
-    >>> ima_verify.attest(None, quote, None, log, measurements, **given).matches
-    False
     """
     bytes_of("measurements", measurements)
     return Session.by_quotes(log, known=known)._attest(Quote(
@@ -223,14 +209,10 @@ def boot(
 def read_key(area: Buffer) -> Key:
     """The attestation key of a public area.
 
-    It is restricted, never leaves the TPM that made it, signs, and does not decrypt. It signs by
-    SHA-256, SHA-384 or SHA-512, and is of RSA with 2048 bits or more, or of P-256, P-384 or P-521.
-    The area does not say whose TPM it is in, and anyone can write one: take it, or its `pem`, for
-    `attest` only after a credential was activated that was made to its `name` and to the machine's
-    endorsement key. `ima-enroll` does that, and keeps both.
-
-    The area is a TPM2B_PUBLIC, the file that `tpm2_createak -u` writes. `Refused` says if it is
-    none, or what the key lacks.
+    It is restricted, never leaves the TPM that made it, signs, and does not decrypt. Its area, the
+    file that `tpm2_createak -u` writes, does not say whose TPM it is in, and anyone can write one:
+    take it, or its `pem`, for `attest` only after a credential for its `name` was activated, as
+    `ima-enroll` does. `Refused` says if it is no area, or what the key lacks.
 
     >>> key = ima_verify.read_key(Path("../keys/ak-rsassa.pub").read_bytes())
     >>> key.type, key.bits, key.scheme, key.hash
@@ -246,7 +228,7 @@ def read_endorsement_key(area: Buffer) -> Key:
 
     It is restricted, never leaves the TPM that made it, decrypts, and does not sign. Its area, the
     file that `tpm2_createek -u` writes, does not say whose it is: compare its `pem` with the key of
-    a certificate by the TPM's manufacturer. `Refused` says if it is none, or what the key lacks.
+    a certificate by the TPM's manufacturer.
 
     >>> key = ima_verify.read_endorsement_key(Path("../keys/ek-p256.pub").read_bytes())
     >>> key.type, key.bits, key.scheme, key.hash
@@ -299,9 +281,6 @@ def list_registers(measurements: Buffer) -> tuple[Pcr, ...]:
 def entries(measurements: Buffer) -> Entries:
     """The entries of a measurement list, one after another. They are never all in memory.
 
-    If the list is damaged, the iterator raises `Refused` after the entries before the damage. A
-    loop that stops early does not show that the list is whole.
-
     >>> [entry.path for entry in ima_verify.entries(measurements) if not entry.violation][:2]
     ['boot_aggregate', '/init']
     """
@@ -314,9 +293,8 @@ def events(
     """The events of a firmware event log after its header, one after another. They are never all
     in memory.
 
-    With expected PCRs or a quote, as for `boot`, each event has `confirmed`. If the log's header is
-    damaged, the call raises `Refused`; if another event is, the iterator does, after the events
-    before it (but with expected PCRs or a quote the call, as `boot`).
+    With expected PCRs or a quote, as for `boot`, each event has `confirmed`; the whole log is then
+    read by this call, and otherwise its header.
 
     >>> events = ima_verify.events(log)
     >>> [algorithm.name for algorithm in events.header.algorithms], next(events).type
@@ -330,8 +308,7 @@ def events(
 def show(measurements: Buffer) -> bytes:
     """The entries of a measurement list, each in the kernel's form, as one text.
 
-    Paths are as they are: they may have line feeds and control bytes. `entries` gives each by
-    itself. A damaged list is refused.
+    Paths are as they are: they may have line feeds and control bytes.
 
     >>> ima_verify.show(measurements).splitlines()[1][-14:]
     b'51aabe89 /init'

@@ -18,9 +18,8 @@ class Pcr:
 
 @dataclass(frozen=True, slots=True, kw_only=True)
 class Row:
-    """An expected PCR, compared. The state is "match"; "differ", with the value that log and list
-    make; "absent": the log has no such bank; or "missing": the PCR is required, and not expected.
-    """
+    """An expected PCR, compared, or with the state "missing" a required one that is not expected.
+    The value is that which log and list make, with the state "differ"."""
 
     bank: str
     register: int
@@ -31,9 +30,8 @@ class Row:
 
 @dataclass(frozen=True, slots=True, kw_only=True)
 class PlaceRow:
-    """Where an expected PCR first has its value: "reset", before the events; at the "event" of this
-    number, from 1; at the "entry" of this number, from 0; "nowhere"; "absent": the log has no such
-    bank; or "missing": the PCR is required, and not expected."""
+    """Where an expected PCR first has its value: at the place "event" or "entry" the number is that
+    of the event, from 1, or of the entry, from 0."""
 
     bank: str
     register: int
@@ -74,12 +72,9 @@ class QuotedBank:
 
 @dataclass(frozen=True, slots=True, kw_only=True)
 class Clock:
-    """The clock of a TPM when it made a quote: how long it has had power since it was cleared, how
-    often it was reset since then (by each boot), how often restarted or resumed since its last
-    reset, and whether its clock never had a later value.
-
-    For a key outside the endorsement and platform hierarchies the TPM adds a constant to `resets`
-    and `restarts`, and to the version of its firmware: only differences mean something."""
+    """The clock of a TPM when it made a quote. For a key outside the endorsement and platform
+    hierarchies the TPM adds a constant to `resets` and `restarts`, and to the version of its
+    firmware: only differences mean something."""
 
     milliseconds: int
     resets: int
@@ -112,15 +107,11 @@ class Verdict(_Judged):
     """The verdict on a log, a list and expected PCRs.
 
     Attributes:
-        matches: Whether the library says that it is a match.
-        json: The line of `ima-agent verify --json`.
-        events, entries: How many the log and the list have.
         locality: That from which the TPM was started.
         confirmed: How many first entries the verdict covers, from a session with `prefix`.
         unconfirmed: The first error after these.
         compared: How many expected PCRs were compared. Without one there is no match.
-        boot_aggregate: What the first entry says of the log's PCRs: "good"; "wrong"; "nobank": it
-            is by a bank that the log lacks; or "missing".
+        boot_aggregate: "good", "wrong", "nobank" (it is by a bank that the log lacks), "missing".
         registers: The expected PCRs, compared, and then the required ones that are missing.
         extends: The first event of PCR 10, and the first entry of another, if PCRs are required.
         known_from: The first entry that was looked up among known files, if some were given.
@@ -154,8 +145,6 @@ class Attestation(_Judged):
         expected, registers: Of expected PCRs beside the quote, which no call takes.
         quote: "match" if log and list make the quoted values, otherwise "differ".
         signature: "valid": it is by the key; "checked" or "not checked": what the caller said.
-        verdict: The word of the line; "signature not checked" if nobody verified the signature.
-        matches, json, ...: As of `Verdict`, for `ima-agent attest --json`.
     """
 
     quoted: tuple[QuotedBank, ...]
@@ -191,10 +180,7 @@ class Key:
     """What the public area of a key states. It does not say whose TPM the key is in.
 
     Attributes:
-        name: The name by which TPMs know the key: the number of a hash, in two bytes, and that
-            hash of the area. (The `signer` of a quote is the qualified name, which is another.)
-        type, bits: "rsa" and the size of the modulus, or "ecc" and 256, 384 or 521.
-        scheme, hash: Such as "rsassa" and "sha256", or "none" and None.
+        name: The name by which TPMs know the key. (The `signer` of a quote is another.)
         pem: The public key as `openssl pkey -pubin` writes it, which `attest` takes.
     """
 
@@ -212,9 +198,6 @@ class Entry:
     """An entry of a measurement list.
 
     Attributes:
-        entry: Its number, from 0.
-        template, template_hex: The template's name; its bytes if they are not UTF-8.
-        template_digest: The SHA-1 that the list states, all zero for a violation.
         violation: Whether a file was open for writing while it was measured. No PCR confirms it.
         genuine: Whether the template digest is valid, or the entry is a violation.
         algorithm, digest, path, path_hex, signature: Those of the file, if the payload has the
@@ -250,15 +233,10 @@ class Event:
     """An event of a firmware event log.
 
     Attributes:
-        event: Its number, from 1.
         register: The PCR that it names. An `EV_NO_ACTION` extends none, so no PCR confirms it.
-        type: The name of its type, or None if the type has none.
-        digests: Its digest in each bank.
-        measured: Which part of `data` was measured, in each bank in which one was: "data": all
-            of it; "value": that of a variable; or "command": the text of a command of GRUB. The
-            rest, and the type, are only what the log claims.
-        confirmed: Which part of the data is confirmed: "data", "value" or "command" as above, or
-            "none". It is None if `events` is given neither expected PCRs nor a quote.
+        measured: Which part of `data` was measured, by the banks in which one was: "data" (all),
+            "value" (of a variable) or "command" (of GRUB). The rest, and the type, are claims.
+        confirmed: Which part is confirmed, or "none", if `events` has expected PCRs or a quote.
         content: What the data says: one member, by its form (docs/event-data.md).
     """
 

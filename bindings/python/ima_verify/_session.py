@@ -63,10 +63,7 @@ class Session:
 
         After a match the state covers what the verdict is on: the confirmed prefix, or the whole
         list. After any other verdict, and after an error, the session is as it was: give these
-        bytes again, with those that come next.
-
-        Numbers of entries, also of an error, are those in the whole list. Errors are as of
-        `verify`; a state that is damaged, or of another boot, is refused.
+        bytes again, with those that come next. Numbers of entries are those in the whole list.
         """
         return self._ask("more", Verdict, more=bytes_of("data", data), **self._judged)
 
@@ -95,14 +92,6 @@ class Session:
         The next quote must be of the same boot, with the same `clock.resets` and `clock.restarts`,
         otherwise the state is refused. (A suspend counts as a restart: then begin a new session
         with the whole list.)
-
-        >>> names = "AK.pem", "quote.msg", "quote.sig"
-        >>> quoted = [Path("../quoted", name).read_bytes() for name in names]
-        >>> given = {"nonce_hex": Path("../quoted/nonce").read_text(), "require": "sha256:0-10"}
-        >>> session = ima_verify.Session.by_quotes(log, prefix=True)
-        >>> found = session.attest(*quoted, measurements + measurements[-95:], **given)
-        >>> found.matches, found.confirmed, found.entries, session.offset == len(measurements)
-        (True, 99, 100, True)
         """
         bytes_of("data", data)
         return self._attest(Quote(

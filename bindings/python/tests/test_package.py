@@ -1,10 +1,8 @@
-"""The examples of the docstrings and of README.md, and how the library is found and packed."""
+"""The examples of the docstrings, and how the library is found and packed."""
 
 import doctest
 import inspect
-import io
 import os
-import re
 import runpy
 import shutil
 import subprocess
@@ -12,11 +10,11 @@ import sys
 import tempfile
 import types
 import unittest
-from contextlib import nullcontext, redirect_stdout
+from contextlib import nullcontext
 from pathlib import Path
 from unittest.mock import patch
 
-from samples import EXPECTED, LIST, LOG, ROOT, SUMS, state_after, tenth_after
+from samples import EXPECTED, LIST, LOG, ROOT
 
 import ima_verify
 from ima_verify import _library
@@ -57,26 +55,6 @@ class Examples(Temporary):
             results = [runner.run(test, out=said.append) for test in tests]
             self.assertGreater(sum(result.attempted for result in results), 0, name)
         self.assertEqual(runner.failures, 0, "".join(said))
-
-    def test_programs_of_the_page_run(self):
-        os.chdir(self.folder)
-        for file in (*SAMPLE.iterdir(), *(ROOT / "samples/quoted").iterdir()):
-            (self.folder / file.name).symlink_to(file)
-        (self.folder / "AK.pub").symlink_to("AK.pem")
-        (self.folder / "known.txt").write_bytes(SUMS)
-        page = (PACKAGE / "README.md").read_text()
-        program, said = {}, io.StringIO()
-        with redirect_stdout(said):
-            for example in re.findall("^```python\n(.*?)^```", page, re.M | re.S):
-                exec(example, program)
-            program["booted"]()
-        self.assertEqual(said.getvalue().splitlines(), [
-            "match 99", "differ 99", "93 b'/mnt/viol/tomtou'", "94 b'/mnt/viol/open_writers.log'",
-            "97 b'/mnt/viol/tomtou'", "Secure Boot off", "8 unknown None", "12 unknown None"])
-        verdict, state = program["judge"](LOG, tenth_after(50), None, lambda start: LIST[start:])
-        self.assertEqual((verdict.confirmed, state), (50, state_after(50)))
-        verdict, state = program["judge"](LOG, EXPECTED, state, lambda start: LIST[start:])
-        self.assertEqual((verdict.matches, verdict.entries), (True, 99))
 
 
 class Loading(Temporary):

@@ -16,16 +16,9 @@
 //!
 //! A verdict covers only the boot aggregate and the PCRs in the expected text. So each call says which PCRs it must cover, as here. With such a
 //! requirement a verdict is a match only if no event of the log extends PCR 10 and each entry of the list names it. [`attest`] judges by a quote in
-//! place of expected PCRs. A [`Session`] is for a list that grows, and for one that grew after the expected PCRs were read. [`boot`] says what the
-//! machine booted. [`entries`] and [`events`] go through the inputs themselves.
+//! place of expected PCRs. A [`Session`] is for a list that grows. [`boot`] says what the machine booted. `docs/library.md` has examples.
 //!
-//! # Errors
-//!
-//! An argument, an input or a session's state that is refused is an [`Error::Refused`] with its [`Kind`], its number, its place, and a text that
-//! says what to do. Any call may give [`Error::OutOfMemory`], and [`Error::Unexpected`] or [`Error::Version`] if the library is not as its header
-//! describes.
-//!
-//! Any number of threads may call at once.
+//! What is refused is an [`Error::Refused`]. Any call may give one of the other errors. Any number of threads may call at once.
 
 #![deny(missing_docs)]
 
@@ -66,13 +59,8 @@ pub fn version() -> u32 {
 
 /// The verdict on a firmware event log, a measurement list and the expected PCRs that a text states.
 ///
-/// `require` names the PCRs that must be among the expected ones, such as `sha256:0-10` or `sha256:0-7,sha1:10`. Each that is not has
-/// a row whose state is [`State::Missing`], and then the verdict is no match. [`NOTHING_REQUIRED`] requires only that some PCR is compared; a
-/// text without PCR 10, or an empty one, is refused. It is a text, or a [`Required`] with known files.
-///
-/// # Errors
-///
-/// [`Error::Refused`] if the requirement or an input is malformed.
+/// `require` names the PCRs that must be among the expected ones, such as `sha256:0-10` or `sha256:0-7,sha1:10`, or it is a [`Required`] with known
+/// files. One that is not has a row whose state is [`State::Missing`]. A requirement without PCR 10 is refused, except [`NOTHING_REQUIRED`].
 pub fn verify<'a>(log: &[u8], list: &[u8], expected: &[u8], require: impl Into<Required<'a>>) -> Result<Verdict, Error> {
     let Required { registers, known } = require.into();
     let known = known.map(lines_of);
@@ -83,10 +71,8 @@ pub fn verify<'a>(log: &[u8], list: &[u8], expected: &[u8], require: impl Into<R
 ///
 /// # Errors
 ///
-/// [`Error::Refused`] with [`Kind::Signature`] if the signature is not by the key and on the message, or the PEM is not one of a key that is
-/// taken; with [`Kind::Key`] if the public area is refused; with [`Kind::Quote`] if the message is not a quote, has another nonce, or does not
-/// select a required PCR; with [`Kind::Argument`] if the requirement is malformed, leaves out one of the PCRs 0 to 10, or names one in the SHA-1
-/// bank alone, or if the nonce is too short or not hexadecimal; otherwise as for [`verify`].
+/// [`Error::Refused`] with [`Kind::Signature`], [`Kind::Key`] or [`Kind::Quote`] for what the quote has, and with [`Kind::Argument`] for a
+/// requirement that leaves out one of the PCRs 0 to 10, or names one in the SHA-1 bank alone, and for a nonce that is too short or not hexadecimal.
 pub fn attest(log: &[u8], list: &[u8], quote: &Quote<'_>) -> Result<Attestation, Error> {
     let known = quote.known.map(lines_of);
     let inputs = Grown { log, state: &[], more: list, known: known.as_deref(), prefix: false };
@@ -128,10 +114,8 @@ pub fn list_registers(list: &[u8]) -> Result<Registers, Error> {
 
 /// The attestation key of a public area, a TPM2B_PUBLIC: the file that `tpm2_createak -u` writes.
 ///
-/// The key is restricted, never leaves the TPM that made it, signs, and does not decrypt. It signs by SHA-256, SHA-384 or SHA-512, and
-/// is of RSA with 2048 bits or more, or of the curve P-256, P-384 or P-521. Whose TPM it is in, the area does not say, and anyone can
-/// write one. Take the area, or its PEM, for [`attest`] only after a credential was activated that was made to the name and to the
-/// machine's endorsement key. `ima-enroll` does that, and keeps both.
+/// The key is restricted, never leaves the TPM that made it, signs, and does not decrypt. Whose TPM it is in, the area does not say, and anyone can
+/// write one. Take the area, or its PEM, for [`attest`] only after a credential for its name was activated, as `ima-enroll` does.
 ///
 /// ```
 /// # fn main() -> Result<(), Box<dyn std::error::Error>> {
@@ -152,8 +136,7 @@ pub fn read_endorsement_key(area: &[u8]) -> Result<Key, Error> {
     ask(Out::for_text()?, |out| library::key(area, true, out))?.line()
 }
 
-/// The entries of a measurement list, one after another. Each says whether its template digest is valid; no entry says that the list
-/// is the machine's, as [`verify`] does.
+/// The entries of a measurement list, one after another. No entry says that the list is the machine's, as [`verify`] does.
 ///
 /// For a damaged list the iterator gives the entries before the error, then the [`Error::Refused`] that says where it is, and then
 /// nothing. A loop that ends early does not come to the error.
@@ -161,19 +144,13 @@ pub fn entries(list: &[u8]) -> Entries<'_> {
     Entries(lines::Lines::of(list, None, library::entries))
 }
 
-/// The events of a firmware event log after its header, one after another.
-///
-/// For a log that is damaged after its header the iterator gives the events before the error, then the [`Error::Refused`] that says
-/// where it is, and then nothing. A loop that ends early does not come to the error.
+/// The events of a firmware event log after its header, one after another. A log that is damaged after the header ends as for [`entries`].
 pub fn events(log: &[u8]) -> Result<Events<'_>, Error> {
     Events::of(log, None)
 }
 
-/// The events of a firmware event log as from [`events`], each with the part of its data that PCRs confirm, by this evidence.
-///
-/// # Errors
-///
-/// [`Error::Refused`] if the log is, even before the first event, or the evidence, as for [`verify`] and [`attest`].
+/// The events of a firmware event log as from [`events`], each with the part of its data that PCRs confirm, by this evidence. The whole log and
+/// the evidence are read before the first event, with errors as of [`verify`] and [`attest`].
 pub fn confirmed_events<'a>(log: &'a [u8], evidence: Evidence<'_>) -> Result<Events<'a>, Error> {
     let shown = evidence.shown()?;
     let matching = ask(Out::for_text()?, |out| library::matching(log, &shown, out))?;
@@ -181,22 +158,7 @@ pub fn confirmed_events<'a>(log: &'a [u8], evidence: Evidence<'_>) -> Result<Eve
 }
 
 /// What a machine booted, by its firmware event log and as far as PCRs confirm it, and what differs from the log of an earlier boot.
-/// Nothing confirms the earlier log.
-///
-/// ```
-/// # fn main() -> Result<(), Box<dyn std::error::Error>> {
-/// # let sample = |name| std::fs::read(format!("samples/{name}"));
-/// # let (log, expected) = (sample("firmware.log")?, sample("expected.txt")?);
-/// let boot = ima_verify::boot(&log, ima_verify::Evidence::Expected(&expected), Some(&log))?;
-/// assert_eq!(boot.secure_boot, ima_verify::SecureBoot::Unknown); // (the log has no such variable)
-/// assert!(boot.changed.is_empty());
-/// # Ok(())
-/// # }
-/// ```
-///
-/// # Errors
-///
-/// As for [`confirmed_events`].
+/// Nothing confirms the earlier log. Errors are as of [`confirmed_events`].
 pub fn boot(log: &[u8], evidence: Evidence<'_>, before: Option<&[u8]>) -> Result<Boot, Error> {
     let shown = evidence.shown()?;
     ask(Out::for_text()?, |out| library::boot(log, before, &shown, out))?.boot()

@@ -58,9 +58,7 @@ pub(crate) fn version() -> u32 {
 }
 
 /// The place of no numbers: what they say is in the text, too.
-fn no_numbers() -> *mut u64 {
-    NonNull::dangling().as_ptr()
-}
+const NO_NUMBERS: *mut u64 = NonNull::dangling().as_ptr();
 
 /// The text of known files, and whether files have to be known.
 fn known_in(known: Option<&[u8]>) -> (&[u8], bool) {
@@ -69,12 +67,12 @@ fn known_in(known: Option<&[u8]>) -> (&[u8], bool) {
 
 pub(crate) fn verdict(log: &[u8], list: &[u8], expected: &[u8], require: &str, known: Option<&[u8]>, out: &mut Out) -> i32 {
     let (known, checks_known) = known_in(known);
-    call!(out, ima_verify_raw_verdict, [log, list, expected, require, known] checks_known, true, no_numbers(), 0)
+    call!(out, ima_verify_raw_verdict, [log, list, expected, require, known] checks_known, true, NO_NUMBERS, 0)
 }
 
 pub(crate) fn replay(list: &[u8], expected: &[u8], require: &str, known: Option<&[u8]>, out: &mut Out) -> i32 {
     let (known, checks_known) = known_in(known);
-    call!(out, ima_verify_raw_replay, [list, expected, require, known] checks_known, true, no_numbers(), 0)
+    call!(out, ima_verify_raw_replay, [list, expected, require, known] checks_known, true, NO_NUMBERS, 0)
 }
 
 pub(crate) fn locate(log: &[u8], list: &[u8], expected: &[u8], require: &str, out: &mut Out) -> i32 {
@@ -107,7 +105,7 @@ pub(crate) fn verify_more(inputs: &Grown<'_>, expected: &[u8], require: &str, ou
     let (known, checks_known) = known_in(known);
     let (next, next_capacity) = (out.next.as_mut_ptr(), out.next.len());
     call!(out, ima_verify_raw_more, [log, state, more, expected, require, known]
-        checks_known, prefix, true, no_numbers(), 0, next, next_capacity, &mut out.next_size)
+        checks_known, prefix, true, NO_NUMBERS, 0, next, next_capacity, &mut out.next_size)
 }
 
 pub(crate) fn attest(inputs: &Grown<'_>, quote: &Quote<'_>, out: &mut Out) -> i32 {
@@ -116,7 +114,7 @@ pub(crate) fn attest(inputs: &Grown<'_>, quote: &Quote<'_>, out: &mut Out) -> i3
     let [message, key, signature, nonce, nonce_hex, require] = quote.parts();
     let (next, next_capacity) = (out.next.as_mut_ptr(), out.next.len());
     call!(out, ima_verify_raw_attest, [log, state, more, message, key, signature, nonce, nonce_hex, require, known]
-        checks_known, quote.allow_sha1, quote.is_checked(), prefix, true, no_numbers(), 0, next, next_capacity, &mut out.next_size)
+        checks_known, quote.allow_sha1, quote.is_checked(), prefix, true, NO_NUMBERS, 0, next, next_capacity, &mut out.next_size)
 }
 
 pub(crate) fn matching(log: &[u8], shown: &Shown<'_>, out: &mut Out) -> i32 {

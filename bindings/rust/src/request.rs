@@ -14,9 +14,8 @@ pub struct Required<'a> {
 }
 
 impl<'a> Required<'a> {
-    /// These PCRs, and that each entry but the boot aggregate, with which a list begins, is of a known file: one whose digest these
-    /// texts have, a line for each file, as sha256sum, sha384sum and sha512sum print them. The verdict has the others in `unknown`, and
-    /// is then no match. Without a text no file is known. The place of an error counts the lines of all texts.
+    /// These PCRs, and that each entry but the boot aggregate is of a known file: one whose digest these texts have, as sha256sum, sha384sum and
+    /// sha512sum print them. The verdict has the others in `unknown`. Without a text no file is known. An error counts the lines of all texts.
     pub fn known(registers: &'a str, texts: &'a [&'a [u8]]) -> Self {
         Self { registers, known: Some(texts) }
     }
@@ -117,9 +116,8 @@ pub(crate) fn some_bytes(bytes: &[u8]) -> &[u8] {
 pub enum Signing<'a> {
     /// By a signature, which is verified.
     ByKey {
-        /// The public area for which a credential was activated, as [`read_key`](crate::read_key) reads it, or the PEM that it gives for
-        /// it. The key is of RSA with 2048 to 4096 bits, or of the curve P-256 or P-384. A PEM does not say whether the key also signs
-        /// messages that no TPM made, so keep one only of an area that `read_key` took.
+        /// The public area for which a credential was activated, or the PEM that [`read_key`](crate::read_key) gives for it. The key is of RSA
+        /// with 2048 to 4096 bits, or of the curve P-256 or P-384.
         key: &'a [u8],
         /// The file that `tpm2_quote -s` writes, with `-f plain` or without: RSASSA, RSAPSS or ECDSA, by SHA-256, SHA-384 or SHA-512.
         signature: &'a [u8],

@@ -47,22 +47,6 @@ pub(crate) trait Line: DeserializeOwned {
     fn keep(&mut self, json: String, matches: bool);
 }
 
-macro_rules! lines {
-    ($($name:ident $($matches:ident)?;)*) => {$(
-        impl Line for $name {
-            fn keep(&mut self, json: String, _matches: bool) {
-                self.json = json;
-                $(self.$matches = _matches;)?
-            }
-        }
-    )*};
-}
-
-lines! {
-    Verdict matches; ListVerdict matches; Attestation matches; Places located;
-    Registers; Key; Header; Entry; Event;
-}
-
 /// What a line that judges says.
 #[derive(Deserialize)]
 pub(crate) struct Judgement {
@@ -71,18 +55,28 @@ pub(crate) struct Judgement {
 }
 
 /// Defines what lines have: a field for each member, with its name there if that is another, and with what it is. A line that a caller gets
-/// has itself, too.
+/// has itself, too, and one with a verdict whether that is a match.
 macro_rules! results {
-    ($($(#[$about:meta])* $name:ident $($json:ident)? {
+    ($($(#[$about:meta])* $name:ident $($json:ident $($matches:ident)?)? {
         $($(#[$how:meta])* $field:ident $(as $member:literal)?: $of:ty, $meaning:literal;)*
     })*) => {$(
         $(#[$about])*
         #[derive(Debug, Clone, PartialEq, Eq, Deserialize)]
         #[non_exhaustive]
         pub struct $name {
-            $(#[doc = "The line as the library gives it, without the line feed."] #[serde(skip)] pub $json: String,)?
+            $(
+                #[doc = "The line as the library gives it, without the line feed."] #[serde(skip)] pub $json: String,
+                $(#[doc = "The library's verdict is a match (docs/verdict.md)."] #[serde(skip)] pub $matches: bool,)?
+            )?
             $(#[doc = $meaning] $(#[serde(rename = $member)])? $(#[$how])* pub $field: $of,)*
         }
+
+        $(impl Line for $name {
+            fn keep(&mut self, json: String, _matches: bool) {
+                self.$json = json;
+                $(self.$matches = _matches;)?
+            }
+        })?
 
         #[cfg(test)]
         impl $name {
@@ -92,10 +86,9 @@ macro_rules! results {
 }
 
 results! {
-    /// The verdict on a log, a list and expected PCRs.
+    /// The verdict on a log, a list and expected PCRs. It covers no PCR without a row in `registers`.
     #[must_use]
-    Verdict json {
-        #[serde(skip)] matches: bool, "The library's verdict is a match (docs/verdict.md). It covers no PCR without a row in `registers`.";
+    Verdict json matches {
         events: u64, "How many events the log has after its header.";
         locality: u8, "The startup locality that the log states, otherwise 0.";
         entries: u64, "How many entries the list has.";
@@ -110,10 +103,9 @@ results! {
         verdict: Outcome, "The verdict in words.";
     }
 
-    /// The verdict on a list without a log, and expected PCRs.
+    /// The verdict on a list without a log, and expected PCRs. It covers no PCR without a row in `registers`.
     #[must_use]
-    ListVerdict json {
-        #[serde(skip)] matches: bool, "The library's verdict is a match. It covers no PCR without a row in `registers`.";
+    ListVerdict json matches {
         entries: u64, "How many entries the list has.";
         compared: u64, "How many expected PCRs were compared.";
         registers: Vec<Row>, "A row for each expected PCR, in their order, and then one for each that is missing.";
@@ -123,10 +115,9 @@ results! {
         verdict: Outcome, "The verdict in words.";
     }
 
-    /// The verdict on a log and a list by a quote.
+    /// The verdict on a log and a list by a quote. It covers the PCRs in `quoted`.
     #[must_use]
-    Attestation json {
-        #[serde(skip)] matches: bool, "The library's verdict is a match, by a signature that is valid or checked. It covers the PCRs in `quoted`.";
+    Attestation json matches {
         quoted: Vec<QuotedBank>, "The PCRs that the quote selects.";
         signer: Bytes, "The qualified name of the key that signed, as the quote states it.";
         clock: Clock, "The TPM's clock when it made the quote.";
@@ -302,10 +293,8 @@ results! {
     /// The PCRs that a quote selects of a bank.
     QuotedBank { bank: Algorithm, "The bank's algorithm."; registers: Vec<u8>, "The numbers of the PCRs."; }
 
-    /// A TPM's clock and its counts when it made a quote.
-    ///
-    /// If the key is neither in the endorsement nor in the platform hierarchy, the TPM adds a constant to `resets`, to `restarts` and to
-    /// the version of its firmware. Then only differences between two quotes by one key mean something.
+    /// A TPM's clock and its counts when it made a quote. For a key outside the endorsement and platform hierarchies the TPM adds a constant to
+    /// `resets`, `restarts` and the version of its firmware: only differences between two quotes by one key mean something.
     #[derive(Copy)]
     Clock {
         milliseconds: u64, "For how many milliseconds the TPM has had power since it was last cleared.";

@@ -7,20 +7,6 @@ use crate::results::Line;
 use crate::{Attestation, Error, Quote, Required, Verdict};
 
 /// Verdicts on a measurement list that grows: each is on all of the list so far, but only what is new of it is given.
-///
-/// ```
-/// # fn main() -> Result<(), Box<dyn std::error::Error>> {
-/// # let sample = |name| std::fs::read(format!("samples/{name}"));
-/// # let (log, list, expected) = (sample("firmware.log")?, sample("ima.list")?, sample("expected.txt")?);
-/// use ima_verify::Session;
-/// let mut session = Session::new(&log, &expected, "sha256:0-10").prefix();
-/// let verdict = session.more(&[&list[..], b"cut"].concat())?; // more than the PCRs confirm
-/// assert_eq!((verdict.matches, verdict.confirmed, session.offset()), (true, Some(4), list.len() as u64));
-/// let mut later = Session::new(&log, &expected, "sha256:0-10").resume(session.state().unwrap());
-/// assert!(later.more(&list[later.offset() as usize..])?.matches);
-/// # Ok(())
-/// # }
-/// ```
 #[derive(Debug, Clone)]
 #[must_use]
 pub struct Session {
@@ -33,8 +19,8 @@ pub struct Session {
 }
 
 impl Session {
-    /// A session on a list from its start. The arguments are as in [`verify`](crate::verify), and are copied. Entries that the state
-    /// covers are not looked up again among known files: if other files are known now, begin a new session with the whole list.
+    /// A session on a list from its start. The arguments are as in [`verify`](crate::verify), and are copied. What the state covers is not looked up
+    /// again among known files: if other files are known now, begin a new session with the whole list.
     pub fn new<'a>(log: &[u8], expected: &[u8], require: impl Into<Required<'a>>) -> Self {
         let Required { registers, known } = require.into();
         let (log, expected, require) = (log.to_vec(), expected.to_vec(), registers.to_owned());
@@ -47,16 +33,13 @@ impl Session {
     }
 
     /// A session whose verdict is on the confirmed part of the list, if there is one: the list's first entries, as few as make all
-    /// PCRs match. What comes after them may be new since the PCRs were read, or damaged. [`Verdict::confirmed`] says how many
-    /// entries they are, and [`Verdict::unconfirmed`] what is wrong after them.
+    /// PCRs match. What comes after them may be new since the PCRs were read, or damaged.
     pub fn prefix(self) -> Self {
         Self { prefix: true, ..self }
     }
 
     /// A session that continues from the state of an earlier one, with a log of the same boot. The expected PCRs may be others.
-    ///
-    /// A state is trusted: whoever can write it can choose the verdict. Never take it from the machine that is judged. A damaged one,
-    /// even an empty one, is refused by [`more`](Self::more) and [`attest`](Self::attest).
+    /// A state is trusted: whoever can write it can choose the verdict.
     pub fn resume(self, state: &[u8]) -> Self {
         Self { state: Some(state.to_vec()), ..self }
     }
@@ -65,12 +48,7 @@ impl Session {
     /// covers the list that it is on: with [`prefix`](Self::prefix) the confirmed part, otherwise the whole list.
     ///
     /// Numbers of entries, even in an error, are those of the whole list. After an error, and after a verdict that is no match,
-    /// the session is as it was before: give these bytes again.
-    ///
-    /// # Errors
-    ///
-    /// [`Error::Refused`] with [`Kind::Checkpoint`](crate::Kind::Checkpoint) if the state is refused; otherwise as for
-    /// [`verify`](crate::verify).
+    /// the session is as it was before: give these bytes again. A state that is damaged, even an empty one, or of another boot is refused.
     pub fn more(&mut self, data: &[u8]) -> Result<Verdict, Error> {
         let inputs = self.inputs(data, self.known.as_deref());
         let call = |out: &mut Out| library::verify_more(&inputs, &self.expected, &self.require, out);
@@ -78,17 +56,11 @@ impl Session {
         self.take(reply)
     }
 
-    /// The verdict by a quote on the list that the state covers, followed by these bytes, which may be none. After a match the state
-    /// covers what the verdict is on, as after [`more`](Self::more).
+    /// The verdict by a quote on the list that the state covers, followed by these bytes, as of [`more`](Self::more) and [`attest`](crate::attest).
     ///
     /// A state is continued by a quote only in its boot: `resets` and `restarts` of the quote's clock are those of the last quote, and
     /// the state is that of a session that used this function last. After a suspend, which counts as a restart, begin a new session with
     /// the whole list. The known files are those of the quote, or of the session if the quote has none.
-    ///
-    /// # Errors
-    ///
-    /// [`Error::Refused`] with [`Kind::Checkpoint`](crate::Kind::Checkpoint) if the state is damaged, of another boot, or of no quote
-    /// (number 4); otherwise as for [`attest`](crate::attest).
     pub fn attest(&mut self, data: &[u8], quote: &Quote<'_>) -> Result<Attestation, Error> {
         let of_quote = quote.known.map(lines_of);
         let known = of_quote.as_deref().or(self.known.as_deref());

@@ -154,7 +154,7 @@ words! {
         List = "list", "The measurement list.";
         Replay = "replay", "The template digest of an entry is not valid.";
         Expected = "expected", "The text of expected PCRs, or what tpm2-tools printed.";
-        Checkpoint = "checkpoint", "The state of a session: it is damaged (1), of another version (2), or of another boot (3 by the log, 4 by a quote).";
+        Checkpoint = "checkpoint", "A session's state: it is damaged (1), of another version (2), or of another boot (3 by the log, 4 by a quote).";
         Quote = "quote", "The message of a quote: it is not one (1 to 10), has another nonce (11), or does not select a required PCR (12).";
         Key = "key", "The public area of a key: it is not one (1 to 10), or the key lacks what its purpose needs (11 to 22).";
         Known = "known", "A line of the known files has a digest by SHA-1 (1), or is no digest and name (2).";

@@ -6,18 +6,12 @@ use std::process::{exit, Command};
 fn main() {
     println!("cargo:rerun-if-env-changed=IMA_VERIFY_DIR");
     println!("cargo:rerun-if-env-changed=PKG_CONFIG_PATH");
-    match env::var("IMA_VERIFY_DIR") {
-        Ok(folder) if !folder.is_empty() => {
-            println!("cargo:rustc-link-search=native={folder}");
-            println!("cargo:rustc-link-lib=dylib=ima_verify");
-        }
-        _ => link(&pkg_config_libs()),
+    if let Some(folder) = env::var("IMA_VERIFY_DIR").ok().filter(|folder| !folder.is_empty()) {
+        println!("cargo:rustc-link-search=native={folder}");
+        println!("cargo:rustc-link-lib=dylib=ima_verify");
+        return;
     }
-}
-
-/// Passes on the flags `-L` and `-l`.
-fn link(flags: &str) {
-    for flag in flags.split_whitespace() {
+    for flag in pkg_config_libs().split_whitespace() {
         if let Some(folder) = flag.strip_prefix("-L") {
             println!("cargo:rustc-link-search=native={folder}");
         } else if let Some(library) = flag.strip_prefix("-l") {
