@@ -70,7 +70,7 @@ func (n *Number) UnmarshalJSON(text []byte) error {
 	return nil
 }
 
-// BootImage is a program that the firmware started: the digests of its event confirm the image, and its path is claimed.
+// BootImage is a program that the firmware started, or may have: its digests may be confirmed, and its path is claimed.
 type BootImage struct {
 	Event   Number       `json:"image"`
 	Digests PerBank[Hex] `json:"digests,omitempty"`

@@ -57,7 +57,7 @@ def read_boot(status: int, text: bytes) -> Boot:
                 found[name] = members[name]
             if "ima_policy" in members:
                 found["ima_policy"] = members
-        return _made(Boot, found, matches=status == DONE, json=_line(text))
+        return _made(Boot, found, quote_differs=status == DIFFERS, json=_line(text))
     except _WRONG:
         unexpected(status, text)
 

@@ -55,7 +55,7 @@ class Events(Listing[Event]):
 
     Attributes:
         header: What the log's header states.
-        matches: False if the verdict by the quote is no match: then nothing is confirmed.
+        quote_differs: Whether the verdict by the quote is no match: then nothing is confirmed.
     """
 
     def __init__(
@@ -67,7 +67,7 @@ class Events(Listing[Event]):
             status, matching = _library.call("matching", log=given, **by)
         if status not in (_library.DONE, _library.DIFFERS):
             _library.unexpected(status, matching)
-        self.matches = status == _library.DONE
+        self.quote_differs = status == _library.DIFFERS
         lines = _library.lines("events", log=given, matching=matching, matching_given=bool(by))
         self.header = read_line(Header, next(lines))
         super().__init__(read_line(Event, line) for line in lines)

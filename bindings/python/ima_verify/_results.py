@@ -352,7 +352,7 @@ class Boot:
     """What a machine booted: the lines of `ima-agent boot --json` (docs/event-data.md).
 
     Attributes:
-        matches: False if the verdict by the quote is no match: then all is unknown.
+        quote_differs: Whether the verdict by the quote is no match: then all is unknown.
         secure_boot: "on", "off" or "unknown".
         firmware_version: The content that states the version, or "unknown".
         boot_variables: BootOrder and each Boot####.
@@ -360,7 +360,7 @@ class Boot:
         changed: With an earlier log, the events that one of both has.
     """
 
-    matches: bool
+    quote_differs: bool
     json: str = field(repr=False)
     secure_boot: str
     firmware_version: dict[str, Any] | str

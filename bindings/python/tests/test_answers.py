@@ -60,7 +60,7 @@ def read_boot(lines, status=DONE):
 
 
 def fields_of(kind):
-    return [field for field in dataclasses.fields(kind) if field.name not in ("matches", "json")]
+    return [field for field in dataclasses.fields(kind) if field.name not in ("matches", "quote_differs", "json")]
 
 
 def members(found):
@@ -111,7 +111,7 @@ class Answers(unittest.TestCase):
 
     def test_lines_of_a_boot_are_read(self):
         found = read_boot(BOOT, DIFFERS)
-        self.assertEqual((found.matches, found.json), (False, "\n".join(BOOT)))
+        self.assertEqual((found.quote_differs, found.json), (True, "\n".join(BOOT)))
         self.assertEqual((found.secure_boot, found.firmware_version), ("off", {"text": ""}))
         parts = (*found.images, *found.commands, found.ima_policy, *found.boot_variables,
                  *found.alike, *found.changed)

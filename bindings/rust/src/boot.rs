@@ -33,7 +33,7 @@ pub struct Boot {
 }
 
 /// A member for each kind of line, which no kind before it has.
-const KINDS: [&str; 8] = ["secure_boot", "firmware_version", "image", "command", "ima_policy", "boot_variable", "alike", "claimed"];
+const KINDS: [&str; 9] = ["secure_boot", "firmware_version", "image", "command", "ima_policy", "boot_variable", "alike", "now", "before"];
 
 impl Boot {
     /// What lines say, or none if a line is damaged, or one that each boot has is missing.
