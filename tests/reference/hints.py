@@ -47,7 +47,7 @@ UNCONFIRMED = "EXPECTED is not what the TPM signed: give the values read with th
 PADDED = "a kernel before 5.8 extended it by SHA-1 digests with zeros after them, "
 
 # A report without rows, as text.
-BARE_MATCH = re.compile(rb"events \d+ locality \d+\nentries \d+\nboot_aggregate good\nverdict match\n")
+BARE_MATCH = re.compile(rb"(?:events \d+ locality \d+\n)?entries \d+\n(?:boot_aggregate good\n)?verdict match\n")
 
 EMPTY = "it is empty: copy the kernel's files with cat, since their size is given as 0"
 NOTHING_PRINTED = "it is empty: the tool printed nothing"
@@ -201,8 +201,10 @@ def next_steps(words, folder, standard_input=b"", has_prefix=True):
 
 def said_anyway(words, text):
     """The lines after this output that come even where there is no terminal: of a match with which no PCR was compared."""
+    if words[:1] not in (["verify"], ["replay"]):
+        return []
     is_bare = BARE_MATCH.fullmatch(text) or (text.startswith(b"{") and json.loads(text).get("compared") == 0)
-    return [NO_EXPECTED] if words[:1] == ["verify"] and is_bare else []
+    return [NO_EXPECTED] if is_bare else []
 
 
 def are_regular(words, folder, standard_input=None):
