@@ -295,7 +295,7 @@ uint32_t ima_verify_version(void);
  * - `next` is a second text, the checkpoint, whose size is set in any case.
  * - `by` says what tells which PCRs match; inputs of another kind have no bytes. `matching` gives these PCRs as a
  *   selection, such as `sha256:0,sha256:1`: IMA_VERIFY_DONE, or without bytes IMA_VERIFY_DIFFERS if the verdict by the
- *   quote is no match; the line of an error is text. Give it to each call of `events` for the same log, with
+ *   quote is no match; the line of an error is JSON. Give it to each call of `events` for the same log, with
  *   `matching_given`.
  * - `known` without `checks_known`, `before` without `compares` and `matching` without `matching_given` are ignored.
  * - A later library may add members to lines of JSON. */

@@ -5,7 +5,7 @@ use Rattle.agent_inputs.specs.declared.fault.RunFault.TheVariants.{Memory, Usage
 use Rattle.agent_inputs.specs.Loading.{unknown}
 use Rattle.agent_plans.specs.declared.plan.Scope.TheVariants.{Whole}
 use Rattle.cells.specs.declared.writer.Form.{Form}
-use Rattle.cells.specs.declared.writer.Form.TheVariants.{Json, Text}
+use Rattle.cells.specs.declared.writer.Form.TheVariants.{Json}
 use Rattle.confirming.specs.Boot.{IsNoBoot, ShowsBoot, places_of}
 use Rattle.confirming.specs.Matching.{AreMatched, AreNotMatched, ByExpected, ByNothing, ByQuote, Confirmation}
 use Rattle.confirming.specs.Places.{SpellsPlaces, matching_text}
@@ -154,7 +154,7 @@ IsMatching log confirmation text exit =
     (matched : Option (List Pcr)) × AreMatched unknown confirmation log matched exit × (text ≡ matching_text (places_of matched))
 
 abbrev pub IsMatchingAnswer : List ℕ → Confirmation → List ℕ → ℕ → Option RunFault → Type 0
-IsMatchingAnswer log confirmation = IsOutputOr (IsMatching log confirmation) (AreNotMatched unknown confirmation log) Text
+IsMatchingAnswer log confirmation = IsOutputOr (IsMatching log confirmation) (AreNotMatched unknown confirmation log) Json
 
 -- ---- a boot
 

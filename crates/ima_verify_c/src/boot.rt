@@ -3,7 +3,7 @@
 ghost use Rattle.std.specs.Prelude.{◌≡◌, ◌⊎◌, None, option_map, pos, IfErr, IfOk};
 ghost use Rattle.agent_inputs.specs.declared.fault.RunFault.TheVariants.{Memory};
 ghost use Rattle.agent_inputs.specs.Loading.{unknown};
-ghost use Rattle.cells.specs.declared.writer.Form.TheVariants.{Text};
+ghost use Rattle.cells.specs.declared.writer.Form.TheVariants.{Json};
 ghost use Rattle.confirming.specs.Boot.{places_of};
 ghost use Rattle.confirming.specs.Matching.{AreNotMatched, confirmation_of};
 ghost use Rattle.ima_verify_c.specs.Answers.{Answers, GivesEvents, info_of};
@@ -26,7 +26,7 @@ use std::alloc::Global;
 /// The PCRs that match after a firmware event log, one by one, as in `sha256:0,sha256:1,sha1:4`: [`ima_verify_raw_events`](crate::ima_verify_raw_events)
 /// takes this text. With `by` 1 they are those that have their values after the log, of the text of expected PCRs; with `by` 2 those that the quote is
 /// of, which the log alone extends, if the answer of [`ima_verify_raw_attest`](crate::ima_verify_raw_attest) to it is 0. If that is 1, so is this, and
-/// there are none. The line of an error is text.
+/// there are none. The line of an error is JSON, as those of events are.
 ///
 /// 6 if `by` is neither, if anything is given that does not belong to it, or if what is given of a quote does not belong together: nothing is then read
 /// or written.
@@ -60,7 +60,7 @@ pub extern "C" fn ima_verify_raw_matching<'a>(
       require = require.now;
       allow_sha1 = allow_sha1;
       signature_checked = signature_checked;
-    })) Text (IsMatchingAnswer log.now) result info.new out.old out.new }
+    })) Json (IsMatchingAnswer log.now) result info.new out.old out.new }
 {
     let given = Evidence {
         by,
@@ -81,10 +81,10 @@ pub extern "C" fn ima_verify_raw_matching<'a>(
     let nonce = match nonce_in(alloc, nonce, nonce_hex) {
         Ok(Some(nonce)) => nonce,
         Ok(None) => return give_misuse(info),
-        Err(fault) => return give_fault(alloc, Form::Text, &fault, out, info),
+        Err(fault) => return give_fault(alloc, Form::Json, &fault, out, info),
     };
     let made = matching_on(alloc, log, with_nonce(confirming, nonce.bytes()));
-    give_output(alloc, Form::Text, made, out, info)
+    give_output(alloc, Form::Json, made, out, info)
 }
 
 /// What was booted, as `boot` writes it, by the PCRs that match, which [`ima_verify_raw_matching`] gives; with `by` 0 none match, and what nothing
