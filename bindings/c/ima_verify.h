@@ -761,7 +761,7 @@ ima_verify_ask_matching(struct ima_verify_bytes log, struct ima_verify_confirmin
 
 /* The algorithms that a log declares, and its events with their data, each as a line of JSON, from this position on,
  * as ima_verify_entries gives entries. With expected PCRs or a quote the events have the member `confirmed`: the first
- * call judges them, gives the line of an error as text (those of ima_verify_boot), and the last call returns
+ * call judges them, gives the line of an error (those of ima_verify_boot), and the last call returns
  * IMA_VERIFY_DIFFERS if the verdict by the quote is no match. Give each call the same. */
 IMA_VERIFY_USE_RESULT static inline enum ima_verify_result
 ima_verify_events(struct ima_verify_bytes log, const struct ima_verify_bytes *expected,
