@@ -37,7 +37,7 @@ SONAME = "libima_verify.so.1"
 MADE = {SONAME: "-rwxr-xr-x", "libima_verify.so": "lrwxrwxrwx", "libima_verify.a": "-rw-r--r--", "ima_verify.h": "-rw-r--r--"}
 # Scripts in tests/ that try nothing by themselves.
 NO_PARTS = {"tests/attest/emulated.py", "tests/bindings/answers.py", "tests/bindings/newer/build.py", "tests/cases/signing.py",
-            "tests/fleet/quoted.py"}
+            "tests/faults/error_tables.py", "tests/fleet/quoted.py"}
 
 # What stands in for rt. `ci` works in the copy that ./ima-agent makes, whose program writes its source and its arguments, and ends with
 # the status that its first argument names. FAIL has it fail, and NOTHING make nothing; DURING is a command that it runs meanwhile; `try` says
