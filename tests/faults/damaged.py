@@ -133,7 +133,7 @@ KINDS |= dict(signed_kinds())
 # What a function takes beside the inputs: a requirement, and its form.
 ANY_REQUIRED, AS_TEXT, OF_LOG = b"none", False, False
 NO_KNOWN, KNOWN_IS_NOT_GIVEN = b"", False
-NO_STATE, NO_KEY, NO_SIGNATURE, SHA1_IS_NOT_TAKEN, IS_SIGNED, OF_WHOLE = b"", b"", b"", False, True, False
+NO_STATE, NO_KEY, NO_SIGNATURE, NO_DIGITS, SHA1_IS_NOT_TAKEN, IS_SIGNED, OF_WHOLE = b"", b"", b"", b"", False, True, False
 ENTRIES = Call("entries", [], None, AS_TEXT, False)
 DAMAGES = {
     "prefixes": (lambda data: range(len(data) + 1), lambda data, place: data[:place]),
@@ -147,12 +147,12 @@ def library_answer(library, function, inputs):
         if function == "entries":
             return entries_answer(library, *inputs)
         if function == "attest":
-            log, listed, message, *others = inputs
-            inputs = [log, NO_STATE, listed, message, NO_KEY, NO_SIGNATURE, *others, NO_KNOWN]
+            log, listed, message, nonce, require = inputs
+            inputs = [log, NO_STATE, listed, message, NO_KEY, NO_SIGNATURE, nonce, NO_DIGITS, require, NO_KNOWN]
             return library.ask_by_quote(inputs, KNOWN_IS_NOT_GIVEN, SHA1_IS_NOT_TAKEN, IS_SIGNED, OF_WHOLE, AS_TEXT)[:2]
         if function == BY_KEY:
-            log, listed, message, key, signature, *others = inputs
-            inputs = [log, NO_STATE, listed, message, key, signature, *others, NO_KNOWN]
+            log, listed, message, key, signature, nonce, require = inputs
+            inputs = [log, NO_STATE, listed, message, key, signature, nonce, NO_DIGITS, require, NO_KNOWN]
             return library.ask_by_quote(inputs, KNOWN_IS_NOT_GIVEN, SHA1_IS_NOT_TAKEN, not IS_SIGNED, OF_WHOLE, AS_TEXT)[:2]
         if function in ("key", "endorsement key"):
             return library.ask_for_key(*inputs, function != "key", AS_TEXT)
