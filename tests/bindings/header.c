@@ -402,11 +402,11 @@ static void refuses(unsigned set, const char *changes, const char *line) {
     snprintf(whole, sizeof whole, "refused: %s\n", line);
     EACH(which, set) {
         ask(which, &given, TEXT, SPACE);
-        check(which == EVENTS || is_same(text, out.size, ima_verify_text(whole)), which, line);
+        check(is_in(which, EVENTS_ALL) || is_same(text, out.size, ima_verify_text(whole)), which, line);
         check(result == IMA_VERIFY_REFUSED && is_error(&out, error), which, line);
         check(has_no_checkpoint(which) && (!is_in(which, JUDGING) || is_sum(&no_verdict)), which, "no checkpoint and no verdict");
         ask(which, &given, IMA_VERIFY_JSON, SPACE);
-        check(result == IMA_VERIFY_REFUSED && is_error(&out, error) && has_text(is_in(which, EVENTS_ALL & ~ONE(EVENTS)) ? line : "{\"fault\":{"), which, "an error as JSON");
+        check(result == IMA_VERIFY_REFUSED && is_error(&out, error) && has_text("{\"fault\":{") && has_text(line), which, "an error as JSON");
         size_t size = out.size;
         ask(which, &given, IMA_VERIFY_JSON, size - 1);
         check(result == IMA_VERIFY_TOO_SHORT && is_left() && out.size == size && is_error(&out, no_error), which, "a byte too few for an error");
