@@ -179,6 +179,11 @@ class Quotes:
         return {machine.name: (verdict, cause) for machine in self.machines}
 
 
+# What the library says of a wrong argument, by its table of errors (crates/error_texts).
+SHORT_NONCE = ("Misuse: An argument is wrong. Write PCRs as in sha256:0-10. Require at least PCR 10; with a quote PCRs 0 to 10, and not in the SHA-1 "
+               "bank alone. A nonce has 16 bytes or more. Known files need required PCRs.")
+
+
 def test_quotes(tools):
     """Machines with quotes, from poll to poll; and what comes of quotes that prove nothing."""
     test_taking(tools)
@@ -687,7 +692,7 @@ ODD_QUOTES = {
     10: (lambda case: case.sign_changed(lambda data: bytes(1) + data[1:]), "refused", "refused: quote fault 2"),
     11: (lambda case: case.sign_changed(lambda data: data, 1024), "refused", BAD_PEM),
     12: (Case.have_two, "match", None),
-    13: (Case.empty_nonce, "failed", "Misuse: a nonce has 16 bytes or more, and not 0"),
+    13: (Case.empty_nonce, "failed", SHORT_NONCE),
     14: (Case.enroll, "match", None),
     15: (lambda case: case.quote("cd" * 32), "refused", OTHER_NONCE),
     16: (Case.sign_other_registers, "differ", None),
