@@ -163,6 +163,11 @@ class AttestTests(harness.TestCase):
         folder.joinpath(name).chmod(0o755)
         return {"PATH": f"{folder}:{self.environment['PATH']}"}
 
+    def stand_ins(self, bodies):
+        """Settings with which several scripts stand in, each for the tool that it is named by."""
+        paths = [self.stand_in(name, body)["PATH"].partition(":")[0] for name, body in bodies.items()]
+        return {"PATH": ":".join([*paths, self.environment["PATH"]])}
+
     def state(self, name, values, algorithm=SHA256):
         """A message that states these values of registers 0 to 10 of a bank."""
         message = GOOD.quote.read_bytes()

@@ -276,9 +276,14 @@ class Collected(CollectTests):
         """A call that is stopped leaves no folder, key or session."""
         called = self.folder / "called"
         making, answering = "ima-collect --enroll --handle 0x81010009 made", "ima-collect --credential credential made"
-        for title, tool, block in (("a quote", "tpm2_quote", WITH_NONCE), ("a session", "tpm2_policysecret", answering),
-                                   ("a key", "tpm2_createak", making), ("a key that stays", "mv", making)):
-            settings = self.stand_in(tool, f"echo > '{called}'; sleep 1; exit 1")
+        waiting = f"echo > '{called}'; sleep 1"
+        removing = f'[[ $4 != 0x* ]] || {{ {waiting}; }}; exec "$real" "$@"'
+        for title, tools, block in (("a quote", {"tpm2_quote": f"{waiting}; exit 1"}, WITH_NONCE),
+                                    ("a session", {"tpm2_policysecret": f"{waiting}; exit 1"}, answering),
+                                    ("a key", {"tpm2_createak": f"{waiting}; exit 1"}, making),
+                                    ("a key that stays", {"mv": f"{waiting}; exit 1"}, making),
+                                    ("a call that ends already", {"mv": "exit 1", "tpm2_evictcontrol": removing}, making)):
+            settings = self.stand_ins(tools)
             words = block.replace("--nonce", f"--sys {self.sys} --nonce").split()
             process = subprocess.Popen(words, cwd=self.home, env={**self.environment, **settings}, stderr=subprocess.DEVNULL, start_new_session=True)
             end = time.monotonic() + SECONDS
