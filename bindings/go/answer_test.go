@@ -86,7 +86,7 @@ var lineTypes = map[string]any{
 	"verify": Verdict{}, "attest": Attestation{}, "replay": ListVerdict{}, "places": Places{}, "pcrs": PCRs{}, "key": Key{},
 	"header": LogHeader{}, "event": Event{}, "entry": Entry{}, "end": endLine{}, "error": errorLine{},
 	"secure_boot": secureBootLine{}, "firmware_version": versionLine{}, "image": BootImage{}, "command": BootCommand{},
-	"ima_policy": IMAPolicy{}, "boot_variable": BootVariable{}, "alike": ComparedRegister{}, "changed": ChangedEvent{},
+	"ima_policy": IMAPolicy{}, "boot_variable": BootVariable{}, "claim_data": Claim{}, "alike": ComparedRegister{}, "changed": ChangedEvent{},
 }
 
 func TestMembersAreThoseOfTheSchema(t *testing.T) {

@@ -136,6 +136,36 @@ func TestKeysOfTheSamples(t *testing.T) {
 	checkRefused(t, KindKey, 21)(ReadEndorsementKey(sample("keys/ak-p256.pub")))
 }
 
+func TestInputsAreConverted(t *testing.T) {
+	equal(t, must(ConvertList(sample("real-boot/ima.ascii"))), bootList)
+	found, padding, err := ConvertLog(joined(bootLog, make([]byte, 70000)))
+	equal(t, each(found, padding, err), each(bootLog, uint64(70000), nil))
+	checkRefused(t, KindTextList, 1, 1)(ConvertList([]byte("x")))
+	none, _, err := ConvertLog(bootList)
+	checkRefused(t, KindLogForm, 13)(none, err)
+}
+
+// The log with an event of an H-CRTM, and with what then tells where PCR 0 began.
+var (
+	hcrtmLog = joined(bootLog, []byte{0, 0, 0, 0, 0x10, 0, 0, 0x80, 1, 0, 0, 0, 11, 0}, make([]byte, 36))
+	toldLog  = joined(hcrtmLog, []byte{0, 0, 0, 0, 3, 0, 0, 0, 0, 0, 0, 0, 17, 0, 0, 0}, []byte("StartupLocality\x00\x04"))
+)
+
+func TestEventOfAnHCRTMTellsWherePCR0Began(t *testing.T) {
+	call := func(log []byte, options ...Option) []any {
+		session := NewSession(log, bootTPM, "sha256:0-10", options...)
+		return each(must(Verify(log, bootList, bootTPM, "sha256:0-10", options...)), must(Locate(log, bootList, bootTPM, "sha256:0-10", options...)),
+			must(Attest(log, bootList, sampleQuote, options...)), must(Registers(log, options...)), must(session.More(bootList)))
+	}
+	found, told, plain := call(hcrtmLog, HCRTM()), call(toldLog), call(hcrtmLog)
+	equal(t, each(found, call(bootLog, HCRTM())), each(told, call(bootLog)))
+	equal(t, reflect.DeepEqual(plain[0], told[0]) || reflect.DeepEqual(plain[3], told[3]), false)
+	by := ByExpected(bootTPM)
+	equal(t, must(Boot(hcrtmLog, by.HCRTM())), must(Boot(toldLog, by)))
+	_, err := Replay(bootList, bootTPM, "sha256:10", HCRTM())
+	equal(t, err != nil, true)
+}
+
 func TestWrongInputsAreRefused(t *testing.T) {
 	twice := joined(bootTPM, bootTPM[:75])
 	checkRefused(t, KindReplay, 1, 5)(Verify(bootLog, changedList, bootTPM, "sha256:10"))

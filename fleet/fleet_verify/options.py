@@ -36,6 +36,7 @@ or failed. docs/fleet.md has more."""
 
 MINUTE, HOUR, DAY = 60, 60 * 60, 24 * 60 * 60
 MOST_SECONDS = 36500 * DAY
+HCRTM = "if a log tells no locality, its event EV_EFI_HCRTM_EVENT tells that PCR 0 began at 4, as machines with an H-CRTM have it"
 _UNITS = {"": 1, "s": 1, "m": MINUTE, "h": HOUR, "d": DAY}
 
 
@@ -53,6 +54,7 @@ class Options:
     unquoted: bool
     max_age: Optional[int]
     known: List[str]
+    hcrtm: bool
     again: Optional[List[str]]
     poll: bool
     whole: bool
@@ -125,6 +127,7 @@ def add_inputs(parser: argparse.ArgumentParser) -> None:
         "--known", metavar="FILE", action="append",
         help="what sha256sum printed of known files: an entry of no such file makes its machine differ; may be given several times",
     )
+    parser.add_argument("--hcrtm", action="store_true", help=HCRTM)
 
 
 def add_table_options(parser: argparse.ArgumentParser) -> None:

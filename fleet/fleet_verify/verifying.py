@@ -115,7 +115,7 @@ def opened(options: Options, known: Optional[Known]) -> Verdicts:
             os.scandir(options.keys).close()
         quoting = Quoting(options.keys, options.max_age or math.inf)
     with refusing(options.table):
-        return Verdicts(options.table, options.require, None if known is None else known.sha256, quoting)
+        return Verdicts(options.table, options.require, None if known is None else known.sha256, quoting, options.hcrtm)
 
 
 def recorded_in(table: Verdicts, machines: Sequence[Machine], options: Options, summary: Summary) -> Dict[str, str]:

@@ -4,7 +4,8 @@ import os
 from dataclasses import replace
 
 from calling import ENTRIES, LOG, LOW, OF_QUOTE, SECOND_KERNEL, Evidence, OwnKeyTests, executable, moved, values_after
-from reference.log import EV_NO_ACTION
+from reference.log import EV_NO_ACTION, Event, read_log
+from reference.log_forms import EV_EFI_HCRTM_EVENT, told_log
 from reference.measurement_list import BOOT_AGGREGATE, IMA_NG, Entry, entry_of, list_spelling
 from reference.registers import SHA1, SHA256, SHA384, SHA512
 
@@ -86,6 +87,19 @@ class OddLists(OwnKeyTests):
             log, rest = moved(entries, 2, log=log)
             forged = replace(honest, log=self.put("forged.log", log), list=self.put("rest.list", rest))
             self.check_differ(f"a log of {name} alone with entries of the list", self.attest(forged), EXTENDS_TEN, OF_QUOTE)
+
+    def test_start_after_hcrtm(self):
+        """Where an H-CRTM's event tells that PCR 0 began at 4, that counts only if it is asked for; a terminal is told so."""
+        event = Event(0, EV_EFI_HCRTM_EVENT, {SHA256.identifier: SHA256.hash(b"HCRTM")}, b"HCRTM")
+        log = LOG._replace(events=[event, *(event for event in LOG.events if event.is_extended)]).spelling()
+        started = read_log(told_log(log))
+        aggregate = entry_of(IMA_NG, SHA256, started.registers().boot_aggregate(SHA256), BOOT_AGGREGATE)
+        quote = self.state("of-hcrtm", values_after([aggregate], started))
+        given = Evidence(quote=quote, log=self.put("hcrtm.log", log), list=self.put("hcrtm.list", list_spelling([aggregate])))
+        self.check_differ("a machine that an H-CRTM started", self.attest(given), "boot_aggregate wrong")
+        self.check_match("the same, by its event", self.attest(given, hcrtm=True))
+        status, said = self.said_on_terminal(given)
+        self.check("a terminal is told of the option", (status, "add --hcrtm" in said or said), (1, True))
 
     def test_entries_of_others(self):
         """A list has entries of other registers than 10, or of 10 whose names would have one think so."""

@@ -70,6 +70,11 @@ def flag_of(name: str, value: bool) -> bool:
     return value
 
 
+def log_of(log: Buffer, hcrtm: bool) -> dict[str, Any]:
+    """The arguments of a firmware event log, and whether its H-CRTM event tells where it began."""
+    return {"log": bytes_of("log", log), "hcrtm": flag_of("hcrtm", hcrtm)}
+
+
 def some_bytes(data: Buffer) -> Buffer:
     """These bytes; in place of none a zero, which is refused as what is cut short. (To the library
     no bytes of a state, a key or a signature mean that there is none.)"""

@@ -27,6 +27,12 @@ LOG, LIST, EXPECTED, ASCII, REGISTERS, PRINTED = (
 KEY, MESSAGE, SIGNATURE = (
     sample(f"quoted/{name}") for name in ("AK.pem", "quote.msg", "quote.sig")
 )
+# The log with an event of an H-CRTM, and what then tells where PCR 0 began (StartupLocality).
+HCRTM = LOG + b"".join(
+    number.to_bytes(size, "little")
+    for number, size in ((0, 4), (0x80000010, 4), (1, 4), (11, 2), (7, 32), (0, 4))
+)
+TOLD = HCRTM + bytes((*4 * (0,), 3, *7 * (0,), 17, 0, 0, 0)) + b"StartupLocality\0\4"
 NONCE = bytes.fromhex(sample("quoted/nonce").decode())
 AREA = sample("keys/ak-p256.pub")
 # The files of the list, but for its violations.

@@ -6,6 +6,26 @@ use ima_verify_sys as c;
 /// A requirement that names no PCR. The verdict is a match only if some PCR was compared.
 pub const NOTHING_REQUIRED: &str = "none";
 
+/// A firmware event log. Calls take its bytes, or this.
+#[derive(Debug, Clone, Copy, PartialEq, Eq)]
+pub struct Log<'a> {
+    pub(crate) bytes: &'a [u8],
+    pub(crate) hcrtm: bool,
+}
+
+impl<'a> Log<'a> {
+    /// A log whose event EV_EFI_HCRTM_EVENT in PCR 0 tells that PCR 0 began at 4, if no event tells a locality (TPM 2.0 Library, part 1, 34.3).
+    pub fn hcrtm(bytes: &'a [u8]) -> Self {
+        Self { bytes, hcrtm: true }
+    }
+}
+
+impl<'a, T: AsRef<[u8]> + ?Sized> From<&'a T> for Log<'a> {
+    fn from(bytes: &'a T) -> Self {
+        Self { bytes: bytes.as_ref(), hcrtm: false }
+    }
+}
+
 /// What a verdict requires: PCRs that must be among the expected ones, and maybe that each file is known.
 #[derive(Debug, Clone, Copy)]
 pub struct Required<'a> {
@@ -134,7 +154,7 @@ pub enum Signing<'a> {
 pub enum Evidence<'a> {
     /// The text of expected PCRs, as [`verify`](crate::verify) takes it.
     Expected(&'a [u8]),
-    /// A quote. It confirms events only if [`attest`](crate::attest) finds a match for the log, this list and the quote.
+    /// A quote. It confirms events of the PCRs that it requires, if [`attest`](crate::attest) finds a match for the log, this list and the quote.
     Quote {
         /// The measurement list.
         list: &'a [u8],

@@ -4,13 +4,14 @@ use crate::library::{self, ask, Grown, Out, DONE};
 use crate::reply::Reply;
 use crate::request::{lines_of, some_bytes};
 use crate::results::Line;
-use crate::{Attestation, Error, Quote, Required, Verdict};
+use crate::{Attestation, Error, Log, Quote, Required, Verdict};
 
 /// Verdicts on a measurement list that grows: each is on all of the list so far, but only what is new of it is given.
 #[derive(Debug, Clone)]
 #[must_use]
 pub struct Session {
     log: Vec<u8>,
+    hcrtm: bool,
     expected: Vec<u8>,
     require: String,
     known: Option<Vec<u8>>,
@@ -21,14 +22,14 @@ pub struct Session {
 impl Session {
     /// A session on a list from its start. The arguments are as in [`verify`](crate::verify), and are copied. What the state covers is not looked up
     /// again among known files: if other files are known now, begin a new session with the whole list.
-    pub fn new<'a>(log: &[u8], expected: &[u8], require: impl Into<Required<'a>>) -> Self {
-        let Required { registers, known } = require.into();
-        let (log, expected, require) = (log.to_vec(), expected.to_vec(), registers.to_owned());
-        Self { log, expected, require, known: known.map(lines_of), prefix: false, state: None }
+    pub fn new<'a>(log: impl Into<Log<'a>>, expected: &[u8], require: impl Into<Required<'a>>) -> Self {
+        let (Log { bytes, hcrtm }, Required { registers, known }) = (log.into(), require.into());
+        let (log, expected, require) = (bytes.to_vec(), expected.to_vec(), registers.to_owned());
+        Self { log, hcrtm, expected, require, known: known.map(lines_of), prefix: false, state: None }
     }
 
     /// A session for [`attest`](Self::attest) alone: no PCRs are expected, and [`more`](Self::more) gives an error.
-    pub fn by_quotes(log: &[u8]) -> Self {
+    pub fn by_quotes<'a>(log: impl Into<Log<'a>>) -> Self {
         Self::new(log, &[], "")
     }
 
@@ -81,7 +82,8 @@ impl Session {
     }
 
     fn inputs<'a>(&'a self, more: &'a [u8], known: Option<&'a [u8]>) -> Grown<'a> {
-        Grown { log: &self.log, state: self.state().map(some_bytes).unwrap_or_default(), more, known, prefix: self.prefix }
+        let log = Log { bytes: &self.log, hcrtm: self.hcrtm };
+        Grown { log, state: self.state().map(some_bytes).unwrap_or_default(), more, known, prefix: self.prefix }
     }
 
     /// What a reply says, and its state, if it is a match.

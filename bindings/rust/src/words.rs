@@ -159,5 +159,7 @@ words! {
         Key = "key", "The public area of a key: it is not one (1 to 10), or the key lacks what its purpose needs (11 to 22).";
         Known = "known", "A line of the known files has a digest by SHA-1 (1), or is no digest and name (2).";
         Signature = "signature", "The signature of a quote: it is not one (1 to 4), or not the key's (5 to 7), or the key is not taken (8, 9).";
+        TextList = "text_list", "The text of a list, which is converted: a line is not that of a genuine entry.";
+        LogForm = "log_form", "The log that is converted: it is in no form of a firmware event log.";
     }
 }

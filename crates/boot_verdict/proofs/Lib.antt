@@ -1,3 +1,4 @@
+pub mod KeptLaws
 pub mod VerdictLaws
 pub mod StepLaws
 pub mod PositionLaws

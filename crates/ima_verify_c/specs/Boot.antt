@@ -71,10 +71,12 @@ quote_in given signing = record {
   nonce = [];
   required = given.require;
   takes_sha1 = given.allow_sha1;
+  old_kernel = false;
   signing = signing;
   expected = None;
   scope = Whole;
   resume = None;
+  saves = false;
   known = [];
 }
 

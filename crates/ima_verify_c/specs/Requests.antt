@@ -9,13 +9,15 @@ use Rattle.hex.specs.Hex.{decode_of}
 use Rattle.hex.specs.declared.error.FromHexError.{FromHexError}
 use Rattle.agent_inputs.specs.Loading.{unknown}
 use Rattle.judging.specs.Answering.{IsResumedState, IsTaken, checkpoint_of}
-use Rattle.judging.specs.Requests.{Any, Attests, ByCaller, ByKey, Requested, Compared, Compares, Judgement, KeyOf, ListRegistersOf, ListVerdictOf, LogRegistersOf, NotChecked, PositionsOf, Requires, Signing, These, VerdictOf}
+use Rattle.judging.specs.Requests.{Any, Attests, ByCaller, ByKey, Requested, Compared, Compares, Judgement, KeyOf, ListRegistersOf, ListVerdictOf, LogRegistersOf, NotChecked, PositionsOf, Requires, Signing, These, VerdictOf, WholeVerdictOf}
 use Rattle.judging.specs.Inputs.{BytesOf, Where}
 use Rattle.tpm_keys.specs.declared.kinds.KeyPart.TheVariants.{All}
 use Rattle.tpm_keys.specs.declared.kinds.Purpose.{Purpose}
 use Rattle.tpm_keys.specs.declared.kinds.Purpose.TheVariants.{Attestation, Endorsement}
 use Rattle.ima_verify_c.specs.declared.nonce.Nonce.{Nonce}
 use Rattle.ima_verify_c.specs.declared.nonce.Nonce.TheVariants.{Decoded, Given}
+use Rattle.ima_verify_c.specs.declared.replayed.Replayed.{Replayed}
+use Rattle.ima_verify_c.specs.declared.replayed.Replayed.TheVariants as logs
 
 abbrev pub form_of : Bool → Form
 form_of json = if json then Json else Text
@@ -40,6 +42,7 @@ compared_by judgement list expected require known = record {
   list = BytesOf list;
   expected = BytesOf expected;
   required = required_by require;
+  old_kernel = false;
   known = known;
 }
 
@@ -64,7 +67,7 @@ verdict_of log state prefix = VerdictOf (BytesOf log) (scope_of prefix) (resume_
 
 -- The verdict on a log and a list; where the PCRs have their values; and the verdict on a list alone.
 abbrev pub requested_of_verdict : List ℕ → List ℕ → List ℕ → List ℕ → List Where → Requested
-requested_of_verdict log list expected require known = requested_by (VerdictOf (BytesOf log) Whole None) list expected require known
+requested_of_verdict log list expected require known = requested_by (WholeVerdictOf (BytesOf log)) list expected require known
 
 abbrev pub requested_of_positions : List ℕ → List ℕ → List ℕ → List ℕ → Requested
 requested_of_positions log list expected require = requested_by (PositionsOf (BytesOf log)) list expected require []
@@ -113,6 +116,11 @@ nonce_by (Some nonce) (Some digits) = Misused
 abbrev pub nonce_in : List ℕ → List ℕ → Asked (List ℕ)
 nonce_in nonce digits = nonce_by (given_bytes nonce) (given_bytes digits)
 
+-- The bytes of a log that is replayed.
+abbrev pub replayed_bytes : Replayed → List ℕ
+replayed_bytes (logs.Given bytes) = bytes.now
+replayed_bytes (logs.Told bytes) = bytes.items
+
 -- The bytes of a nonce.
 abbrev pub nonce_bytes : Nonce → List ℕ
 nonce_bytes (Given bytes) = bytes.now
@@ -136,10 +144,12 @@ requested_of_attestation log state more message key signature nonce nonce_hex re
       nonce = nonce;
       required = require;
       takes_sha1 = allow_sha1;
+      old_kernel = false;
       signing = signing;
       expected = None;
       scope = scope_of prefix;
       resume = resume_of state;
+      saves = true;
       known = known;
     }))
 

@@ -107,10 +107,12 @@ fn quote_in<'a>(given: Evidence<'a>, signing: Signing<'a>) -> AttestRequest<'a>
         nonce: b"",
         required: given.require,
         takes_sha1: given.allow_sha1,
+        old_kernel: false,
         signing,
         expected: None,
         scope: Scope::Whole,
         resume: None,
+        saves: false,
         known: &[],
     }
 }

@@ -1,6 +1,6 @@
 //! What a call with these bytes asks for.
 
-ghost use Rattle.std.specs.Prelude.{◌≡◌, [], if◌then◌else◌, map, option_map};
+ghost use Rattle.std.specs.Prelude.{◌≡◌, ◌&&◌, not, [], if◌then◌else◌, map, option_map};
 ghost use Rattle.judging.specs.Requests.{requested_of, judgement_of, location_of, requires_of, signing_of};
 ghost use Rattle.ima_verify_c.specs.Requests.{requested_by, requested_of_key, requested_of_registers, form_of, given_bytes, purpose_of, required_by, resume_of, scope_of, signing_in, verdict_of};
 
@@ -93,6 +93,7 @@ pub(crate) fn requested_by<'a>(
         list: Input::Bytes(list),
         expected: Input::Bytes(expected),
         required: required_by(require),
+        old_kernel: false,
         known,
     })
 }
@@ -106,6 +107,13 @@ fn required_by(require: &[u8]) -> Required<'_>
     } else {
         Required::These(require)
     }
+}
+
+/// Whether the event of an H-CRTM is looked for, which no list has.
+pub(crate) fn looks_for_hcrtm(of_list: bool, hcrtm: bool) -> bool
+    ensures { result ≡ (hcrtm && not of_list) }
+{
+    hcrtm && !of_list
 }
 
 /// The registers after a list alone, or after a log.
